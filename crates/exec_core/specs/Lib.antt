@@ -1,0 +1,6 @@
+pub mod Acts
+pub mod View
+pub mod Books
+pub mod Found
+pub mod Places
+pub mod Sound

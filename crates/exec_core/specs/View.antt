@@ -1,0 +1,74 @@
+-- The state of the abstract machine that an executor stands for.
+use Rattle.std.specs.Prelude.{ℕ, false, List, [], ◌∷◌, Option, Some, None, map, replicate}
+use Rattle.exec_outcomes.specs.declared.outcome.Kind.TheVariants.{Send}
+use Rattle.exec_request.specs.declared.send.SendRequest.{SendRequest}
+use Rattle.exec_machine.specs.declared.state.Call.TheVariants.{Nothing}
+use Rattle.exec_machine.specs.World.{World, Worker, Task, Operation}
+use Rattle.exec_core.specs.declared.root.Root.{Root}
+use Rattle.exec_core.specs.declared.driver.Driver.{Driver}
+use Rattle.exec_core.specs.declared.executor.Core.{Core}
+
+-- what a send asks for, and how much of it is done
+abbrev pub operation_view : SendRequest → Operation
+operation_view s =
+    record {
+      kind = Send;
+      target = s.fd;
+      offset = 0;
+      length = s.length;
+      skip = 0;
+      deadline = Some s.deadline;
+      seen = 0;
+      moved = s.sent;
+      hinted = false;
+      switched = false;
+    }
+
+abbrev pub operations_view : List SendRequest → List Operation
+operations_view sends = map operation_view sends
+
+abbrev pub worker_view : Core → Worker
+worker_view c =
+    record {
+      phase = c.phase;
+      left = c.left;
+      rest = c.rest;
+      start = c.start;
+      sampled = c.sampled;
+      busy = false;
+      inbox = [];
+      ready = c.driver.ready.items;
+      landed = c.driver.landed.items;
+    }
+
+abbrev pub task_view : Root → Task
+task_view r =
+    record {
+      script = r.script.items;
+      place = r.place;
+      adapters = [];
+      held = r.held.items;
+      phase = r.phase;
+      cleared = false;
+      home = Some 0;
+      waiting = r.waiting;
+      fresh = r.fresh;
+    }
+
+-- One worker and its root; sleepers, opens and listeners there are none.
+abbrev pub world : Core → World
+world c =
+    record {
+      clock = c.clock;
+      workers = worker_view c ∷ [];
+      tasks = task_view c.root ∷ [];
+      operations = operations_view c.driver.sends.items;
+      requests = c.driver.requests.items;
+      sleepers = [];
+      opens = [];
+      listeners = [];
+      callers = replicate 16 Nothing;
+      set_closed = c.set_closed;
+      queue_closed = c.queue_closed;
+      stopped = c.stopped;
+    }

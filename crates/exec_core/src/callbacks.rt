@@ -1,0 +1,121 @@
+//! The callbacks: wakes, outputs that nobody takes, and what resolved requests owned, one a step.
+
+ghost use Rattle.std.specs.Prelude.{◌≡◌, ℕ, [], IfOk};
+ghost use Rattle.exec_core.specs.Places.{class_then, Holds};
+ghost use Rattle.exec_core.specs.Sound.{SoundAt, StepsTo, Suits};
+
+use crate::executor::Core;
+use crate::place::{Back, Place, Round, Service, Stay, Then};
+use exec_machine::event::Event;
+
+impl Core {
+    /// Takes the batch of callbacks.
+    pub fn take_callbacks(&mut self, then: Then) -> Event
+        requires { SoundAt (Place.Callbacks then) self.old }
+        ensures { StepsTo self.old result 0 self.new }
+    {
+        self.place = self.next_callback(then);
+        Event::Turn
+    }
+
+    /// Makes the next callback: wakes come first, and what requests owned comes last.
+    pub fn call_back(&mut self, then: Then) -> Event
+        requires { SoundAt (Place.Item then) self.old }
+        ensures { (choice : ℕ) × StepsTo self.old result choice self.new }
+    {
+        if !self.driver.wakes.is_empty() {
+            self.call_wake(then)
+        } else if !self.driver.outputs.is_empty() {
+            self.drop_output(then)
+        } else {
+            self.release(then)
+        }
+    }
+
+    /// Wakes the task that waited for a resolved request.
+    fn call_wake(&mut self, then: Then) -> Event
+        requires { SoundAt (Place.Item then) self.old }
+        ensures { (choice : ℕ) × StepsTo self.old result choice self.new }
+    {
+        match self.driver.pay_wake() {
+            Some(paid) => {
+                self.root.wake_task(paid.task);
+                self.place = self.next_callback(then);
+                Event::Wake { task: paid.task }
+            }
+            None => {
+                self.place = self.next_callback(then);
+                Event::Turn
+            }
+        }
+    }
+
+    /// Drops an output that nobody takes.
+    fn drop_output(&mut self, then: Then) -> Event
+        requires { SoundAt (Place.Item then) self.old }
+        ensures { (choice : ℕ) × StepsTo self.old result choice self.new }
+    {
+        self.driver.outputs.pop_front();
+        self.place = self.next_callback(then);
+        Event::Turn
+    }
+
+    /// Lets go of what a resolved request owned.
+    fn release(&mut self, then: Then) -> Event
+        requires { SoundAt (Place.Item then) self.old }
+        ensures { (choice : ℕ) × StepsTo self.old result choice self.new }
+    {
+        match self.driver.release() {
+            Some(request) => {
+                self.place = self.next_callback(then);
+                Event::Release { request }
+            }
+            None => {
+                self.place = self.next_callback(then);
+                Event::Turn
+            }
+        }
+    }
+
+    /// The next callback of the batch, or where they lead.
+    fn next_callback(&self, then: Then) -> Place
+        requires { Holds (class_then then) self.now.phase self.now.left self.now.queue_closed self.now.stopped self.now.root.phase }
+        ensures { Suits result self.now }
+    {
+        if self.driver.has_callbacks() {
+            Place::Item { then }
+        } else {
+            self.after_callbacks(then)
+        }
+    }
+
+    /// Where the callbacks lead once all are made.
+    fn after_callbacks(&self, then: Then) -> Place
+        requires holds { Holds (class_then then) self.now.phase self.now.left self.now.queue_closed self.now.stopped self.now.root.phase }
+        requires empty { self.now.driver.resources.items ≡ [] }
+        ensures { Suits result self.now }
+    {
+        match then {
+            Then::Look => Place::LoadHead {
+                round: Round::First,
+            },
+            Then::Test => Place::LoadHead {
+                round: Round::Second,
+            },
+            Then::Begin => Place::Begin,
+            Then::Drain => Place::Sample {
+                service: Service {
+                    defer: false,
+                    back: Back::Finish,
+                },
+            },
+            Then::Finish => {
+                if self.driver.unresolved > 0 {
+                    self.ring_wait(Stay::Closing)
+                } else {
+                    Place::End
+                }
+            }
+        }
+    }
+}

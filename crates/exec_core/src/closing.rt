@@ -1,0 +1,107 @@
+//! The closing of the worker, once its root is over.
+
+ghost use Rattle.std.specs.Prelude.{◌≡◌, false};
+ghost use Rattle.exec_machine.specs.Allowed.{has_ended};
+ghost use Rattle.exec_core.specs.Sound.{SoundAt, StepsTo};
+
+use crate::executor::Core;
+use crate::place::{Place, Then};
+use exec_machine::event::Event;
+use exec_machine::state::WorkerPhase;
+
+/// How many shards the task set of a pool of one worker has.
+const SHARDS: u64 = 4;
+
+impl Core {
+    /// The closing begins, and the task set is closed.
+    pub fn close(&mut self) -> Event
+        requires { SoundAt Place.Close self.old }
+        ensures { StepsTo self.old result 0 self.new }
+    {
+        self.phase = WorkerPhase::Closing;
+        self.set_closed = true;
+        self.place = Place::CloseQueue;
+        Event::Close
+    }
+
+    /// Closes the global queue, which is empty.
+    pub fn close_queue(&mut self) -> Event
+        requires { SoundAt Place.CloseQueue self.old }
+        ensures { StepsTo self.old result 2 self.new }
+    {
+        self.queue_closed = true;
+        self.place = Place::OpenBarrier;
+        Event::Turn
+    }
+
+    /// Opens the shutdown barrier.
+    pub fn open_barrier(&mut self) -> Event
+        requires { SoundAt Place.OpenBarrier self.old }
+        ensures { StepsTo self.old result 0 self.new }
+    {
+        self.place = Place::Stop;
+        Event::Turn
+    }
+
+    /// Stops the pool. No other worker is to be told.
+    pub fn stop(&mut self) -> Event
+        requires { SoundAt Place.Stop self.old }
+        ensures { StepsTo self.old result 0 self.new }
+    {
+        self.stopped = true;
+        self.place = Place::Discard;
+        Event::Stop
+    }
+
+    /// Empties the own queue, which is empty.
+    pub fn discard(&mut self) -> Event
+        requires { SoundAt Place.Discard self.old }
+        ensures { StepsTo self.old result 0 self.new }
+    {
+        self.place = Place::Visit { shard: 0 };
+        Event::Turn
+    }
+
+    /// Visits a shard of the task set, which has no task.
+    pub fn visit(&mut self, shard: u64) -> Event
+        requires { SoundAt (Place.Visit shard) self.old }
+        ensures { StepsTo self.old result 0 self.new }
+    {
+        self.place = if shard < SHARDS - 1 {
+            Place::Visit { shard: shard + 1 }
+        } else {
+            Place::LeaveBarrier
+        };
+        Event::Turn
+    }
+
+    /// Passes the shutdown barrier.
+    pub fn leave_barrier(&mut self) -> Event
+        requires { SoundAt Place.LeaveBarrier self.old }
+        ensures { StepsTo self.old result 1 self.new }
+    {
+        self.left = true;
+        self.place = Place::CloseMail;
+        Event::Turn
+    }
+
+    /// Closes the mailbox. No request is observed any more, and nobody sleeps.
+    pub fn close_mail(&mut self) -> Event
+        requires { SoundAt Place.CloseMail self.old }
+        ensures { StepsTo self.old result 0 self.new }
+    {
+        self.place = Place::Callbacks { then: Then::Drain };
+        Event::Turn
+    }
+
+    /// The worker has ended.
+    pub fn end(&mut self) -> Event
+        requires sound { SoundAt Place.End self.old }
+        requires running { has_ended self.old.phase ≡ false }
+        ensures { StepsTo self.old result 0 self.new }
+    {
+        self.phase = WorkerPhase::Ended;
+        self.place = Place::End;
+        Event::End
+    }
+}

@@ -1,0 +1,188 @@
+//! One executor as one value.
+
+use crate::driver::Driver;
+use crate::place::Place;
+use crate::root::Root;
+use exec_machine::config::{Configuration, Word};
+use exec_machine::event::{Event, Line, Said};
+use exec_machine::state::{Phase, Rest, TaskPhase, Waiting, WorkerPhase};
+use exec_machine::step::Action;
+use exec_outcomes::outcome::OpResult;
+use std::alloc::{AllocError, Global};
+
+/// In the wake word: the worker sleeps on it.
+pub const SLEEPING: u64 = 1;
+/// In the wake word: the worker waits on its ring.
+pub const ON_RING: u64 = 2;
+/// In the wake word: the worker was signalled.
+pub const SIGNALLED: u64 = 4;
+
+/// The words that other parties look at, as plain numbers.
+#[derive(Clone, Copy, Debug, PartialEq, Eq)]
+pub struct Words {
+    /// Bit 0: sleeping, bit 1: it waits on its ring, bit 2: it was signalled.
+    pub wake: u64,
+    /// The set of idle workers, a bit for each.
+    pub idle: u64,
+    /// How many search counts are held or reserved.
+    pub searching: u64,
+    /// The length of the global queue.
+    pub mirror: u64,
+}
+
+/// One executor: its worker, its root task and its requests.
+#[derive(Drop)]
+pub struct Core {
+    /// The configuration.
+    pub config: Configuration,
+    /// The clock, in nanoseconds.
+    pub clock: u64,
+    /// The next step of the worker.
+    pub place: Place,
+    /// How far the worker has come.
+    pub phase: WorkerPhase,
+    /// Whether it sleeps.
+    pub rest: Rest,
+    /// Whether it has passed the shutdown barrier.
+    pub left: bool,
+    /// The moment at which it began, in nanoseconds.
+    pub start: u64,
+    /// The moment that it last sampled, in nanoseconds.
+    pub sampled: u64,
+    /// So many picks are left to the next global look.
+    pub countdown: u64,
+    /// Whether the service of this turn was one that may be deferred.
+    pub defer: bool,
+    /// Whether its last enter was left out.
+    pub deferred: bool,
+    /// The root task.
+    pub root: Root,
+    /// The requests and the ring.
+    pub driver: Driver,
+    /// The words.
+    pub words: Words,
+    /// Whether the task set is closed.
+    pub set_closed: bool,
+    /// Whether the global queue is closed.
+    pub queue_closed: bool,
+    /// Whether the pool is stopped.
+    pub stopped: bool,
+}
+
+impl Core {
+    ghost use Rattle.std.specs.Prelude.{◌≡◌, not, ◌&&◌, true, false, IfOk, OnOk};
+    ghost use Rattle.exec_machine.specs.declared.step.Action.TheVariants.{Land as landing};
+    ghost use Rattle.exec_machine.specs.Allowed.{is_enabled, is_awake, has_ended, is_flying};
+    ghost use Rattle.exec_machine.specs.declared.event.Event.TheVariants.{Land as landed};
+    ghost use Rattle.exec_machine.specs.Run.{first_world};
+    ghost use Rattle.exec_core.specs.View.{world};
+    ghost use Rattle.exec_core.specs.Sound.{IsConfig, SendsBytes, Sound, Applies, Lands};
+
+    /// An executor whose root has this script, and is queued.
+    pub fn new(alloc: Global, config: Configuration, script: Vec<Word>) -> Result<Self, AllocError>
+        requires config { IsConfig config }
+        requires script { SendsBytes script.items }
+        ensures config { IfOk result (λ core. core.config ≡ config) }
+        ensures begins { IfOk result (λ core. world core ≡ first_world script.items) }
+        ensures sound { IfOk result Sound }
+    {
+        Ok(Core {
+            config,
+            clock: 0,
+            place: Place::Begin,
+            phase: WorkerPhase::Open,
+            rest: Rest::Awake,
+            left: false,
+            start: 0,
+            sampled: 0,
+            countdown: config.interval,
+            defer: false,
+            deferred: false,
+            root: Root {
+                script,
+                place: 0,
+                held: Vec::new(alloc),
+                phase: TaskPhase::Queued,
+                waiting: Waiting::Nothing,
+                fresh: false,
+                flag: true,
+            },
+            driver: Driver::new(alloc),
+            words: Words {
+                wake: 0,
+                idle: 0,
+                searching: 0,
+                mirror: 0,
+            },
+            set_closed: false,
+            queue_closed: false,
+            stopped: false,
+        })
+    }
+
+    /// Whether the step may be taken.
+    pub fn enabled(&self, action: Action) -> bool
+        requires { Sound self.now }
+        ensures { result ≡ is_enabled (world self.now) action }
+    {
+        match action {
+            Action::Work { worker } => worker == 0 && self.is_running(),
+            Action::Land { request, result } => self.may_land(request, result),
+        }
+    }
+
+    /// Whether the worker is awake and has not ended.
+    fn is_running(&self) -> bool
+        ensures { result ≡ (is_awake self.now.rest && not (has_ended self.now.phase)) }
+    {
+        matches!(self.rest, Rest::Awake) && !matches!(self.phase, WorkerPhase::Ended)
+    }
+
+    /// Whether the kernel has the operation and may give this result.
+    fn may_land(&self, request: usize, given: OpResult) -> bool
+        requires { Sound self.now }
+        ensures { result ≡ is_enabled (world self.now) (landing request given) }
+    {
+        let (Some(entry), Some(send)) = (
+            self.driver.requests.get(request),
+            self.driver.sends.get(request),
+        ) else {
+            return false;
+        };
+        matches!(entry.phase, Phase::Flying) && send.may_give(given)
+    }
+
+    /// Takes the step if it may be taken, and answers its line. After an `Err` the executor is spent: no step
+    /// may follow.
+    pub fn apply(&mut self, alloc: Global, action: Action) -> Result<Line, AllocError>
+        requires { Sound self.old }
+        ensures { IfOk result (λ line. Applies self.old action line self.new) }
+    {
+        if !self.enabled(action) {
+            return Ok(Line {
+                action,
+                said: Said::Refused,
+            });
+        }
+        let event = match action {
+            Action::Work { .. } => self.step(alloc)?,
+            Action::Land { request, result } => self.land(request, result)?,
+        };
+        Ok(Line {
+            action,
+            said: Said::Did(event),
+        })
+    }
+
+    /// The operation of the request lands with this result, and rouses the worker.
+    fn land(&mut self, request: usize, given: OpResult) -> Result<Event, AllocError>
+        requires sound { Sound self.old }
+        requires enabled { is_enabled (world self.old) (landing request given) ≡ true }
+        ensures land { IfOk result (λ event. event ≡ landed) }
+        ensures steps { OnOk result (Lands self.old request given self.new) }
+    {
+        self.driver.land(request, given)?;
+        self.rest = Rest::Awake;
+        Ok(Event::Land)
+    }
+}

@@ -1,0 +1,149 @@
+//! The poll of the root, one act a step.
+
+ghost use Rattle.std.specs.Prelude.{◌≡◌, ◌<◌, ◌≤◌, ◌⊎◌, true, false, Some, [], length as len, slice_get, IfOk};
+ghost use Rattle.exec_machine.specs.declared.config.Word.TheVariants as word;
+ghost use Rattle.exec_machine.specs.declared.state.Phase.TheVariants as phase;
+ghost use Rattle.exec_machine.specs.declared.state.Waiting.TheVariants as waiting;
+ghost use Rattle.exec_machine.specs.Allowed.{is_resolved, MayPend};
+ghost use Rattle.exec_core.specs.View.{world};
+ghost use Rattle.exec_core.specs.Acts.{IsNextAct};
+ghost use Rattle.exec_core.specs.declared.root.Act.TheVariants as act;
+ghost use Rattle.exec_core.specs.Books.{request_at};
+ghost use Rattle.exec_core.specs.Sound.{SoundAt, StepsTo};
+
+use crate::executor::Core;
+use crate::place::{Place, Then};
+use crate::root::Act;
+use exec_machine::event::Event;
+use exec_machine::state::{Phase, TaskPhase, Waiting};
+use exec_outcomes::outcome::{Kind, Outcome};
+use std::alloc::{AllocError, Global};
+use std::mem;
+
+impl Core {
+    /// The poll of the root begins.
+    pub fn begin_poll(&mut self) -> Event
+        requires { SoundAt Place.Poll self.old }
+        ensures { StepsTo self.old result 0 self.new }
+    {
+        self.root.begin();
+        self.place = Place::Act;
+        Event::Begin { task: 0 }
+    }
+
+    /// The root does its next act.
+    pub fn act(&mut self, alloc: Global) -> Result<Event, AllocError>
+        requires { SoundAt Place.Act self.old }
+        ensures { IfOk result (λ event. StepsTo self.old event 0 self.new) }
+    {
+        match self.root.next_act() {
+            Act::Done => self.finish_root(alloc),
+            Act::Send { socket, length } => self.admit(alloc, socket, length),
+            Act::Await(request) => Ok(match self.driver.phase_of(request) {
+                Phase::Resolved(outcome) => self.take(request, outcome),
+                _ => self.wait_for(request),
+            }),
+            Act::AwaitWake => Ok(self.wait_for_wake()),
+            Act::Pass => Ok(self.pass()),
+            Act::Waits(request) => Ok(match self.driver.phase_of(request) {
+                Phase::Resolved(outcome) => self.take(request, outcome),
+                _ => self.pend(),
+            }),
+            Act::Stop => Ok(self.pend()),
+        }
+    }
+
+    /// The root is over, and lets go of what it holds.
+    fn finish_root(&mut self, alloc: Global) -> Result<Event, AllocError>
+        requires sound { SoundAt Place.Act self.old }
+        requires next { IsNextAct self.old.root act.Done }
+        ensures { IfOk result (λ event. StepsTo self.old event 0 self.new) }
+    {
+        let held = mem::replace(&mut self.root.held, Vec::new(alloc));
+        self.driver.let_go_all(held.as_slice())?;
+        self.root.phase = TaskPhase::Done;
+        self.place = Place::Close;
+        Ok(Event::Done { task: 0 })
+    }
+
+    /// The root makes a send.
+    fn admit(&mut self, alloc: Global, socket: usize, length: u64) -> Result<Event, AllocError>
+        requires sound { SoundAt Place.Act self.old }
+        requires next { IsNextAct self.old.root (act.Send socket length) }
+        ensures { IfOk result (λ event. StepsTo self.old event 0 self.new) }
+    {
+        let deadline = self.sampled + self.config.rw;
+        let request = self.driver.admit(alloc, socket, length, deadline)?;
+        self.root.held.push(request)?;
+        self.root.place += 1;
+        self.place = Place::Act;
+        Ok(Event::Admit {
+            request,
+            kind: Kind::Send,
+            outcome: None,
+        })
+    }
+
+    /// The root waits for the request.
+    fn wait_for(&mut self, request: usize) -> Event
+        requires sound { SoundAt Place.Act self.old }
+        requires next { IsNextAct self.old.root (act.Await request) }
+        requires unresolved { is_resolved (request_at self.old.driver.requests.items request).phase ≡ false }
+        ensures { StepsTo self.old result 0 self.new }
+    {
+        self.driver.wait_for(request, 0);
+        self.root.place += 1;
+        self.root.waiting = Waiting::Request(request);
+        self.place = Place::Act;
+        Event::Wait {
+            request: Some(request),
+        }
+    }
+
+    /// The root waits for a wake alone.
+    fn wait_for_wake(&mut self) -> Event
+        requires sound { SoundAt Place.Act self.old }
+        requires next { IsNextAct self.old.root act.AwaitWake }
+        ensures { StepsTo self.old result 0 self.new }
+    {
+        self.root.place += 1;
+        self.root.waiting = Waiting::Wake;
+        self.place = Place::Act;
+        Event::Wait { request: None }
+    }
+
+    /// The root takes the newest request that it holds.
+    fn take(&mut self, request: usize, outcome: Outcome) -> Event
+        requires sound { SoundAt Place.Act self.old }
+        requires next { IsNextAct self.old.root (act.Await request) ⊎ IsNextAct self.old.root (act.Waits request) }
+        requires resolved { (request_at self.old.driver.requests.items request).phase ≡ phase.Resolved outcome }
+        ensures { StepsTo self.old result 0 self.new }
+    {
+        self.driver.take(request);
+        self.root.take();
+        self.place = Place::Act;
+        Event::Got { request, outcome }
+    }
+
+    /// The root takes a wake.
+    fn pass(&mut self) -> Event
+        requires sound { SoundAt Place.Act self.old }
+        requires next { IsNextAct self.old.root act.Pass }
+        ensures { StepsTo self.old result 0 self.new }
+    {
+        self.root.waiting = Waiting::Nothing;
+        self.place = Place::Act;
+        Event::Pass
+    }
+
+    /// The poll of the root ends pending.
+    fn pend(&mut self) -> Event
+        requires sound { SoundAt Place.Act self.old }
+        requires may { MayPend (world self.old) self.old.root.waiting }
+        ensures { StepsTo self.old result 0 self.new }
+    {
+        self.root.pend();
+        self.place = Place::Callbacks { then: Then::Look };
+        Event::Pend { task: 0 }
+    }
+}

@@ -1,0 +1,157 @@
+//! The root task of the worker: its script, how far it has come, and what it holds.
+
+ghost use Rattle.std.specs.Prelude.{◌≡◌, true, false, ◌<◌, length};
+ghost use Rattle.exec_machine.specs.declared.state.TaskPhase.TheVariants.{Running as running, Queued as queued};
+ghost use Rattle.exec_machine.specs.declared.state.Waiting.TheVariants.{Nothing as nothing};
+ghost use Rattle.exec_machine.specs.After.{begun_waiting, pended_phase, woken_phase, place_after_got, without_newest};
+
+use exec_machine::config::Word;
+use exec_machine::state::{TaskPhase, Waiting};
+
+/// The root task.
+#[derive(Drop)]
+pub struct Root {
+    /// Its words.
+    pub script: Vec<Word>,
+    /// The number of its next word.
+    pub place: usize,
+    /// The requests that it has neither taken nor dropped, the oldest first.
+    pub held: Vec<usize>,
+    /// How it stands.
+    pub phase: TaskPhase,
+    /// What it waits for.
+    pub waiting: Waiting,
+    /// Whether its last poll began after its last wake.
+    pub fresh: bool,
+    /// Whether its worker is to poll it.
+    pub flag: bool,
+}
+
+/// What the root does next.
+#[derive(Clone, Copy, Debug, PartialEq, Eq)]
+pub enum Act {
+    /// It ends.
+    Done,
+    /// It registers a send.
+    Send { socket: usize, length: u64 },
+    /// It awaits the newest request that it holds.
+    Await(usize),
+    /// It awaits a wake.
+    AwaitWake,
+    /// It has a wake to take.
+    Pass,
+    /// It waits for this request already.
+    Waits(usize),
+    /// It stops here, whatever comes.
+    Stop,
+}
+
+impl Root {
+    ghost use Rattle.exec_core.specs.Acts.{IsNextAct};
+    ghost use Rattle.exec_core.specs.Sound.{is_timer, IsRoot};
+    ghost use Rattle.exec_core.specs.View.{task_view};
+    ghost use Rattle.exec_machine.specs.World.{no_task};
+    ghost use Rattle.exec_machine.specs.After.{woken};
+    ghost use Rattle.std.specs.Prelude.{ℕ, [], ◌∷◌, ◌⊎◌, slice_set, slice_index_or};
+
+    /// What the root does next.
+    pub fn next_act(&self) -> Act
+        requires { is_timer self.now.waiting ≡ false }
+        ensures { IsNextAct self.now result }
+    {
+        match self.waiting {
+            Waiting::Nothing => self.next_of_script(),
+            Waiting::Request(request) => Act::Waits(request),
+            Waiting::Woken => Act::Pass,
+            Waiting::Timer(_) | Waiting::Wake | Waiting::Yielded => Act::Stop,
+        }
+    }
+
+    /// What the next word of the script asks for.
+    fn next_of_script(&self) -> Act
+        requires { self.now.waiting ≡ nothing }
+        ensures { IsNextAct self.now result }
+    {
+        match self.script.get(self.place).copied() {
+            None | Some(Word::End) => Act::Done,
+            Some(Word::Send { socket, length }) => Act::Send { socket, length },
+            Some(Word::Await) => match self.held.last().copied() {
+                Some(request) => Act::Await(request),
+                None => Act::AwaitWake,
+            },
+        }
+    }
+
+    /// A poll begins.
+    pub fn begin(&mut self)
+        ensures { self.new ≡ record self.old { phase = running 0; fresh = true; waiting = begun_waiting self.old.waiting } }
+    {
+        self.phase = TaskPhase::Running(0);
+        self.fresh = true;
+        self.waiting = match self.waiting {
+            Waiting::Wake => Waiting::Woken,
+            Waiting::Yielded => Waiting::Nothing,
+            other => other,
+        };
+    }
+
+    /// The newest request that is held was taken.
+    pub fn take(&mut self)
+        requires { self.old.waiting ≡ nothing → self.old.place < length self.old.script.items }
+        ensures place { self.new.place ≡ place_after_got self.old.waiting self.old.place }
+        ensures waiting { self.new.waiting ≡ nothing }
+        ensures held { self.new.held.items ≡ without_newest self.old.held.items }
+        ensures same { self.new ≡ record self.old { place = self.new.place; waiting = self.new.waiting; held = self.new.held } }
+    {
+        if let Waiting::Nothing = self.waiting {
+            self.place += 1;
+        }
+        self.waiting = Waiting::Nothing;
+        self.held.pop();
+    }
+
+    /// A poll ends pending. A wake that came meanwhile queues the root again.
+    pub fn pend(&mut self)
+        requires { self.old.flag ≡ true → self.old.phase ≡ queued }
+        ensures same { self.new ≡ record self.old { phase = pended_phase self.old.phase; flag = self.new.flag } }
+        ensures flagged { self.new.flag ≡ true → self.new.phase ≡ queued }
+    {
+        match self.phase {
+            TaskPhase::Running(_) => self.phase = TaskPhase::Idle,
+            TaskPhase::Noted(_) => {
+                self.phase = TaskPhase::Queued;
+                self.flag = true;
+            }
+            TaskPhase::Idle | TaskPhase::Queued | TaskPhase::Done => {}
+        }
+    }
+
+    /// A wake comes.
+    pub fn wake(&mut self)
+        requires { self.old.flag ≡ true → self.old.phase ≡ queued }
+        ensures same { self.new ≡ record self.old { phase = woken_phase self.old.phase; fresh = false; flag = self.new.flag } }
+        ensures flagged { self.new.flag ≡ true → self.new.phase ≡ queued }
+    {
+        self.fresh = false;
+        match self.phase {
+            TaskPhase::Idle => {
+                self.phase = TaskPhase::Queued;
+                self.flag = true;
+            }
+            TaskPhase::Running(worker) => self.phase = TaskPhase::Noted(worker),
+            TaskPhase::Queued | TaskPhase::Noted(_) | TaskPhase::Done => {}
+        }
+    }
+
+    /// A wake of the task comes. The root is task 0, and there is no other.
+    pub fn wake_task(&mut self, task: usize)
+        requires { self.old.flag ≡ true → self.old.phase ≡ queued }
+        ensures tasks { task_view self.new ∷ [] ≡ slice_set (task_view self.old ∷ []) task (woken (slice_index_or (task_view self.old ∷ []) task no_task)) }
+        ensures sound { (n : ℕ) → IsRoot self.old n → IsRoot self.new n }
+        ensures phase { (self.new.phase ≡ self.old.phase) ⊎ (self.new.phase ≡ woken_phase self.old.phase) }
+    {
+        if task == 0 {
+            self.wake();
+        }
+    }
+}

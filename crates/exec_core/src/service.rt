@@ -1,0 +1,220 @@
+//! A service of the ring: landed results are judged, deadlines go on the wheel, operations are staged and
+//! entered.
+
+ghost use Rattle.std.specs.Prelude.{◌≡◌, false, ◌<◌, ◌^◌, IsTrue, IfOk};
+ghost use Rattle.exec_machine.specs.Allowed.{fires_at as moment_of};
+ghost use Rattle.exec_core.specs.Found.{IsUnenrolled, NeedsCancel};
+ghost use Rattle.exec_core.specs.Sound.{SoundAt, StepsTo, Suits};
+
+use crate::executor::{Core, SIGNALLED};
+use crate::place::{Back, Place, Service, Then};
+use exec_machine::event::Event;
+use std::alloc::AllocError;
+
+impl Core {
+    /// Samples the clock, and clears the latch that a granted permit left.
+    pub fn sample(&mut self, service: Service) -> Event
+        requires { SoundAt (Place.Sample service) self.old }
+        ensures { StepsTo self.old result 1 self.new }
+    {
+        self.sampled = self.clock;
+        self.words.wake &= !SIGNALLED;
+        self.place = Place::Reap {
+            service,
+            last: false,
+        };
+        Event::Serve
+    }
+
+    /// Judges the next landed result. Acknowledgements of cancels are dropped.
+    pub fn reap(&mut self, service: Service, last: bool) -> Result<Event, AllocError>
+        requires { SoundAt (Place.Reap service last) self.old }
+        ensures { IfOk result (λ event. StepsTo self.old event 0 self.new) }
+    {
+        self.driver.acknowledged = false;
+        let judged = self.driver.reap()?;
+        self.place = self.after_reap(service, last);
+        Ok(match judged {
+            Some(judged) => Event::Reap {
+                request: judged.request,
+                result: judged.given,
+                outcome: judged.outcome,
+            },
+            None => Event::Serve,
+        })
+    }
+
+    /// More to reap, or what comes after.
+    fn after_reap(&self, service: Service, last: bool) -> Place
+        requires { Suits (Place.Reap service last) self.now }
+        ensures { Suits result self.now }
+    {
+        if !self.driver.landed.is_empty() {
+            Place::Reap { service, last }
+        } else if last {
+            Place::Last { service }
+        } else {
+            Place::Wheel { service }
+        }
+    }
+
+    /// Advances the timeout wheel. No deadline is due, since the clock stands still.
+    pub fn advance_wheel(&mut self, service: Service) -> Event
+        requires { SoundAt (Place.Wheel service) self.old }
+        ensures { StepsTo self.old result 0 self.new }
+    {
+        self.place = Place::Submit { service };
+        Event::Serve
+    }
+
+    /// Puts the next deadline on the wheel; where none is left, stages the next cancel or operation; and
+    /// where none of these is left, ends the staging.
+    pub fn submit(&mut self, service: Service) -> Result<Event, AllocError>
+        requires { SoundAt (Place.Submit service) self.old }
+        ensures { IfOk result (λ event. StepsTo self.old event 0 self.new) }
+    {
+        if let Some(request) = self.driver.next_unenrolled() {
+            return self.enrol(service, request);
+        }
+        if let Some(request) = self.driver.next_cancel() {
+            return Ok(self.stage_cancel(service, request));
+        }
+        if self.may_stage() {
+            return self.stage(service);
+        }
+        Ok(self.end_staging(service))
+    }
+
+    /// Puts the deadline of the request on the wheel.
+    fn enrol(&mut self, service: Service, request: usize) -> Result<Event, AllocError>
+        requires sound { SoundAt (Place.Submit service) self.old }
+        requires found { IsUnenrolled self.old.driver.requests.items request }
+        ensures { IfOk result (λ event. StepsTo self.old event 0 self.new) }
+    {
+        let moment = self.fires_at(self.driver.deadline_of(request));
+        let outcome = self.driver.enrol(request, moment, self.sampled)?;
+        self.place = Place::Submit { service };
+        Ok(Event::Enrol { request, outcome })
+    }
+
+    /// The moment at which the wheel fires a deadline: the first tick from it on.
+    fn fires_at(&self, deadline: u64) -> u64
+        requires tick { (0 < self.now.config.tick) × (self.now.config.tick < 2 ^ 60) }
+        requires time { deadline < 2 ^ 63 }
+        ensures { result ≡ moment_of self.now.start self.now.config.tick deadline }
+    {
+        let tick = self.config.tick;
+        let past = deadline.saturating_sub(self.start) % tick;
+        deadline + (tick - past) % tick
+    }
+
+    /// Stages the cancel of the request, or enters a full submission queue.
+    fn stage_cancel(&mut self, service: Service, request: usize) -> Event
+        requires sound { SoundAt (Place.Submit service) self.old }
+        requires found { NeedsCancel self.old.driver.requests.items request }
+        ensures { StepsTo self.old result 0 self.new }
+    {
+        if self.is_full() {
+            return self.flush(service);
+        }
+        self.driver.stage_cancel(request);
+        self.place = Place::Submit { service };
+        Event::Cancel { request }
+    }
+
+    /// Whether a request is Queued and has a place in the ring.
+    pub fn may_stage(&self) -> bool
+        ensures { IsTrue result → self.now.driver.in_flight < self.now.config.ring }
+    {
+        !self.driver.ready.is_empty() && self.driver.in_flight < self.config.ring
+    }
+
+    /// Whether the submission queue is full.
+    pub fn is_full(&self) -> bool
+        ensures { result ≡ false → self.now.driver.entries < self.now.config.ring }
+    {
+        self.driver.entries >= self.config.ring
+    }
+
+    /// Stages the first Queued request, or enters a full submission queue.
+    fn stage(&mut self, service: Service) -> Result<Event, AllocError>
+        requires sound { SoundAt (Place.Submit service) self.old }
+        requires room { self.old.driver.in_flight < self.old.config.ring }
+        ensures { IfOk result (λ event. StepsTo self.old event 0 self.new) }
+    {
+        if self.is_full() {
+            return Ok(self.flush(service));
+        }
+        let staged = self.driver.stage()?;
+        self.place = Place::Submit { service };
+        Ok(match staged {
+            Some(request) => Event::Stage { request },
+            None => Event::Serve,
+        })
+    }
+
+    /// The kernel takes all that is staged, since the submission queue is full.
+    fn flush(&mut self, service: Service) -> Event
+        requires { SoundAt (Place.Submit service) self.old }
+        ensures { StepsTo self.old result 0 self.new }
+    {
+        self.driver.enter();
+        self.place = Place::Submit { service };
+        Event::Enter
+    }
+
+    /// Ends the staging with the wake poll, which must be armed from the first service on.
+    fn end_staging(&mut self, service: Service) -> Event
+        requires { SoundAt (Place.Submit service) self.old }
+        ensures { StepsTo self.old result 0 self.new }
+    {
+        if !self.driver.poll_armed && self.is_full() {
+            return self.flush(service);
+        }
+        self.driver.arm_poll();
+        let due = self.driver.unresolved > 0;
+        let urgent = !service.defer || self.driver.has_callbacks() || self.has_submissions();
+        self.defer = service.defer;
+        self.deferred = due && !urgent;
+        self.place = if due && urgent {
+            Place::Enter { service }
+        } else {
+            Place::Reap {
+                service,
+                last: true,
+            }
+        };
+        Event::Serve
+    }
+
+    /// Whether something is to be enrolled or staged.
+    pub fn has_submissions(&self) -> bool {
+        self.may_stage()
+    }
+
+    /// The last enter of a service.
+    pub fn enter_last(&mut self, service: Service) -> Event
+        requires { SoundAt (Place.Enter service) self.old }
+        ensures { StepsTo self.old result 0 self.new }
+    {
+        self.place = Place::Reap {
+            service,
+            last: true,
+        };
+        self.driver.enter();
+        Event::Enter
+    }
+
+    /// The end of a service.
+    pub fn end_service(&mut self, service: Service) -> Event
+        requires { SoundAt (Place.Last service) self.old }
+        ensures { StepsTo self.old result 0 self.new }
+    {
+        self.place = match service.back {
+            Back::Mail => Place::Mail,
+            Back::Begin => Place::Callbacks { then: Then::Begin },
+            Back::Finish => Place::Callbacks { then: Then::Finish },
+        };
+        Event::Serve
+    }
+}

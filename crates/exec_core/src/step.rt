@@ -1,0 +1,66 @@
+//! One step of the worker: its place says which.
+
+ghost use Rattle.std.specs.Prelude.{◌≡◌, ℕ, false, IfOk};
+ghost use Rattle.exec_machine.specs.Allowed.{has_ended};
+ghost use Rattle.exec_core.specs.Sound.{Sound, StepsTo};
+
+use crate::executor::Core;
+use crate::place::Place;
+use exec_machine::event::Event;
+use std::alloc::{AllocError, Global};
+
+impl Core {
+    /// Takes the next step of the worker, and answers what happens.
+    #[tactic(auto, using(crate::proofs::Steps::sound_at))]
+    pub fn step(&mut self, alloc: Global) -> Result<Event, AllocError>
+        requires sound { Sound self.old }
+        requires running { has_ended self.old.phase ≡ false }
+        ensures { IfOk result (λ event. (choice : ℕ) × StepsTo self.old event choice self.new) }
+    {
+        match self.place {
+            Place::Begin => Ok(self.begin_turn()),
+            Place::CountDown => Ok(self.count_down()),
+            Place::Pop { global_first } => Ok(self.pop(global_first)),
+            Place::Mirror { global_first } => Ok(self.load_mirror(global_first)),
+            Place::RootFlag => Ok(self.take_root_flag()),
+            Place::Poll => Ok(self.begin_poll()),
+            Place::Act => self.act(alloc),
+            Place::Callbacks { then } => Ok(self.take_callbacks(then)),
+            Place::Item { then } => Ok(self.call_back(then)),
+            Place::LoadHead { round } => Ok(self.look_at_head(round)),
+            Place::LoadMirror { round } => Ok(self.look_at_mirror(round)),
+            Place::LoadWord { round } => Ok(self.look_at_word(round)),
+            Place::Sample { service } => Ok(self.sample(service)),
+            Place::Reap { service, last } => self.reap(service, last),
+            Place::Wheel { service } => Ok(self.advance_wheel(service)),
+            Place::Submit { service } => self.submit(service),
+            Place::Enter { service } => Ok(self.enter_last(service)),
+            Place::Last { service } => Ok(self.end_service(service)),
+            Place::Mail => Ok(self.look_at_mail()),
+            Place::Test => Ok(self.test_for_work()),
+            Place::Clock => Ok(self.read_clock()),
+            Place::Publish => Ok(self.publish()),
+            Place::LookMirror => Ok(self.look_after_publish()),
+            Place::LookCount => Ok(self.look_at_count()),
+            Place::RingFull { stay } => Ok(self.enter_full_ring(stay)),
+            Place::RingTest { stay } => Ok(self.test_ring(stay)),
+            Place::RingArm { stay } => Ok(self.arm_ring(stay)),
+            Place::RingEnter { stay } => Ok(self.enter_ring(stay)),
+            Place::RingSleep { stay } => Ok(self.sleep_on_ring(stay)),
+            Place::RingBits { stay, served } => Ok(self.disarm_ring(stay, served)),
+            Place::WordArm => Ok(self.arm_word()),
+            Place::WordSleep => Ok(self.sleep_on_word()),
+            Place::WordBits => Ok(self.disarm_word()),
+            Place::Withdraw { next } => Ok(self.withdraw(next)),
+            Place::Close => Ok(self.close()),
+            Place::CloseQueue => Ok(self.close_queue()),
+            Place::OpenBarrier => Ok(self.open_barrier()),
+            Place::Stop => Ok(self.stop()),
+            Place::Discard => Ok(self.discard()),
+            Place::Visit { shard } => Ok(self.visit(shard)),
+            Place::LeaveBarrier => Ok(self.leave_barrier()),
+            Place::CloseMail => Ok(self.close_mail()),
+            Place::End => Ok(self.end()),
+        }
+    }
+}

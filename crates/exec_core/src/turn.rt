@@ -1,0 +1,79 @@
+//! The beginning of a turn: the picks from the queues and the root flag.
+//!
+//! The own queue and the global one hold ordinary tasks. There are none yet, so a pick finds nothing.
+
+ghost use Rattle.exec_core.specs.Sound.{SoundAt, StepsTo};
+
+use crate::executor::Core;
+use crate::place::{Place, Then};
+use exec_machine::event::Event;
+
+impl Core {
+    /// A turn begins.
+    pub fn begin_turn(&mut self) -> Event
+        requires { SoundAt Place.Begin self.old }
+        ensures { StepsTo self.old result 0 self.new }
+    {
+        self.place = Place::CountDown;
+        Event::Turn
+    }
+
+    /// Counts down to the global look, which then comes first.
+    pub fn count_down(&mut self) -> Event
+        requires { SoundAt Place.CountDown self.old }
+        ensures { StepsTo self.old result 0 self.new }
+    {
+        if self.countdown <= 1 {
+            self.countdown = self.config.interval;
+            self.place = Place::Mirror { global_first: true };
+        } else {
+            self.countdown -= 1;
+            self.place = Place::Pop {
+                global_first: false,
+            };
+        }
+        Event::Turn
+    }
+
+    /// Pops the own queue, which is empty.
+    pub fn pop(&mut self, global_first: bool) -> Event
+        requires { SoundAt (Place.Pop global_first) self.old }
+        ensures { StepsTo self.old result 0 self.new }
+    {
+        self.place = if global_first {
+            Place::RootFlag
+        } else {
+            Place::Mirror {
+                global_first: false,
+            }
+        };
+        Event::Turn
+    }
+
+    /// Loads the length of the global queue, which is empty.
+    pub fn load_mirror(&mut self, global_first: bool) -> Event
+        requires { SoundAt (Place.Mirror global_first) self.old }
+        ensures { StepsTo self.old result 0 self.new }
+    {
+        self.place = if global_first {
+            Place::Pop { global_first: true }
+        } else {
+            Place::RootFlag
+        };
+        Event::Turn
+    }
+
+    /// Takes the root flag, and where it was set goes on to the poll of the root.
+    pub fn take_root_flag(&mut self) -> Event
+        requires { SoundAt Place.RootFlag self.old }
+        ensures { StepsTo self.old result 0 self.new }
+    {
+        self.place = if self.root.flag {
+            Place::Poll
+        } else {
+            Place::Callbacks { then: Then::Look }
+        };
+        self.root.flag = false;
+        Event::Turn
+    }
+}

@@ -1,0 +1,117 @@
+-- Which texts are traces, and of what.
+use Rattle.std.specs.Prelude.{◌≡◌, ◌≢◌, ℕ, Bool, true, false, not, ◌==◌, ◌+◌, ◌-◌, ◌^◌, ◌<◌, ◌≤◌, ◌⊎◌, List, [], ◌∷◌, ◌++◌, All, map, filter, length, take, codes}
+use Rattle.std.specs.Fmt.{decimal}
+use Rattle.std.specs.List.{flat_map}
+use Rattle.std.specs.Str.Lines.{lines}
+use Rattle.exec_outcomes.specs.declared.outcome.OpResult.{OpResult}
+use Rattle.exec_outcomes.specs.declared.outcome.OpResult.TheVariants.{Count, Errno}
+use Rattle.exec_outcomes.specs.Text.{text_of_result}
+use Rattle.exec_machine.specs.declared.config.Configuration.{Configuration}
+use Rattle.exec_machine.specs.declared.config.Word.{Word}
+use Rattle.exec_machine.specs.declared.config.Word.TheVariants.{Send, Await, End}
+use Rattle.exec_machine.specs.declared.config.Trace.{Trace}
+use Rattle.exec_machine.specs.declared.step.Step.{Step}
+use Rattle.exec_machine.specs.declared.step.Step.TheVariants.{Work, Land}
+
+-- what a trace says
+pub record Plan : Type 0 where
+  pub config : Configuration
+  pub scripts : List (List Word)
+  pub root : List Word
+  pub steps : List Step
+
+-- Lines end with `\n` or `\r\n`, and the last may lack its end. A blank line, or one that begins with `#`, says nothing.
+abbrev pub says_something : List ℕ → Bool
+says_something [] = false
+says_something (b ∷ bytes) = not (b == 35)
+
+-- the header, one line for each value
+abbrev pub header_lines : Configuration → List (List ℕ)
+header_lines c =
+    (codes "workers " ++ decimal c.workers) ∷ (codes "interval " ++ decimal c.interval) ∷ (codes "ring " ++ decimal c.ring)
+    ∷ (codes "tick " ++ decimal c.tick) ∷ (codes "connect " ++ decimal c.connect) ∷ (codes "rw " ++ decimal c.rw)
+    ∷ (codes "spin " ++ decimal c.spin.budget ++ 32 ∷ decimal c.spin.most ++ 32 ∷ decimal c.spin.quick ++ 32 ∷ decimal c.spin.iterations)
+    ∷ (codes "files " ++ decimal c.files) ∷ (codes "sockets " ++ decimal c.sockets) ∷ []
+
+abbrev pub text_of_word : Word → List ℕ
+text_of_word (Send socket length) = codes "send " ++ decimal socket ++ 32 ∷ decimal length
+text_of_word Await = codes "await"
+text_of_word End = codes "end"
+
+-- the words of a script, a space before each
+abbrev pub text_of_words : List Word → List ℕ
+text_of_words words = flat_map (λ word. 32 ∷ text_of_word word) words
+
+abbrev pub text_of_step : Step → List ℕ
+text_of_step (Work worker count) = codes "w " ++ decimal worker ++ 32 ∷ decimal count
+text_of_step (Land request result) = codes "k " ++ decimal request ++ 32 ∷ text_of_result result
+
+-- the lines of a trace that say something, in order
+abbrev pub plan_lines : Plan → List (List ℕ)
+plan_lines p =
+    header_lines p.config ++ map (λ words. codes "script" ++ text_of_words words) p.scripts
+    ++ (codes "root" ++ text_of_words p.root) ∷ codes "steps" ∷ map text_of_step p.steps
+
+-- Bounds of what a line says: a number is at most 2^64 - 1, an error number isn't 0.
+abbrev pub WordFits : Configuration → Word → Type 0
+WordFits c (Send socket length) = (socket < c.sockets) × (0 < length) × (length ≤ 1048576)
+WordFits c Await = Unit {0}
+WordFits c End = Unit {0}
+
+abbrev pub ResultFits : OpResult → Type 0
+ResultFits (Count n) = n < 2 ^ 64
+ResultFits (Errno code) = (0 < code) × (code < 2 ^ 64)
+
+abbrev pub StepFits : Step → Type 0
+StepFits (Work worker count) = (worker < 2 ^ 64) × (0 < count) × (count < 2 ^ 64)
+StepFits (Land request result) = (request < 2 ^ 64) × ResultFits result
+
+-- the one header that is read so far
+abbrev pub the_config : Configuration
+the_config =
+    record {
+      workers = 1;
+      interval = 31;
+      ring = 16;
+      tick = 5000000;
+      connect = 10000000;
+      rw = 10000000;
+      spin = record { budget = 0; most = 0; quick = 0; iterations = 0 };
+      files = 0;
+      sockets = 1;
+    }
+
+pub record IsPlan (p : Plan) : Type 0 where
+  pub header : p.config ≡ the_config
+  pub no_scripts : p.scripts ≡ []
+  pub some_word : 0 < length p.root
+  pub words_fit : All (WordFits p.config) p.root
+  pub steps_fit : All StepFits p.steps
+
+-- the text is a trace, of this plan
+pub record IsTraceOf (text : List ℕ) (p : Plan) : Type 0 where
+  pub plan : IsPlan p
+  pub spelled : filter says_something (lines text) ≡ plan_lines p
+
+abbrev pub IsTrace : List ℕ → Type 0
+IsTrace text = (p : Plan) × IsTraceOf text p
+
+-- some trace begins with these lines
+abbrev pub CanGoOn : List (List ℕ) → Type 0
+CanGoOn front = (p : Plan) × IsPlan p × (rest : List (List ℕ)) × (filter says_something front ++ rest ≡ plan_lines p)
+
+-- This line is the first at which the text is no trace: no trace begins with the lines up to it, but one
+-- does with those before it. Where all lines are such a beginning and no trace, it's the line after the last.
+abbrev pub IsFirstFault : List ℕ → ℕ → Type 0
+IsFirstFault text line =
+    ((0 < line) × (line ≤ length (lines text)) × CanGoOn (take (line - 1) (lines text)) × (CanGoOn (take line (lines text)) → ⊥))
+    ⊎ ((line ≡ length (lines text) + 1) × CanGoOn (lines text) × (IsTrace text → ⊥))
+
+-- what a trace that was read says
+abbrev pub plan_of : Trace → Plan
+plan_of t = record { config = t.config; scripts = map (λ script. script.items) t.scripts.items; root = t.root.items; steps = t.steps.items }
+
+-- how many steps a line asks for
+abbrev pub count_of : Step → ℕ
+count_of (Work worker count) = count
+count_of (Land request result) = 1

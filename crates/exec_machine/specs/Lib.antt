@@ -1,0 +1,7 @@
+pub mod World
+pub mod Allowed
+pub mod After
+pub mod Run
+pub mod Text
+pub mod Grammar
+pub mod Examples

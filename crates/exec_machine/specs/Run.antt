@@ -1,0 +1,116 @@
+-- Which list of lines is the log of a run.
+use Rattle.std.specs.Prelude.{◌≡◌, ℕ, zero, suc, Bool, true, false, ◌==◌, ◌&&◌, if◌then◌else◌, List, [], ◌∷◌, Option, Some, None, option_and_then, replicate}
+use Rattle.exec_outcomes.specs.declared.outcome.OpResult.{OpResult}
+use Rattle.exec_outcomes.specs.declared.outcome.OpResult.TheVariants.{Count, Errno}
+use Rattle.exec_machine.specs.declared.config.Configuration.{Configuration}
+use Rattle.exec_machine.specs.declared.config.Word.{Word}
+use Rattle.exec_machine.specs.declared.step.Step.{Step}
+use Rattle.exec_machine.specs.declared.step.Step.TheVariants as step
+use Rattle.exec_machine.specs.declared.step.Action.{Action}
+use Rattle.exec_machine.specs.declared.step.Action.TheVariants as action
+use Rattle.exec_machine.specs.declared.event.Event.{Event}
+use Rattle.exec_machine.specs.declared.event.Event.TheVariants as event
+use Rattle.exec_machine.specs.declared.event.Said.{Said}
+use Rattle.exec_machine.specs.declared.event.Said.TheVariants.{Refused, Did}
+use Rattle.exec_machine.specs.declared.event.Line.{Line}
+use Rattle.exec_machine.specs.declared.state.WorkerPhase.TheVariants as worker
+use Rattle.exec_machine.specs.declared.state.Rest.TheVariants as rest
+use Rattle.exec_machine.specs.declared.state.TaskPhase.TheVariants as task
+use Rattle.exec_machine.specs.declared.state.Waiting.TheVariants as waiting
+use Rattle.exec_machine.specs.declared.state.Call.TheVariants as call
+use Rattle.exec_machine.specs.World.{World, Worker, Task}
+use Rattle.exec_machine.specs.Allowed.{Allowed, is_enabled}
+use Rattle.exec_machine.specs.After.{after, after_landing}
+use Rattle.exec_machine.specs.Grammar.{Plan}
+
+-- One line: a step that is not enabled is refused and changes nothing; a worker's has an event that may
+-- come; the kernel's lands a result.
+abbrev pub Follows : Configuration → World → Action → Said → ℕ → Type 0
+Follows c w a Refused choice = is_enabled w a ≡ false
+Follows c w (action.Work i) (Did e) choice = (is_enabled w (action.Work i) ≡ true) × Allowed c w i e choice
+Follows c w (action.Land r n) (Did e) choice = (is_enabled w (action.Land r n) ≡ true) × (e ≡ event.Land)
+
+abbrev pub after_line : Configuration → World → Action → Said → ℕ → World
+after_line c w a Refused choice = w
+after_line c w (action.Work i) (Did e) choice = after c w i e choice
+after_line c w (action.Land r n) (Did e) choice = after_landing w r n
+
+-- The lines are a run from this state on, by these choices, one for each line.
+abbrev pub RunsBy : Configuration → World → List Line → List ℕ → Type 0
+RunsBy c w [] [] = Unit {0}
+RunsBy c w (l ∷ ls) (choice ∷ choices) = Follows c w l.action l.said choice × RunsBy c (after_line c w l.action l.said choice) ls choices
+RunsBy c w [] (choice ∷ choices) = ⊥
+RunsBy c w (l ∷ ls) [] = ⊥
+
+-- the state after such a run
+abbrev pub world_after : Configuration → World → List Line → List ℕ → World
+world_after c w [] choices = w
+world_after c w (l ∷ ls) [] = w
+world_after c w (l ∷ ls) (choice ∷ choices) = world_after c (after_line c w l.action l.said choice) ls choices
+
+abbrev pub same_result : OpResult → OpResult → Bool
+same_result (Count m) (Count n) = m == n
+same_result (Count m) (Errno d) = false
+same_result (Errno c) (Count n) = false
+same_result (Errno c) (Errno d) = c == d
+
+abbrev pub is_work : ℕ → Action → Bool
+is_work i (action.Work j) = i == j
+is_work i (action.Land r n) = false
+
+abbrev pub is_landing : ℕ → OpResult → Action → Bool
+is_landing r n (action.Work j) = false
+is_landing r n (action.Land q m) = (r == q) && same_result n m
+
+abbrev pub is_refused : Said → Bool
+is_refused Refused = true
+is_refused (Did e) = false
+
+-- What comes after the lines of `w i n`: these are n, or fewer of which the last is the first refused.
+abbrev pub after_work : ℕ → ℕ → List Line → Option (List Line)
+after_work i zero ls = Some ls
+after_work i (suc n) [] = None
+after_work i (suc n) (l ∷ ls) = if is_work i l.action then (if is_refused l.said then Some ls else after_work i n ls) else None
+
+-- what comes after the lines of a step
+abbrev pub after_step : Step → List Line → Option (List Line)
+after_step (step.Work i n) ls = after_work i n ls
+after_step (step.Land r n) [] = None
+after_step (step.Land r n) (l ∷ ls) = if is_landing r n l.action then Some ls else None
+
+-- what comes after the lines of the steps, in order
+abbrev pub after_steps : List Step → List Line → Option (List Line)
+after_steps [] ls = Some ls
+after_steps (s ∷ ss) ls = option_and_then (after_steps ss) (after_step s ls)
+
+-- the root of a pool worker
+abbrev pub root_task : ℕ → List Word → Task
+root_task i script =
+    record { script = script; place = 0; adapters = []; held = []; phase = task.Queued; cleared = false; home = Some i; waiting = waiting.Nothing; fresh = false }
+
+abbrev pub new_worker : Worker
+new_worker = record { phase = worker.Open; left = false; rest = rest.Awake; start = 0; sampled = 0; busy = false; inbox = []; ready = []; landed = [] }
+
+-- the state in which a run begins: one worker, and its root with this script, which is queued
+abbrev pub first_world : List Word → World
+first_world script =
+    record {
+      clock = 0;
+      workers = new_worker ∷ [];
+      tasks = root_task 0 script ∷ [];
+      operations = [];
+      requests = [];
+      sleepers = [];
+      opens = [];
+      listeners = [];
+      callers = replicate 16 call.Nothing;
+      set_closed = false;
+      queue_closed = false;
+      stopped = false;
+    }
+
+-- The lines are a log of the plan: each of its steps has its lines, and they are a run.
+pub record IsLogOf (p : Plan) (steps : List Step) (lines : List Line) : Type 0 where
+  pub has_lines : after_steps steps lines ≡ Some []
+  pub choices : List ℕ
+  pub runs : RunsBy p.config (first_world p.root) lines choices

@@ -1,0 +1,179 @@
+//! The events of the abstract machine, and the lines of a log.
+
+use crate::step::Action;
+use exec_outcomes::outcome::{Kind, OpResult, Outcome};
+use std::fmt;
+
+/// What happens in one step of a party. Tasks, requests and workers go by number.
+#[derive(Clone, Copy, Debug, PartialEq, Eq)]
+pub enum Event {
+    /// A step that changes nothing, or by which a closing worker passes the shutdown barrier.
+    Turn,
+    /// A step inside a service that changes nothing but the sampled moment.
+    Serve,
+    /// A poll of the task begins.
+    Begin {
+        task: usize,
+    },
+    /// The poll of the task ends pending.
+    Pend {
+        task: usize,
+    },
+    /// The task is over.
+    Done {
+        task: usize,
+    },
+    /// The polled task makes a request. With an outcome where its deadline had passed.
+    Admit {
+        request: usize,
+        kind: Kind,
+        outcome: Option<Outcome>,
+    },
+    /// The polled task waits for the request, or for a wake alone.
+    Wait {
+        request: Option<usize>,
+    },
+    /// The polled task takes the resolved request.
+    Got {
+        request: usize,
+        outcome: Outcome,
+    },
+    /// The polled task was woken, and goes on.
+    Pass,
+    /// The task is woken.
+    Wake {
+        task: usize,
+    },
+    /// The deadline of the request is on the wheel, or the request is resolved.
+    Enrol {
+        request: usize,
+        outcome: Option<Outcome>,
+    },
+    /// The operation of the request is put into the submission queue.
+    Stage {
+        request: usize,
+    },
+    /// The kernel takes all that is staged.
+    Enter,
+    /// A landed result is judged. Without an outcome another operation is needed.
+    Reap {
+        request: usize,
+        result: OpResult,
+        outcome: Option<Outcome>,
+    },
+    /// The cancel of the request is put into the submission queue.
+    Cancel {
+        request: usize,
+    },
+    /// What the request owned is let go.
+    Release {
+        request: usize,
+    },
+    /// The worker sleeps until a moment in nanoseconds, or without end.
+    Sleep {
+        until: Option<u64>,
+    },
+    /// The worker begins to close.
+    Close,
+    /// The pool is stopped.
+    Stop,
+    /// The worker has ended.
+    End,
+    /// The operation has landed.
+    Land,
+}
+
+/// What became of a step.
+#[derive(Clone, Copy, Debug, PartialEq, Eq)]
+pub enum Said {
+    /// The step was not enabled, and nothing changed.
+    Refused,
+    /// This happened.
+    Did(Event),
+}
+
+/// A line of a log.
+#[derive(Clone, Copy, Debug, PartialEq, Eq)]
+pub struct Line {
+    /// The step.
+    pub action: Action,
+    /// What became of it.
+    pub said: Said,
+}
+
+impl fmt::Display for Event {
+    ghost use Rattle.std.specs.Prelude.{Some};
+    ghost use Rattle.exec_machine.specs.Text.{text_of_event};
+
+    ghost output = { λ e. Some (text_of_event e) };
+
+    fn fmt<W: fmt::Write>(&self, f: &mut fmt::Formatter<W>) -> fmt::Result {
+        match self {
+            Event::Turn => write!(f, "turn"),
+            Event::Serve => write!(f, "serve"),
+            Event::Begin { task } => write!(f, "begin {task}"),
+            Event::Pend { task } => write!(f, "pend {task}"),
+            Event::Done { task } => write!(f, "done {task}"),
+            Event::Admit {
+                request,
+                kind,
+                outcome: None,
+            } => write!(f, "admit {request} {kind}"),
+            Event::Admit {
+                request,
+                kind,
+                outcome: Some(outcome),
+            } => write!(f, "admit {request} {kind} {outcome}"),
+            Event::Wait { request: None } => write!(f, "wait none"),
+            Event::Wait {
+                request: Some(request),
+            } => write!(f, "wait {request}"),
+            Event::Got { request, outcome } => write!(f, "got {request} {outcome}"),
+            Event::Pass => write!(f, "got pass"),
+            Event::Wake { task } => write!(f, "wake {task}"),
+            Event::Enrol {
+                request,
+                outcome: None,
+            } => write!(f, "enrol {request}"),
+            Event::Enrol {
+                request,
+                outcome: Some(outcome),
+            } => write!(f, "enrol {request} {outcome}"),
+            Event::Stage { request } => write!(f, "stage {request}"),
+            Event::Enter => write!(f, "enter"),
+            Event::Reap {
+                request,
+                result,
+                outcome: None,
+            } => write!(f, "reap {request} {result} more"),
+            Event::Reap {
+                request,
+                result,
+                outcome: Some(outcome),
+            } => write!(f, "reap {request} {result} {outcome}"),
+            Event::Cancel { request } => write!(f, "cancel {request}"),
+            Event::Release { request } => write!(f, "release {request}"),
+            Event::Sleep { until: None } => write!(f, "sleep ever"),
+            Event::Sleep { until: Some(until) } => write!(f, "sleep {until}"),
+            Event::Close => write!(f, "close"),
+            Event::Stop => write!(f, "stop"),
+            Event::End => write!(f, "end"),
+            Event::Land => write!(f, "land"),
+        }
+    }
+}
+
+impl fmt::Display for Line {
+    ghost use Rattle.std.specs.Prelude.{Some};
+    ghost use Rattle.exec_machine.specs.Text.{text_of_line};
+
+    ghost output = { λ l. Some (text_of_line l) };
+
+    fn fmt<W: fmt::Write>(&self, f: &mut fmt::Formatter<W>) -> fmt::Result {
+        let action = self.action;
+        match self.said {
+            Said::Refused => write!(f, "{action} refused"),
+            Said::Did(event) => write!(f, "{action} {event}"),
+        }
+    }
+}

@@ -1,0 +1,15 @@
+-- Which results a kernel may give for an operation.
+use Rattle.std.specs.Prelude.{ℕ, Bool, ◌&&◌, ◌^◌, ◌-◌, nat_le, min}
+use Rattle.exec_outcomes.specs.declared.outcome.Kind.{Kind}
+use Rattle.exec_outcomes.specs.declared.outcome.Kind.TheVariants.{Send}
+use Rattle.exec_outcomes.specs.declared.outcome.OpResult.{OpResult}
+use Rattle.exec_outcomes.specs.declared.outcome.OpResult.TheVariants.{Count, Errno}
+
+-- the bytes that the next operation of a send may move: what is left
+abbrev pub window_of : Kind → ℕ → ℕ → ℕ
+window_of Send length moved = min (length - moved) (2 ^ 32 - 1)
+
+-- an error number from 1 to 4095, or a count that the window allows and an i32 can say
+abbrev pub is_lawful : ℕ → OpResult → Bool
+is_lawful window (Count n) = nat_le n window && nat_le n (2 ^ 31 - 1)
+is_lawful window (Errno c) = nat_le 1 c && nat_le c 4095

@@ -1,0 +1,82 @@
+//! The words in which results and outcomes are told.
+
+use exec_base::error::{Error, Word};
+use std::fmt;
+
+/// What a request asks for. Ports the variants of `Request`.
+#[derive(Clone, Copy, Debug, PartialEq, Eq)]
+pub enum Kind {
+    /// To send all bytes of a buffer to a socket.
+    Send,
+}
+
+/// The result of one operation, as the kernel gave it.
+#[derive(Clone, Copy, Debug, PartialEq, Eq)]
+pub enum OpResult {
+    /// So many bytes were moved.
+    Count(u64),
+    /// The operation failed with this error number, which is at least 1.
+    Errno(u64),
+}
+
+/// A result together with what counts for its meaning.
+#[derive(Clone, Copy, Debug, PartialEq, Eq)]
+pub struct Judged {
+    /// The result.
+    pub result: OpResult,
+    /// Whether cancellation of the request had been asked for when the result was reaped.
+    pub cancelled: bool,
+}
+
+/// How a request ended.
+#[derive(Clone, Copy, Debug, PartialEq, Eq)]
+pub enum Outcome {
+    /// All that was asked for was done.
+    Success,
+    /// It was not, for this reason.
+    Failure(Error),
+}
+
+impl fmt::Display for Kind {
+    ghost use Rattle.std.specs.Prelude.{Some};
+    ghost use Rattle.exec_outcomes.specs.Text.{text_of_kind};
+
+    ghost output = { λ k. Some (text_of_kind k) };
+
+    fn fmt<W: fmt::Write>(&self, f: &mut fmt::Formatter<W>) -> fmt::Result {
+        match self {
+            Kind::Send => write!(f, "send"),
+        }
+    }
+}
+
+impl fmt::Display for OpResult {
+    ghost use Rattle.std.specs.Prelude.{Some};
+    ghost use Rattle.exec_outcomes.specs.Text.{text_of_result};
+
+    ghost output = { λ r. Some (text_of_result r) };
+
+    fn fmt<W: fmt::Write>(&self, f: &mut fmt::Formatter<W>) -> fmt::Result {
+        match self {
+            OpResult::Count(count) => write!(f, "{count}"),
+            OpResult::Errno(code) => write!(f, "-{code}"),
+        }
+    }
+}
+
+impl fmt::Display for Outcome {
+    ghost use Rattle.std.specs.Prelude.{Some};
+    ghost use Rattle.exec_outcomes.specs.Text.{text_of_outcome};
+
+    ghost output = { λ o. Some (text_of_outcome o) };
+
+    fn fmt<W: fmt::Write>(&self, f: &mut fmt::Formatter<W>) -> fmt::Result {
+        match self {
+            Outcome::Success => write!(f, "ok"),
+            Outcome::Failure(error) => {
+                let word = Word(*error);
+                write!(f, "{word}")
+            }
+        }
+    }
+}

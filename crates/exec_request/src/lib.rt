@@ -1,0 +1,4 @@
+//! The requests that a task makes of the kernel, each with the buffers that it owns.
+#![tactic(auto)]
+
+pub mod send;

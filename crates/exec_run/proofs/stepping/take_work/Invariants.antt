@@ -1,0 +1,12 @@
+use Rattle.std.proofs.Common.{◌≤◌}
+use Rattle.exec_core.specs.View.{world}
+use Rattle.exec_run.specs.Steps.{Works, GoesOn}
+use Rattle.exec_run.proofs.stepping.take_work.Given as goal
+
+-- so many lines of the worker were taken and given
+abbrev pub invariant-loop : goal.invariant-loop
+invariant-loop g l = record {
+  count : g.O.Output.faults l.initial.sink ≤ g.O.Output.faults l.sink;
+  goes_on : GoesOn l.initial.core l.core;
+  works : Works l.initial.core.config (world l.initial.core) l.worker l.counter (world l.core) (g.O.Output.given l.initial.sink) (g.O.Output.given l.sink);
+}

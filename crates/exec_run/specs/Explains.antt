@@ -1,0 +1,50 @@
+-- What an error of a run, or the status of the program, says.
+use Rattle.std.specs.Prelude.{◌≡◌, ℕ, ◌⊎◌, List, [], ◌∷◌, ◌++◌, Option, String}
+use Rattle.std.specs.declared.alloc.Global.{Global}
+use Rattle.exec_base.specs.Io.{Rose}
+use Rattle.exec_run.specs.declared.complaint.Complaint.{Complaint}
+use Rattle.exec_run.specs.declared.trace_error.TraceError.{TraceError}
+use Rattle.exec_run.specs.declared.trace_error.TraceError.TheVariants.{ReadFault, TooLong, Syntax, WriteFault, NoMemory}
+use Rattle.exec_run.specs.Refusal.{IsTooLong, HasFault, HasCause, AskForTrace, status_of, text_of_complaint}
+use Rattle.exec_run.specs.Log.{Gave, GaveFront, GaveLog, BrokeOff}
+
+-- what is the case where a run ends with an error, by what the source held and the counts of faults
+abbrev pub IsCauseOf : TraceError → Option (List ℕ) → ℕ → ℕ → ℕ → ℕ → Type 0
+IsCauseOf ReadFault source read read' written written' = Rose read read'
+IsCauseOf (TooLong count) source read read' written written' = IsTooLong source count
+IsCauseOf (Syntax line) source read read' written written' = HasFault source line
+IsCauseOf WriteFault source read read' written written' = Rose written written'
+IsCauseOf NoMemory source read read' written written' = Unit {0}
+
+-- What the sink was given where a run ends with an error: nothing, unless the run had begun.
+abbrev pub IsGivenAt : TraceError → Option (List ℕ) → Option (List ℕ) → Option (List ℕ) → Type 0
+IsGivenAt ReadFault source old new = new ≡ old
+IsGivenAt (TooLong count) source old new = new ≡ old
+IsGivenAt (Syntax line) source old new = new ≡ old
+IsGivenAt WriteFault source old new = BrokeOff source old new
+IsGivenAt NoMemory source old new = (new ≡ old) ⊎ BrokeOff source old new
+
+-- the line of a complaint
+abbrev pub complaint_line : Complaint → List ℕ
+complaint_line x = text_of_complaint x ++ 10 ∷ []
+
+-- There was cause for this complaint, and it was written.
+pub record Complained (x : Complaint) (words : List (String Global)) (source : Option (List ℕ)) (read read' : ℕ) (old new : Option (List ℕ)) : Type 0 where
+  pub cause : HasCause x words source read read'
+  pub gave : Gave old new (complaint_line x)
+
+-- What was written broke off: it's a front of a log so far, or of a complaint that there was cause for.
+abbrev pub WroteFront : List (String Global) → Option (List ℕ) → ℕ → ℕ → Option (List ℕ) → Option (List ℕ) → Type 0
+WroteFront words source read read' old new =
+    (AskForTrace words × BrokeOff source old new)
+    ⊎ ((x : Complaint) × HasCause x words source read read' × GaveFront old new (complaint_line x))
+
+-- What a status says. 0: the words ask for a trace, and its whole log was written. 1, 2, 4 and 5: a
+-- complaint was written. 6: the sink failed while a log or a complaint was written. 7: there was no memory,
+-- before anything was written or while that was. There is no other status.
+abbrev pub Explains : ℕ → List (String Global) → Option (List ℕ) → ℕ → ℕ → Option (List ℕ) → Option (List ℕ) → ℕ → ℕ → Type 0
+Explains status words source read read' old new written written' =
+    ((status ≡ 0) × AskForTrace words × GaveLog source old new)
+    ⊎ ((x : Complaint) × (status ≡ status_of x) × Complained x words source read read' old new)
+    ⊎ ((status ≡ 6) × Rose written written' × WroteFront words source read read' old new)
+    ⊎ ((status ≡ 7) × ((new ≡ old) ⊎ WroteFront words source read read' old new))

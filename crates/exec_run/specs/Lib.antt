@@ -1,0 +1,5 @@
+pub mod Refusal
+pub mod Log
+pub mod Explains
+pub mod Steps
+pub mod Reading

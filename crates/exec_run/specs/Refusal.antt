@@ -1,0 +1,68 @@
+-- Why a run is refused before its first step, and how that is written.
+use Rattle.std.specs.Prelude.{◌≡◌, ℕ, ◌+◌, ◌^◌, ◌<◌, ◌≤◌, ◌⊎◌, List, [], ◌∷◌, ◌++◌, Option, IfSome, String, string_bytes, map, length, sum_by, codes}
+use Rattle.std.specs.Fmt.{decimal}
+use Rattle.std.specs.declared.alloc.Global.{Global}
+use Rattle.exec_base.specs.Io.{Rose}
+use Rattle.exec_machine.specs.Grammar.{Plan, IsTraceOf, IsFirstFault, count_of}
+use Rattle.exec_run.specs.declared.complaint.Complaint.{Complaint}
+use Rattle.exec_run.specs.declared.complaint.Complaint.TheVariants.{Usage, ReadFault, TooLong, Syntax}
+
+-- the most bytes that a trace may have
+abbrev pub most_bytes : ℕ
+most_bytes = 2 ^ 26
+
+-- the most steps that a trace may ask for
+abbrev pub most_steps : ℕ
+most_steps = 2 ^ 24
+
+-- the text was all of what the source held, where that is known, and it's not too long
+pub record IsTextIn (source : Option (List ℕ)) (text : List ℕ) : Type 0 where
+  pub whole : IfSome source (λ bytes. bytes ≡ text)
+  pub short : length text ≤ most_bytes
+
+-- The source held more bytes than a trace may have, and the count names the first of these.
+pub record HasTooManyBytes (source : Option (List ℕ)) (count : ℕ) : Type 0 where
+  pub longer : IfSome source (λ bytes. most_bytes < length bytes)
+  pub counted : count ≡ most_bytes + 1
+
+-- The source held a trace that asks for so many steps, which are too many.
+pub record HasTooManySteps (source : Option (List ℕ)) (count : ℕ) : Type 0 where
+  pub text : List ℕ
+  pub read : IsTextIn source text
+  pub plan : Plan
+  pub spelled : IsTraceOf text plan
+  pub counted : count ≡ sum_by count_of plan.steps
+  pub more : most_steps < count
+
+-- The source held a text, and this line is the first at which it is no trace.
+pub record HasFault (source : Option (List ℕ)) (line : ℕ) : Type 0 where
+  pub text : List ℕ
+  pub read : IsTextIn source text
+  pub fault : IsFirstFault text line
+
+abbrev pub IsTooLong : Option (List ℕ) → ℕ → Type 0
+IsTooLong source count = HasTooManyBytes source count ⊎ HasTooManySteps source count
+
+-- the words ask for the run of a trace
+abbrev pub AskForTrace : List (String Global) → Type 0
+AskForTrace words = map string_bytes words ≡ codes "trace" ∷ []
+
+-- what is the case where a complaint is made, by the words, the source and its counts of faults
+abbrev pub HasCause : Complaint → List (String Global) → Option (List ℕ) → ℕ → ℕ → Type 0
+HasCause Usage words source old new = AskForTrace words → ⊥
+HasCause ReadFault words source old new = AskForTrace words × Rose old new
+HasCause (TooLong count) words source old new = AskForTrace words × IsTooLong source count
+HasCause (Syntax line) words source old new = AskForTrace words × HasFault source line
+
+-- the status that a complaint ends with
+abbrev pub status_of : Complaint → ℕ
+status_of Usage = 1
+status_of (Syntax line) = 2
+status_of (TooLong count) = 4
+status_of ReadFault = 5
+
+abbrev pub text_of_complaint : Complaint → List ℕ
+text_of_complaint Usage = codes "error Usage"
+text_of_complaint (Syntax line) = codes "error Syntax " ++ decimal line
+text_of_complaint (TooLong count) = codes "error TooLong " ++ decimal count
+text_of_complaint ReadFault = codes "error ReadFault"

@@ -1,0 +1,19 @@
+//! A trace is read from a source, run, and its log is written to a sink.
+//!
+//! `run_trace` does this for a text, and `run` is the whole program between its words and its status.
+//! What they ensure is said in `specs/`: `Log.antt` says what a log or a front of one is, `Refusal.antt` why
+//! a text is not run, and `Explains.antt` what an error or a status says.
+#![tactic(auto)]
+
+mod complaint;
+mod reading;
+mod running;
+mod stepping;
+#[cfg(test)]
+mod tests;
+mod trace_error;
+mod writing;
+
+pub use complaint::Complaint;
+pub use running::{run, run_trace};
+pub use trace_error::TraceError;

@@ -1,0 +1,93 @@
+//! From the words and the source to the sink and the status.
+
+ghost use Rattle.std.specs.Prelude.{◌≡◌, ◌≤◌, ◌↔◌, [], Some, IsTrue, IfErr, IfSome, OnOk};
+ghost use Rattle.exec_run.specs.Refusal.{AskForTrace};
+ghost use Rattle.exec_run.specs.Log.{GaveLog};
+ghost use Rattle.exec_run.specs.Explains.{IsCauseOf, IsGivenAt, Explains};
+ghost use Rattle.exec_run.specs.Steps.{Complains};
+
+use crate::complaint::Complaint;
+use crate::reading::{check, read_all};
+use crate::stepping::log_trace;
+use crate::trace_error::TraceError;
+use crate::writing::give_complaint;
+use exec_base::io::{Input, Output};
+use std::alloc::Global;
+
+/// Reads a trace from the source, runs it, and gives its log to the sink, line by line.
+///
+/// Nothing is given before the whole text is read and checked. The errors, in this order: `ReadFault` where
+/// the source fails, `TooLong` where the text has too many bytes, `Syntax` where it is no trace, `TooLong`
+/// where it asks for too many steps. Then the run begins, which ends with `WriteFault` where the sink fails.
+/// `NoMemory` comes wherever an allocation fails.
+pub fn run_trace<I: Input, O: Output>(
+    alloc: Global,
+    source: &mut I,
+    sink: &mut O,
+) -> Result<(), TraceError>
+    // The source held a trace, and the sink was given a log of it.
+    ensures ok { OnOk result (GaveLog (I.left source.old) (O.given sink.old) (O.given sink.new)) }
+    // The counts of faults never fall.
+    ensures count { O.faults sink.old ≤ O.faults sink.new }
+    // The source was read to its end.
+    ensures to_end { OnOk result (IfSome (I.left source.old) (λ _. I.left source.new ≡ Some [])) }
+    // Each error has its cause.
+    ensures err { IfErr result (λ e. IsCauseOf e (I.left source.old)
+        (I.faults source.old) (I.faults source.new) (O.faults sink.old) (O.faults sink.new)) }
+    // What was given up to an error is nothing or a front of a log.
+    ensures given { IfErr result (λ e. IsGivenAt e (I.left source.old)
+        (O.given sink.old) (O.given sink.new)) }
+{
+    let text = read_all(alloc, source)?;
+    let trace = check(alloc, text.as_slice())?;
+    log_trace(alloc, sink, trace)
+}
+
+/// Whether the words ask for the run of a trace.
+fn asks_for_trace(words: &[String]) -> bool
+    ensures { IsTrue result ↔ AskForTrace words.now }
+{
+    match words {
+        [word] => word.as_str() == "trace",
+        _ => false,
+    }
+}
+
+/// Gives the complaint, and answers the status.
+fn complain<O: Output>(alloc: Global, sink: &mut O, complaint: Complaint) -> u8
+    ensures { Complains complaint result (O.given sink.old) (O.given sink.new)
+        (O.faults sink.old) (O.faults sink.new) }
+{
+    match give_complaint(alloc, sink, complaint) {
+        Ok(()) => complaint.status(),
+        Err(TraceError::WriteFault) => 6,
+        Err(_) => 7,
+    }
+}
+
+/// The whole program: the words say what to run, and the answer is the status.
+///
+/// The words `trace` run the trace of the source. Statuses: 0 where its whole log was given; 1 where the
+/// words are anything else; 2 where the text is no trace, 4 where it's too long, 5 where the source fails;
+/// 6 where the sink fails; 7 where there is no memory. By 1, 2, 4 and 5 the sink is given one line that
+/// begins with `error`.
+pub fn run<I: Input, O: Output>(alloc: Global, words: &[String], source: &mut I, sink: &mut O) -> u8
+    // The status says what happened.
+    ensures explains { Explains result words.now (I.left source.old)
+        (I.faults source.old) (I.faults source.new) (O.given sink.old) (O.given sink.new)
+        (O.faults sink.old) (O.faults sink.new) }
+    // The source was read to its end.
+    ensures to_end { result ≡ 0 → IfSome (I.left source.old) (λ _. I.left source.new ≡ Some []) }
+{
+    if !asks_for_trace(words) {
+        return complain(alloc, sink, Complaint::Usage);
+    }
+    match run_trace(alloc, source, sink) {
+        Ok(()) => 0,
+        Err(TraceError::WriteFault) => 6,
+        Err(TraceError::NoMemory) => 7,
+        Err(TraceError::ReadFault) => complain(alloc, sink, Complaint::ReadFault),
+        Err(TraceError::TooLong(count)) => complain(alloc, sink, Complaint::TooLong(count)),
+        Err(TraceError::Syntax(line)) => complain(alloc, sink, Complaint::Syntax(line)),
+    }
+}

@@ -1,0 +1,73 @@
+-- Numbers in decimal, and the text that `parse` reads.
+use Rattle.std.proofs.Common.{◌≡◌, ◌≢◌, ℕ, ◌<◌, ◌≤◌, ◌^◌, zero, suc, List, [], ◌∷◌, Result, Ok, Err, Option, IfSome, IfNone, refl, sym, ap, ◌∙◌, arith, length, get_or, decimal, subst}
+use Rattle.std.specs.Str.{IsUtf8}
+use Rattle.std.specs.Str.Parse.{AllDigits, digits_value, ParsesUnsigned}
+use Rattle.std.proofs.lemmas.Str.{IsUtf8-from_ascii}
+use Rattle.std.proofs.lemmas.Str.Parse.{IsNumeralModel, numerals_by_value, tells_digits, digit_from_value, digit_at, parse_plain}
+use Rattle.std.proofs.lemmas.Fmt.{digits_decimal, digits_value-decimal, decimal_nonempty, first_decimal, decimal_digit, decimal-digits_value, IsAscii-decimal, decimal_injective}
+use Rattle.std.specs.Result.{result_ok}
+use Rattle.exec_text.specs.Reading.{NoSpace, IsPlain}
+
+own : IsNumeralModel (AllDigits 10) (digits_value 10)
+own = numerals_by_value (AllDigits 10) tells_digits
+
+no_space_digits : (ds : List ℕ) → AllDigits 10 ds → NoSpace ds
+no_space_digits [] h = tt
+no_space_digits (c ∷ cs) h = let r = digit_from_value c h.0 in (λ e. omega arith, no_space_digits cs h.1)
+
+pub no_space_decimal : (n : ℕ) → n < 2 ^ 64 → NoSpace (decimal n)
+no_space_decimal n h = no_space_digits (decimal n) (digits_decimal own n h)
+
+pub decimal_starts : (n : ℕ) → n < 2 ^ 64 → (48 ≤ get_or (decimal n) 0 0) × (get_or (decimal n) 0 0 ≤ 57) × (0 < length (decimal n))
+decimal_starts n h =
+    let l = decimal_nonempty n h in
+    let r = digit_at (decimal n) 0 (digits_decimal own n h) l in (r.0, r.1, l)
+
+pub decimal_zero : (n : ℕ) → n < 2 ^ 64 → get_or (decimal n) 0 0 ≡ 48 → length (decimal n) ≡ 1
+decimal_zero zero h e = ap length (decimal_digit 0 (omega arith))
+decimal_zero (suc n) h e = absurd (omega (arith, first_decimal (suc n) (omega arith) h))
+
+pub decimal_utf8 : (n : ℕ) → n < 2 ^ 64 → IsUtf8 (decimal n)
+decimal_utf8 n h = IsUtf8-from_ascii (decimal n) (IsAscii-decimal n h)
+
+pub decimal_plain : (n : ℕ) → n < 2 ^ 64 → IsPlain (decimal n)
+decimal_plain n h =
+    let q = decimal_starts n h in
+    record { some = q.2; sign = λ e. omega arith; zeros = λ e. let l = decimal_zero n h e in omega arith }
+
+pub unplain : (bs : List ℕ) (n : ℕ) → (IsPlain bs → ⊥) → n < 2 ^ 64 → bs ≢ decimal n
+unplain bs n over h e = over (subst IsPlain (sym e) (decimal_plain n h))
+
+pub untext : (bs : List ℕ) (n : ℕ) → (IsUtf8 bs → ⊥) → n < 2 ^ 64 → bs ≢ decimal n
+untext bs n over h e = over (subst IsUtf8 (sym e) (decimal_utf8 n h))
+
+parsed_ok : (bs : List ℕ) (v x : ℕ) → IsPlain bs → (AllDigits 10 bs) × (0 < length bs) × (v < 2 ^ 64) → v ≡ digits_value 10 bs → x ≡ v → bs ≡ decimal x
+parsed_ok bs v x plain p same e =
+    let z = plain.zeros in
+    let l : 0 < length bs = p.1 in
+    let d : decimal (digits_value 10 bs) ≡ bs = decimal-digits_value own bs p.0 l (λ k. let m = z k in omega arith) (subst (λ (y : ℕ). y < 2 ^ 64) same p.2) in
+    sym (ap decimal (e ∙ same) ∙ d)
+
+-- what `parse` gives where the bytes are plain
+pub parsed : {E : Type 0} (bs t : List ℕ) (r : Result ℕ E) (o : Option ℕ) → ParsesUnsigned 64 10 t r → t ≡ bs → o ≡ result_ok r → IsPlain bs → IfSome o (λ n. bs ≡ decimal n)
+parsed {E} bs t (Ok x) o h same e plain =
+    let q = subst (λ (y : List ℕ). ParsesUnsigned {E = E} 64 10 y (Ok x)) same h in
+    let p = parse_plain own {E = E} 64 bs (Ok x) q plain.sign in
+    subst (λ (y : Option ℕ). IfSome y (λ n. bs ≡ decimal n)) (sym e) (parsed_ok bs (digits_value 10 bs) x plain p.0 refl p.1)
+parsed {E} bs t (Err y) o h same e plain = subst (λ (y : Option ℕ). IfSome y (λ n. bs ≡ decimal n)) (sym e) tt
+
+pub unparsed : {E : Type 0} (bs t : List ℕ) (r : Result ℕ E) (o : Option ℕ) → ParsesUnsigned 64 10 t r → t ≡ bs → o ≡ result_ok r → IsPlain bs → IfNone o ((n : ℕ) → n < 2 ^ 64 → bs ≢ decimal n)
+unparsed {E} bs t (Ok x) o h same e plain = subst (λ (y : Option ℕ). IfNone y ((n : ℕ) → n < 2 ^ 64 → bs ≢ decimal n)) (sym e) tt
+unparsed {E} bs t (Err y) o h same e plain =
+    let q = subst (λ (z : List ℕ). ParsesUnsigned {E = E} 64 10 z (Err y)) same h in
+    let p = parse_plain own {E = E} 64 bs (Err y) q plain.sign in
+    subst (λ (y : Option ℕ). IfNone y ((n : ℕ) → n < 2 ^ 64 → bs ≢ decimal n)) (sym e)
+    (λ n small s. p (
+      subst (AllDigits 10) (sym s) (digits_decimal own n small),
+      plain.some,
+      subst (λ (b : List ℕ). digits_value 10 b < 2 ^ 64) (sym s) (subst (λ (v : ℕ). v < 2 ^ 64) (sym (digits_value-decimal own n small)) small),
+    ))
+
+pub decimal_not_zero : (bs : List ℕ) (m n : ℕ) → bs ≡ decimal m → m ≡ 0 → 0 < n → n < 2 ^ 64 → bs ≢ decimal n
+decimal_not_zero bs m n f z some small e =
+    let s : m ≡ n = decimal_injective m n (omega arith) small (sym f ∙ e) in omega arith

@@ -1,0 +1,24 @@
+use Rattle.std.proofs.Common.{◌≡◌, ◌≤◌, ◌∷◌, ℕ, List, length, drop, sym, ap, ◌∙◌, subst}
+use Rattle.std.specs.Str.Lines.{lines}
+use Rattle.std.proofs.lemmas.List.{take_rest}
+use Rattle.std.proofs.lemmas.Bool.{eqb-true}
+use Rattle.exec_text.proofs.Said.{no_more, one_more}
+use Rattle.exec_text.proofs.line.Lines.next_line.Goals as goal
+
+pub returns-then-is_empty-clause-none : goal.returns-then-is_empty-clause-none
+returns-then-is_empty-clause-none c =
+    let s = c.args.self.now in
+    let r = take_rest s.text.now s.from in
+    no_more s.text.now s.from s.number s.place (sym (ap length r) ∙ eqb-true _ 0 (sym c.is_empty.ensures ∙ c.if-is_empty.true))
+
+pub invariant_of-self : goal.invariant_of-self
+invariant_of-self c =
+    let s = c.args.self.now in
+    let f = c.first_line-length in
+    let r = take_rest s.text.now s.from in
+    record {
+      place = one_more s.text.now s.from s.number f.result.1 f.result.0.now s.place
+          (subst (λ (x : List ℕ). lines x ≡ f.result.0.now ∷ lines (drop f.result.1 x)) r f.ensures.first)
+          f.ensures.some
+          (subst (λ (x : List ℕ). f.result.1 ≤ length x) r f.ensures.within);
+    }

@@ -1,0 +1,88 @@
+-- What the clauses of the reader say, beside the grammar.
+use Rattle.std.specs.Prelude.{◌≡◌, ◌≢◌, ℕ, ◌-◌, ◌<◌, ◌≤◌, List, [], ◌∷◌, ◌++◌, All, filter, length, take, drop, slice_index, codes}
+use Rattle.std.specs.List.{AllByRecursion}
+use Rattle.std.specs.Str.Lines.{lines}
+use Rattle.exec_machine.specs.declared.config.Word.{Word}
+use Rattle.exec_machine.specs.Grammar.{says_something, header_lines, the_config, text_of_word, text_of_words, WordFits}
+use Rattle.exec_text.specs.declared.read_error.ReadError.{ReadError}
+use Rattle.exec_text.specs.declared.read_error.ReadError.TheVariants.{Syntax, NoMemory}
+
+-- what holds of the line of a syntax error
+abbrev pub OnSyntax : ReadError → (ℕ → Type 0) → Type 0
+OnSyntax (Syntax line) P = P line
+OnSyntax NoMemory P = Unit {0}
+
+-- The place before the byte `from` is the one before the line of this number, counted from 0.
+pub record IsBeforeLine (text : List ℕ) (from number : ℕ) : Type 0 where
+  pub within : from ≤ length text
+  pub few : number ≤ from
+  pub counted : number ≤ length (lines text)
+  pub rest : drop number (lines text) ≡ lines (drop from text)
+
+-- the lines that say something among the first so many
+unfoldable pub said_before : List ℕ → ℕ → List (List ℕ)
+said_before text number = filter says_something (take number (lines text))
+
+-- all lines that say something
+abbrev pub all_said : List ℕ → List (List ℕ)
+all_said text = filter says_something (lines text)
+
+-- After `old` lines, this line is the next that says something, and it's the last of the first `new`.
+pub record IsNextSaid (text : List ℕ) (old new : ℕ) (line : List ℕ) : Type 0 where
+  pub more : old < new
+  pub counted : new ≤ length (lines text)
+  pub said : said_before text new ≡ said_before text old ++ line ∷ []
+  pub front : said_before text (new - 1) ≡ said_before text old
+
+-- After `old` lines no line says something, and `new` is the number of all.
+pub record IsLastSaid (text : List ℕ) (old new : ℕ) : Type 0 where
+  pub all : new ≡ length (lines text)
+  pub said : said_before text new ≡ said_before text old
+
+-- there are bytes, with neither a plus sign nor a leading zero at the front
+pub record IsPlain (bytes : List ℕ) : Type 0 where
+  pub some : 0 < length bytes
+  pub sign : slice_index bytes 0 ≢ 43
+  pub zeros : slice_index bytes 0 ≡ 48 → length bytes ≤ 1
+
+-- the bytes are none or begin with a space
+abbrev pub IsCut : List ℕ → Type 0
+IsCut [] = Unit {0}
+IsCut (b ∷ bytes) = b ≡ 32
+
+abbrev pub NoSpace : List ℕ → Type 0
+NoSpace = AllByRecursion (λ b. b ≢ 32)
+
+-- the bytes up to the first space, and the rest
+pub record IsField (bytes field rest : List ℕ) : Type 0 where
+  pub spelled : bytes ≡ field ++ rest
+  pub no_space : NoSpace field
+  pub cut : IsCut rest
+
+-- a word at the front, behind a space, and the rest
+pub record IsWord (bytes : List ℕ) (word : Word) (rest : List ℕ) : Type 0 where
+  pub spelled : bytes ≡ 32 ∷ text_of_word word ++ rest
+  pub fits : WordFits the_config word
+  pub cut : IsCut rest
+
+-- the header
+unfoldable pub header : List (List ℕ)
+header = header_lines the_config
+
+-- the line spells these words, which can be the root's
+pub record IsRoot (line : List ℕ) (root : List Word) : Type 0 where
+  pub spelled : line ≡ codes "root" ++ text_of_words root
+  pub some : 0 < length root
+  pub fit : All (WordFits the_config) root
+
+-- the lines are the header and the line of the root
+pub record IsTop (said : List (List ℕ)) (root : List Word) : Type 0 where
+  pub line : List ℕ
+  pub spelled : said ≡ header ++ line ∷ []
+  pub root_line : IsRoot line root
+
+-- the lines are the header, the line of the root, and `steps`
+pub record IsMarkedTop (said : List (List ℕ)) (root : List Word) : Type 0 where
+  pub line : List ℕ
+  pub spelled : said ≡ header ++ line ∷ codes "steps" ∷ []
+  pub root_line : IsRoot line root

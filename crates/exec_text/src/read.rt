@@ -1,0 +1,113 @@
+//! A trace is read from its text.
+
+ghost use Rattle.std.specs.Prelude.{◌≡◌, List, [], ◌∷◌, ◌++◌, All, codes, map, sum_by, OnOk, IfOk, IfErr};
+ghost use Rattle.exec_machine.specs.declared.config.Word.{Word};
+ghost use Rattle.exec_machine.specs.Grammar.{text_of_step, StepFits, plan_of, IsTraceOf, IsFirstFault, count_of};
+ghost use Rattle.exec_text.specs.Reading.{OnSyntax, said_before, all_said, header, IsTop, IsMarkedTop};
+ghost use Rattle.exec_text.specs.Laws.{TraceHasNoFault, FaultIsOne, PlanIsOne};
+
+use crate::header::{CONFIGURATION, read_header};
+use crate::line::Lines;
+use crate::read_error::ReadError;
+use crate::step::step_of;
+use crate::word::root_of;
+use exec_machine::config::{Trace, Word};
+use exec_machine::step::Step;
+use std::alloc::Global;
+
+/// The trace that the text spells.
+pub fn read_trace(alloc: Global, text: &[u8]) -> Result<Trace, ReadError>
+    // What is read is what the text spells.
+    ensures ok { IfOk result (λ t. IsTraceOf text.now (plan_of t)) }
+    // A syntax error names the first line at which the text is no trace.
+    ensures fault { IfErr result (λ e. OnSyntax e (IsFirstFault text.now)) }
+{
+    let mut lines = Lines::new(text);
+    read_header(&mut lines)?;
+    let root = read_root(alloc, &mut lines)?;
+    read_mark(&mut lines)?;
+    let steps = read_steps(alloc, &mut lines)?;
+    Ok(Trace {
+        config: CONFIGURATION,
+        scripts: Vec::new(alloc),
+        root,
+        steps,
+    })
+}
+
+/// Reads the line of the root task.
+fn read_root(alloc: Global, lines: &mut Lines) -> Result<Vec<Word>, ReadError>
+    requires { said_before lines.old.text.now lines.old.number ≡ header }
+    ensures text { lines.new.text.now ≡ lines.old.text.now }
+    ensures ok { IfOk result (λ root. IsTop (said_before lines.new.text.now lines.new.number) root.items) }
+    ensures fault { IfErr result (λ e. OnSyntax e (IsFirstFault lines.old.text.now)) }
+{
+    let Some(line) = lines.next_said() else {
+        return Err(ReadError::Syntax(lines.number + 1));
+    };
+    match root_of(alloc, line)? {
+        Some(root) => Ok(root),
+        None => Err(ReadError::Syntax(lines.number)),
+    }
+}
+
+/// Reads the line `steps`.
+fn read_mark(lines: &mut Lines) -> Result<(), ReadError>
+    requires { (root : List Word) × IsTop (said_before lines.old.text.now lines.old.number) root }
+    ensures text { lines.new.text.now ≡ lines.old.text.now }
+    ensures ok { OnOk result (said_before lines.new.text.now lines.new.number ≡ said_before lines.old.text.now lines.old.number ++ codes "steps" ∷ []) }
+    ensures fault { IfErr result (λ e. OnSyntax e (IsFirstFault lines.old.text.now)) }
+{
+    let Some(line) = lines.next_said() else {
+        return Err(ReadError::Syntax(lines.number + 1));
+    };
+    if line != b"steps".as_slice() {
+        return Err(ReadError::Syntax(lines.number));
+    }
+    Ok(())
+}
+
+/// Reads the lines below `steps`.
+fn read_steps(alloc: Global, lines: &mut Lines) -> Result<Vec<Step>, ReadError>
+    requires { (root : List Word) × IsMarkedTop (said_before lines.old.text.now lines.old.number) root }
+    ensures ok { IfOk result (λ steps. all_said lines.old.text.now ≡ said_before lines.old.text.now lines.old.number ++ map text_of_step steps.items) }
+    ensures fit { IfOk result (λ steps. All StepFits steps.items) }
+    ensures fault { IfErr result (λ e. OnSyntax e (IsFirstFault lines.old.text.now)) }
+{
+    let mut steps = Vec::new(alloc);
+    while let Some(line) = lines.next_said() {
+        let Some(step) = step_of(line) else {
+            return Err(ReadError::Syntax(lines.number));
+        };
+        steps.push(step)?;
+    }
+    Ok(steps)
+}
+
+/// How many steps the lines ask for.
+pub fn total_steps(steps: &[Step]) -> u128
+    ensures { result ≡ sum_by count_of steps.now }
+{
+    let mut total = 0;
+    for step in steps {
+        total += match step {
+            Step::Work { worker: _, count } => u128::from(*count),
+            Step::Land {
+                request: _,
+                result: _,
+            } => 1,
+        };
+    }
+    total
+}
+
+/// A text that is a trace has no first fault, and a text has one first fault at most.
+pub fn one_fault()
+    ensures trace { TraceHasNoFault }
+    ensures same { FaultIsOne }
+{}
+
+/// A text is a trace of one plan at most.
+pub fn one_plan()
+    ensures { PlanIsOne }
+{}
