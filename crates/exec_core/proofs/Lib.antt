@@ -1,13 +1,4 @@
-pub mod Appends
 pub mod Calls
-pub mod Change
-pub mod Drops
-pub mod Flights
-pub mod Loops
-pub mod Phases
 pub mod Polls
-pub mod Queues
-pub mod Reaps
 pub mod Settled
 pub mod Steps
-pub mod Timers

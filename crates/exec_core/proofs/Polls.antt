@@ -1,33 +1,31 @@
 -- The steps of a poll.
-use Rattle.std.proofs.Common.{◌≡◌, ◌⊎◌, inl, inr, slice_get, ℕ, true, false, Bool, ◌+◌, ◌-◌, ◌<◌, ◌≤◌, List, [], ◌∷◌, ◌++◌, length, refl, ap, ◌∙◌, sym, subst, arith, Some, None, cond}
-use Rattle.exec_machine.specs.declared.event.Event.TheVariants.{Begin, Pend, Done, Admit, Wait, Got, Wake}
-use Rattle.exec_machine.specs.declared.state.TaskPhase.{TaskPhase}
+use Rattle.std.proofs.Common.{◌≡◌, ◌⊎◌, inl, inr, slice_get, ℕ, true, false, ◌+◌, ◌-◌, ◌<◌, ◌≤◌, List, [], ◌∷◌, length, refl, ap, ◌∙◌, sym, subst, arith, Some, cond}
+use Rattle.exec_machine.specs.declared.event.Event.TheVariants.{Begin, Got}
 use Rattle.exec_machine.specs.declared.state.TaskPhase.TheVariants as task
 use Rattle.exec_machine.specs.declared.state.Waiting.{Waiting}
 use Rattle.exec_machine.specs.declared.state.Waiting.TheVariants as waiting
 use Rattle.exec_machine.specs.Allowed.{is_polled_by}
 use Rattle.exec_machine.specs.After.{begun_waiting}
-use Rattle.exec_core.specs.declared.place.Place.{Place}
 use Rattle.exec_core.specs.declared.place.Place.TheVariants as place
 use Rattle.exec_core.specs.declared.root.Root.{Root}
 use Rattle.exec_core.specs.declared.executor.Core.{Core}
 use Rattle.std.proofs.lemmas.Option.{slice_get_within, get_or_from_slice_get}
-use Rattle.exec_machine.specs.declared.config.Word.{Word}
 use Rattle.exec_machine.specs.declared.config.Word.TheVariants as word
 use Rattle.exec_core.specs.Acts.{IsNextAct}
 use Rattle.exec_core.specs.declared.root.Act.TheVariants as act
-use Rattle.std.specs.Prelude.{take, min, slice_set, slice_index}
+use Rattle.std.specs.Prelude.{min, slice_set, slice_index}
 use Rattle.std.proofs.lemmas.List.{length-set, get_or-take, length-take}
 use Rattle.exec_outcomes.specs.declared.outcome.Outcome.{Outcome}
 use Rattle.exec_machine.specs.declared.state.Request.{Request}
 use Rattle.exec_machine.specs.declared.state.Phase.TheVariants as phase
 use Rattle.exec_machine.specs.World.{Task}
 use Rattle.exec_machine.specs.After.{place_after_got, without_newest}
-use Rattle.exec_core.specs.declared.driver.Driver.{Driver}
-use Rattle.exec_core.specs.View.{world, worker_view, task_view, operations_view}
-use Rattle.exec_core.specs.Books.{Books, Shows, request_at}
-use Rattle.exec_core.proofs.Steps.{shown, world_shown, as_many, root_among}
-use Rattle.exec_core.specs.Sound.{Sound, SoundAt, StepsTo, IsRoot, is_timer}
+use Rattle.exec_driver.specs.declared.driver.Driver.{Driver}
+use Rattle.exec_core.specs.View.{task_view}
+use Rattle.exec_driver.specs.Operations.{operations_view}
+use Rattle.exec_driver.specs.Books.{Books, Shows, request_at}
+use Rattle.exec_core.proofs.Steps.{shown, world_shown, as_many}
+use Rattle.exec_core.specs.Sound.{SoundAt, StepsTo, IsRoot, is_timer}
 
 -- the root as a poll of it begins
 abbrev pub begun_root : Root → Root

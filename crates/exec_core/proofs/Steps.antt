@@ -3,7 +3,7 @@ use Rattle.std.proofs.lemmas.Bool.{false≢true}
 use Rattle.exec_machine.specs.declared.step.Action.{Action}
 use Rattle.exec_machine.specs.declared.step.Action.TheVariants as action
 use Rattle.exec_machine.specs.declared.event.Said.TheVariants.{Did}
-use Rattle.std.proofs.Common.{◌≡◌, ℕ, zero, suc, true, false, Bool, ◌+◌, ◌<◌, ◌≤◌, List, [], ◌∷◌, ◌++◌, length, map, refl, ap, ◌∙◌, sym, subst, arith, Some}
+use Rattle.std.proofs.Common.{◌≡◌, ℕ, zero, suc, true, ◌≤◌, List, [], ◌∷◌, length, map, refl, ap, ◌∙◌, sym, subst, arith}
 use Rattle.std.proofs.lemmas.List.{length-map}
 use Rattle.exec_machine.specs.declared.event.Event.{Event}
 use Rattle.exec_machine.specs.declared.event.Event.TheVariants.{Enter}
@@ -13,12 +13,13 @@ use Rattle.exec_machine.specs.Allowed.{Allowed, is_enabled}
 use Rattle.exec_machine.specs.After.{after, flown}
 use Rattle.exec_core.specs.declared.place.Place.{Place}
 use Rattle.exec_core.specs.declared.root.Root.{Root}
-use Rattle.exec_core.specs.declared.driver.Driver.{Driver}
+use Rattle.exec_driver.specs.declared.driver.Driver.{Driver}
 use Rattle.exec_core.specs.declared.executor.Core.{Core}
-use Rattle.exec_core.specs.View.{world, worker_view, task_view, operations_view}
-use Rattle.exec_core.specs.Books.{Books, Shows}
+use Rattle.exec_core.specs.View.{world, worker_view}
+use Rattle.exec_driver.specs.Operations.{operations_view}
+use Rattle.exec_driver.specs.Books.{Books, Shows}
 use Rattle.exec_core.specs.Places.{class_of, Holds, AtPlace}
-use Rattle.exec_core.specs.Sound.{Sound, SoundAt, StepsTo, Applies, IsRoot, Suits}
+use Rattle.exec_core.specs.Sound.{SoundAt, StepsTo, Applies, IsRoot, Suits}
 
 -- what is known of a root stays known with more requests
 pub root_among : (r : Root) (m n : ℕ) → m ≤ n → IsRoot r m → IsRoot r n

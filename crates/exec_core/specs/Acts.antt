@@ -1,7 +1,6 @@
 -- What a root does next.
-use Rattle.std.specs.Prelude.{◌≡◌, ℕ, true, ◌-◌, List, [], Some, None, length, slice_get}
+use Rattle.std.specs.Prelude.{◌≡◌, true, ◌-◌, [], Some, length, slice_get}
 use Rattle.exec_machine.specs.declared.config.Word.TheVariants as word
-use Rattle.exec_machine.specs.declared.state.Waiting.{Waiting}
 use Rattle.exec_machine.specs.declared.state.Waiting.TheVariants as waiting
 use Rattle.exec_machine.specs.World.{World}
 use Rattle.exec_machine.specs.Allowed.{is_over, MayPend}

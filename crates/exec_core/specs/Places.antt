@@ -11,7 +11,6 @@ use Rattle.exec_core.specs.declared.place.Back.{Back}
 use Rattle.exec_core.specs.declared.place.Back.TheVariants as back
 use Rattle.exec_core.specs.declared.place.Stay.{Stay}
 use Rattle.exec_core.specs.declared.place.Stay.TheVariants as stay
-use Rattle.exec_core.specs.declared.place.Service.{Service}
 use Rattle.exec_core.specs.declared.place.Place.{Place}
 use Rattle.exec_core.specs.declared.place.Place.TheVariants.{Poll, Act, Callbacks, Item, Sample, Reap, Wheel, Submit, Enter, Last, RingFull, RingTest, RingArm, RingEnter, RingSleep, RingBits, Close, CloseQueue, OpenBarrier, Stop, Discard, Visit, LeaveBarrier, CloseMail, End}
 

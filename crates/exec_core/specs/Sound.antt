@@ -1,5 +1,5 @@
 -- What holds of an executor between two steps, and what a step does.
-use Rattle.std.specs.Prelude.{◌≡◌, ℕ, Bool, true, false, ◌-◌, ◌^◌, ◌<◌, ◌≤◌, List, [], ◌∷◌, Some, length, slice_get, slice_index}
+use Rattle.std.specs.Prelude.{◌≡◌, ℕ, Bool, true, false, ◌-◌, ◌^◌, ◌<◌, ◌≤◌, List, Some, length, slice_get, slice_index}
 use Rattle.exec_machine.specs.declared.config.Configuration.{Configuration}
 use Rattle.exec_machine.specs.declared.config.Word.{Word}
 use Rattle.exec_machine.specs.declared.config.Word.TheVariants as word
@@ -17,7 +17,7 @@ use Rattle.exec_core.specs.declared.place.Place.{Place}
 use Rattle.exec_core.specs.declared.root.Root.{Root}
 use Rattle.exec_core.specs.declared.executor.Core.{Core}
 use Rattle.exec_core.specs.View.{world}
-use Rattle.exec_core.specs.Books.{Books}
+use Rattle.exec_driver.specs.Books.{Books}
 use Rattle.exec_core.specs.Places.{class_of, Holds, AtPlace}
 
 -- the ranges of a configuration that sums rest on

@@ -1,31 +1,10 @@
 -- The state of the abstract machine that an executor stands for.
-use Rattle.std.specs.Prelude.{ℕ, false, List, [], ◌∷◌, Option, Some, None, map, replicate}
-use Rattle.exec_outcomes.specs.declared.outcome.Kind.TheVariants.{Send}
-use Rattle.exec_request.specs.declared.send.SendRequest.{SendRequest}
+use Rattle.std.specs.Prelude.{false, [], ◌∷◌, Some, replicate}
 use Rattle.exec_machine.specs.declared.state.Call.TheVariants.{Nothing}
-use Rattle.exec_machine.specs.World.{World, Worker, Task, Operation}
+use Rattle.exec_machine.specs.World.{World, Worker, Task}
+use Rattle.exec_driver.specs.Operations.{operations_view}
 use Rattle.exec_core.specs.declared.root.Root.{Root}
-use Rattle.exec_core.specs.declared.driver.Driver.{Driver}
 use Rattle.exec_core.specs.declared.executor.Core.{Core}
-
--- what a send asks for, and how much of it is done
-abbrev pub operation_view : SendRequest → Operation
-operation_view s =
-    record {
-      kind = Send;
-      target = s.fd;
-      offset = 0;
-      length = s.length;
-      skip = 0;
-      deadline = Some s.deadline;
-      seen = 0;
-      moved = s.sent;
-      hinted = false;
-      switched = false;
-    }
-
-abbrev pub operations_view : List SendRequest → List Operation
-operations_view sends = map operation_view sends
 
 abbrev pub worker_view : Core → Worker
 worker_view c =

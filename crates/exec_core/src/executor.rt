@@ -1,8 +1,8 @@
 //! One executor as one value.
 
-use crate::driver::Driver;
 use crate::place::Place;
 use crate::root::Root;
+use exec_driver::driver::Driver;
 use exec_machine::config::{Configuration, Word};
 use exec_machine::event::{Event, Line, Said};
 use exec_machine::state::{Phase, Rest, TaskPhase, Waiting, WorkerPhase};

@@ -8,7 +8,7 @@ ghost use Rattle.exec_machine.specs.Allowed.{is_resolved, MayPend};
 ghost use Rattle.exec_core.specs.View.{world};
 ghost use Rattle.exec_core.specs.Acts.{IsNextAct};
 ghost use Rattle.exec_core.specs.declared.root.Act.TheVariants as act;
-ghost use Rattle.exec_core.specs.Books.{request_at};
+ghost use Rattle.exec_driver.specs.Books.{request_at};
 ghost use Rattle.exec_core.specs.Sound.{SoundAt, StepsTo};
 
 use crate::executor::Core;

@@ -3,7 +3,7 @@
 
 ghost use Rattle.std.specs.Prelude.{◌≡◌, false, ◌<◌, ◌^◌, IsTrue, IfOk};
 ghost use Rattle.exec_machine.specs.Allowed.{fires_at as moment_of};
-ghost use Rattle.exec_core.specs.Found.{IsUnenrolled, NeedsCancel};
+ghost use Rattle.exec_driver.specs.Found.{IsUnenrolled, NeedsCancel};
 ghost use Rattle.exec_core.specs.Sound.{SoundAt, StepsTo, Suits};
 
 use crate::executor::{Core, SIGNALLED};

@@ -4,12 +4,11 @@
 -- leaves something open, the choice is that: the task that acts, the request that pays a wake, whether a turn
 -- passes the barrier (1) or closes the global queue (2), and whether a serve samples the clock (1). Where a
 -- turn or a serve changes nothing, and elsewhere, it is 0.
-use Rattle.std.specs.Prelude.{◌≡◌, ◌⊎◌, ℕ, zero, suc, Bool, true, false, not, ◌+◌, ◌-◌, ◌*◌, ◌%◌, ◌<◌, ◌≤◌, ◌==◌, ◌&&◌, ◌||◌, if◌then◌else◌, nat_le, nat_lt, List, [], ◌∷◌, ◌++◌, Option, Some, None, length, count_by, slice_get, slice_index_or}
+use Rattle.std.specs.Prelude.{◌≡◌, ◌⊎◌, ℕ, zero, suc, Bool, true, false, not, ◌+◌, ◌-◌, ◌%◌, ◌<◌, ◌==◌, ◌&&◌, ◌||◌, if◌then◌else◌, nat_le, [], Option, Some, None, length, count_by, slice_get}
 use Rattle.std.specs.List.{list_any, list_all}
 use Rattle.exec_base.specs.declared.error.Error.TheVariants.{Timeout}
 use Rattle.exec_outcomes.specs.declared.outcome.Kind.{Kind}
 use Rattle.exec_outcomes.specs.declared.outcome.Kind.TheVariants as kind
-use Rattle.exec_outcomes.specs.declared.outcome.OpResult.{OpResult}
 use Rattle.exec_outcomes.specs.declared.outcome.Outcome.{Outcome}
 use Rattle.exec_outcomes.specs.declared.outcome.Outcome.TheVariants.{Failure}
 use Rattle.exec_outcomes.specs.Lawful.{window_of, is_lawful}
@@ -32,7 +31,7 @@ use Rattle.exec_machine.specs.declared.state.Waiting.TheVariants as waiting
 use Rattle.exec_machine.specs.declared.state.Phase.{Phase}
 use Rattle.exec_machine.specs.declared.state.Phase.TheVariants as phase
 use Rattle.exec_machine.specs.declared.state.Request.{Request}
-use Rattle.exec_machine.specs.World.{World, Worker, Task, Operation, worker_of, task_of, operation_of, request_of}
+use Rattle.exec_machine.specs.World.{World, Task, worker_of, task_of, operation_of, request_of}
 
 -- tests
 

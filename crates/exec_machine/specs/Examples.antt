@@ -1,6 +1,6 @@
 -- Logs to look at: one that is a run, and some that are not.
 use Rattle.std.specs.Prelude.{ℕ, List, [], ◌∷◌, ◌++◌, Some, None, replicate}
-use Rattle.exec_base.specs.declared.error.Error.TheVariants.{SendFailed, Timeout}
+use Rattle.exec_base.specs.declared.error.Error.TheVariants.{SendFailed}
 use Rattle.exec_outcomes.specs.declared.outcome.Kind.TheVariants as kind
 use Rattle.exec_outcomes.specs.declared.outcome.OpResult.TheVariants.{Count}
 use Rattle.exec_outcomes.specs.declared.outcome.Outcome.TheVariants.{Success, Failure}
@@ -10,7 +10,7 @@ use Rattle.exec_machine.specs.declared.step.Step.{Step}
 use Rattle.exec_machine.specs.declared.step.Step.TheVariants as step
 use Rattle.exec_machine.specs.declared.step.Action.TheVariants as action
 use Rattle.exec_machine.specs.declared.event.Event.{Event}
-use Rattle.exec_machine.specs.declared.event.Event.TheVariants.{Turn, Serve, Begin, Pend, Done, Admit, Wait, Got, Wake, Enrol, Stage, Enter, Reap, Release, Sleep, Close, Stop, End, Land}
+use Rattle.exec_machine.specs.declared.event.Event.TheVariants.{Turn, Begin, Pend, Done, Admit, Wait, Got, Wake, Enrol, Stage, Enter, Reap, Release, Sleep, Close, Stop, End, Land}
 use Rattle.exec_machine.specs.declared.event.Said.TheVariants.{Refused, Did}
 use Rattle.exec_machine.specs.declared.event.Line.{Line}
 

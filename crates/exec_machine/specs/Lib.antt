@@ -5,3 +5,4 @@ pub mod Run
 pub mod Text
 pub mod Grammar
 pub mod Examples
+pub mod Results

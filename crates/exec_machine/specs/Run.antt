@@ -8,7 +8,6 @@ use Rattle.exec_machine.specs.declared.step.Step.{Step}
 use Rattle.exec_machine.specs.declared.step.Step.TheVariants as step
 use Rattle.exec_machine.specs.declared.step.Action.{Action}
 use Rattle.exec_machine.specs.declared.step.Action.TheVariants as action
-use Rattle.exec_machine.specs.declared.event.Event.{Event}
 use Rattle.exec_machine.specs.declared.event.Event.TheVariants as event
 use Rattle.exec_machine.specs.declared.event.Said.{Said}
 use Rattle.exec_machine.specs.declared.event.Said.TheVariants.{Refused, Did}

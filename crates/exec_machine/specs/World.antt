@@ -1,5 +1,5 @@
 -- The state of the abstract machine. All lists are by number. What stands past the end of a list is over.
-use Rattle.std.specs.Prelude.{ℕ, Bool, true, false, List, [], Option, Some, None, slice_index_or}
+use Rattle.std.specs.Prelude.{ℕ, Bool, true, false, List, [], Option, None, slice_index_or}
 use Rattle.exec_base.specs.declared.error.Error.{Error}
 use Rattle.exec_base.specs.declared.error.Error.TheVariants.{Timeout}
 use Rattle.exec_outcomes.specs.declared.outcome.Kind.{Kind}

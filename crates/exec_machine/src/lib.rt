@@ -10,5 +10,6 @@
 pub mod config;
 pub mod event;
 pub mod examples;
+pub mod laws;
 pub mod state;
 pub mod step;

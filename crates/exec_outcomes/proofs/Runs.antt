@@ -1,9 +1,11 @@
 -- What one more result makes of a list of results.
-use Rattle.std.proofs.Common.{◌≡◌, ℕ, ◌+◌, ◌<◌, Bool, true, false, cond, not, ◌||◌, ltb, leb, List, [], ◌∷◌, ◌++◌, Option, Some, None, find, refl, sym, ◌∙◌, ap, add-zero, arith, lt-ltb, le-ltb, leb-false, zero-add, inl, inr, ◌==◌}
+use Rattle.std.proofs.Common.{◌≡◌, ℕ, ◌+◌, ◌<◌, Bool, true, false, cond, not, ◌||◌, ltb, leb, List, [], ◌∷◌, ◌++◌, Option, Some, None, find, refl, sym, ◌∙◌, ap, add-zero, arith, lt-ltb, le-ltb, leb-false, zero-add, inl, inr, ◌==◌, subst, if◌then◌else◌}
 use Rattle.std.proofs.lemmas.Bool.{or_parts, lt-leb, cases_lt, cases_Bool, cond-true, cond-false}
 use Rattle.std.proofs.lemmas.List.Folds.{find-append}
 use Rattle.std.proofs.lemmas.List.Elements.{filter-append}
 use Rattle.std.proofs.lemmas.List.Sums.{sum_by-append, sum_by-cons}
+use Rattle.exec_base.specs.declared.error.Error.TheVariants.{Timeout}
+use Rattle.exec_outcomes.specs.declared.outcome.Outcome.TheVariants.{Failure}
 use Rattle.exec_outcomes.specs.declared.outcome.Kind.{Kind}
 use Rattle.exec_outcomes.specs.declared.outcome.Kind.TheVariants.{Send}
 use Rattle.exec_outcomes.specs.declared.outcome.OpResult.{OpResult}
@@ -116,3 +118,17 @@ goes_on kind length moved results r come undecided =
       undecided = next kind length moved results r come ∙ undecided;
       amount = omega (arith, come.amount, total, one);
     }
+
+-- another operation is needed only where no cancellation was asked for
+uncancelled_by : (kind : Kind) (results : List Judged) (first : Option (Judged × ℕ)) → outcome_by kind results first ≡ None → last_is_cancelled results ≡ false
+uncancelled_by kind results (Some d) none = cc
+uncancelled_by kind results None none =
+    elim (cases_Bool (last_is_cancelled results)) [
+      | inl cancelled ↦ let given : Some (Failure Timeout) ≡ None = subst (λ b. (if b then Some (Failure Timeout) else None) ≡ None) cancelled none in cc
+      | inr not_cancelled ↦ not_cancelled
+    ]
+
+pub uncancelled : (kind : Kind) (length moved : ℕ) (n : OpResult) (b : Bool) → outcome_next kind length moved (record { result = n; cancelled = b }) ≡ None → b ≡ false
+uncancelled kind length moved n b none =
+    let all : List Judged = so_far moved ++ record { result = n; cancelled = b } ∷ [] in
+    sym (last_is_cancelled-push (so_far moved) (record { result = n; cancelled = b })) ∙ uncancelled_by kind all (deciding kind length all) none

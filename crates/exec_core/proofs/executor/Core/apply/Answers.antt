@@ -1,4 +1,4 @@
-use Rattle.std.proofs.Common.{sym, ◌∙◌, rules}
+use Rattle.std.proofs.Common.{rules}
 use Rattle.exec_core.proofs.Steps.{works}
 use Rattle.exec_core.proofs.executor.Core.apply.Goals as goal
 

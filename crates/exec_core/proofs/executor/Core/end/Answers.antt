@@ -1,6 +1,6 @@
-use Rattle.std.proofs.Common.{refl, sym, ap, true, ◌&&◌, ◌∙◌, rules}
+use Rattle.std.proofs.Common.{refl, sym, ap, true, ◌&&◌, ◌∙◌}
 use Rattle.exec_core.proofs.Settled.{settled_all, none_tracked}
-use Rattle.exec_core.specs.Books.{is_unreleased}
+use Rattle.exec_driver.specs.Books.{is_unreleased}
 use Rattle.exec_core.proofs.executor.Core.end.Goals as goal
 
 pub returns : goal.returns

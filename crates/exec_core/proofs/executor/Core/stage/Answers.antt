@@ -1,10 +1,10 @@
-use Rattle.std.proofs.Common.{refl, ap, ◌∙◌, sym, arith, Ok, Some, ◌≡◌, true, ◌<◌}
+use Rattle.std.proofs.Common.{refl, ap, ◌∙◌, sym, arith, Ok, ◌≡◌, true}
 use Rattle.std.proofs.lemmas.List.{length-set}
 use Rattle.exec_machine.specs.declared.event.Event.TheVariants as event
 use Rattle.exec_machine.specs.Allowed.{is_queued, of_worker}
 use Rattle.exec_core.specs.declared.place.Place.TheVariants as place
-use Rattle.exec_core.specs.Books.{request_at}
-use Rattle.exec_core.proofs.Phases.{of_0}
+use Rattle.exec_driver.specs.Books.{request_at}
+use Rattle.exec_driver.proofs.Phases.{of_0}
 use Rattle.exec_core.proofs.Steps.{driven}
 use Rattle.exec_core.proofs.executor.Core.stage.Goals as goal
 

@@ -1,0 +1,9 @@
+pub mod Appends
+pub mod Change
+pub mod Drops
+pub mod Flights
+pub mod Loops
+pub mod Phases
+pub mod Queues
+pub mod Reaps
+pub mod Timers

@@ -1,0 +1,48 @@
+use Rattle.std.proofs.Common.{◌==◌, ◌&&◌, refl, sym, ap, ◌∙◌}
+use Rattle.exec_machine.specs.Allowed.{of_worker, is_staged, is_landed, is_resolved, is_in_flight}
+use Rattle.exec_machine.specs.declared.state.Phase.{Phase}
+use Rattle.exec_machine.specs.declared.state.Phase.TheVariants.{Queued, Resolved}
+use Rattle.exec_machine.specs.declared.state.Request.{Request}
+use Rattle.exec_driver.specs.Books.{is_on_ring, is_back, owes, is_unreleased, is_unresolved, request_at}
+use Rattle.exec_driver.proofs.Change.{changed, keep, count_keep, timer_keep}
+use Rattle.exec_driver.proofs.Phases.{owes_not, unreleased_not, unresolved_is}
+use Rattle.std.proofs.Common.{None}
+use Rattle.std.specs.Prelude.{slice_set}
+use Rattle.exec_machine.specs.After.{reaped}
+use Rattle.exec_driver.proofs.Change.{twice, after_at}
+use Rattle.exec_driver.proofs.driver.Driver.settle.Goals as goal
+
+pub returns-in_ok-push_back-in-None-clause-listed : goal.returns-in_ok-push_back-in-None-clause-listed
+returns-in_ok-push_back-in-None-clause-listed c =
+    let d = c.args.self.now in
+    let b = c.requires.listed in
+    let r = c.args.request in
+    let rs = d.requests.items in
+    let x = c.index_mut-entry.result.now in
+    let q = record x { phase = Queued } in
+    let ch = changed rs r x q c.index_mut-entry.ensures.value c.requires.there in
+    let was = ap (λ (z : Request). z.phase) ch.read ∙ c.requires.gated in
+    record {
+      staged = keep is_on_ring d.staged.items ch (sym (ap is_staged was)) b.staged;
+      landed = keep is_back d.landed.items ch (sym (ap is_landed was)) b.landed;
+      wakes = keep owes d.wakes.items ch (sym (owes_not x (ap is_resolved was))) b.wakes;
+      resources = keep is_unreleased d.resources.items ch (sym (unreleased_not x (ap is_resolved was))) b.resources;
+      in_flight = b.in_flight ∙ sym (count_keep (of_worker 0 is_in_flight) ch (sym (ap (λ (p : Phase). (x.worker == 0) && is_in_flight p) was)));
+      unresolved = b.unresolved ∙ sym (count_keep is_unresolved ch (sym (unresolved_is x (ap is_resolved was))));
+      timers = λ u. b.timers u ∙ timer_keep u ch refl;
+    }
+
+pub returns-in_ok-resolve-in-Some-clause-requests : goal.returns-in_ok-resolve-in-Some-clause-requests
+returns-in_ok-resolve-in-Some-clause-requests c =
+    let d = c.args.self.now in
+    let r = c.args.request in
+    let rs = d.requests.items in
+    let x = request_at rs r in
+    let mid = c.stop_timer.new.self.requests.items in
+    let end = c.resolve.new.self.requests.items in
+    let o = c.in-Some.outcome in
+    let e = c.in_ok-stop_timer-in-Some.ensures.stopped.requests in
+    let g = c.in_ok-resolve-in-Some.ensures.resolved.requests in
+    twice rs mid end r (record x { timer = None }) (record (request_at mid r) { phase = Resolved o }) e g
+    ∙ ap (λ (z : Request). slice_set rs r (record z { phase = Resolved o })) (after_at rs mid r (record x { timer = None }) c.requires.there e)
+    ∙ ap (λ t. slice_set rs r (reaped t x)) (sym c.in-Some.is)

@@ -1,0 +1,53 @@
+//! Laws over whole runs of the machine.
+
+ghost use Rattle.std.specs.Prelude.{◌≡◌, ℕ, false, List, [], ◌∷◌, ◌++◌, Option, Some, None, replicate};
+ghost use Rattle.exec_outcomes.specs.declared.outcome.OpResult.{OpResult};
+ghost use Rattle.exec_outcomes.specs.declared.outcome.OpResult.TheVariants.{Count, Errno};
+ghost use Rattle.exec_outcomes.specs.declared.outcome.Outcome.{Outcome};
+ghost use Rattle.exec_outcomes.specs.declared.outcome.Outcome.TheVariants.{Success};
+ghost use Rattle.exec_outcomes.specs.Outcomes.{HasCome, outcome_of};
+ghost use Rattle.exec_machine.specs.declared.config.Configuration.{Configuration};
+ghost use Rattle.exec_machine.specs.declared.config.Word.{Word};
+ghost use Rattle.exec_machine.specs.declared.event.Line.{Line};
+ghost use Rattle.exec_machine.specs.Grammar.{the_config};
+ghost use Rattle.exec_machine.specs.World.{operation_of, request_of};
+ghost use Rattle.exec_machine.specs.Allowed.{is_resolved};
+ghost use Rattle.exec_machine.specs.Run.{RunsBy, first_world, world_after};
+ghost use Rattle.exec_machine.specs.Examples.{one_send, refused, until_asleep, until_ended};
+ghost use Rattle.exec_machine.specs.Results.{results_of, reaps, sent_in_two};
+
+/// The machine keeps of a request's results only how many bytes they moved. In each run that stands for all
+/// results that the log shows of it, as long as the request isn't over; so wherever a result is judged, the
+/// outcome is that of all its results, and another operation is needed only if no cancellation was asked for.
+pub fn outcomes_are_of_all_results()
+    ensures come { (c : Configuration) (script : List Word) (lines : List Line) (choices : List ℕ) (r : ℕ) →
+        RunsBy c (first_world script) lines choices →
+        let w = world_after c (first_world script) lines choices in
+        let o = operation_of w r in
+        is_resolved (request_of w r).phase ≡ false → HasCome o.kind o.length o.moved (results_of r lines) }
+    ensures judged { (c : Configuration) (script : List Word) (lines later : List Line) (choices : List ℕ)
+        (i r : ℕ) (n : OpResult) (outcome : Option Outcome) →
+        RunsBy c (first_world script) (lines ++ reaps i r n outcome ∷ later) choices →
+        let w = world_after c (first_world script) lines choices in
+        let o = operation_of w r in
+        outcome ≡ outcome_of o.kind o.length
+        (results_of r lines ++ record { result = n; cancelled = (request_of w r).cancelled } ∷ []) }
+    ensures more { (c : Configuration) (script : List Word) (lines later : List Line) (choices : List ℕ)
+        (i r : ℕ) (n : OpResult) →
+        RunsBy c (first_world script) (lines ++ reaps i r n None ∷ later) choices →
+        (request_of (world_after c (first_world script) lines choices) r).cancelled ≡ false }
+{}
+
+/// The results of a request in a log are those after which it needed another operation, and no other's.
+pub fn results_in_logs()
+    ensures both { results_of 0 (reaps 0 0 (Count 3) None ∷ reaps 0 1 (Count 5) None ∷ refused
+        ∷ reaps 0 0 (Errno 11) None ∷ reaps 0 0 (Count 7) (Some Success) ∷ [])
+        ≡ record { result = Count 3; cancelled = false } ∷ record { result = Errno 11; cancelled = false } ∷ [] }
+    ensures none { results_of 0 (until_asleep ++ until_ended) ≡ [] }
+{}
+
+/// A run in which a send needs a second operation.
+pub fn a_send_in_two()
+    ensures run { RunsBy the_config (first_world one_send) sent_in_two (replicate 13 0) }
+    ensures results { results_of 0 sent_in_two ≡ record { result = Count 4; cancelled = false } ∷ [] }
+{}
