@@ -1,1 +1,4 @@
 pub mod Ends
+pub mod Looks
+pub mod Slots
+pub mod Runs

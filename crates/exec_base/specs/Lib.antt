@@ -1,3 +1,13 @@
 pub mod Error
+pub mod Gate
 pub mod Io
+pub mod OneShot
 pub mod Plan
+pub mod Post
+pub mod Slab
+pub mod SlabExamples
+pub mod SlabLayout
+pub mod SlabLends
+pub mod SlabRuns
+pub mod Spinner
+pub mod SpinnerLayout

@@ -1,4 +1,11 @@
 pub mod Calls
+pub mod Doings
+pub mod Lines
+pub mod Moments
+pub mod Naps
 pub mod Polls
+pub mod Powers
+pub mod Rounds
 pub mod Settled
 pub mod Steps
+pub mod Words

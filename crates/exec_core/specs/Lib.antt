@@ -1,4 +1,4 @@
-pub mod Acts
 pub mod View
+pub mod Acts
 pub mod Places
 pub mod Sound

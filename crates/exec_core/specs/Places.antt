@@ -83,11 +83,11 @@ Holds Working p left queue_closed stopped root = (p ≡ worker.Open) × (is_poll
 Holds Called p left queue_closed stopped root = (p ≡ worker.Open) × (root ≡ task.Queued) × (left ≡ false) × (stopped ≡ false) × (queue_closed ≡ false)
 Holds Polling p left queue_closed stopped root = (p ≡ worker.Open) × (is_polled_by 0 root ≡ true) × (left ≡ false) × (stopped ≡ false) × (queue_closed ≡ false)
 Holds Over p left queue_closed stopped root = (p ≡ worker.Open) × (root ≡ task.Done) × (left ≡ false) × (stopped ≡ false) × (queue_closed ≡ false)
-Holds Shutting p left queue_closed stopped root = (p ≡ worker.Closing) × (is_polled_by 0 root ≡ false) × (left ≡ false) × (stopped ≡ false) × (queue_closed ≡ false)
-Holds Stopping p left queue_closed stopped root = (p ≡ worker.Closing) × (is_polled_by 0 root ≡ false) × (left ≡ false) × (stopped ≡ false)
-Holds Draining p left queue_closed stopped root = (p ≡ worker.Closing) × (is_polled_by 0 root ≡ false) × (left ≡ false)
-Holds Leaving p left queue_closed stopped root = (p ≡ worker.Closing) × (is_polled_by 0 root ≡ false) × (left ≡ true)
-Holds Ending p left queue_closed stopped root = (has_ended p ≡ false → p ≡ worker.Closing) × (left ≡ true)
+Holds Shutting p left queue_closed stopped root = (p ≡ worker.Closing) × (root ≡ task.Done) × (left ≡ false) × (stopped ≡ false) × (queue_closed ≡ false)
+Holds Stopping p left queue_closed stopped root = (p ≡ worker.Closing) × (root ≡ task.Done) × (left ≡ false) × (stopped ≡ false)
+Holds Draining p left queue_closed stopped root = (p ≡ worker.Closing) × (root ≡ task.Done) × (left ≡ false)
+Holds Leaving p left queue_closed stopped root = (p ≡ worker.Closing) × (root ≡ task.Done) × (left ≡ true)
+Holds Ending p left queue_closed stopped root = (has_ended p ≡ false → p ≡ worker.Closing) × (root ≡ task.Done) × (left ≡ true)
 
 -- what else is known at two places: about to poll, the root's flag is down; at the end nothing is unresolved or
 -- unreleased

@@ -14,6 +14,7 @@ worker_view c =
       rest = c.rest;
       start = c.start;
       sampled = c.sampled;
+      sampled_before = c.sampled_before;
       busy = false;
       inbox = [];
       ready = c.driver.ready.items;
@@ -34,16 +35,16 @@ task_view r =
       fresh = r.fresh;
     }
 
--- One worker and its root; sleepers, opens and listeners there are none.
+-- One worker and its root; opens and listeners there are none.
 abbrev pub world : Core → World
 world c =
     record {
       clock = c.clock;
       workers = worker_view c ∷ [];
       tasks = task_view c.root ∷ [];
-      operations = operations_view c.driver.sends.items;
+      operations = operations_view c.driver.asked.items;
       requests = c.driver.requests.items;
-      sleepers = [];
+      sleepers = c.timers.sleepers.items;
       opens = [];
       listeners = [];
       callers = replicate 16 Nothing;

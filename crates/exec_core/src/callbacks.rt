@@ -1,7 +1,9 @@
 //! The callbacks: wakes, outputs that nobody takes, and what resolved requests owned, one a step.
 
-ghost use Rattle.std.specs.Prelude.{◌≡◌, ℕ, [], IfOk};
+ghost use Rattle.std.specs.Prelude.{◌≡◌, false, []};
 ghost use Rattle.exec_core.specs.Places.{class_then, Holds};
+ghost use Rattle.exec_machine.specs.Choice.{Choice};
+ghost use Rattle.exec_machine.specs.Choice.Choice.{Plain};
 ghost use Rattle.exec_core.specs.Sound.{SoundAt, StepsTo, Suits};
 
 use crate::executor::Core;
@@ -12,7 +14,7 @@ impl Core {
     /// Takes the batch of callbacks.
     pub fn take_callbacks(&mut self, then: Then) -> Event
         requires { SoundAt (Place.Callbacks then) self.old }
-        ensures { StepsTo self.old result 0 self.new }
+        ensures { StepsTo self.old result Plain self.new }
     {
         self.place = self.next_callback(then);
         Event::Turn
@@ -21,10 +23,12 @@ impl Core {
     /// Makes the next callback: wakes come first, and what requests owned comes last.
     pub fn call_back(&mut self, then: Then) -> Event
         requires { SoundAt (Place.Item then) self.old }
-        ensures { (choice : ℕ) × StepsTo self.old result choice self.new }
+        ensures { (choice : Choice) × StepsTo self.old result choice self.new }
     {
         if !self.driver.wakes.is_empty() {
             self.call_wake(then)
+        } else if !self.timers.wakes.is_empty() {
+            self.call_sleeper(then)
         } else if !self.driver.outputs.is_empty() {
             self.drop_output(then)
         } else {
@@ -35,9 +39,27 @@ impl Core {
     /// Wakes the task that waited for a resolved request.
     fn call_wake(&mut self, then: Then) -> Event
         requires { SoundAt (Place.Item then) self.old }
-        ensures { (choice : ℕ) × StepsTo self.old result choice self.new }
+        ensures { (choice : Choice) × StepsTo self.old result choice self.new }
     {
         match self.driver.pay_wake() {
+            Some(paid) => {
+                self.root.wake_task(paid.task);
+                self.place = self.next_callback(then);
+                Event::Wake { task: paid.task }
+            }
+            None => {
+                self.place = self.next_callback(then);
+                Event::Turn
+            }
+        }
+    }
+
+    /// Wakes the task of a sleeper whose moment has come.
+    fn call_sleeper(&mut self, then: Then) -> Event
+        requires { SoundAt (Place.Item then) self.old }
+        ensures { (choice : Choice) × StepsTo self.old result choice self.new }
+    {
+        match self.timers.pay_wake() {
             Some(paid) => {
                 self.root.wake_task(paid.task);
                 self.place = self.next_callback(then);
@@ -53,7 +75,7 @@ impl Core {
     /// Drops an output that nobody takes.
     fn drop_output(&mut self, then: Then) -> Event
         requires { SoundAt (Place.Item then) self.old }
-        ensures { (choice : ℕ) × StepsTo self.old result choice self.new }
+        ensures { (choice : Choice) × StepsTo self.old result choice self.new }
     {
         self.driver.outputs.pop_front();
         self.place = self.next_callback(then);
@@ -63,7 +85,7 @@ impl Core {
     /// Lets go of what a resolved request owned.
     fn release(&mut self, then: Then) -> Event
         requires { SoundAt (Place.Item then) self.old }
-        ensures { (choice : ℕ) × StepsTo self.old result choice self.new }
+        ensures { (choice : Choice) × StepsTo self.old result choice self.new }
     {
         match self.driver.release() {
             Some(request) => {
@@ -82,11 +104,18 @@ impl Core {
         requires { Holds (class_then then) self.now.phase self.now.left self.now.queue_closed self.now.stopped self.now.root.phase }
         ensures { Suits result self.now }
     {
-        if self.driver.has_callbacks() {
+        if self.has_callbacks() {
             Place::Item { then }
         } else {
             self.after_callbacks(then)
         }
+    }
+
+    /// Whether something waits for the callbacks.
+    pub fn has_callbacks(&self) -> bool
+        ensures none { result ≡ false → (self.now.driver.wakes.items ≡ []) × (self.now.driver.outputs.items ≡ []) × (self.now.driver.resources.items ≡ []) × (self.now.timers.wakes.items ≡ []) }
+    {
+        self.driver.has_callbacks() || !self.timers.wakes.is_empty()
     }
 
     /// Where the callbacks lead once all are made.

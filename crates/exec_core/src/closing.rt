@@ -2,6 +2,7 @@
 
 ghost use Rattle.std.specs.Prelude.{◌≡◌, false};
 ghost use Rattle.exec_machine.specs.Allowed.{has_ended};
+ghost use Rattle.exec_machine.specs.Choice.Choice.{Plain, Passes, ClosesQueue};
 ghost use Rattle.exec_core.specs.Sound.{SoundAt, StepsTo};
 
 use crate::executor::Core;
@@ -16,7 +17,7 @@ impl Core {
     /// The closing begins, and the task set is closed.
     pub fn close(&mut self) -> Event
         requires { SoundAt Place.Close self.old }
-        ensures { StepsTo self.old result 0 self.new }
+        ensures { StepsTo self.old result Plain self.new }
     {
         self.phase = WorkerPhase::Closing;
         self.set_closed = true;
@@ -27,7 +28,7 @@ impl Core {
     /// Closes the global queue, which is empty.
     pub fn close_queue(&mut self) -> Event
         requires { SoundAt Place.CloseQueue self.old }
-        ensures { StepsTo self.old result 2 self.new }
+        ensures { StepsTo self.old result ClosesQueue self.new }
     {
         self.queue_closed = true;
         self.place = Place::OpenBarrier;
@@ -37,7 +38,7 @@ impl Core {
     /// Opens the shutdown barrier.
     pub fn open_barrier(&mut self) -> Event
         requires { SoundAt Place.OpenBarrier self.old }
-        ensures { StepsTo self.old result 0 self.new }
+        ensures { StepsTo self.old result Plain self.new }
     {
         self.place = Place::Stop;
         Event::Turn
@@ -46,7 +47,7 @@ impl Core {
     /// Stops the pool. No other worker is to be told.
     pub fn stop(&mut self) -> Event
         requires { SoundAt Place.Stop self.old }
-        ensures { StepsTo self.old result 0 self.new }
+        ensures { StepsTo self.old result Plain self.new }
     {
         self.stopped = true;
         self.place = Place::Discard;
@@ -56,7 +57,7 @@ impl Core {
     /// Empties the own queue, which is empty.
     pub fn discard(&mut self) -> Event
         requires { SoundAt Place.Discard self.old }
-        ensures { StepsTo self.old result 0 self.new }
+        ensures { StepsTo self.old result Plain self.new }
     {
         self.place = Place::Visit { shard: 0 };
         Event::Turn
@@ -65,7 +66,7 @@ impl Core {
     /// Visits a shard of the task set, which has no task.
     pub fn visit(&mut self, shard: u64) -> Event
         requires { SoundAt (Place.Visit shard) self.old }
-        ensures { StepsTo self.old result 0 self.new }
+        ensures { StepsTo self.old result Plain self.new }
     {
         self.place = if shard < SHARDS - 1 {
             Place::Visit { shard: shard + 1 }
@@ -78,7 +79,7 @@ impl Core {
     /// Passes the shutdown barrier.
     pub fn leave_barrier(&mut self) -> Event
         requires { SoundAt Place.LeaveBarrier self.old }
-        ensures { StepsTo self.old result 1 self.new }
+        ensures { StepsTo self.old result Passes self.new }
     {
         self.left = true;
         self.place = Place::CloseMail;
@@ -88,7 +89,7 @@ impl Core {
     /// Closes the mailbox. No request is observed any more, and nobody sleeps.
     pub fn close_mail(&mut self) -> Event
         requires { SoundAt Place.CloseMail self.old }
-        ensures { StepsTo self.old result 0 self.new }
+        ensures { StepsTo self.old result Plain self.new }
     {
         self.place = Place::Callbacks { then: Then::Drain };
         Event::Turn
@@ -98,7 +99,7 @@ impl Core {
     pub fn end(&mut self) -> Event
         requires sound { SoundAt Place.End self.old }
         requires running { has_ended self.old.phase ≡ false }
-        ensures { StepsTo self.old result 0 self.new }
+        ensures { StepsTo self.old result Plain self.new }
     {
         self.phase = WorkerPhase::Ended;
         self.place = Place::End;

@@ -2,7 +2,9 @@
 
 use crate::place::Place;
 use crate::root::Root;
+use crate::sizes::{ring_size, wheel_slots};
 use exec_driver::driver::Driver;
+use exec_driver::sleepers::Timers;
 use exec_machine::config::{Configuration, Word};
 use exec_machine::event::{Event, Line, Said};
 use exec_machine::state::{Phase, Rest, TaskPhase, Waiting, WorkerPhase};
@@ -16,6 +18,9 @@ pub const SLEEPING: u64 = 1;
 pub const ON_RING: u64 = 2;
 /// In the wake word: the worker was signalled.
 pub const SIGNALLED: u64 = 4;
+
+/// The clock never passes this moment, in nanoseconds.
+pub const LAST_MOMENT: u64 = 0x4000_0000_0000_0000;
 
 /// The words that other parties look at, as plain numbers.
 #[derive(Clone, Copy, Debug, PartialEq, Eq)]
@@ -49,6 +54,12 @@ pub struct Core {
     pub start: u64,
     /// The moment that it last sampled, in nanoseconds.
     pub sampled: u64,
+    /// The moment that it had sampled before that, in nanoseconds.
+    pub sampled_before: u64,
+    /// How many operations its ring holds.
+    pub ring: u64,
+    /// How many slots its timeout wheel has.
+    pub slots: u64,
     /// So many picks are left to the next global look.
     pub countdown: u64,
     /// Whether the service of this turn was one that may be deferred.
@@ -59,6 +70,8 @@ pub struct Core {
     pub root: Root,
     /// The requests and the ring.
     pub driver: Driver,
+    /// The sleepers.
+    pub timers: Timers,
     /// The words.
     pub words: Words,
     /// Whether the task set is closed.
@@ -70,17 +83,18 @@ pub struct Core {
 }
 
 impl Core {
-    ghost use Rattle.std.specs.Prelude.{◌≡◌, not, ◌&&◌, true, false, IfOk, OnOk};
-    ghost use Rattle.exec_machine.specs.declared.step.Action.TheVariants.{Land as landing};
+    ghost use Rattle.std.specs.Prelude.{◌≡◌, not, ◌&&◌, true, false, None, IfOk, OnOk};
+    ghost use Rattle.exec_machine.specs.declared.step.Action.TheVariants.{Land as landing, Clock as moving, Stir as stirring};
     ghost use Rattle.exec_machine.specs.Allowed.{is_enabled, is_awake, has_ended, is_flying};
     ghost use Rattle.exec_machine.specs.declared.event.Event.TheVariants.{Land as landed};
     ghost use Rattle.exec_machine.specs.Run.{first_world};
+    ghost use Rattle.exec_machine.specs.Ranges.{first_out_of_range};
     ghost use Rattle.exec_core.specs.View.{world};
-    ghost use Rattle.exec_core.specs.Sound.{IsConfig, SendsBytes, Sound, Applies, Lands};
+    ghost use Rattle.exec_core.specs.Sound.{SendsBytes, Sound, Applies, Lands, Moves, Stirs};
 
     /// An executor whose root has this script, and is queued.
     pub fn new(alloc: Global, config: Configuration, script: Vec<Word>) -> Result<Self, AllocError>
-        requires config { IsConfig config }
+        requires config { first_out_of_range config ≡ None }
         requires script { SendsBytes script.items }
         ensures config { IfOk result (λ core. core.config ≡ config) }
         ensures begins { IfOk result (λ core. world core ≡ first_world script.items) }
@@ -95,6 +109,9 @@ impl Core {
             left: false,
             start: 0,
             sampled: 0,
+            sampled_before: 0,
+            ring: ring_size(&config),
+            slots: wheel_slots(&config),
             countdown: config.interval,
             defer: false,
             deferred: false,
@@ -108,6 +125,7 @@ impl Core {
                 flag: true,
             },
             driver: Driver::new(alloc),
+            timers: Timers::new(alloc),
             words: Words {
                 wake: 0,
                 idle: 0,
@@ -127,7 +145,9 @@ impl Core {
     {
         match action {
             Action::Work { worker } => worker == 0 && self.is_running(),
+            Action::Clock { by } => by <= LAST_MOMENT - self.clock,
             Action::Land { request, result } => self.may_land(request, result),
+            Action::Stir { worker } => worker == 0 && !self.is_awake(),
         }
     }
 
@@ -135,7 +155,14 @@ impl Core {
     fn is_running(&self) -> bool
         ensures { result ≡ (is_awake self.now.rest && not (has_ended self.now.phase)) }
     {
-        matches!(self.rest, Rest::Awake) && !matches!(self.phase, WorkerPhase::Ended)
+        self.is_awake() && !matches!(self.phase, WorkerPhase::Ended)
+    }
+
+    /// Whether the worker doesn't sleep.
+    fn is_awake(&self) -> bool
+        ensures { result ≡ is_awake self.now.rest }
+    {
+        matches!(self.rest, Rest::Awake)
     }
 
     /// Whether the kernel has the operation and may give this result.
@@ -143,13 +170,13 @@ impl Core {
         requires { Sound self.now }
         ensures { result ≡ is_enabled (world self.now) (landing request given) }
     {
-        let (Some(entry), Some(send)) = (
+        let (Some(entry), Some(asked)) = (
             self.driver.requests.get(request),
-            self.driver.sends.get(request),
+            self.driver.asked.get(request),
         ) else {
             return false;
         };
-        matches!(entry.phase, Phase::Flying) && send.may_give(given)
+        matches!(entry.phase, Phase::Flying) && asked.may_give(given)
     }
 
     /// Takes the step if it may be taken, and answers its line. After an `Err` the executor is spent: no step
@@ -166,7 +193,9 @@ impl Core {
         }
         let event = match action {
             Action::Work { .. } => self.step(alloc)?,
+            Action::Clock { by } => self.move_clock(by),
             Action::Land { request, result } => self.land(request, result)?,
+            Action::Stir { .. } => self.stir(),
         };
         Ok(Line {
             action,
@@ -184,5 +213,31 @@ impl Core {
         self.driver.land(request, given)?;
         self.rest = Rest::Awake;
         Ok(Event::Land)
+    }
+
+    /// The clock moves, and rouses the worker where it slept until then.
+    fn move_clock(&mut self, by: u64) -> Event
+        requires sound { Sound self.old }
+        requires enabled { is_enabled (world self.old) (moving by) ≡ true }
+        ensures moved { result ≡ Event.Clock }
+        ensures steps { Moves self.old by self.new }
+    {
+        self.clock += by;
+        if let Rest::Until(moment) = self.rest {
+            if moment <= self.clock {
+                self.rest = Rest::Awake;
+            }
+        }
+        Event::Clock
+    }
+
+    /// The wait of the worker returns for nothing.
+    fn stir(&mut self) -> Event
+        requires { Sound self.old }
+        ensures stirred { result ≡ Event.Stir }
+        ensures steps { Stirs self.old self.new }
+    {
+        self.rest = Rest::Awake;
+        Event::Stir
     }
 }

@@ -14,6 +14,7 @@ pub mod place;
 pub mod poll;
 pub mod root;
 pub mod service;
+pub mod sizes;
 pub mod step;
 pub mod turn;
 pub mod wait;

@@ -1,5 +1,6 @@
 //! The looks at the own words, before the service and after it, and the look before a park.
 
+ghost use Rattle.exec_machine.specs.Choice.Choice.{Plain};
 ghost use Rattle.exec_core.specs.Sound.{SoundAt, StepsTo, Suits};
 
 use crate::executor::Core;
@@ -10,7 +11,7 @@ impl Core {
     /// Loads the head of the own queue, which is empty.
     pub fn look_at_head(&mut self, round: Round) -> Event
         requires { SoundAt (Place.LoadHead round) self.old }
-        ensures { StepsTo self.old result 0 self.new }
+        ensures { StepsTo self.old result Plain self.new }
     {
         self.place = Place::LoadMirror { round };
         Event::Turn
@@ -19,7 +20,7 @@ impl Core {
     /// Loads the length of the global queue, which is empty.
     pub fn look_at_mirror(&mut self, round: Round) -> Event
         requires { SoundAt (Place.LoadMirror round) self.old }
-        ensures { StepsTo self.old result 0 self.new }
+        ensures { StepsTo self.old result Plain self.new }
     {
         self.place = Place::LoadWord { round };
         Event::Turn
@@ -28,7 +29,7 @@ impl Core {
     /// Loads the wake word. The service may be deferred where nothing is ready.
     pub fn look_at_word(&mut self, round: Round) -> Event
         requires { SoundAt (Place.LoadWord round) self.old }
-        ensures { StepsTo self.old result 0 self.new }
+        ensures { StepsTo self.old result Plain self.new }
     {
         self.place = match round {
             Round::First => Place::Sample {
@@ -44,13 +45,13 @@ impl Core {
 
     /// Whether the worker has something to do beside its ring.
     fn is_ready(&self) -> bool {
-        self.root.flag || self.driver.has_callbacks()
+        self.root.flag || self.has_callbacks()
     }
 
     /// Looks for messages, of which there are none.
     pub fn look_at_mail(&mut self) -> Event
         requires { SoundAt Place.Mail self.old }
-        ensures { StepsTo self.old result 0 self.new }
+        ensures { StepsTo self.old result Plain self.new }
     {
         self.place = Place::Callbacks { then: Then::Test };
         Event::Turn
@@ -59,7 +60,7 @@ impl Core {
     /// Tests whether something is to be done.
     pub fn test_for_work(&mut self) -> Event
         requires { SoundAt Place.Test self.old }
-        ensures { StepsTo self.old result 0 self.new }
+        ensures { StepsTo self.old result Plain self.new }
     {
         self.place = if self.is_ready() || self.has_submissions() {
             self.next_turn()
@@ -72,11 +73,10 @@ impl Core {
     /// Reads the clock. A deadline that is due begins the next turn.
     pub fn read_clock(&mut self) -> Event
         requires { SoundAt Place.Clock self.old }
-        ensures { StepsTo self.old result 0 self.new }
+        ensures { StepsTo self.old result Plain self.new }
     {
         let is_due = self
-            .driver
-            .next_deadline()
+            .next_moment()
             .is_some_and(|moment| moment <= self.clock);
         self.place = if is_due {
             self.next_turn()
@@ -107,7 +107,7 @@ impl Core {
     /// Puts the own bit into the idle set.
     pub fn publish(&mut self) -> Event
         requires { SoundAt Place.Publish self.old }
-        ensures { StepsTo self.old result 0 self.new }
+        ensures { StepsTo self.old result Plain self.new }
     {
         self.words.idle |= 1;
         self.place = Place::LookMirror;
@@ -117,7 +117,7 @@ impl Core {
     /// Loads the length of the global queue again, which is empty.
     pub fn look_after_publish(&mut self) -> Event
         requires { SoundAt Place.LookMirror self.old }
-        ensures { StepsTo self.old result 0 self.new }
+        ensures { StepsTo self.old result Plain self.new }
     {
         self.place = Place::LookCount;
         Event::Turn
@@ -126,7 +126,7 @@ impl Core {
     /// Loads the search count, and goes on to the wait: there is no other queue to look at.
     pub fn look_at_count(&mut self) -> Event
         requires { SoundAt Place.LookCount self.old }
-        ensures { StepsTo self.old result 0 self.new }
+        ensures { StepsTo self.old result Plain self.new }
     {
         self.place = if self.driver.unresolved > 0 {
             self.ring_wait(Stay::Turn)

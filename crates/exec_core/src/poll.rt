@@ -9,6 +9,9 @@ ghost use Rattle.exec_core.specs.View.{world};
 ghost use Rattle.exec_core.specs.Acts.{IsNextAct};
 ghost use Rattle.exec_core.specs.declared.root.Act.TheVariants as act;
 ghost use Rattle.exec_driver.specs.Books.{request_at};
+ghost use Rattle.exec_machine.specs.Choice.{Choice};
+ghost use Rattle.exec_machine.specs.Choice.Choice.{Plain, ByTask, ByItself};
+ghost use Rattle.exec_driver.specs.Sleeps.{sleeper_at};
 ghost use Rattle.exec_core.specs.Sound.{SoundAt, StepsTo};
 
 use crate::executor::Core;
@@ -17,14 +20,20 @@ use crate::root::Act;
 use exec_machine::event::Event;
 use exec_machine::state::{Phase, TaskPhase, Waiting};
 use exec_outcomes::outcome::{Kind, Outcome};
+use exec_request::poll::PollRequest;
+use exec_request::request::Request;
+use exec_request::send::SendRequest;
 use std::alloc::{AllocError, Global};
 use std::mem;
+
+/// The longest sleep, in nanoseconds: 30 years of 365 days.
+const LONGEST_TIMEOUT: u64 = 946_080_000_000_000_000;
 
 impl Core {
     /// The poll of the root begins.
     pub fn begin_poll(&mut self) -> Event
         requires { SoundAt Place.Poll self.old }
-        ensures { StepsTo self.old result 0 self.new }
+        ensures { StepsTo self.old result Plain self.new }
     {
         self.root.begin();
         self.place = Place::Act;
@@ -34,20 +43,30 @@ impl Core {
     /// The root does its next act.
     pub fn act(&mut self, alloc: Global) -> Result<Event, AllocError>
         requires { SoundAt Place.Act self.old }
-        ensures { IfOk result (λ event. StepsTo self.old event 0 self.new) }
+        ensures { IfOk result (λ event. (choice : Choice) × StepsTo self.old event choice self.new) }
     {
         match self.root.next_act() {
             Act::Done => self.finish_root(alloc),
-            Act::Send { socket, length } => self.admit(alloc, socket, length),
+            Act::Fault(code) => self.fault_root(alloc, code),
+            Act::Send { socket, length } => self.admit_send(alloc, socket, length),
+            Act::Poll { listener } => self.admit_poll(listener),
             Act::Await(request) => Ok(match self.driver.phase_of(request) {
                 Phase::Resolved(outcome) => self.take(request, outcome),
                 _ => self.wait_for(request),
             }),
             Act::AwaitWake => Ok(self.wait_for_wake()),
+            Act::Drop(request) => self.drop_newest(request),
+            Act::Sleep(time) => self.sleep_for(time),
+            Act::Yield => Ok(self.yield_root()),
             Act::Pass => Ok(self.pass()),
             Act::Waits(request) => Ok(match self.driver.phase_of(request) {
                 Phase::Resolved(outcome) => self.take(request, outcome),
                 _ => self.pend(),
+            }),
+            Act::Sleeps(timer) => Ok(if self.timers.has_fired(timer) {
+                self.take_timer(timer)
+            } else {
+                self.pend()
             }),
             Act::Stop => Ok(self.pend()),
         }
@@ -57,7 +76,7 @@ impl Core {
     fn finish_root(&mut self, alloc: Global) -> Result<Event, AllocError>
         requires sound { SoundAt Place.Act self.old }
         requires next { IsNextAct self.old.root act.Done }
-        ensures { IfOk result (λ event. StepsTo self.old event 0 self.new) }
+        ensures { IfOk result (λ event. StepsTo self.old event Plain self.new) }
     {
         let held = mem::replace(&mut self.root.held, Vec::new(alloc));
         self.driver.let_go_all(held.as_slice())?;
@@ -66,16 +85,32 @@ impl Core {
         Ok(Event::Done { task: 0 })
     }
 
+    /// The root is over by a fault, and lets go of what it holds.
+    fn fault_root(&mut self, alloc: Global, code: u64) -> Result<Event, AllocError>
+        requires sound { SoundAt Place.Act self.old }
+        requires next { IsNextAct self.old.root (act.Fault code) }
+        ensures { IfOk result (λ event. StepsTo self.old event Plain self.new) }
+    {
+        let held = mem::replace(&mut self.root.held, Vec::new(alloc));
+        self.driver.let_go_all(held.as_slice())?;
+        self.root.phase = TaskPhase::Done;
+        self.place = Place::Close;
+        Ok(Event::Fault { task: 0, code })
+    }
+
     /// The root makes a send.
-    fn admit(&mut self, alloc: Global, socket: usize, length: u64) -> Result<Event, AllocError>
+    fn admit_send(&mut self, alloc: Global, socket: usize, length: u64) -> Result<Event, AllocError>
         requires sound { SoundAt Place.Act self.old }
         requires next { IsNextAct self.old.root (act.Send socket length) }
-        ensures { IfOk result (λ event. StepsTo self.old event 0 self.new) }
+        ensures { IfOk result (λ event. StepsTo self.old event (ByTask 0) self.new) }
     {
         let deadline = self.sampled + self.config.rw;
-        let request = self.driver.admit(alloc, socket, length, deadline)?;
+        let bytes = vec![in alloc; 0u8; length as usize]?;
+        let request = self
+            .driver
+            .admit(Request::Send(SendRequest::new(socket, bytes, deadline)))?;
+        self.root.place = self.root.next_place() + 1;
         self.root.held.push(request)?;
-        self.root.place += 1;
         self.place = Place::Act;
         Ok(Event::Admit {
             request,
@@ -84,15 +119,87 @@ impl Core {
         })
     }
 
+    /// The root makes a poll.
+    fn admit_poll(&mut self, listener: usize) -> Result<Event, AllocError>
+        requires sound { SoundAt Place.Act self.old }
+        requires next { IsNextAct self.old.root (act.Poll listener) }
+        ensures { IfOk result (λ event. StepsTo self.old event (ByTask 0) self.new) }
+    {
+        let deadline = self.sampled + self.config.rw;
+        let request = self
+            .driver
+            .admit(Request::Poll(PollRequest::new(listener, deadline)))?;
+        self.root.place = self.root.next_place() + 1;
+        self.root.held.push(request)?;
+        self.place = Place::Act;
+        Ok(Event::Admit {
+            request,
+            kind: Kind::Poll,
+            outcome: None,
+        })
+    }
+
+    /// The root lets go of the newest request that it holds.
+    fn drop_newest(&mut self, request: usize) -> Result<Event, AllocError>
+        requires sound { SoundAt Place.Act self.old }
+        requires next { IsNextAct self.old.root (act.Drop request) }
+        ensures { IfOk result (λ event. StepsTo self.old event (ByTask 0) self.new) }
+    {
+        self.driver.drop_request(request)?;
+        self.root.place = self.root.next_place() + 1;
+        self.root.held.pop();
+        self.place = Place::Act;
+        Ok(Event::Drop { request })
+    }
+
+    /// The root sleeps for some time, of which the longest is that of a timeout.
+    fn sleep_for(&mut self, time: u64) -> Result<Event, AllocError>
+        requires sound { SoundAt Place.Act self.old }
+        requires next { IsNextAct self.old.root (act.Sleep time) }
+        ensures { IfOk result (λ event. StepsTo self.old event (ByTask 0) self.new) }
+    {
+        let until = self.sampled + time.min(LONGEST_TIMEOUT);
+        let timer = self.timers.insert(until, 0)?;
+        self.root.place = self.root.next_place() + 1;
+        self.root.waiting = Waiting::Timer(timer);
+        self.place = Place::Act;
+        Ok(Event::Timer { timer, until })
+    }
+
+    /// The root takes its sleeper, whose moment has come.
+    fn take_timer(&mut self, timer: usize) -> Event
+        requires sound { SoundAt Place.Act self.old }
+        requires next { IsNextAct self.old.root (act.Sleeps timer) }
+        requires fired { (sleeper_at self.old.timers.sleepers.items timer).fired ≡ true }
+        ensures { StepsTo self.old result (ByTask 0) self.new }
+    {
+        self.root.waiting = Waiting::Nothing;
+        self.place = Place::Act;
+        Event::GotTimer { timer }
+    }
+
+    /// The root wakes itself, and lets others go first.
+    fn yield_root(&mut self) -> Event
+        requires sound { SoundAt Place.Act self.old }
+        requires next { IsNextAct self.old.root act.Yield }
+        ensures { StepsTo self.old result ByItself self.new }
+    {
+        self.root.place = self.root.next_place() + 1;
+        self.root.waiting = Waiting::Yielded;
+        self.root.wake();
+        self.place = Place::Act;
+        Event::Wake { task: 0 }
+    }
+
     /// The root waits for the request.
     fn wait_for(&mut self, request: usize) -> Event
         requires sound { SoundAt Place.Act self.old }
         requires next { IsNextAct self.old.root (act.Await request) }
         requires unresolved { is_resolved (request_at self.old.driver.requests.items request).phase ≡ false }
-        ensures { StepsTo self.old result 0 self.new }
+        ensures { StepsTo self.old result (ByTask 0) self.new }
     {
         self.driver.wait_for(request, 0);
-        self.root.place += 1;
+        self.root.place = self.root.next_place() + 1;
         self.root.waiting = Waiting::Request(request);
         self.place = Place::Act;
         Event::Wait {
@@ -104,9 +211,9 @@ impl Core {
     fn wait_for_wake(&mut self) -> Event
         requires sound { SoundAt Place.Act self.old }
         requires next { IsNextAct self.old.root act.AwaitWake }
-        ensures { StepsTo self.old result 0 self.new }
+        ensures { StepsTo self.old result (ByTask 0) self.new }
     {
-        self.root.place += 1;
+        self.root.place = self.root.next_place() + 1;
         self.root.waiting = Waiting::Wake;
         self.place = Place::Act;
         Event::Wait { request: None }
@@ -117,7 +224,7 @@ impl Core {
         requires sound { SoundAt Place.Act self.old }
         requires next { IsNextAct self.old.root (act.Await request) ⊎ IsNextAct self.old.root (act.Waits request) }
         requires resolved { (request_at self.old.driver.requests.items request).phase ≡ phase.Resolved outcome }
-        ensures { StepsTo self.old result 0 self.new }
+        ensures { StepsTo self.old result (ByTask 0) self.new }
     {
         self.driver.take(request);
         self.root.take();
@@ -129,8 +236,9 @@ impl Core {
     fn pass(&mut self) -> Event
         requires sound { SoundAt Place.Act self.old }
         requires next { IsNextAct self.old.root act.Pass }
-        ensures { StepsTo self.old result 0 self.new }
+        ensures { StepsTo self.old result (ByTask 0) self.new }
     {
+        self.root.place = self.root.place_after_pass();
         self.root.waiting = Waiting::Nothing;
         self.place = Place::Act;
         Event::Pass
@@ -140,7 +248,7 @@ impl Core {
     fn pend(&mut self) -> Event
         requires sound { SoundAt Place.Act self.old }
         requires may { MayPend (world self.old) self.old.root.waiting }
-        ensures { StepsTo self.old result 0 self.new }
+        ensures { StepsTo self.old result Plain self.new }
     {
         self.root.pend();
         self.place = Place::Callbacks { then: Then::Look };

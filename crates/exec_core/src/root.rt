@@ -3,7 +3,7 @@
 ghost use Rattle.std.specs.Prelude.{◌≡◌, true, false, ◌<◌, length};
 ghost use Rattle.exec_machine.specs.declared.state.TaskPhase.TheVariants.{Running as running, Queued as queued};
 ghost use Rattle.exec_machine.specs.declared.state.Waiting.TheVariants.{Nothing as nothing};
-ghost use Rattle.exec_machine.specs.After.{begun_waiting, pended_phase, woken_phase, place_after_got, without_newest};
+ghost use Rattle.exec_machine.specs.After.{begun_waiting, pended_phase, woken_phase, place_after_got, place_after_pass as place_passed, without_newest};
 
 use exec_machine::config::Word;
 use exec_machine::state::{TaskPhase, Waiting};
@@ -32,23 +32,36 @@ pub struct Root {
 pub enum Act {
     /// It ends.
     Done,
+    /// It ends with a fault.
+    Fault(u64),
     /// It registers a send.
     Send { socket: usize, length: u64 },
+    /// It registers a poll.
+    Poll { listener: usize },
     /// It awaits the newest request that it holds.
     Await(usize),
     /// It awaits a wake.
     AwaitWake,
-    /// It has a wake to take.
+    /// It lets go of the newest request that it holds.
+    Drop(usize),
+    /// It sleeps so many nanoseconds, which are some.
+    Sleep(u64),
+    /// It wakes itself, and lets others go first.
+    Yield,
+    /// It has a wake to take, or a sleep of no time.
     Pass,
     /// It waits for this request already.
     Waits(usize),
+    /// It waits for this sleeper already.
+    Sleeps(usize),
     /// It stops here, whatever comes.
     Stop,
 }
 
 impl Root {
     ghost use Rattle.exec_core.specs.Acts.{IsNextAct};
-    ghost use Rattle.exec_core.specs.Sound.{is_timer, IsRoot};
+    ghost use Rattle.exec_core.specs.Sound.{IsRoot};
+    ghost use Rattle.exec_machine.specs.Allowed.{next_place as place_of_next, next_word as word_of_next};
     ghost use Rattle.exec_core.specs.View.{task_view};
     ghost use Rattle.exec_machine.specs.World.{no_task};
     ghost use Rattle.exec_machine.specs.After.{woken};
@@ -56,14 +69,14 @@ impl Root {
 
     /// What the root does next.
     pub fn next_act(&self) -> Act
-        requires { is_timer self.now.waiting ≡ false }
         ensures { IsNextAct self.now result }
     {
         match self.waiting {
             Waiting::Nothing => self.next_of_script(),
             Waiting::Request(request) => Act::Waits(request),
             Waiting::Woken => Act::Pass,
-            Waiting::Timer(_) | Waiting::Wake | Waiting::Yielded => Act::Stop,
+            Waiting::Timer(timer) => Act::Sleeps(timer),
+            Waiting::Wake | Waiting::Yielded => Act::Stop,
         }
     }
 
@@ -72,13 +85,54 @@ impl Root {
         requires { self.now.waiting ≡ nothing }
         ensures { IsNextAct self.now result }
     {
-        match self.script.get(self.place).copied() {
+        match self.next_word() {
             None | Some(Word::End) => Act::Done,
+            Some(Word::Fault { code }) => Act::Fault(code),
             Some(Word::Send { socket, length }) => Act::Send { socket, length },
+            Some(Word::Poll { listener }) => Act::Poll { listener },
             Some(Word::Await) => match self.held.last().copied() {
                 Some(request) => Act::Await(request),
                 None => Act::AwaitWake,
             },
+            Some(Word::Drop) => match self.held.last().copied() {
+                Some(request) => Act::Drop(request),
+                None => unreachable!(),
+            },
+            Some(Word::Sleep { time: 0 }) => Act::Pass,
+            Some(Word::Sleep { time }) => Act::Sleep(time),
+            Some(Word::Yield) => Act::Yield,
+        }
+    }
+
+    /// The next word that is an act.
+    fn next_word(&self) -> Option<Word>
+        ensures { result ≡ word_of_next (task_view self.now) }
+    {
+        self.script.get(self.next_place()).copied()
+    }
+
+    /// The number of the next word that is an act: with nothing held a drop is none.
+    pub fn next_place(&self) -> usize
+        ensures { result ≡ place_of_next (task_view self.now) }
+    {
+        let mut place = self.place;
+        if !self.held.is_empty() {
+            return place;
+        }
+        while let Some(Word::Drop) = self.script.get(place).copied() {
+            place += 1;
+        }
+        place
+    }
+
+    /// Where the root goes on once it has passed on: a wake is no word of its script, a sleep of no time is one.
+    pub fn place_after_pass(&self) -> usize
+        requires { self.now.waiting ≡ nothing → place_of_next (task_view self.now) < length self.now.script.items }
+        ensures { result ≡ place_passed self.now.waiting self.now.place (place_of_next (task_view self.now)) }
+    {
+        match self.waiting {
+            Waiting::Nothing => self.next_place() + 1,
+            _ => self.place,
         }
     }
 
@@ -148,6 +202,7 @@ impl Root {
         requires { self.old.flag ≡ true → self.old.phase ≡ queued }
         ensures tasks { task_view self.new ∷ [] ≡ slice_set (task_view self.old ∷ []) task (woken (slice_index_or (task_view self.old ∷ []) task no_task)) }
         ensures sound { (n : ℕ) → IsRoot self.old n → IsRoot self.new n }
+        ensures waiting { self.new.waiting ≡ self.old.waiting }
         ensures phase { (self.new.phase ≡ self.old.phase) ⊎ (self.new.phase ≡ woken_phase self.old.phase) }
     {
         if task == 0 {

@@ -1,10 +1,12 @@
 //! A service of the ring: landed results are judged, deadlines go on the wheel, operations are staged and
 //! entered.
 
-ghost use Rattle.std.specs.Prelude.{◌≡◌, false, ◌<◌, ◌^◌, IsTrue, IfOk};
-ghost use Rattle.exec_machine.specs.Allowed.{fires_at as moment_of};
+ghost use Rattle.std.specs.Prelude.{◌≡◌, true, false, [], ◌<◌, ◌^◌, ◌↔◌, IsTrue, IfOk};
+ghost use Rattle.exec_machine.specs.Allowed.{fires_at as moment_of, is_first_due, round_from};
 ghost use Rattle.exec_driver.specs.Found.{IsUnenrolled, NeedsCancel};
-ghost use Rattle.exec_core.specs.Sound.{SoundAt, StepsTo, Suits};
+ghost use Rattle.exec_machine.specs.Choice.Choice.{Plain, Samples};
+ghost use Rattle.exec_core.specs.View.{worker_view};
+ghost use Rattle.exec_core.specs.Sound.{SoundAt, StepsTo, Suits, IsConfig, IsSized, IsInTime};
 
 use crate::executor::{Core, SIGNALLED};
 use crate::place::{Back, Place, Service, Then};
@@ -15,8 +17,9 @@ impl Core {
     /// Samples the clock, and clears the latch that a granted permit left.
     pub fn sample(&mut self, service: Service) -> Event
         requires { SoundAt (Place.Sample service) self.old }
-        ensures { StepsTo self.old result 1 self.new }
+        ensures { StepsTo self.old result Samples self.new }
     {
+        self.sampled_before = self.sampled;
         self.sampled = self.clock;
         self.words.wake &= !SIGNALLED;
         self.place = Place::Reap {
@@ -29,7 +32,7 @@ impl Core {
     /// Judges the next landed result. Acknowledgements of cancels are dropped.
     pub fn reap(&mut self, service: Service, last: bool) -> Result<Event, AllocError>
         requires { SoundAt (Place.Reap service last) self.old }
-        ensures { IfOk result (λ event. StepsTo self.old event 0 self.new) }
+        ensures { IfOk result (λ event. StepsTo self.old event Plain self.new) }
     {
         self.driver.acknowledged = false;
         let judged = self.driver.reap()?;
@@ -58,21 +61,24 @@ impl Core {
         }
     }
 
-    /// Advances the timeout wheel. No deadline is due, since the clock stands still.
+    /// Advances the timeout wheel. The deadlines that it finds due are told one a step.
     pub fn advance_wheel(&mut self, service: Service) -> Event
         requires { SoundAt (Place.Wheel service) self.old }
-        ensures { StepsTo self.old result 0 self.new }
+        ensures { StepsTo self.old result Plain self.new }
     {
         self.place = Place::Submit { service };
         Event::Serve
     }
 
-    /// Puts the next deadline on the wheel; where none is left, stages the next cancel or operation; and
-    /// where none of these is left, ends the staging.
+    /// Tells the next deadline that has come; where none is left, puts the next new one on the wheel; then
+    /// stages the next cancel or operation; and where none of these is left, ends the staging.
     pub fn submit(&mut self, service: Service) -> Result<Event, AllocError>
         requires { SoundAt (Place.Submit service) self.old }
-        ensures { IfOk result (λ event. StepsTo self.old event 0 self.new) }
+        ensures { IfOk result (λ event. StepsTo self.old event Plain self.new) }
     {
+        if let Some(request) = self.driver.next_due(self.round(), self.sampled) {
+            return self.expire(service, request);
+        }
         if let Some(request) = self.driver.next_unenrolled() {
             return self.enrol(service, request);
         }
@@ -85,11 +91,40 @@ impl Core {
         Ok(self.end_staging(service))
     }
 
+    /// Where the last advance of the wheel went all the way round: the moment from which on deadlines come
+    /// first.
+    fn round(&self) -> Option<u64>
+        requires config { IsConfig self.now.config }
+        requires sized { IsSized self.now.config self.now.ring self.now.slots }
+        requires time { IsInTime self.now.start self.now.sampled_before self.now.sampled self.now.clock }
+        ensures { result ≡ round_from self.now.config (worker_view self.now) }
+    {
+        let tick = self.config.tick;
+        let before = (self.sampled_before - self.start) / tick;
+        let now = (self.sampled - self.start) / tick;
+        if before + self.slots <= now {
+            Some(self.start + (before / self.slots + 1) * self.slots * tick)
+        } else {
+            None
+        }
+    }
+
+    /// Tells that the deadline of the request has come.
+    fn expire(&mut self, service: Service, request: usize) -> Result<Event, AllocError>
+        requires sound { SoundAt (Place.Submit service) self.old }
+        requires first { is_first_due (round_from self.old.config (worker_view self.old)) self.old.sampled 0 self.old.driver.requests.items request ≡ true }
+        ensures { IfOk result (λ event. StepsTo self.old event Plain self.new) }
+    {
+        let outcome = self.driver.expire(request)?;
+        self.place = Place::Submit { service };
+        Ok(Event::Expire { request, outcome })
+    }
+
     /// Puts the deadline of the request on the wheel.
     fn enrol(&mut self, service: Service, request: usize) -> Result<Event, AllocError>
         requires sound { SoundAt (Place.Submit service) self.old }
         requires found { IsUnenrolled self.old.driver.requests.items request }
-        ensures { IfOk result (λ event. StepsTo self.old event 0 self.new) }
+        ensures { IfOk result (λ event. StepsTo self.old event Plain self.new) }
     {
         let moment = self.fires_at(self.driver.deadline_of(request));
         let outcome = self.driver.enrol(request, moment, self.sampled)?;
@@ -112,7 +147,7 @@ impl Core {
     fn stage_cancel(&mut self, service: Service, request: usize) -> Event
         requires sound { SoundAt (Place.Submit service) self.old }
         requires found { NeedsCancel self.old.driver.requests.items request }
-        ensures { StepsTo self.old result 0 self.new }
+        ensures { StepsTo self.old result Plain self.new }
     {
         if self.is_full() {
             return self.flush(service);
@@ -124,39 +159,40 @@ impl Core {
 
     /// Whether a request is Queued and has a place in the ring.
     pub fn may_stage(&self) -> bool
-        ensures { IsTrue result → self.now.driver.in_flight < self.now.config.ring }
+        ensures { IsTrue result ↔ ((0 < self.now.driver.queued) × (self.now.driver.in_flight < self.now.ring)) }
     {
-        !self.driver.ready.is_empty() && self.driver.in_flight < self.config.ring
+        self.driver.queued > 0 && self.driver.in_flight < self.ring
     }
 
     /// Whether the submission queue is full.
     pub fn is_full(&self) -> bool
-        ensures { result ≡ false → self.now.driver.entries < self.now.config.ring }
+        ensures { result ≡ false ↔ (self.now.driver.entries < self.now.ring) }
     {
-        self.driver.entries >= self.config.ring
+        self.driver.entries >= self.ring
     }
 
     /// Stages the first Queued request, or enters a full submission queue.
     fn stage(&mut self, service: Service) -> Result<Event, AllocError>
         requires sound { SoundAt (Place.Submit service) self.old }
-        requires room { self.old.driver.in_flight < self.old.config.ring }
-        ensures { IfOk result (λ event. StepsTo self.old event 0 self.new) }
+        requires some { 0 < self.old.driver.queued }
+        requires enrolled { self.old.driver.unenrolled.items ≡ [] }
+        requires room { self.old.driver.in_flight < self.old.ring }
+        ensures { IfOk result (λ event. StepsTo self.old event Plain self.new) }
     {
         if self.is_full() {
             return Ok(self.flush(service));
         }
-        let staged = self.driver.stage()?;
+        let Some(request) = self.driver.stage()? else {
+            unreachable!()
+        };
         self.place = Place::Submit { service };
-        Ok(match staged {
-            Some(request) => Event::Stage { request },
-            None => Event::Serve,
-        })
+        Ok(Event::Stage { request })
     }
 
     /// The kernel takes all that is staged, since the submission queue is full.
     fn flush(&mut self, service: Service) -> Event
         requires { SoundAt (Place.Submit service) self.old }
-        ensures { StepsTo self.old result 0 self.new }
+        ensures { StepsTo self.old result Plain self.new }
     {
         self.driver.enter();
         self.place = Place::Submit { service };
@@ -166,14 +202,14 @@ impl Core {
     /// Ends the staging with the wake poll, which must be armed from the first service on.
     fn end_staging(&mut self, service: Service) -> Event
         requires { SoundAt (Place.Submit service) self.old }
-        ensures { StepsTo self.old result 0 self.new }
+        ensures { StepsTo self.old result Plain self.new }
     {
         if !self.driver.poll_armed && self.is_full() {
             return self.flush(service);
         }
         self.driver.arm_poll();
         let due = self.driver.unresolved > 0;
-        let urgent = !service.defer || self.driver.has_callbacks() || self.has_submissions();
+        let urgent = !service.defer || self.has_callbacks() || self.has_submissions();
         self.defer = service.defer;
         self.deferred = due && !urgent;
         self.place = if due && urgent {
@@ -188,14 +224,16 @@ impl Core {
     }
 
     /// Whether something is to be enrolled or staged.
-    pub fn has_submissions(&self) -> bool {
+    pub fn has_submissions(&self) -> bool
+        ensures { IsTrue result ↔ ((0 < self.now.driver.queued) × (self.now.driver.in_flight < self.now.ring)) }
+    {
         self.may_stage()
     }
 
     /// The last enter of a service.
     pub fn enter_last(&mut self, service: Service) -> Event
         requires { SoundAt (Place.Enter service) self.old }
-        ensures { StepsTo self.old result 0 self.new }
+        ensures { StepsTo self.old result Plain self.new }
     {
         self.place = Place::Reap {
             service,
@@ -205,16 +243,20 @@ impl Core {
         Event::Enter
     }
 
-    /// The end of a service.
-    pub fn end_service(&mut self, service: Service) -> Event
+    /// Tells the next sleeper whose moment has come, and where there is none ends the service.
+    pub fn end_service(&mut self, service: Service) -> Result<Event, AllocError>
         requires { SoundAt (Place.Last service) self.old }
-        ensures { StepsTo self.old result 0 self.new }
+        ensures { IfOk result (λ event. StepsTo self.old event Plain self.new) }
     {
+        if let Some(timer) = self.timers.fire(self.sampled)? {
+            self.place = Place::Last { service };
+            return Ok(Event::Fire { timer });
+        }
         self.place = match service.back {
             Back::Mail => Place::Mail,
             Back::Begin => Place::Callbacks { then: Then::Begin },
             Back::Finish => Place::Callbacks { then: Then::Finish },
         };
-        Event::Serve
+        Ok(Event::Serve)
     }
 }

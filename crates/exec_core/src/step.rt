@@ -2,6 +2,7 @@
 
 ghost use Rattle.std.specs.Prelude.{◌≡◌, ℕ, false, IfOk};
 ghost use Rattle.exec_machine.specs.Allowed.{has_ended};
+ghost use Rattle.exec_machine.specs.Choice.{Choice};
 ghost use Rattle.exec_core.specs.Sound.{Sound, StepsTo};
 
 use crate::executor::Core;
@@ -15,7 +16,7 @@ impl Core {
     pub fn step(&mut self, alloc: Global) -> Result<Event, AllocError>
         requires sound { Sound self.old }
         requires running { has_ended self.old.phase ≡ false }
-        ensures { IfOk result (λ event. (choice : ℕ) × StepsTo self.old event choice self.new) }
+        ensures { IfOk result (λ event. (choice : Choice) × StepsTo self.old event choice self.new) }
     {
         match self.place {
             Place::Begin => Ok(self.begin_turn()),
@@ -35,7 +36,7 @@ impl Core {
             Place::Wheel { service } => Ok(self.advance_wheel(service)),
             Place::Submit { service } => self.submit(service),
             Place::Enter { service } => Ok(self.enter_last(service)),
-            Place::Last { service } => Ok(self.end_service(service)),
+            Place::Last { service } => self.end_service(service),
             Place::Mail => Ok(self.look_at_mail()),
             Place::Test => Ok(self.test_for_work()),
             Place::Clock => Ok(self.read_clock()),

@@ -2,6 +2,7 @@
 //!
 //! The own queue and the global one hold ordinary tasks. There are none yet, so a pick finds nothing.
 
+ghost use Rattle.exec_machine.specs.Choice.Choice.{Plain};
 ghost use Rattle.exec_core.specs.Sound.{SoundAt, StepsTo};
 
 use crate::executor::Core;
@@ -12,7 +13,7 @@ impl Core {
     /// A turn begins.
     pub fn begin_turn(&mut self) -> Event
         requires { SoundAt Place.Begin self.old }
-        ensures { StepsTo self.old result 0 self.new }
+        ensures { StepsTo self.old result Plain self.new }
     {
         self.place = Place::CountDown;
         Event::Turn
@@ -21,7 +22,7 @@ impl Core {
     /// Counts down to the global look, which then comes first.
     pub fn count_down(&mut self) -> Event
         requires { SoundAt Place.CountDown self.old }
-        ensures { StepsTo self.old result 0 self.new }
+        ensures { StepsTo self.old result Plain self.new }
     {
         if self.countdown <= 1 {
             self.countdown = self.config.interval;
@@ -38,7 +39,7 @@ impl Core {
     /// Pops the own queue, which is empty.
     pub fn pop(&mut self, global_first: bool) -> Event
         requires { SoundAt (Place.Pop global_first) self.old }
-        ensures { StepsTo self.old result 0 self.new }
+        ensures { StepsTo self.old result Plain self.new }
     {
         self.place = if global_first {
             Place::RootFlag
@@ -53,7 +54,7 @@ impl Core {
     /// Loads the length of the global queue, which is empty.
     pub fn load_mirror(&mut self, global_first: bool) -> Event
         requires { SoundAt (Place.Mirror global_first) self.old }
-        ensures { StepsTo self.old result 0 self.new }
+        ensures { StepsTo self.old result Plain self.new }
     {
         self.place = if global_first {
             Place::Pop { global_first: true }
@@ -66,7 +67,7 @@ impl Core {
     /// Takes the root flag, and where it was set goes on to the poll of the root.
     pub fn take_root_flag(&mut self) -> Event
         requires { SoundAt Place.RootFlag self.old }
-        ensures { StepsTo self.old result 0 self.new }
+        ensures { StepsTo self.old result Plain self.new }
     {
         self.place = if self.root.flag {
             Place::Poll

@@ -2,7 +2,10 @@
 
 ghost use Rattle.std.specs.Prelude.{◌≡◌, false};
 ghost use Rattle.exec_machine.specs.Allowed.{is_polled_by};
-ghost use Rattle.exec_core.specs.Sound.{Sound, SoundAt, StepsTo, Suits};
+ghost use Rattle.exec_machine.specs.Choice.Choice.{Plain};
+ghost use Rattle.exec_driver.specs.Books.{Books};
+ghost use Rattle.exec_driver.specs.Sleeps.{Sleeps};
+ghost use Rattle.exec_core.specs.Sound.{Sound, SoundAt, StepsTo, Suits, IsNextMoment};
 
 use crate::executor::{Core, ON_RING, SIGNALLED, SLEEPING};
 use crate::place::{Back, Next, Place, Service, Stay};
@@ -25,7 +28,7 @@ impl Core {
     /// Enters a full submission queue.
     pub fn enter_full_ring(&mut self, stay: Stay) -> Event
         requires { SoundAt (Place.RingFull stay) self.old }
-        ensures { StepsTo self.old result 0 self.new }
+        ensures { StepsTo self.old result Plain self.new }
     {
         self.driver.enter();
         self.place = Place::RingTest { stay };
@@ -35,7 +38,7 @@ impl Core {
     /// Tests for submissions, and stages the wake poll where it must be armed.
     pub fn test_ring(&mut self, stay: Stay) -> Event
         requires { SoundAt (Place.RingTest stay) self.old }
-        ensures { StepsTo self.old result 0 self.new }
+        ensures { StepsTo self.old result Plain self.new }
     {
         let poll_waits = !self.driver.poll_armed && self.is_full();
         if self.has_submissions() || poll_waits {
@@ -50,7 +53,7 @@ impl Core {
     /// Puts the ring bit into the wake word.
     pub fn arm_ring(&mut self, stay: Stay) -> Event
         requires { SoundAt (Place.RingArm stay) self.old }
-        ensures { StepsTo self.old result 0 self.new }
+        ensures { StepsTo self.old result Plain self.new }
     {
         let found = self.words.wake;
         self.words.wake |= ON_RING;
@@ -68,7 +71,7 @@ impl Core {
     /// Enters, and where nothing has landed goes on to sleep.
     pub fn enter_ring(&mut self, stay: Stay) -> Event
         requires { SoundAt (Place.RingEnter stay) self.old }
-        ensures { StepsTo self.old result 0 self.new }
+        ensures { StepsTo self.old result Plain self.new }
     {
         self.driver.enter();
         self.place = if self.driver.is_quiet() {
@@ -82,7 +85,7 @@ impl Core {
     /// Sleeps where still nothing has landed and no deadline is due.
     pub fn sleep_on_ring(&mut self, stay: Stay) -> Event
         requires { SoundAt (Place.RingSleep stay) self.old }
-        ensures { StepsTo self.old result 0 self.new }
+        ensures { StepsTo self.old result Plain self.new }
     {
         self.place = Place::RingBits { stay, served: true };
         if self.driver.is_quiet() {
@@ -95,7 +98,7 @@ impl Core {
     /// Takes the wait bits out of the wake word.
     pub fn disarm_ring(&mut self, stay: Stay, served: bool) -> Event
         requires { SoundAt (Place.RingBits stay served) self.old }
-        ensures { StepsTo self.old result 0 self.new }
+        ensures { StepsTo self.old result Plain self.new }
     {
         let next = if served { Next::Begin } else { Next::Service };
         self.words.wake = 0;
@@ -106,7 +109,7 @@ impl Core {
     /// Puts the sleeping bit into the wake word.
     pub fn arm_word(&mut self) -> Event
         requires { SoundAt Place.WordArm self.old }
-        ensures { StepsTo self.old result 0 self.new }
+        ensures { StepsTo self.old result Plain self.new }
     {
         let found = self.words.wake;
         self.words.wake |= SLEEPING;
@@ -121,7 +124,7 @@ impl Core {
     /// Sleeps where the word is as it was left and no deadline is due.
     pub fn sleep_on_word(&mut self) -> Event
         requires { SoundAt Place.WordSleep self.old }
-        ensures { StepsTo self.old result 0 self.new }
+        ensures { StepsTo self.old result Plain self.new }
     {
         self.place = Place::WordBits;
         if self.words.wake & SIGNALLED != 0 {
@@ -135,9 +138,9 @@ impl Core {
     fn sleep(&mut self) -> Event
         requires sound { Sound self.old }
         requires idle { is_polled_by 0 self.old.root.phase ≡ false }
-        ensures { StepsTo self.old result 0 self.new }
+        ensures { StepsTo self.old result Plain self.new }
     {
-        let until = self.driver.next_deadline();
+        let until = self.next_moment();
         match until {
             Some(moment) => {
                 if moment <= self.clock {
@@ -150,10 +153,23 @@ impl Core {
         Event::Sleep { until }
     }
 
+    /// The first moment at which a deadline or a sleeper is due, in nanoseconds.
+    pub fn next_moment(&self) -> Option<u64>
+        requires books { Books self.now.driver }
+        requires sleeps { Sleeps self.now.timers }
+        ensures { IsNextMoment self.now result }
+    {
+        match (self.driver.next_deadline(), self.timers.next_deadline()) {
+            (Some(deadline), Some(until)) => Some(deadline.min(until)),
+            (Some(moment), None) | (None, Some(moment)) => Some(moment),
+            (None, None) => None,
+        }
+    }
+
     /// Takes the wait bits out of the wake word.
     pub fn disarm_word(&mut self) -> Event
         requires { SoundAt Place.WordBits self.old }
-        ensures { StepsTo self.old result 0 self.new }
+        ensures { StepsTo self.old result Plain self.new }
     {
         self.words.wake = 0;
         self.place = Place::Withdraw { next: Next::Begin };
@@ -163,7 +179,7 @@ impl Core {
     /// Takes the own bit out of the idle set.
     pub fn withdraw(&mut self, next: Next) -> Event
         requires { SoundAt (Place.Withdraw next) self.old }
-        ensures { StepsTo self.old result 0 self.new }
+        ensures { StepsTo self.old result Plain self.new }
     {
         self.words.idle &= !1;
         self.place = match next {

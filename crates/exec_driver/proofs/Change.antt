@@ -1,15 +1,19 @@
 -- What one changed request does to the lists and counts.
 use Rattle.std.proofs.Common.{◌≡◌, ℕ, ◌+◌, ◌<◌, ◌≤◌, Bool, true, false, cond, if◌then◌else◌, ◌==◌, List, [], ◌∷◌, ◌++◌, length, map, refl, sym, ap, subst, ◌∙◌, arith, ⊎_elim, get_or-set_same, get_or-set_other}
 use Rattle.std.specs.Prelude.{slice_index_or, slice_set, count_by}
-use Rattle.std.proofs.lemmas.Bool.{cases_eq, cases_lt, cases_Bool, eq-eqb, ne_eqb, true≢false}
+use Rattle.std.proofs.lemmas.Bool.{cases_eq, cases_lt, cases_Bool, eq-eqb, ne_eqb, true≢false, and_from}
 use Rattle.std.proofs.lemmas.List.{set-set, get_or_read, length-set, get_or_past, map-set, set-get_or, get_or-map}
 use Rattle.std.proofs.lemmas.List.Sums.{sum_by-cons, sum_by_push, sum_by-set, count_by-le-length}
 use Rattle.exec_machine.specs.World.{Operation, no_request}
 use Rattle.exec_machine.specs.declared.state.Request.{Request}
-use Rattle.exec_request.specs.declared.send.SendRequest.{SendRequest}
+use Rattle.exec_request.specs.declared.request.Request.{Request as Asked}
 use Rattle.exec_driver.specs.Operations.{operation_view, operations_view}
-use Rattle.exec_driver.specs.Books.{request_at, operation_at, one_if, positive, Tracks, IsSound}
-use Rattle.exec_machine.specs.Allowed.{is_timed_at}
+use Rattle.exec_driver.specs.Books.{request_at, operation_at, one_if, Tracks, TracksGoing, Covers, AreNumbers, AreTimers, Buffers, IsOwned, IsSound, is_unenrolled}
+use Rattle.exec_machine.specs.Allowed.{is_resolved, is_some_number, is_queued, is_none}
+use Rattle.std.proofs.lemmas.Option.{slice_get_within, slice_get-get_or, get_or_from_slice_get}
+use Rattle.std.specs.Prelude.{slice_get, Some}
+use Rattle.std.specs.BTreeSet.{BTreeSet}
+use Rattle.exec_driver.specs.declared.wheel.Deadline.{Deadline}
 
 -- how often r stands in xs
 abbrev pub times : ℕ → List ℕ → ℕ
@@ -167,8 +171,102 @@ pub was_sound : (os : List Operation) {rs : List Request} {r : ℕ} {x q : Reque
     → ((k : ℕ) → IsSound (operation_at os k) (request_at rs k)) → IsSound (operation_at os r) x
 was_sound os {rs} {r} {x} {q} ch each = subst (λ (z : Request). IsSound (operation_at os r) z) (sym ch.read) (each r)
 
-pub timer_keep : (u : ℕ) {rs : List Request} {r : ℕ} {x q : Request} → Change rs r x q → is_timed_at 0 u q ≡ is_timed_at 0 u x → positive (count_by (is_timed_at 0 u) rs) ≡ positive (count_by (is_timed_at 0 u) (slice_set rs r q))
-timer_keep u ch same = ap positive (sym (count_keep (is_timed_at 0 u) ch same))
+-- of the requests that go on
+pub going_keep : (test : Request → Bool) {rs : List Request} {r : ℕ} {x q : Request} (xs : List ℕ) → Change rs r x q
+    → (is_resolved q.phase ≡ false → (is_resolved x.phase ≡ false) × (test q ≡ test x)) → TracksGoing test rs xs → TracksGoing test (slice_set rs r q) xs
+going_keep test {rs} {r} {x} {q} xs ch same t = λ k h.
+    ⊎_elim
+    (λ (e : k ≡ r).
+    let g = same (ap (λ (z : Request). is_resolved z.phase) (sym (at_r ch)) ∙ subst (λ (j : ℕ). is_resolved (request_at (slice_set rs r q) j).phase ≡ false) e h) in
+    subst (λ (j : ℕ). times j xs ≡ one_if (test (request_at (slice_set rs r q) j))) (sym e)
+    (t r (ap (λ (z : Request). is_resolved z.phase) (sym ch.read) ∙ g.0) ∙ ap one_if (ap test (sym ch.read) ∙ sym g.1 ∙ ap test (sym (at_r ch)))))
+    (λ (ne : k ≡ r → ⊥).
+    t k (ap (λ (z : Request). is_resolved z.phase) (sym (elsewhere rs r q k ne)) ∙ h) ∙ ap one_if (ap test (sym (elsewhere rs r q k ne))))
+    (cases_eq k r)
+
+pub going_join : (test : Request → Bool) {rs : List Request} {r : ℕ} {x q : Request} (xs ys : List ℕ) → Change rs r x q → is_resolved x.phase ≡ false → test x ≡ false → test q ≡ true
+    → ys ≡ xs ++ r ∷ [] → TracksGoing test rs xs → TracksGoing test (slice_set rs r q) ys
+going_join test {rs} {r} {x} {q} xs ys ch going was is e t = λ k h.
+    ⊎_elim
+    (λ (f : k ≡ r).
+    subst (λ (j : ℕ). times j ys ≡ one_if (test (request_at (slice_set rs r q) j))) (sym f)
+    (let a : one_if (test (request_at (slice_set rs r q) r)) ≡ 1 = ap (λ z. one_if (test z)) (at_r ch) ∙ ap one_if is in
+    let b : one_if (test (request_at rs r)) ≡ 0 = ap (λ z. one_if (test z)) (sym ch.read) ∙ ap one_if was in
+    let c : one_if (r == r) ≡ 1 = ap one_if (eq-eqb r r refl) in
+    let g = t r (ap (λ (z : Request). is_resolved z.phase) (sym ch.read) ∙ going) in
+    omega (arith, g, ap (times r) e, times_push r xs r)))
+    (λ (ne : k ≡ r → ⊥).
+    let a : one_if (test (request_at (slice_set rs r q) k)) ≡ one_if (test (request_at rs k)) = ap (λ z. one_if (test z)) (elsewhere rs r q k ne) in
+    let c : one_if (r == k) ≡ 0 = ap one_if (ne_eqb r k (λ (h : r ≡ k). ne (sym h))) in
+    let g = t k (ap (λ (z : Request). is_resolved z.phase) (sym (elsewhere rs r q k ne)) ∙ h) in
+    omega (arith, g, ap (times k) e, times_push r xs k))
+    (cases_eq k r)
+
+-- the list has numbers of requests only
+
+pub numbers_keep : {rs : List Request} {r : ℕ} {x q : Request} (xs : List ℕ) → Change rs r x q → AreNumbers rs xs → AreNumbers (slice_set rs r q) xs
+numbers_keep {rs} {r} {x} {q} xs ch n = λ k some. omega (arith, n k some, length-set rs r q)
+
+pub numbers_join : {rs : List Request} {r : ℕ} {x q : Request} (xs ys : List ℕ) → Change rs r x q → ys ≡ xs ++ r ∷ [] → AreNumbers rs xs → AreNumbers (slice_set rs r q) ys
+numbers_join {rs} {r} {x} {q} xs ys ch e n = λ k some.
+    ⊎_elim
+    (λ (f : k ≡ r). omega (arith, length-set rs r q, ch.there))
+    (λ (ne : k ≡ r → ⊥).
+    let c : one_if (r == k) ≡ 0 = ap one_if (ne_eqb r k (λ (h : r ≡ k). ne (sym h))) in
+    let m : k < length rs = n k (omega (arith, ap (times k) e, times_push r xs k)) in
+    omega (arith, length-set rs r q))
+    (cases_eq k r)
+
+pub numbers_less : (rs : List Request) (xs ys : List ℕ) → ((k : ℕ) → times k ys ≤ times k xs) → AreNumbers rs xs → AreNumbers rs ys
+numbers_less rs xs ys le n = λ k some. n k (omega (arith, le k))
+
+-- a list that may have others
+
+pub covers_keep : (test : Request → Bool) {rs : List Request} {r : ℕ} {x q : Request} (xs : List ℕ) → Change rs r x q → (test q ≡ true → test x ≡ true) → Covers test rs xs → Covers test (slice_set rs r q) xs
+covers_keep test {rs} {r} {x} {q} xs ch same t = λ k h.
+    ⊎_elim
+    (λ (e : k ≡ r).
+    subst (λ (j : ℕ). 0 < times j xs) (sym e)
+    (t r (ap test (sym ch.read) ∙ same (ap test (sym (at_r ch)) ∙ subst (λ (j : ℕ). test (request_at (slice_set rs r q) j) ≡ true) e h))))
+    (λ (ne : k ≡ r → ⊥). t k (ap test (sym (elsewhere rs r q k ne)) ∙ h))
+    (cases_eq k r)
+
+pub covers_join : (test : Request → Bool) {rs : List Request} {r : ℕ} {x q : Request} (xs ys : List ℕ) → Change rs r x q → ys ≡ xs ++ r ∷ [] → Covers test rs xs → Covers test (slice_set rs r q) ys
+covers_join test {rs} {r} {x} {q} xs ys ch e t = λ k h.
+    ⊎_elim
+    (λ (f : k ≡ r).
+    let c : one_if (r == k) ≡ 1 = ap one_if (eq-eqb r k (sym f)) in
+    omega (arith, ap (times k) e, times_push r xs k))
+    (λ (ne : k ≡ r → ⊥).
+    let g = t k (ap test (sym (elsewhere rs r q k ne)) ∙ h) in
+    omega (arith, ap (times k) e, times_push r xs k))
+    (cases_eq k r)
+
+-- what does not pass may leave the front
+pub covers_less : (test : Request → Bool) (rs : List Request) (r : ℕ) (xs ys : List ℕ) → xs ≡ r ∷ ys → test (request_at rs r) ≡ false → Covers test rs xs → Covers test rs ys
+covers_less test rs r xs ys e not t = λ k h.
+    let c : one_if (r == k) ≡ 0 = ap one_if (ne_eqb r k (λ (f : r ≡ k). true≢false (sym h ∙ ap (λ (j : ℕ). test (request_at rs j)) (sym f) ∙ not))) in
+    omega (arith, t k h, ap (times k) e, times_cons r ys k)
+
+-- the wheel and the buffers
+
+pub timers_keep : {rs : List Request} {r : ℕ} {x q : Request} (m : BTreeSet Deadline) → Change rs r x q → q.timer ≡ x.timer → AreTimers rs m → AreTimers (slice_set rs r q) m
+timers_keep m ch same t = λ k. t k ∙ ap (is_some_number k.moment) (sym (same_value (λ (z : Request). z.timer) ch same k.request))
+
+pub buffers_keep : {rs : List Request} {r : ℕ} {x q : Request} (ss : List Asked) → Change rs r x q → q.released ≡ x.released → Buffers ss rs → Buffers ss (slice_set rs r q)
+buffers_keep ss ch same b = λ k a h. subst (λ (z : Bool). IsOwned z a) (sym (same_value (λ (z : Request). z.released) ch same k)) (b k a h)
+
+pub buffers_set : {rs : List Request} {r : ℕ} {x q : Request} (ss : List Asked) (t : Asked) → Change rs r x q → r < length ss → IsOwned q.released t → Buffers ss rs → Buffers (slice_set ss r t) (slice_set rs r q)
+buffers_set {rs} {r} {x} {q} ss t ch there own b = λ k a h.
+    ⊎_elim
+    (λ (e : k ≡ r).
+    let f : t ≡ a = sym (get_or-set_same ss r t a there) ∙ get_or_from_slice_get (slice_set ss r t) r a a (ap (slice_get (slice_set ss r t)) (sym e) ∙ h) in
+    subst (λ (z : Bool). IsOwned z a) (sym (ap (λ (j : ℕ). (request_at (slice_set rs r q) j).released) e ∙ ap (λ (z : Request). z.released) (at_r ch))) (subst (IsOwned q.released) f own))
+    (λ (ne : k ≡ r → ⊥).
+    let lt : k < length ss = omega (arith, slice_get_within (slice_set ss r t) k a h, length-set ss r t) in
+    let f : slice_index_or ss k a ≡ a = sym (get_or-set_other ss r k t a ne) ∙ get_or_from_slice_get (slice_set ss r t) k a a h in
+    subst (λ (z : Bool). IsOwned z a) (sym (ap (λ (z : Request). z.released) (elsewhere rs r q k ne))) (b k a (slice_get-get_or ss k a lt ∙ ap Some f)))
+    (cases_eq k r)
 
 pub length_keep : (n : ℕ) {rs : List Request} {r : ℕ} {x q : Request} → Change rs r x q → n ≡ length rs → n ≡ length (slice_set rs r q)
 length_keep n {rs} {r} {x} {q} ch e = e ∙ sym (length-set rs r q)
@@ -184,9 +282,9 @@ pub read_passes : (test : Request → Bool) {rs : List Request} {r : ℕ} {x q :
 read_passes test ch h = ap test ch.read ∙ h
 
 -- the operations, where a send changed and asks for the same
-pub view_keep : (ss : List SendRequest) (r : ℕ) (s t : SendRequest) → s ≡ slice_index_or ss r s → r < length ss → operation_view t ≡ operation_view s → operations_view (slice_set ss r t) ≡ operations_view ss
+pub view_keep : (ss : List Asked) (r : ℕ) (s t : Asked) → s ≡ slice_index_or ss r s → r < length ss → operation_view t ≡ operation_view s → operations_view (slice_set ss r t) ≡ operations_view ss
 view_keep ss r s t read there same =
-    let f : SendRequest → Operation = operation_view in
+    let f : Asked → Operation = operation_view in
     let a : map f (slice_set ss r t) ≡ slice_set (map f ss) r (f t) = map-set f ss r t in
     let b : slice_index_or (map f ss) r (f s) ≡ f (slice_index_or ss r s) = get_or-map f ss r s (f s) there in
     let c : slice_set (map f ss) r (slice_index_or (map f ss) r (f s)) ≡ map f ss = set-get_or (map f ss) r (f s) in
@@ -206,3 +304,13 @@ twice rs mid end r y z e f = f ∙ ap (λ (zs : List Request). slice_set zs r z)
 
 pub after_at : (rs mid : List Request) (r : ℕ) (y : Request) → r < length rs → mid ≡ slice_set rs r y → request_at mid r ≡ y
 after_at rs mid r y there e = ap (λ (zs : List Request). request_at zs r) e ∙ get_or-set_same rs r y no_request there
+
+-- where none is to be enrolled, a Queued one has its timer
+pub timed_staged : {rs : List Request} {r : ℕ} {x q : Request} (xs : List ℕ) → Change rs r x q → is_queued (request_at rs r).phase ≡ true → xs ≡ [] → Covers is_unenrolled rs xs → is_none x.timer ≡ false
+timed_staged {rs} {r} {x} xs ch ready e t =
+    ⊎_elim
+    (λ (h : is_none x.timer ≡ true).
+    let some = t r (and_from _ _ ready (ap (λ (z : Request). is_none z.timer) (sym ch.read) ∙ h)) in
+    absurd (omega (arith, some, ap (times r) e)))
+    (λ (h : is_none x.timer ≡ false). h)
+    (cases_Bool (is_none x.timer))

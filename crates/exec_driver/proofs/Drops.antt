@@ -57,29 +57,28 @@ dropped_in_flight z h = dropped_is z z.phase true (phase_in_flight z.phase h) (o
 pub dropped_over : (z : Request) → is_in_flight z.phase ≡ false → is_resolved z.phase ≡ true → dropped z ≡ record z { observed = false; timer = None }
 dropped_over z h k = dropped_is z z.phase z.cancelled (phase_over z.phase k) (ap (λ (b : Bool). z.cancelled || b) h ∙ or_false z.cancelled)
 
--- the first two steps: nobody holds it, and its deadline is off the wheel
+-- nobody holds it
 abbrev pub unheld : Request → Request
-unheld x = record x { observed = false; timer = None }
+unheld x = record x { observed = false }
 
-pub first_steps : (rs mid : List Request) (r : ℕ) (x : Request) → r < length rs
-    → mid ≡ slice_set (slice_set rs r (record x { observed = false })) r (record (request_at (slice_set rs r (record x { observed = false })) r) { timer = None })
-    → mid ≡ slice_set rs r (unheld x)
-first_steps rs mid r x there e =
-    twice rs (slice_set rs r (record x { observed = false })) mid r (record x { observed = false }) _ refl e
-    ∙ ap (λ (z : Request). slice_set rs r (record z { timer = None })) (after_at rs (slice_set rs r (record x { observed = false })) r (record x { observed = false }) there refl)
+-- it is let go of in three steps
+pub one_step : (rs mid : List Request) (r : ℕ) (x : Request) (f : Request → Request) → r < length rs
+    → mid ≡ slice_set (slice_set rs r (unheld x)) r (f (request_at (slice_set rs r (unheld x)) r)) → mid ≡ slice_set rs r (f (unheld x))
+one_step rs mid r x f there e =
+    twice rs (slice_set rs r (unheld x)) mid r (unheld x) _ refl e
+    ∙ ap (λ (z : Request). slice_set rs r (f z)) (after_at rs (slice_set rs r (unheld x)) r (unheld x) there refl)
 
--- and one step more
 pub last_step : (rs mid end : List Request) (r : ℕ) (x : Request) (f : Request → Request) → r < length rs → x ≡ request_at rs r
-    → mid ≡ slice_set rs r (unheld x) → end ≡ slice_set mid r (f (request_at mid r)) → dropped x ≡ f (unheld x)
+    → mid ≡ slice_set rs r (f (unheld x)) → end ≡ slice_set mid r (record (request_at mid r) { timer = None }) → dropped x ≡ record (f (unheld x)) { timer = None }
     → end ≡ slice_set rs r (dropped (request_at rs r))
 last_step rs mid end r x f there read e g h =
-    twice rs mid end r (unheld x) _ e g
-    ∙ ap (λ (z : Request). slice_set rs r (f z)) (after_at rs mid r (unheld x) there e)
+    twice rs mid end r (f (unheld x)) _ e g
+    ∙ ap (λ (z : Request). slice_set rs r (record z { timer = None })) (after_at rs mid r (f (unheld x)) there e)
     ∙ ap (slice_set rs r) (sym h)
     ∙ ap (λ (z : Request). slice_set rs r (dropped z)) read
 
-pub read_mid : (rs mid : List Request) (r : ℕ) (x y : Request) → r < length rs → mid ≡ slice_set rs r (unheld x) → y ≡ slice_index_or mid r y → y ≡ unheld x
-read_mid rs mid r x y there e read = read ∙ ap (λ (zs : List Request). slice_index_or zs r y) e ∙ get_or-set_same rs r (unheld x) y there
+pub read_mid : (rs : List Request) (r : ℕ) (x y : Request) → r < length rs → y ≡ slice_index_or (slice_set rs r (unheld x)) r y → y ≡ unheld x
+read_mid rs r x y there read = read ∙ get_or-set_same rs r (unheld x) y there
 
 kept_landed : (p : Phase) (g : OpResult) → dropped_phase p ≡ Landed g → p ≡ Landed g
 kept_landed Gated g h = cc
@@ -97,13 +96,38 @@ kept_going Flying h = refl
 kept_going (Landed n) h = refl
 kept_going (Resolved o) h = h
 
-pub not_queued : (p : Phase) → is_queued (dropped_phase p) ≡ false
+not_queued : (p : Phase) → is_queued (dropped_phase p) ≡ false
 not_queued Gated = refl
 not_queued Queued = refl
 not_queued Staged = refl
 not_queued Flying = refl
 not_queued (Landed n) = refl
 not_queued (Resolved o) = refl
+
+kept_flying : (p : Phase) → is_in_flight (dropped_phase p) ≡ true → is_in_flight p ≡ true
+kept_flying Gated h = absurd (false≢true h)
+kept_flying Queued h = absurd (false≢true h)
+kept_flying Staged h = refl
+kept_flying Flying h = refl
+kept_flying (Landed n) h = refl
+kept_flying (Resolved o) h = absurd (false≢true h)
+
+never_gated : (p : Phase) → dropped_phase p ≡ Gated → ⊥
+never_gated Gated h = cc
+never_gated Queued h = cc
+never_gated Staged h = cc
+never_gated Flying h = cc
+never_gated (Landed n) h = cc
+never_gated (Resolved o) h = cc
+
+-- one that goes on after that was not Queued
+pub going_dropped : (p : Phase) → is_resolved (dropped_phase p) ≡ false → (is_resolved p ≡ false) × (is_queued (dropped_phase p) ≡ is_queued p)
+going_dropped Gated h = absurd (true≢false h)
+going_dropped Queued h = absurd (true≢false h)
+going_dropped Staged h = (refl, refl)
+going_dropped Flying h = (refl, refl)
+going_dropped (Landed n) h = (refl, refl)
+going_dropped (Resolved o) h = absurd (true≢false h)
 
 pub sound_dropped : (o : Operation) (x : Request) → IsSound o x → IsSound o (dropped x)
 sound_dropped o x s =
@@ -114,6 +138,9 @@ sound_dropped o x s =
       kept = λ h. absurd (false≢true (sym (not_queued x.phase) ∙ h));
       timely = s.timely;
       fresh = λ h. s.fresh (kept_going x.phase h);
+      ungated = λ h. absurd (never_gated x.phase h);
+      timed = λ h. absurd (true≢false h);
+      watched = λ h f. absurd (true≢false (sym (or_right x.cancelled _ (kept_flying x.phase h)) ∙ f));
     }
 
 -- one more is let go

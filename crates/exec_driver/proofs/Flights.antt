@@ -5,9 +5,13 @@ use Rattle.std.proofs.lemmas.Bool.{cases_Bool, and_parts, and_right, false≢tru
 use Rattle.exec_machine.specs.World.{Operation, no_request}
 use Rattle.exec_machine.specs.declared.state.Request.{Request}
 use Rattle.exec_machine.specs.declared.state.Phase.TheVariants.{Staged, Flying}
-use Rattle.exec_machine.specs.Allowed.{of_worker, is_staged, is_resolved}
+use Rattle.exec_machine.specs.Allowed.{of_worker, is_staged, is_resolved, is_in_flight, is_some_number, is_queued}
 use Rattle.exec_machine.specs.After.{flown}
-use Rattle.exec_driver.specs.Books.{request_at, one_if, IsSound, Tracks, is_on_ring}
+use Rattle.exec_driver.specs.Books.{request_at, one_if, IsSound, Tracks, TracksGoing, Covers, AreNumbers, AreTimers, Buffers, IsOwned, is_on_ring, is_ready}
+use Rattle.exec_request.specs.declared.request.Request.{Request as Asked}
+use Rattle.exec_driver.specs.declared.wheel.Deadline.{Deadline}
+use Rattle.std.specs.BTreeSet.{BTreeSet}
+use Rattle.std.proofs.lemmas.List.{length-map}
 use Rattle.exec_driver.proofs.Timers.{count_cons, zero_from}
 use Rattle.exec_driver.proofs.Phases.{phase-staged}
 
@@ -77,7 +81,29 @@ sound_flown o x s =
     (λ (e : of_worker 0 is_staged x ≡ true).
     let p = phase-staged x.phase (and_parts (x.worker == 0) _ e).1 in
     subst (λ (b : Bool). IsSound o (cond b (record x { phase = Flying }) x)) (sym e)
-    (record { owner = s.owner; lawful = λ g h. cc; unfinished = λ _. s.unfinished (ap is_resolved p); kept = λ h. absurd (false≢true h); timely = s.timely; fresh = λ _. s.fresh (ap is_resolved p) }))
+    (record { owner = s.owner; lawful = λ g h. cc; unfinished = λ _. s.unfinished (ap is_resolved p); kept = λ h. absurd (false≢true h); timely = s.timely; fresh = λ _. s.fresh (ap is_resolved p); ungated = λ h. cc; timed = λ h. (refl, (s.timed h).1); watched = λ _ h. s.watched (ap is_in_flight p) h }))
     (λ (e : of_worker 0 is_staged x ≡ false).
     subst (λ (b : Bool). IsSound o (cond b (record x { phase = Flying }) x)) (sym e) s)
     (cases_Bool (of_worker 0 is_staged x))
+
+-- what the others say of the requests they say of those that flew
+
+flown_at : {Y : Type 0} (f : Request → Y) → ((x : Request) → x.phase ≡ Staged → f (record x { phase = Flying }) ≡ f x) → (rs : List Request) (k : ℕ) → f (request_at (map (flown 0) rs) k) ≡ f (request_at rs k)
+flown_at f h rs k = ap f (map_at (flown 0) refl rs k) ∙ flown_same f h (request_at rs k)
+
+pub going_map : (rs : List Request) (xs : List ℕ) → TracksGoing is_ready rs xs → TracksGoing is_ready (map (flown 0) rs) xs
+going_map rs xs t = λ k h.
+    t k (sym (flown_at (λ (z : Request). is_resolved z.phase) (λ x e. sym (ap is_resolved e)) rs k) ∙ h)
+    ∙ ap one_if (sym (flown_at is_ready (λ x e. sym (ap is_queued e)) rs k))
+
+pub covers_map : (test : Request → Bool) → ((x : Request) → x.phase ≡ Staged → test (record x { phase = Flying }) ≡ test x) → (rs : List Request) (xs : List ℕ) → Covers test rs xs → Covers test (map (flown 0) rs) xs
+covers_map test h rs xs t = λ k e. t k (sym (flown_at test h rs k) ∙ e)
+
+pub numbers_map : (rs : List Request) (xs : List ℕ) → AreNumbers rs xs → AreNumbers (map (flown 0) rs) xs
+numbers_map rs xs n = λ k some. omega (arith, n k some, length-map rs (flown 0))
+
+pub timers_map : (rs : List Request) (m : BTreeSet Deadline) → AreTimers rs m → AreTimers (map (flown 0) rs) m
+timers_map rs m t = λ k. t k ∙ ap (is_some_number k.moment) (sym (flown_at (λ (z : Request). z.timer) (λ x e. refl) rs k.request))
+
+pub buffers_map : (ss : List Asked) (rs : List Request) → Buffers ss rs → Buffers ss (map (flown 0) rs)
+buffers_map ss rs b = λ k a h. subst (λ (z : Bool). IsOwned z a) (sym (flown_at (λ (z : Request). z.released) (λ x e. refl) rs k)) (b k a h)

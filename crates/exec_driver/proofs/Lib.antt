@@ -6,4 +6,6 @@ pub mod Loops
 pub mod Phases
 pub mod Queues
 pub mod Reaps
+pub mod Steps
 pub mod Timers
+pub mod Sleeping

@@ -5,7 +5,7 @@ use Rattle.exec_outcomes.specs.declared.outcome.OpResult.{OpResult}
 use Rattle.exec_machine.specs.declared.state.Phase.{Phase}
 use Rattle.exec_machine.specs.declared.state.Phase.TheVariants.{Gated, Queued, Staged, Flying, Landed, Resolved}
 use Rattle.exec_machine.specs.declared.state.Request.{Request}
-use Rattle.exec_driver.specs.Books.{owes, is_unreleased, is_unresolved}
+use Rattle.exec_driver.specs.Books.{owes, is_unreleased, is_unresolved, is_to_cancel, is_unenrolled}
 use Rattle.exec_machine.specs.Allowed.{of_worker, is_none, is_queued, is_staged, is_flying, is_landed, is_resolved, is_in_flight}
 
 pub phase-queued : (p : Phase) → is_queued p ≡ true → p ≡ Queued
@@ -81,3 +81,33 @@ aside_landed Staged h = refl
 aside_landed Flying h = refl
 aside_landed (Landed n) h = absurd (true≢false h)
 aside_landed (Resolved o) h = refl
+
+pub staged_no_more : (x : Request) → is_to_cancel (record x { cancel_staged = true }) ≡ false
+staged_no_more x = and_right (is_in_flight x.phase) _ (and_right x.cancelled false refl)
+
+pub timer_none : (t : Option ℕ) → is_none t ≡ true → t ≡ None
+timer_none None h = refl
+timer_none (Some m) h = absurd (false≢true h)
+
+-- with a timer it isn't to be enrolled, and where it's in flight it isn't
+pub timed_unenrolled : (x : Request) (v : ℕ) → x.timer ≡ Some v → is_unenrolled x ≡ false
+timed_unenrolled x v e = and_right (is_queued x.phase) _ (ap is_none e)
+
+pub flying_not_queued : (p : Phase) → is_in_flight p ≡ true → is_queued p ≡ false
+flying_not_queued Gated h = refl
+flying_not_queued Queued h = absurd (false≢true h)
+flying_not_queued Staged h = refl
+flying_not_queued Flying h = refl
+flying_not_queued (Landed n) h = refl
+flying_not_queued (Resolved o) h = refl
+
+pub over_not_queued : (p : Phase) → is_resolved p ≡ true → is_queued p ≡ false
+over_not_queued Gated h = refl
+over_not_queued Queued h = absurd (false≢true h)
+over_not_queued Staged h = refl
+over_not_queued Flying h = refl
+over_not_queued (Landed n) h = refl
+over_not_queued (Resolved o) h = refl
+
+pub left_queue : (x : Request) → is_queued x.phase ≡ false → is_unenrolled (record x { timer = None }) ≡ false
+left_queue x h = and_left (is_queued x.phase) _ h

@@ -1,3 +1,4 @@
 pub mod Operations
 pub mod Books
 pub mod Found
+pub mod Sleeps

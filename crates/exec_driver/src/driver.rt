@@ -3,35 +3,37 @@
 //! A request goes from Queued to Staged, Flying and Landed, and from there to Resolved, or back to Queued
 //! where its results so far don't decide. Each list below has the numbers of the requests that stand so, in
 //! order of coming; each number says how many do. Nothing else is kept of them.
+//!
+//! A request that ends while it's Queued stays in that list, and is passed over when its turn comes.
 
 ghost use Rattle.std.specs.Prelude.{◌≡◌, ℕ, not, unwrap_or, if◌then◌else◌, ◌&&◌, ◌==◌, ◌-◌, true, false, ◌+◌, ◌^◌, ◌<◌, ◌≤◌, [], ◌∷◌, ◌++◌, length, length as len, map, drop, IsTrue, IfOk, OnOk, IfSome, OnSome, slice_get, slice_set, slice_index};
-ghost use Rattle.std.specs.BTreeMap.{get};
-ghost use Rattle.std.specs.Ordering.{nat_cmp};
+ghost use Rattle.std.specs.List.{find};
+ghost use Rattle.exec_request.specs.Views.{length_of, deadline_of, moved_of, has_buffer};
 ghost use Rattle.exec_machine.specs.declared.state.Phase.TheVariants.{Gated as gated, Resolved as resolved_with, Queued as queued, Staged as staged, Landed as landed_with};
 ghost use Rattle.exec_outcomes.specs.Lawful.{window_of, is_lawful};
 ghost use Rattle.exec_outcomes.specs.Outcomes.{bytes_of, outcome_next};
-ghost use Rattle.exec_outcomes.specs.declared.outcome.Kind.TheVariants as kind;
-ghost use Rattle.exec_machine.specs.Allowed.{is_none, is_resolved, owes_wake, is_flying, is_queued, is_in_flight, outcome_if_late};
-ghost use Rattle.exec_machine.specs.After.{new_operation, flown, dropped, drop_all, still_queued, reaped, enrolled, joined, new_request as machine_request};
-ghost use Rattle.exec_driver.specs.Operations.{operations_view};
+ghost use Rattle.exec_machine.specs.Allowed.{is_none, is_resolved, owes_wake, is_flying, is_queued, is_in_flight};
+ghost use Rattle.exec_machine.specs.After.{flown, dropped, drop_all, after_first_queued, reaped, joined, new_request as machine_request};
+ghost use Rattle.exec_driver.specs.Operations.{operation_view, operations_view};
 ghost use Rattle.exec_driver.specs.declared.driver.Judgement.{Judgement};
-ghost use Rattle.exec_driver.specs.Books.{Books, IsJudged, Shows, ShowsSame, IsNextTimer, Tracks, is_on_ring, Listed, Becomes, positive, request_at, operation_at, owes, is_unreleased};
+ghost use Rattle.exec_driver.specs.Books.{Books, Covers, is_unenrolled as needs_enrolling, is_to_cancel as needs_cancelling, IsJudged, Shows, ShowsSame, SameToDo, SameOwed, SameStaged, SameCounts, Tracks, is_on_ring, Listed, Becomes, request_at, operation_at, owes, is_unreleased};
 
+use crate::wheel::Deadline;
 use exec_base::error::Error;
 use exec_machine::state::{Forwarding, Phase, Request};
 use exec_outcomes::outcome::{OpResult, Outcome};
-use exec_request::send::SendRequest;
+use exec_request::request::Request as Asked;
 use std::alloc::{AllocError, Global};
-use std::collections::{BTreeMap, VecDeque};
+use std::collections::{BTreeSet, VecDeque};
 
 /// The requests and the ring.
 #[derive(Drop)]
 pub struct Driver {
     /// What each request asks for, with its buffer.
-    pub sends: Vec<SendRequest>,
+    pub asked: Vec<Asked>,
     /// How each request stands.
     pub requests: Vec<Request>,
-    /// Those that are Queued.
+    /// Those that are Queued, with some that ended meanwhile.
     pub ready: VecDeque<usize>,
     /// Those that are Staged.
     pub staged: Vec<usize>,
@@ -47,8 +49,10 @@ pub struct Driver {
     pub cancels: VecDeque<usize>,
     /// Those whose output nobody takes.
     pub outputs: VecDeque<usize>,
-    /// For each moment how many deadlines fire at it, where any does.
-    pub timers: BTreeMap<u64, u64>,
+    /// The deadlines on the wheel, in order.
+    pub timers: BTreeSet<Deadline>,
+    /// How many are Queued.
+    pub queued: u64,
     /// How many are Staged, Flying or Landed.
     pub in_flight: u64,
     /// How many are not resolved.
@@ -108,7 +112,7 @@ impl Driver {
         ensures shows { Shows result [] [] [] [] }
     {
         Driver {
-            sends: Vec::new(alloc),
+            asked: Vec::new(alloc),
             requests: Vec::new(alloc),
             ready: VecDeque::new(alloc),
             staged: Vec::new(alloc),
@@ -118,7 +122,8 @@ impl Driver {
             unenrolled: VecDeque::new(alloc),
             cancels: VecDeque::new(alloc),
             outputs: VecDeque::new(alloc),
-            timers: BTreeMap::new(alloc),
+            timers: BTreeSet::new(alloc),
+            queued: 0,
             in_flight: 0,
             unresolved: 0,
             entries: 0,
@@ -128,46 +133,48 @@ impl Driver {
         }
     }
 
-    /// Makes a send of so many bytes with this deadline, and answers its number.
-    pub fn admit(
-        &mut self,
-        alloc: Global,
-        socket: usize,
-        length: u64,
-        deadline: u64,
-    ) -> Result<usize, AllocError>
+    /// Makes a request of this, and answers its number.
+    pub fn admit(&mut self, asked: Asked) -> Result<usize, AllocError>
         requires books { Books self.old }
-        requires some_byte { 0 < length }
-        requires early { deadline < 2 ^ 63 }
+        requires begins { moved_of asked ≡ 0 }
+        requires something { 0 < length_of asked }
+        requires early { deadline_of asked < 2 ^ 63 }
+        requires owns { has_buffer asked ≡ true }
         ensures books { OnOk result (Books self.new) }
         ensures number { IfOk result (λ request. request ≡ len self.old.requests.items) }
         ensures shows { IfOk result (λ request. Shows self.new
-            (operations_view self.old.sends.items ++ new_operation kind.Send socket length deadline ∷ [])
+            (operations_view self.old.asked.items ++ operation_view asked ∷ [])
             (self.old.requests.items ++ machine_request 0 ∷ [])
             (self.old.ready.items ++ request ∷ []) self.old.landed.items) }
+        ensures staged { OnOk result (SameStaged self.old self.new) }
+        ensures owed { OnOk result (SameOwed self.old self.new) }
+        ensures flights { OnOk result (self.new.in_flight ≡ self.old.in_flight) }
     {
         let request = self.requests.len();
-        let bytes = vec![in alloc; 0u8; length as usize]?;
-        self.sends.push(SendRequest::new(socket, bytes, deadline))?;
+        self.asked.push(asked)?;
         self.requests.push(new_request(0))?;
         self.ready.push_back(request)?;
         self.unenrolled.push_back(request)?;
+        self.queued += 1;
         self.unresolved += 1;
         Ok(request)
     }
 
     /// Ends the request with the outcome: what it owns is to be released, and its waiter woken.
-    fn resolve(&mut self, request: usize, outcome: Outcome) -> Result<(), AllocError>
+    pub(crate) fn resolve(&mut self, request: usize, outcome: Outcome) -> Result<(), AllocError>
         requires listed { Listed self.old }
         requires there { request < len self.old.requests.items }
-        requires owner { (request_at self.old.requests.items request).worker ≡ 0 }
         requires going { is_resolved (request_at self.old.requests.items request).phase ≡ false }
         requires aside { is_in_flight (request_at self.old.requests.items request).phase ≡ false }
         requires fresh { ((request_at self.old.requests.items request).released ≡ false) × ((request_at self.old.requests.items request).wakes_paid ≡ 0) }
         ensures listed { OnOk result (Listed self.new) }
         ensures resolved { OnOk result (Becomes self.old self.new (slice_set self.old.requests.items request (record (request_at self.old.requests.items request) { phase = resolved_with outcome }))) }
+        ensures to_do { OnOk result (SameToDo self.old self.new) }
+        ensures staged { OnOk result (SameStaged self.old self.new) }
+        ensures flights { OnOk result (self.new.in_flight ≡ self.old.in_flight) }
     {
         let entry = self.requests[request];
+        self.queued = queued_without(self.queued, &entry);
         self.resources.push_back(request)?;
         push_if(&mut self.wakes, request, entry.waiter.is_some())?;
         push_if(&mut self.outputs, request, !entry.observed)?;
@@ -177,65 +184,64 @@ impl Driver {
         Ok(())
     }
 
-    /// Takes the deadline of the request off the wheel, where it's on it.
-    fn stop_timer(&mut self, request: usize) -> Result<(), AllocError>
+    /// Takes the deadline of the request, which is not Queued, off the wheel, where it's on it.
+    pub(crate) fn stop_timer(&mut self, request: usize) -> Result<(), AllocError>
         requires listed { Listed self.old }
         requires there { request < len self.old.requests.items }
-        requires owner { (request_at self.old.requests.items request).worker ≡ 0 }
+        requires left { is_queued (request_at self.old.requests.items request).phase ≡ false }
         ensures listed { OnOk result (Listed self.new) }
         ensures stopped { OnOk result (Becomes self.old self.new (slice_set self.old.requests.items request (record (request_at self.old.requests.items request) { timer = None }))) }
+        ensures to_do { OnOk result (SameToDo self.old self.new) }
+        ensures staged { OnOk result (SameStaged self.old self.new) }
+        ensures flights { OnOk result (self.new.in_flight ≡ self.old.in_flight) }
     {
         let entry = &mut self.requests[request];
         let Some(moment) = entry.timer else {
             return Ok(());
         };
         entry.timer = None;
-        lessen(&mut self.timers, moment)?;
+        self.timers.remove(&Deadline { moment, request });
         Ok(())
-    }
-
-    /// The moment at which the first deadline fires, in nanoseconds.
-    pub fn next_deadline(&self) -> Option<u64>
-        requires { Books self.now }
-        ensures { IsNextTimer self.now.requests.items result }
-    {
-        match self.timers.first_key_value() {
-            Some((moment, _)) => Some(*moment),
-            None => None,
-        }
     }
 
     /// The task lets the request go. One that the kernel doesn't have is over, one that it has is cancelled.
     fn let_go(&mut self, request: usize) -> Result<(), AllocError>
         requires listed { Listed self.old }
         requires there { request < len self.old.requests.items }
-        requires owner { (request_at self.old.requests.items request).worker ≡ 0 }
         requires fresh { is_resolved (request_at self.old.requests.items request).phase ≡ false → ((request_at self.old.requests.items request).released ≡ false) × ((request_at self.old.requests.items request).wakes_paid ≡ 0) }
         ensures listed { OnOk result (Listed self.new) }
         ensures dropped { OnOk result (Becomes self.old self.new (slice_set self.old.requests.items request (dropped (request_at self.old.requests.items request)))) }
+        ensures unenrolled { OnOk result (self.new.unenrolled.items ≡ self.old.unenrolled.items) }
+        ensures staged { OnOk result (SameStaged self.old self.new) }
+        ensures flights { OnOk result (self.new.in_flight ≡ self.old.in_flight) }
     {
         let entry = &mut self.requests[request];
         entry.observed = false;
-        self.stop_timer(request)?;
         let entry = self.requests[request];
         if is_with_kernel(&entry) {
             self.cancel(request)?;
+            self.stop_timer(request)?;
             return Ok(());
         }
         if is_over(&entry) {
             self.give_up(request)?;
+            self.stop_timer(request)?;
             return Ok(());
         }
         self.resolve(request, Outcome::Failure(Error::Timeout))?;
+        self.stop_timer(request)?;
         Ok(())
     }
 
     /// Asks for the cancel of the request.
-    fn cancel(&mut self, request: usize) -> Result<(), AllocError>
+    pub(crate) fn cancel(&mut self, request: usize) -> Result<(), AllocError>
         requires listed { Listed self.old }
         requires there { request < len self.old.requests.items }
         ensures listed { OnOk result (Listed self.new) }
         ensures cancelled { OnOk result (Becomes self.old self.new (slice_set self.old.requests.items request (record (request_at self.old.requests.items request) { cancelled = true }))) }
+        ensures unenrolled { OnOk result (self.new.unenrolled.items ≡ self.old.unenrolled.items) }
+        ensures staged { OnOk result (SameStaged self.old self.new) }
+        ensures flights { OnOk result (self.new.in_flight ≡ self.old.in_flight) }
     {
         self.cancels.push_back(request)?;
         let entry = &mut self.requests[request];
@@ -248,8 +254,27 @@ impl Driver {
         requires listed { Listed self.old }
         ensures listed { OnOk result (Listed self.new) }
         ensures same { OnOk result (Becomes self.old self.new self.old.requests.items) }
+        ensures unenrolled { OnOk result (self.new.unenrolled.items ≡ self.old.unenrolled.items) }
+        ensures staged { OnOk result (SameStaged self.old self.new) }
+        ensures flights { OnOk result (self.new.in_flight ≡ self.old.in_flight) }
     {
         self.outputs.push_back(request)?;
+        Ok(())
+    }
+
+    /// The task lets go of the request.
+    pub fn drop_request(&mut self, request: usize) -> Result<(), AllocError>
+        requires books { Books self.old }
+        requires there { request < len self.old.requests.items }
+        ensures books { OnOk result (Books self.new) }
+        ensures shows { OnOk result (Shows self.new (operations_view self.old.asked.items)
+            (slice_set self.old.requests.items request (dropped (request_at self.old.requests.items request)))
+            self.old.ready.items self.old.landed.items) }
+        ensures staged { OnOk result (SameStaged self.old self.new) }
+        ensures unenrolled { OnOk result (self.new.unenrolled.items ≡ self.old.unenrolled.items) }
+        ensures flights { OnOk result (self.new.in_flight ≡ self.old.in_flight) }
+    {
+        self.let_go(request)?;
         Ok(())
     }
 
@@ -258,23 +283,27 @@ impl Driver {
         requires books { Books self.old }
         requires there { (k : ℕ) → k < len held.now → slice_index held.now k < len self.old.requests.items }
         ensures books { OnOk result (Books self.new) }
-        ensures shows { OnOk result (Shows self.new (operations_view self.old.sends.items)
-            (drop_all held.now self.old.requests.items)
-            (still_queued (drop_all held.now self.old.requests.items) self.old.ready.items) self.old.landed.items) }
+        ensures shows { OnOk result (Shows self.new (operations_view self.old.asked.items)
+            (drop_all held.now self.old.requests.items) self.old.ready.items self.old.landed.items) }
+        ensures staged { OnOk result (SameStaged self.old self.new) }
+        ensures unenrolled { OnOk result (self.new.unenrolled.items ≡ self.old.unenrolled.items) }
+        ensures flights { OnOk result (self.new.in_flight ≡ self.old.in_flight) }
     {
         for request in held {
-            self.let_go(*request)?;
+            self.drop_request(*request)?;
         }
-        keep_queued(&mut self.ready, &self.requests);
         Ok(())
     }
 
-    /// The next request whose deadline is to be put on the wheel.
+    /// The next request whose deadline is to be put on the wheel. It stays the next until it is put there.
     pub fn next_unenrolled(&mut self) -> Option<usize>
         requires { Books self.old }
         ensures books { Books self.new }
         ensures shows { ShowsSame self.old self.new }
-        ensures same { (self.new.unresolved ≡ self.old.unresolved) × (self.new.resources.items ≡ self.old.resources.items) }
+        ensures owed { SameOwed self.old self.new }
+        ensures staged { SameStaged self.old self.new }
+        ensures counts { SameCounts self.old self.new }
+        ensures cancels { self.new.cancels.items ≡ self.old.cancels.items }
         ensures empty { result ≡ None → self.new.unenrolled.items ≡ [] }
         ensures found { IfSome result (λ request. (request < len self.old.requests.items)
             × (is_queued (request_at self.old.requests.items request).phase ≡ true)
@@ -283,43 +312,15 @@ impl Driver {
         first_unenrolled(&mut self.unenrolled, &self.requests)
     }
 
-    /// Puts the deadline of the request on the wheel, or ends it where the deadline has passed. `moment` is
-    /// when the wheel fires it, and `sampled` is now.
-    pub fn enrol(
-        &mut self,
-        request: usize,
-        moment: u64,
-        sampled: u64,
-    ) -> Result<Option<Outcome>, AllocError>
-        requires books { Books self.old }
-        requires there { request < len self.old.requests.items }
-        requires queued { is_queued (request_at self.old.requests.items request).phase ≡ true }
-        requires unenrolled { (request_at self.old.requests.items request).timer ≡ None }
-        ensures books { OnOk result (Books self.new) }
-        ensures late { IfOk result (λ outcome. outcome ≡ outcome_if_late sampled
-            (operation_at (operations_view self.old.sends.items) request).deadline) }
-        ensures shows { IfOk result (λ outcome.
-            let requests = slice_set self.old.requests.items request (enrolled moment outcome (request_at self.old.requests.items request)) in
-            Shows self.new (operations_view self.old.sends.items) requests (still_queued requests self.old.ready.items) self.old.landed.items) }
-    {
-        if self.sends[request].deadline <= sampled {
-            let outcome = Outcome::Failure(Error::Timeout);
-            self.resolve(request, outcome)?;
-            keep_queued(&mut self.ready, &self.requests);
-            return Ok(Some(outcome));
-        }
-        raise(&mut self.timers, moment)?;
-        let entry = &mut self.requests[request];
-        entry.timer = Some(moment);
-        Ok(None)
-    }
-
     /// The next request whose cancel is to be staged. It stays the next.
     pub fn next_cancel(&mut self) -> Option<usize>
         requires { Books self.old }
         ensures books { Books self.new }
         ensures shows { ShowsSame self.old self.new }
-        ensures same { (self.new.entries ≡ self.old.entries) × (self.new.entered_cancels ≡ self.old.entered_cancels) }
+        ensures owed { SameOwed self.old self.new }
+        ensures staged { SameStaged self.old self.new }
+        ensures counts { SameCounts self.old self.new }
+        ensures unenrolled { self.new.unenrolled.items ≡ self.old.unenrolled.items }
         ensures empty { result ≡ None → self.new.cancels.items ≡ [] }
         ensures found { IfSome result (λ request. (request < len self.old.requests.items)
             × (is_in_flight (request_at self.old.requests.items request).phase ≡ true)
@@ -335,9 +336,13 @@ impl Driver {
         requires there { request < len self.old.requests.items }
         requires room { self.old.entries < 2 ^ 32 }
         ensures books { Books self.new }
-        ensures shows { Shows self.new (operations_view self.old.sends.items)
+        ensures shows { Shows self.new (operations_view self.old.asked.items)
             (slice_set self.old.requests.items request (record (request_at self.old.requests.items request) { cancel_staged = true }))
             self.old.ready.items self.old.landed.items }
+        ensures to_do { SameToDo self.old self.new }
+        ensures owed { SameOwed self.old self.new }
+        ensures counts { SameCounts self.old self.new }
+        ensures staged { (self.new.staged.items ≡ self.old.staged.items) × (self.new.entries ≡ self.old.entries + 1) }
     {
         self.entries += 1;
         self.entered_cancels = self.entered_cancels.saturating_add(1);
@@ -345,24 +350,32 @@ impl Driver {
         entry.cancel_staged = true;
     }
 
-    /// Puts the operation of the first Queued request into the submission queue.
+    /// Puts the operation of the first Queued request into the submission queue. All deadlines are on the wheel
+    /// by then.
     pub fn stage(&mut self) -> Result<Option<usize>, AllocError>
         requires books { Books self.old }
         requires room { self.old.entries < 2 ^ 32 }
+        requires enrolled { self.old.unenrolled.items ≡ [] }
         ensures books { OnOk result (Books self.new) }
-        ensures found { IfOk result (λ found. found ≡ slice_get self.old.ready.items 0) }
-        ensures none { result ≡ Ok None → ShowsSame self.old self.new }
+        ensures found { IfOk result (λ found. found ≡ find (λ r. is_queued (request_at self.old.requests.items r).phase) self.old.ready.items) }
+        ensures none { result ≡ Ok None → self.old.queued ≡ 0 }
         ensures queued { (request : ℕ) → result ≡ Ok (Some request) → (request_at self.old.requests.items request).phase ≡ queued }
-        ensures shows { (request : ℕ) → result ≡ Ok (Some request) → Shows self.new (operations_view self.old.sends.items)
+        ensures shows { (request : ℕ) → result ≡ Ok (Some request) → Shows self.new (operations_view self.old.asked.items)
             (slice_set self.old.requests.items request (record (request_at self.old.requests.items request) { phase = staged }))
-            (drop 1 self.old.ready.items) self.old.landed.items }
+            (after_first_queued self.old.requests.items self.old.ready.items) self.old.landed.items }
+        ensures entries { (request : ℕ) → result ≡ Ok (Some request) → self.new.entries ≡ self.old.entries + 1 }
+        ensures to_do { OnOk result (SameToDo self.old self.new) }
+        ensures owed { OnOk result (SameOwed self.old self.new) }
+        ensures unresolved { OnOk result (self.new.unresolved ≡ self.old.unresolved) }
+        ensures moved { (request : ℕ) → result ≡ Ok (Some request) → (self.new.queued + 1 ≡ self.old.queued) × (self.new.in_flight ≡ self.old.in_flight + 1) }
     {
-        let Some(request) = self.ready.pop_front() else {
+        let Some(request) = first_queued(&mut self.ready, &self.requests) else {
             return Ok(None);
         };
         self.staged.push(request)?;
         let entry = &mut self.requests[request];
         entry.phase = Phase::Staged;
+        self.queued -= 1;
         self.in_flight += 1;
         self.entries += 1;
         Ok(Some(request))
@@ -372,9 +385,11 @@ impl Driver {
     pub fn enter(&mut self)
         requires { Books self.old }
         ensures books { Books self.new }
-        ensures shows { Shows self.new (operations_view self.old.sends.items) (map (flown 0) self.old.requests.items) self.old.ready.items self.old.landed.items }
-        ensures same { (self.new.unresolved ≡ self.old.unresolved) × (self.new.resources.items ≡ self.old.resources.items) }
-        ensures emptied { self.new.entries ≡ 0 }
+        ensures shows { Shows self.new (operations_view self.old.asked.items) (map (flown 0) self.old.requests.items) self.old.ready.items self.old.landed.items }
+        ensures to_do { SameToDo self.old self.new }
+        ensures owed { SameOwed self.old self.new }
+        ensures counts { SameCounts self.old self.new }
+        ensures emptied { (self.new.staged.items ≡ []) × (self.new.entries ≡ 0) }
     {
         fly(&mut self.staged, &mut self.requests);
         self.acknowledged |= self.entered_cancels > 0;
@@ -386,13 +401,16 @@ impl Driver {
     pub fn land(&mut self, request: usize, given: OpResult) -> Result<(), AllocError>
         requires books { Books self.old }
         requires flying { is_flying (request_at self.old.requests.items request).phase ≡ true }
-        requires lawful { let asked = operation_at (operations_view self.old.sends.items) request in
+        requires lawful { let asked = operation_at (operations_view self.old.asked.items) request in
             IsTrue (is_lawful (window_of asked.kind asked.length asked.moved) given) }
         ensures books { OnOk result (Books self.new) }
-        ensures shows { OnOk result (Shows self.new (operations_view self.old.sends.items)
+        ensures shows { OnOk result (Shows self.new (operations_view self.old.asked.items)
             (slice_set self.old.requests.items request (record (request_at self.old.requests.items request) { phase = landed_with given }))
             self.old.ready.items (self.old.landed.items ++ request ∷ [])) }
-        ensures same { OnOk result ((self.new.unresolved ≡ self.old.unresolved) × (self.new.resources.items ≡ self.old.resources.items)) }
+        ensures to_do { OnOk result (SameToDo self.old self.new) }
+        ensures owed { OnOk result (SameOwed self.old self.new) }
+        ensures staged { OnOk result (SameStaged self.old self.new) }
+        ensures counts { OnOk result (SameCounts self.old self.new) }
     {
         self.landed.push_back(request)?;
         let entry = &mut self.requests[request];
@@ -406,13 +424,17 @@ impl Driver {
         ensures books { OnOk result (Books self.new) }
         ensures none { result ≡ Ok None → ShowsSame self.old self.new }
         ensures empty { result ≡ Ok None → self.old.landed.items ≡ [] }
-        ensures judged { (j : Judgement) → result ≡ Ok (Some j) → IsJudged (operations_view self.old.sends.items) self.old.requests.items self.old.landed.items j }
+        ensures judged { (j : Judgement) → result ≡ Ok (Some j) → IsJudged (operations_view self.old.asked.items) self.old.requests.items self.old.landed.items j }
         ensures shows { (j : Judgement) → result ≡ Ok (Some j) →
-            let asked = operation_at (operations_view self.old.sends.items) j.request in
+            let asked = operation_at (operations_view self.old.asked.items) j.request in
             Shows self.new
-            (slice_set (operations_view self.old.sends.items) j.request (record asked { moved = asked.moved + bytes_of j.given }))
+            (slice_set (operations_view self.old.asked.items) j.request (record asked { moved = asked.moved + bytes_of j.given }))
             (slice_set self.old.requests.items j.request (reaped j.outcome (request_at self.old.requests.items j.request)))
             (joined self.old.ready.items j.request j.outcome) (drop 1 self.old.landed.items) }
+        ensures to_do { OnOk result (SameToDo self.old self.new) }
+        ensures staged { OnOk result (SameStaged self.old self.new) }
+        ensures landed { (j : Judgement) → result ≡ Ok (Some j) → self.new.in_flight + 1 ≡ self.old.in_flight }
+        ensures still { result ≡ Ok None → (SameOwed self.old self.new) × (SameCounts self.old self.new) }
     {
         let Some(request) = self.landed.pop_front() else {
             return Ok(None);
@@ -424,8 +446,8 @@ impl Driver {
         let cancelled = entry.cancelled;
         entry.phase = Phase::Gated;
         self.in_flight -= 1;
-        let send = &mut self.sends[request];
-        let outcome = send.on_cqe(given, cancelled);
+        let asked = &mut self.asked[request];
+        let outcome = asked.on_cqe(given, cancelled);
         self.settle(request, outcome)?;
         Ok(Some(Judgement {
             request,
@@ -438,14 +460,17 @@ impl Driver {
     fn settle(&mut self, request: usize, outcome: Option<Outcome>) -> Result<(), AllocError>
         requires listed { Listed self.old }
         requires there { request < len self.old.requests.items }
-        requires owner { (request_at self.old.requests.items request).worker ≡ 0 }
         requires gated { (request_at self.old.requests.items request).phase ≡ gated }
+        requires watched { outcome ≡ None → is_none (request_at self.old.requests.items request).timer ≡ false }
         requires fresh { ((request_at self.old.requests.items request).released ≡ false) × ((request_at self.old.requests.items request).wakes_paid ≡ 0) }
         ensures listed { OnOk result (Listed self.new) }
-        ensures sends { OnOk result (self.new.sends.items ≡ self.old.sends.items) }
+        ensures asked { OnOk result (self.new.asked.items ≡ self.old.asked.items) }
         ensures requests { OnOk result (self.new.requests.items ≡ slice_set self.old.requests.items request (reaped outcome (request_at self.old.requests.items request))) }
         ensures ready { OnOk result (self.new.ready.items ≡ joined self.old.ready.items request outcome) }
         ensures landed { OnOk result (self.new.landed.items ≡ self.old.landed.items) }
+        ensures to_do { OnOk result (SameToDo self.old self.new) }
+        ensures staged { OnOk result (SameStaged self.old self.new) }
+        ensures flights { OnOk result (self.new.in_flight ≡ self.old.in_flight) }
     {
         match outcome {
             Some(outcome) => {
@@ -457,6 +482,7 @@ impl Driver {
                 self.ready.push_back(request)?;
                 let entry = &mut self.requests[request];
                 entry.phase = Phase::Queued;
+                self.queued += 1;
                 Ok(())
             }
         }
@@ -466,13 +492,18 @@ impl Driver {
     pub fn pay_wake(&mut self) -> Option<Payment>
         requires { Books self.old }
         ensures books { Books self.new }
-        ensures none { result ≡ None → (ShowsSame self.old self.new) × (self.new.resources.items ≡ self.old.resources.items) }
+        ensures none { result ≡ None → ShowsSame self.old self.new }
         ensures empty { result ≡ None → self.old.wakes.items ≡ [] }
         ensures owed { IfSome result (λ paid. owes_wake 0 paid.task (request_at self.old.requests.items paid.request) ≡ true) }
-        ensures shows { IfSome result (λ paid. Shows self.new (operations_view self.old.sends.items)
+        ensures shows { IfSome result (λ paid. Shows self.new (operations_view self.old.asked.items)
             (slice_set self.old.requests.items paid.request
             (record (request_at self.old.requests.items paid.request) { wakes_paid = (request_at self.old.requests.items paid.request).wakes_paid + 1 }))
             self.old.ready.items self.old.landed.items) }
+        ensures to_do { SameToDo self.old self.new }
+        ensures staged { SameStaged self.old self.new }
+        ensures counts { SameCounts self.old self.new }
+        ensures others { (self.new.outputs.items ≡ self.old.outputs.items) × (self.new.resources.items ≡ self.old.resources.items) }
+        ensures paid { self.new.wakes.items ≡ drop 1 self.old.wakes.items }
     {
         let Some(request) = self.wakes.pop_front() else {
             return None;
@@ -492,14 +523,19 @@ impl Driver {
         ensures none { result ≡ None → ShowsSame self.old self.new }
         ensures empty { result ≡ None → self.old.resources.items ≡ [] }
         ensures owned { IfSome result (λ request. is_unreleased (request_at self.old.requests.items request) ≡ true) }
-        ensures shows { IfSome result (λ request. Shows self.new (operations_view self.old.sends.items)
+        ensures shows { IfSome result (λ request. Shows self.new (operations_view self.old.asked.items)
             (slice_set self.old.requests.items request (record (request_at self.old.requests.items request) { released = true }))
             self.old.ready.items self.old.landed.items) }
+        ensures to_do { SameToDo self.old self.new }
+        ensures staged { SameStaged self.old self.new }
+        ensures counts { SameCounts self.old self.new }
+        ensures others { (self.new.wakes.items ≡ self.old.wakes.items) × (self.new.outputs.items ≡ self.old.outputs.items) }
+        ensures released { self.new.resources.items ≡ drop 1 self.old.resources.items }
     {
         let Some(request) = self.resources.pop_front() else {
             return None;
         };
-        self.sends[request].release();
+        self.asked[request].release();
         let entry = &mut self.requests[request];
         entry.released = true;
         Some(request)
@@ -539,24 +575,29 @@ fn is_to_cancel(entry: &Request) -> bool
         && !entry.cancel_staged
 }
 
-/// Takes numbers off the list up to the first whose deadline is to be put on the wheel.
+/// Takes numbers off the list, up to the first whose deadline is to be put on the wheel. That one stays.
 fn first_unenrolled(unenrolled: &mut VecDeque<usize>, requests: &[Request]) -> Option<usize>
+    requires { Covers needs_enrolling requests.now unenrolled.old.items }
+    ensures covers { Covers needs_enrolling requests.now unenrolled.new.items }
     ensures empty { result ≡ None → unenrolled.new.items ≡ [] }
     ensures found { IfSome result (λ request. (request < len requests.now)
         × ((is_queued (request_at requests.now request).phase && is_none (request_at requests.now request).timer) ≡ true)) }
 {
-    while let Some(request) = unenrolled.pop_front() {
+    while let Some(request) = unenrolled.front().copied() {
         if let Some(entry) = requests.get(request) {
             if is_unenrolled(entry) {
                 return Some(request);
             }
         }
+        unenrolled.pop_front();
     }
     None
 }
 
 /// Takes numbers off the list, up to the first whose cancel is to be staged. That one stays.
 fn first_cancel(cancels: &mut VecDeque<usize>, requests: &[Request]) -> Option<usize>
+    requires { Covers needs_cancelling requests.now cancels.old.items }
+    ensures covers { Covers needs_cancelling requests.now cancels.new.items }
     ensures empty { result ≡ None → cancels.new.items ≡ [] }
     ensures found { IfSome result (λ request. (request < len requests.now)
         × ((is_in_flight (request_at requests.now request).phase && ((request_at requests.now request).cancelled && not (request_at requests.now request).cancel_staged)) ≡ true)) }
@@ -602,6 +643,17 @@ fn is_over(entry: &Request) -> bool
     matches!(entry.phase, Phase::Resolved(_))
 }
 
+/// How many are Queued without this request.
+fn queued_without(queued: u64, entry: &Request) -> u64
+    requires { is_queued entry.now.phase ≡ true → 0 < queued }
+    ensures { result + (if is_queued entry.now.phase then 1 else 0) ≡ queued }
+{
+    match entry.phase {
+        Phase::Queued => queued - 1,
+        _ => queued,
+    }
+}
+
 /// Puts the number at the end of the list where it's wanted there.
 fn push_if(list: &mut VecDeque<usize>, request: usize, wanted: bool) -> Result<(), AllocError>
     ensures { OnOk result (list.new.items ≡ (if wanted then list.old.items ++ request ∷ [] else list.old.items)) }
@@ -612,42 +664,32 @@ fn push_if(list: &mut VecDeque<usize>, request: usize, wanted: bool) -> Result<(
     Ok(())
 }
 
-/// One deadline less fires at the moment.
-fn lessen(timers: &mut BTreeMap<u64, u64>, moment: u64) -> Result<(), AllocError>
-    ensures { OnOk result ((u : ℕ) → get nat_cmp timers.new u ≡ (if moment == u then positive (unwrap_or (get nat_cmp timers.old moment) 0 - 1) else get nat_cmp timers.old u)) }
+/// Takes numbers off the list up to the first that is Queued, and that one too.
+fn first_queued(ready: &mut VecDeque<usize>, requests: &[Request]) -> Option<usize>
+    ensures found { result ≡ find (λ r. is_queued (request_at requests.now r).phase) ready.old.items }
+    ensures rest { ready.new.items ≡ after_first_queued requests.now ready.old.items }
 {
-    let count = timers.get(&moment).copied().unwrap_or(0);
-    if count > 1 {
-        timers.insert(moment, count - 1)?;
-        return Ok(());
+    while let Some(request) = ready.pop_front() {
+        if stays_queued(requests, request) {
+            return Some(request);
+        }
     }
-    timers.remove(&moment);
-    Ok(())
+    None
 }
 
-/// One deadline more fires at the moment.
-fn raise(timers: &mut BTreeMap<u64, u64>, moment: u64) -> Result<(), AllocError>
-    requires { unwrap_or (get nat_cmp timers.old moment) 0 < 2 ^ 63 }
-    ensures { OnOk result ((u : ℕ) → get nat_cmp timers.new u ≡ (if moment == u then positive (unwrap_or (get nat_cmp timers.old moment) 0 + 1) else get nat_cmp timers.old u)) }
-{
-    let count = timers.get(&moment).copied().unwrap_or(0);
-    timers.insert(moment, count + 1)?;
-    Ok(())
-}
-
-/// Takes out of the list what is Queued no more.
-fn keep_queued(ready: &mut VecDeque<usize>, requests: &[Request])
-    ensures { ready.new.items ≡ still_queued requests.now ready.old.items }
-{
-    ready.retain(|request| stays_queued(requests, *request));
-}
-
-/// Whether the request is Queued.
+/// Whether there is a request with this number that is Queued.
 fn stays_queued(requests: &[Request], request: usize) -> bool
     ensures { result ≡ is_queued (request_at requests.now request).phase }
 {
     match requests.get(request) {
-        Some(entry) => matches!(entry.phase, Phase::Queued),
+        Some(entry) => is_waiting(entry),
         None => false,
     }
+}
+
+/// Whether the request is Queued.
+pub(crate) fn is_waiting(entry: &Request) -> bool
+    ensures { result ≡ is_queued entry.now.phase }
+{
+    matches!(entry.phase, Phase::Queued)
 }

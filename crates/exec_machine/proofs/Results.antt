@@ -14,16 +14,18 @@ use Rattle.exec_machine.specs.declared.config.Word.{Word}
 use Rattle.exec_machine.specs.declared.step.Action.{Action}
 use Rattle.exec_machine.specs.declared.step.Action.TheVariants as action
 use Rattle.exec_machine.specs.declared.event.Event.{Event}
-use Rattle.exec_machine.specs.declared.event.Event.TheVariants.{Turn, Serve, Begin, Pend, Done, Admit, Wait, Got, Pass, Wake, Enrol, Stage, Enter, Reap, Cancel, Release, Sleep, Close, Stop, End, Land}
+use Rattle.exec_machine.specs.declared.event.Event.TheVariants.{Turn, Serve, Begin, Pend, Done, Fault, Admit, Wait, Got, Drop, Timer, GotTimer, Pass, Wake, Enrol, Stage, Enter, Reap, Expire, Cancel, Release, Fire, Sleep, Close, Stop, End, Land, Clock, Stir}
 use Rattle.exec_machine.specs.declared.event.Said.{Said}
 use Rattle.exec_machine.specs.declared.event.Said.TheVariants.{Refused, Did}
 use Rattle.exec_machine.specs.declared.event.Line.{Line}
 use Rattle.exec_machine.specs.declared.state.Phase.{Phase}
 use Rattle.exec_machine.specs.declared.state.Phase.TheVariants as phase
 use Rattle.exec_machine.specs.declared.state.Request.{Request}
+use Rattle.exec_machine.specs.Choice.{Choice}
+use Rattle.exec_machine.specs.Choice.Choice.{Plain, Passes, ClosesQueue, Samples, ByTask, PaidByRequest, PaidBySleeper, ByItself}
 use Rattle.exec_machine.specs.World.{World, Operation, worker_of, task_of, operation_of, request_of, no_operation, no_request}
 use Rattle.exec_machine.specs.Allowed.{Allowed, is_queued, is_staged, is_flying, is_resolved, of_worker, next_word, deadline_of, fires_at}
-use Rattle.exec_machine.specs.After.{after, after_landing, drop_all, dropped, dropped_phase, flown, enrolled, admitted, reaped, new_request, new_operation, sent_target, sent_length, resolved}
+use Rattle.exec_machine.specs.After.{after, after_turn, after_serve, after_wake, after_reap, after_landing, acting_task, drop_all, dropped, dropped_phase, expired, flown, enrolled, admitted, reaped, new_request, new_operation, target_asked, length_asked, resolved}
 use Rattle.exec_machine.specs.Run.{Follows, after_line, RunsBy, world_after, first_world}
 use Rattle.exec_machine.specs.Results.{result_in, results_of, reaps}
 
@@ -229,49 +231,125 @@ reap operations requests q r n outcome results landed judged s =
 touch : (w : World) (q : ℕ) (x : Request) {r : ℕ} {results : List Judged} → x.phase ≡ (request_of w q).phase → Stands w.operations w.requests r results → Stands w.operations (set w.requests q x) r (results ++ [])
 touch w q x {r} same s = less (set_Less w.requests q x r (λ unresolved. subst (λ p. is_resolved p ≡ false) same unresolved)) s
 
-by_event : (c : Configuration) (w : World) (i : ℕ) (e : Event) (choice r : ℕ) (results : List Judged) → Allowed c w i e choice → Stands w.operations w.requests r results → Stands (after c w i e choice).operations (after c w i e choice).requests r (results ++ result_in r (Did e))
-by_event c w i Turn zero r results a s = unchanged s
-by_event c w i Turn (suc zero) r results a s = unchanged s
-by_event c w i Turn (suc (suc _)) r results a s = unchanged s
-by_event c w i Serve zero r results a s = unchanged s
-by_event c w i Serve (suc _) r results a s = unchanged s
+-- a turn, a step of a service and a wake change no operation, and of a request at most what it has paid
+by_turn : (w : World) (i : ℕ) (choice : Choice) (r : ℕ) (results : List Judged) → Stands w.operations w.requests r results → Stands (after_turn w i choice).operations (after_turn w i choice).requests r (results ++ [])
+by_turn w i Plain r results s = unchanged s
+by_turn w i Passes r results s = unchanged s
+by_turn w i ClosesQueue r results s = unchanged s
+by_turn w i Samples r results s = unchanged s
+by_turn w i (ByTask t) r results s = unchanged s
+by_turn w i (PaidByRequest q) r results s = unchanged s
+by_turn w i (PaidBySleeper z) r results s = unchanged s
+by_turn w i ByItself r results s = unchanged s
+
+by_serve : (w : World) (i : ℕ) (choice : Choice) (r : ℕ) (results : List Judged) → Stands w.operations w.requests r results → Stands (after_serve w i choice).operations (after_serve w i choice).requests r (results ++ [])
+by_serve w i Plain r results s = unchanged s
+by_serve w i Passes r results s = unchanged s
+by_serve w i ClosesQueue r results s = unchanged s
+by_serve w i Samples r results s = unchanged s
+by_serve w i (ByTask t) r results s = unchanged s
+by_serve w i (PaidByRequest q) r results s = unchanged s
+by_serve w i (PaidBySleeper z) r results s = unchanged s
+by_serve w i ByItself r results s = unchanged s
+
+by_wake : (w : World) (t : ℕ) (choice : Choice) (r : ℕ) (results : List Judged) → Stands w.operations w.requests r results → Stands (after_wake w t choice).operations (after_wake w t choice).requests r (results ++ [])
+by_wake w t Plain r results s = unchanged s
+by_wake w t Passes r results s = unchanged s
+by_wake w t ClosesQueue r results s = unchanged s
+by_wake w t Samples r results s = unchanged s
+by_wake w t (ByTask u) r results s = unchanged s
+by_wake w t (PaidByRequest q) r results s = touch w q (record (request_of w q) { wakes_paid = (request_of w q).wakes_paid + 1 }) refl s
+by_wake w t (PaidBySleeper z) r results s = unchanged s
+by_wake w t ByItself r results s = unchanged s
+
+by_stage : (c : Configuration) (w : World) (i q : ℕ) (choice : Choice) (r : ℕ) (results : List Judged) → Allowed c w i (Stage q) choice → Stands w.operations w.requests r results
+    → Stands w.operations (set w.requests q (record (request_of w q) { phase = phase.Staged })) r (results ++ [])
+by_stage c w i q Plain r results a s =
+    less (set_Less w.requests q (record (request_of w q) { phase = phase.Staged }) r (λ _. queued_open (request_of w q).phase (and_parts ((request_of w q).worker == i) (is_queued (request_of w q).phase) a.1).1)) s
+by_stage c w i q Passes r results a s = absurd a
+by_stage c w i q ClosesQueue r results a s = absurd a
+by_stage c w i q Samples r results a s = absurd a
+by_stage c w i q (ByTask t) r results a s = absurd a
+by_stage c w i q (PaidByRequest p) r results a s = absurd a
+by_stage c w i q (PaidBySleeper z) r results a s = absurd a
+by_stage c w i q ByItself r results a s = absurd a
+
+by_reap : (c : Configuration) (w : World) (i q : ℕ) (n : OpResult) (outcome : Option Outcome) (choice : Choice) (r : ℕ) (results : List Judged) → Allowed c w i (Reap q n outcome) choice → Stands w.operations w.requests r results
+    → Stands (after_reap w i q n outcome).operations (after_reap w i q n outcome).requests r (results ++ result_in r (Did (Reap q n outcome)))
+by_reap c w i q n outcome Plain r results a s = reap w.operations w.requests q r n outcome results a.2 a.3 s
+by_reap c w i q n outcome Passes r results a s = absurd a
+by_reap c w i q n outcome ClosesQueue r results a s = absurd a
+by_reap c w i q n outcome Samples r results a s = absurd a
+by_reap c w i q n outcome (ByTask t) r results a s = absurd a
+by_reap c w i q n outcome (PaidByRequest p) r results a s = absurd a
+by_reap c w i q n outcome (PaidBySleeper z) r results a s = absurd a
+by_reap c w i q n outcome ByItself r results a s = absurd a
+
+-- what an allowed reap says of its result
+reap_allowed : (c : Configuration) (w : World) (i q : ℕ) (n : OpResult) (outcome : Option Outcome) (choice : Choice) → Allowed c w i (Reap q n outcome) choice
+    → ((request_of w q).phase ≡ phase.Landed n) × (outcome ≡ outcome_next (operation_of w q).kind (operation_of w q).length (operation_of w q).moved (record { result = n; cancelled = (request_of w q).cancelled }))
+reap_allowed c w i q n outcome Plain a = (a.2, a.3)
+reap_allowed c w i q n outcome Passes a = absurd a
+reap_allowed c w i q n outcome ClosesQueue a = absurd a
+reap_allowed c w i q n outcome Samples a = absurd a
+reap_allowed c w i q n outcome (ByTask t) a = absurd a
+reap_allowed c w i q n outcome (PaidByRequest p) a = absurd a
+reap_allowed c w i q n outcome (PaidBySleeper z) a = absurd a
+reap_allowed c w i q n outcome ByItself a = absurd a
+
+by_event : (c : Configuration) (w : World) (i : ℕ) (e : Event) (choice : Choice) (r : ℕ) (results : List Judged) → Allowed c w i e choice → Stands w.operations w.requests r results → Stands (after c w i e choice).operations (after c w i e choice).requests r (results ++ result_in r (Did e))
+by_event c w i Turn choice r results a s = by_turn w i choice r results s
+by_event c w i Serve choice r results a s = by_serve w i choice r results s
 by_event c w i (Begin t) choice r results a s = unchanged s
 by_event c w i (Pend t) choice r results a s = unchanged s
 by_event c w i (Done t) choice r results a s = less (drop_all_Less (task_of w t).held w.requests r) s
-by_event c w i (Admit q kind outcome) t r results a s =
-    one_more (new_operation kind (sent_target (next_word (task_of w t))) (sent_length (next_word (task_of w t))) (deadline_of c kind (worker_of w i).sampled)) (admitted outcome (new_request i)) refl s
-by_event c w i (Wait None) t r results a s = unchanged s
-by_event c w i (Wait (Some q)) t r results a s = touch w q (record (request_of w q) { waiter = Some t }) refl s
-by_event c w i (Got q outcome) t r results a s = touch w q (record (request_of w q) { observed = false }) refl s
-by_event c w i Pass t r results a s = unchanged s
-by_event c w i (Wake t) q r results a s = touch w q (record (request_of w q) { wakes_paid = (request_of w q).wakes_paid + 1 }) refl s
+by_event c w i (Fault t n) choice r results a s = less (drop_all_Less (task_of w t).held w.requests r) s
+by_event c w i (Admit q kind outcome) choice r results a s =
+    let it = task_of w (acting_task choice) in
+    one_more (new_operation kind (target_asked (next_word it)) (length_asked (next_word it)) (deadline_of c kind (worker_of w i).sampled)) (admitted outcome (new_request i)) refl s
+by_event c w i (Wait None) choice r results a s = unchanged s
+by_event c w i (Wait (Some q)) choice r results a s = touch w q (record (request_of w q) { waiter = Some (acting_task choice) }) refl s
+by_event c w i (Got q outcome) choice r results a s = touch w q (record (request_of w q) { observed = false }) refl s
+by_event c w i (Drop q) choice r results a s = less (set_Less w.requests q (dropped (request_of w q)) r (dropped_open (request_of w q).phase)) s
+by_event c w i (Timer z until) choice r results a s = unchanged s
+by_event c w i (GotTimer z) choice r results a s = unchanged s
+by_event c w i Pass choice r results a s = unchanged s
+by_event c w i (Wake t) choice r results a s = by_wake w t choice r results s
 by_event c w i (Enrol q None) choice r results a s =
     touch w q (enrolled (fires_at (worker_of w i).start c.tick (unwrap_or (operation_of w q).deadline 0)) None (request_of w q)) refl s
 by_event c w i (Enrol q (Some o)) choice r results a s = less (set_Less w.requests q (resolved o (request_of w q)) r (λ unresolved. absurd (true≢false unresolved))) s
-by_event c w i (Stage q) choice r results a s =
-    less (set_Less w.requests q (record (request_of w q) { phase = phase.Staged }) r (λ _. queued_open (request_of w q).phase (and_parts ((request_of w q).worker == i) (is_queued (request_of w q).phase) a.1).1)) s
+by_event c w i (Stage q) choice r results a s = by_stage c w i q choice r results a s
 by_event c w i Enter choice r results a s = less (flown_Less i w.requests r) s
-by_event c w i (Reap q n outcome) choice r results a s = reap w.operations w.requests q r n outcome results a.2 a.3 s
+by_event c w i (Reap q n outcome) choice r results a s = by_reap c w i q n outcome choice r results a s
+by_event c w i (Expire q None) choice r results a s = touch w q (expired None (request_of w q)) refl s
+by_event c w i (Expire q (Some o)) choice r results a s = less (set_Less w.requests q (resolved o (request_of w q)) r (λ unresolved. absurd (true≢false unresolved))) s
 by_event c w i (Cancel q) choice r results a s = touch w q (record (request_of w q) { cancel_staged = true }) refl s
 by_event c w i (Release q) choice r results a s = touch w q (record (request_of w q) { released = true }) refl s
+by_event c w i (Fire z) choice r results a s = unchanged s
 by_event c w i (Sleep until) choice r results a s = unchanged s
 by_event c w i Close choice r results a s = unchanged s
 by_event c w i Stop choice r results a s = unchanged s
 by_event c w i End choice r results a s = unchanged s
 by_event c w i Land choice r results a s = unchanged s
+by_event c w i Clock choice r results a s = unchanged s
+by_event c w i Stir choice r results a s = unchanged s
 
 by_landing : (w : World) (q : ℕ) (n : OpResult) (r : ℕ) (results : List Judged) → is_flying (request_of w q).phase ≡ true → Stands w.operations w.requests r results → Stands (after_landing w q n).operations (after_landing w q n).requests r (results ++ [])
 by_landing w q n r results flying s =
     less (set_Less w.requests q (record (request_of w q) { phase = phase.Landed n }) r (λ _. flying_open (request_of w q).phase flying)) s
 
-by_line : (c : Configuration) (w : World) (a : Action) (said : Said) (choice r : ℕ) (results : List Judged) → Follows c w a said choice → Stands w.operations w.requests r results → Stands (after_line c w a said choice).operations (after_line c w a said choice).requests r (results ++ result_in r said)
+by_line : (c : Configuration) (w : World) (a : Action) (said : Said) (choice : Choice) (r : ℕ) (results : List Judged) → Follows c w a said choice → Stands w.operations w.requests r results → Stands (after_line c w a said choice).operations (after_line c w a said choice).requests r (results ++ result_in r said)
 by_line c w a Refused choice r results f s = unchanged s
 by_line c w (action.Work i) (Did e) choice r results f s = by_event c w i e choice r results f.1 s
+by_line c w (action.Clock d) (Did e) choice r results f s =
+    subst (λ e. Stands w.operations w.requests r (results ++ result_in r (Did e))) (sym f.1) (unchanged s)
 by_line c w (action.Land q n) (Did e) choice r results f s =
     subst (λ e. Stands (after_landing w q n).operations (after_landing w q n).requests r (results ++ result_in r (Did e))) (sym f.1)
     (by_landing w q n r results (and_parts (is_flying (request_of w q).phase) (is_lawful (window_of (operation_of w q).kind (operation_of w q).length (operation_of w q).moved) n) f.0).0 s)
+by_line c w (action.Stir i) (Did e) choice r results f s =
+    subst (λ e. Stands w.operations w.requests r (results ++ result_in r (Did e))) (sym f.1) (unchanged s)
 
-by_lines : (c : Configuration) (w : World) (lines : List Line) (choices : List ℕ) (r : ℕ) (results : List Judged) → RunsBy c w lines choices → Stands w.operations w.requests r results → Stands (world_after c w lines choices).operations (world_after c w lines choices).requests r (results ++ results_of r lines)
+by_lines : (c : Configuration) (w : World) (lines : List Line) (choices : List Choice) (r : ℕ) (results : List Judged) → RunsBy c w lines choices → Stands w.operations w.requests r results → Stands (world_after c w lines choices).operations (world_after c w lines choices).requests r (results ++ results_of r lines)
 by_lines c w [] [] r results f s = unchanged s
 by_lines c w [] (choice ∷ choices) r results f s = absurd f
 by_lines c w (l ∷ ls) [] r results f s = absurd f
@@ -283,11 +361,11 @@ by_lines c w (l ∷ ls) (choice ∷ choices) r results f s =
 first_stands : (script : List Word) (r : ℕ) → Stands (first_world script).operations (first_world script).requests r []
 first_stands script r = record { one_each = refl; none_yet = λ _. refl; come = λ unresolved. absurd (true≢false unresolved) }
 
-pub come : (c : Configuration) (script : List Word) (lines : List Line) (choices : List ℕ) (r : ℕ) → RunsBy c (first_world script) lines choices → is_resolved (request_of (world_after c (first_world script) lines choices) r).phase ≡ false → HasCome (operation_of (world_after c (first_world script) lines choices) r).kind (operation_of (world_after c (first_world script) lines choices) r).length (operation_of (world_after c (first_world script) lines choices) r).moved (results_of r lines)
+pub come : (c : Configuration) (script : List Word) (lines : List Line) (choices : List Choice) (r : ℕ) → RunsBy c (first_world script) lines choices → is_resolved (request_of (world_after c (first_world script) lines choices) r).phase ≡ false → HasCome (operation_of (world_after c (first_world script) lines choices) r).kind (operation_of (world_after c (first_world script) lines choices) r).length (operation_of (world_after c (first_world script) lines choices) r).moved (results_of r lines)
 come c script lines choices r runs unresolved = (by_lines c (first_world script) lines choices r [] runs (first_stands script r)).come unresolved
 
 -- from any state: the result that is judged joins those before it
-judged_from : (c : Configuration) (w : World) (lines later : List Line) (choices : List ℕ) (i r : ℕ) (n : OpResult) (outcome : Option Outcome) (results : List Judged)
+judged_from : (c : Configuration) (w : World) (lines later : List Line) (choices : List Choice) (i r : ℕ) (n : OpResult) (outcome : Option Outcome) (results : List Judged)
     → RunsBy c w (lines ++ reaps i r n outcome ∷ later) choices
     → Stands w.operations w.requests r results
     → outcome ≡ outcome_of (operation_of (world_after c w lines choices) r).kind (operation_of (world_after c w lines choices) r).length (results ++ results_of r lines ++ record { result = n; cancelled = (request_of (world_after c w lines choices) r).cancelled } ∷ [])
@@ -296,7 +374,8 @@ judged_from c w [] later (choice ∷ choices) i r n outcome results f s =
     let o : Operation = operation_of w r in
     let x : Request = request_of w r in
     let here : Stands w.operations w.requests r (results ++ []) = unchanged s in
-    f.0.1.3 ∙ sym (next o.kind o.length o.moved (results ++ []) (record { result = n; cancelled = x.cancelled }) (here.come (landed_open x.phase n f.0.1.2)))
+    let said = reap_allowed c w i r n outcome choice f.0.1 in
+    said.1 ∙ sym (next o.kind o.length o.moved (results ++ []) (record { result = n; cancelled = x.cancelled }) (here.come (landed_open x.phase n said.0)))
 judged_from c w (l ∷ ls) later [] i r n outcome results f s = absurd f
 judged_from c w (l ∷ ls) later (choice ∷ choices) i r n outcome results f s =
     let next : World = after_line c w l.action l.said choice in
@@ -305,22 +384,22 @@ judged_from c w (l ∷ ls) later (choice ∷ choices) i r n outcome results f s 
     subst (λ (results : List Judged). outcome ≡ outcome_of (operation_of before r).kind (operation_of before r).length (results ++ one ∷ [])) (append_assoc results (result_in r l.said) (results_of r ls))
     (judged_from c next ls later choices i r n outcome (results ++ result_in r l.said) f.1 (by_line c w l.action l.said choice r results f.0 s))
 
-pub judged : (c : Configuration) (script : List Word) (lines later : List Line) (choices : List ℕ) (i r : ℕ) (n : OpResult) (outcome : Option Outcome)
+pub judged : (c : Configuration) (script : List Word) (lines later : List Line) (choices : List Choice) (i r : ℕ) (n : OpResult) (outcome : Option Outcome)
     → RunsBy c (first_world script) (lines ++ reaps i r n outcome ∷ later) choices
     → outcome ≡ outcome_of (operation_of (world_after c (first_world script) lines choices) r).kind (operation_of (world_after c (first_world script) lines choices) r).length (results_of r lines ++ record { result = n; cancelled = (request_of (world_after c (first_world script) lines choices) r).cancelled } ∷ [])
 judged c script lines later choices i r n outcome runs = judged_from c (first_world script) lines later choices i r n outcome [] runs (first_stands script r)
 
 -- from any state: where another operation is needed, no cancellation was asked for
-uncancelled_from : (c : Configuration) (w : World) (lines later : List Line) (choices : List ℕ) (i r : ℕ) (n : OpResult)
+uncancelled_from : (c : Configuration) (w : World) (lines later : List Line) (choices : List Choice) (i r : ℕ) (n : OpResult)
     → RunsBy c w (lines ++ reaps i r n None ∷ later) choices
     → (request_of (world_after c w lines choices) r).cancelled ≡ false
 uncancelled_from c w [] later [] i r n f = absurd f
 uncancelled_from c w [] later (choice ∷ choices) i r n f =
-    uncancelled (operation_of w r).kind (operation_of w r).length (operation_of w r).moved n (request_of w r).cancelled (sym f.0.1.3)
+    uncancelled (operation_of w r).kind (operation_of w r).length (operation_of w r).moved n (request_of w r).cancelled (sym (reap_allowed c w i r n None choice f.0.1).1)
 uncancelled_from c w (l ∷ ls) later [] i r n f = absurd f
 uncancelled_from c w (l ∷ ls) later (choice ∷ choices) i r n f = uncancelled_from c (after_line c w l.action l.said choice) ls later choices i r n f.1
 
-pub more : (c : Configuration) (script : List Word) (lines later : List Line) (choices : List ℕ) (i r : ℕ) (n : OpResult)
+pub more : (c : Configuration) (script : List Word) (lines later : List Line) (choices : List Choice) (i r : ℕ) (n : OpResult)
     → RunsBy c (first_world script) (lines ++ reaps i r n None ∷ later) choices
     → (request_of (world_after c (first_world script) lines choices) r).cancelled ≡ false
 more c script lines later choices i r n runs = uncancelled_from c (first_world script) lines later choices i r n runs

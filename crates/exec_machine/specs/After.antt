@@ -1,5 +1,5 @@
 -- What an event changes.
-use Rattle.std.specs.Prelude.{ℕ, zero, suc, true, false, ◌+◌, ◌==◌, ◌||◌, if◌then◌else◌, List, [], ◌∷◌, ◌++◌, Option, Some, None, length, map, filter, take, drop, ◌-◌, slice_set, slice_index_or, unwrap_or}
+use Rattle.std.specs.Prelude.{ℕ, true, false, ◌+◌, ◌==◌, ◌||◌, if◌then◌else◌, nat_le, List, [], ◌∷◌, ◌++◌, Option, Some, None, length, map, take, drop, ◌-◌, slice_set, slice_index_or, unwrap_or}
 use Rattle.exec_base.specs.declared.error.Error.TheVariants.{Timeout}
 use Rattle.exec_outcomes.specs.declared.outcome.Kind.{Kind}
 use Rattle.exec_outcomes.specs.declared.outcome.OpResult.{OpResult}
@@ -10,7 +10,7 @@ use Rattle.exec_machine.specs.declared.config.Configuration.{Configuration}
 use Rattle.exec_machine.specs.declared.config.Word.{Word}
 use Rattle.exec_machine.specs.declared.config.Word.TheVariants as word
 use Rattle.exec_machine.specs.declared.event.Event.{Event}
-use Rattle.exec_machine.specs.declared.event.Event.TheVariants.{Turn, Serve, Begin, Pend, Done, Admit, Wait, Got, Pass, Wake, Enrol, Stage, Enter, Reap, Cancel, Release, Sleep, Close, Stop, End, Land}
+use Rattle.exec_machine.specs.declared.event.Event.TheVariants.{Turn, Serve, Begin, Pend, Done, Fault, Admit, Wait, Got, Drop, Timer, GotTimer, Pass, Wake, Enrol, Stage, Enter, Reap, Expire, Cancel, Release, Fire, Sleep, Close, Stop, End, Land, Clock, Stir}
 use Rattle.exec_machine.specs.declared.state.WorkerPhase.TheVariants as worker
 use Rattle.exec_machine.specs.declared.state.Rest.TheVariants as rest
 use Rattle.exec_machine.specs.declared.state.Rest.{Rest}
@@ -22,8 +22,11 @@ use Rattle.exec_machine.specs.declared.state.Forwarding.TheVariants as forwardin
 use Rattle.exec_machine.specs.declared.state.Phase.{Phase}
 use Rattle.exec_machine.specs.declared.state.Phase.TheVariants as phase
 use Rattle.exec_machine.specs.declared.state.Request.{Request}
-use Rattle.exec_machine.specs.World.{World, Worker, Task, Operation, worker_of, task_of, operation_of, request_of, no_request}
-use Rattle.exec_machine.specs.Allowed.{is_queued, is_staged, is_in_flight, of_worker, next_word, deadline_of, fires_at}
+use Rattle.exec_machine.specs.declared.state.Sleeper.{Sleeper}
+use Rattle.exec_machine.specs.Choice.{Choice}
+use Rattle.exec_machine.specs.Choice.Choice.{Passes, ClosesQueue, Samples, ByTask, PaidByRequest, PaidBySleeper}
+use Rattle.exec_machine.specs.World.{World, Worker, Task, Operation, worker_of, task_of, operation_of, request_of, sleeper_of, no_request}
+use Rattle.exec_machine.specs.Allowed.{is_queued, is_staged, is_in_flight, of_worker, next_place, next_word, deadline_of, fires_at}
 
 abbrev pub set_worker : World → ℕ → Worker → World
 set_worker w i x = record w { workers = slice_set w.workers i x }
@@ -64,6 +67,11 @@ begun i t = record t { phase = task.Running i; waiting = begun_waiting t.waiting
 
 abbrev pub woken : Task → Task
 woken t = record t { phase = woken_phase t.phase; fresh = false }
+
+-- a wake is passed on from where the task stands; a sleep of 0 is the act of its next word
+abbrev pub place_after_pass : Waiting → ℕ → ℕ → ℕ
+place_after_pass waiting.Nothing place next = next + 1
+place_after_pass _ place next = place
 
 -- to take what it hadn't waited for is the act of its next word
 abbrev pub place_after_got : Waiting → ℕ → ℕ
@@ -117,9 +125,11 @@ abbrev pub joined : List ℕ → ℕ → Option Outcome → List ℕ
 joined ready r None = ready ++ r ∷ []
 joined ready r (Some o) = ready
 
--- those of the list that are Queued
-abbrev pub still_queued : List Request → List ℕ → List ℕ
-still_queued rs ready = filter (λ r. is_queued (slice_index_or rs r no_request).phase) ready
+-- what stands in the list after the first that is Queued
+abbrev pub after_first_queued : List Request → List ℕ → List ℕ
+after_first_queued rs [] = []
+after_first_queued rs (r ∷ ready) =
+    if is_queued (slice_index_or rs r no_request).phase then ready else after_first_queued rs ready
 
 abbrev pub new_operation : Kind → ℕ → ℕ → ℕ → Operation
 new_operation kind target length deadline =
@@ -144,21 +154,38 @@ abbrev pub admitted : Option Outcome → Request → Request
 admitted None r = r
 admitted (Some o) r = resolved o r
 
-abbrev pub sent_target : Option Word → ℕ
-sent_target None = 0
-sent_target (Some (word.Send s n)) = s
-sent_target (Some word.Await) = 0
-sent_target (Some word.End) = 0
+abbrev pub target_asked : Option Word → ℕ
+target_asked (Some (word.Send s n)) = s
+target_asked (Some (word.Poll l)) = l
+target_asked _ = 0
 
-abbrev pub sent_length : Option Word → ℕ
-sent_length None = 0
-sent_length (Some (word.Send s n)) = n
-sent_length (Some word.Await) = 0
-sent_length (Some word.End) = 0
+-- how much is asked for: the bytes of a send; a poll asks for one event
+abbrev pub length_asked : Option Word → ℕ
+length_asked (Some (word.Send s n)) = n
+length_asked (Some (word.Poll l)) = 1
+length_asked _ = 0
+
+-- a request whose deadline has come: over where the kernel doesn't have it, else cancelled
+abbrev pub expired : Option Outcome → Request → Request
+expired None r = record r { timer = None; cancelled = true }
+expired (Some o) r = resolved o r
+
+abbrev pub new_sleeper : ℕ → ℕ → ℕ → Sleeper
+new_sleeper until i t =
+    record { until = until; worker = i; task = t; fired = false; removed = false; forwarding = forwarding.Unsent; wakes_paid = 0 }
 
 abbrev pub rest_until : Option ℕ → Rest
 rest_until None = rest.Forever
 rest_until (Some u) = rest.Until u
+
+-- awake, at this moment, where it slept until then
+abbrev pub roused_at : ℕ → Rest → Rest
+roused_at clock rest.Awake = rest.Awake
+roused_at clock (rest.Until u) = if nat_le u clock then rest.Awake else rest.Until u
+roused_at clock rest.Forever = rest.Forever
+
+abbrev pub roused : ℕ → Worker → Worker
+roused clock me = record me { rest = roused_at clock me.rest }
 
 -- the states
 
@@ -168,20 +195,18 @@ after_admit c w i r kind outcome t =
     let it = task_of w t in
     record w {
       workers = slice_set w.workers i (record me { ready = joined me.ready r outcome });
-      tasks = slice_set w.tasks t (record it { place = it.place + 1; held = it.held ++ r ∷ [] });
-      operations = w.operations ++ new_operation kind (sent_target (next_word it)) (sent_length (next_word it)) (deadline_of c kind me.sampled) ∷ [];
+      tasks = slice_set w.tasks t (record it { place = next_place it + 1; held = it.held ++ r ∷ [] });
+      operations = w.operations ++ new_operation kind (target_asked (next_word it)) (length_asked (next_word it)) (deadline_of c kind me.sampled) ∷ [];
       requests = w.requests ++ admitted outcome (new_request i) ∷ [];
     }
 
-abbrev pub after_done : World → ℕ → ℕ → World
-after_done w i t =
-    let me = worker_of w i in
+-- the end of a task, by itself or by a fault
+abbrev pub after_done : World → ℕ → World
+after_done w t =
     let it = task_of w t in
-    let requests = drop_all it.held w.requests in
     record w {
-      workers = slice_set w.workers i (record me { ready = still_queued requests me.ready });
       tasks = slice_set w.tasks t (record it { phase = task.Done; held = [] });
-      requests = requests;
+      requests = drop_all it.held w.requests;
     }
 
 abbrev pub after_reap : World → ℕ → ℕ → OpResult → Option Outcome → World
@@ -194,63 +219,101 @@ after_reap w i r n outcome =
       requests = slice_set w.requests r (reaped outcome (request_of w r));
     }
 
-abbrev pub after_enrol : Configuration → World → ℕ → ℕ → Option Outcome → World
-after_enrol c w i r outcome =
-    let me = worker_of w i in
-    let moment = fires_at me.start c.tick (unwrap_or (operation_of w r).deadline 0) in
-    let requests = slice_set w.requests r (enrolled moment outcome (request_of w r)) in
+abbrev pub after_wake : World → ℕ → Choice → World
+after_wake w t (PaidByRequest r) =
     record w {
-      workers = slice_set w.workers i (record me { ready = still_queued requests me.ready });
-      requests = requests;
+      tasks = slice_set w.tasks t (woken (task_of w t));
+      requests = slice_set w.requests r (record (request_of w r) { wakes_paid = (request_of w r).wakes_paid + 1 });
     }
-
-abbrev pub after : Configuration → World → ℕ → Event → ℕ → World
-after c w i Turn zero = w
-after c w i Turn (suc zero) = set_worker w i (record (worker_of w i) { left = true })
-after c w i Turn (suc (suc _)) = record w { queue_closed = true }
-after c w i Serve zero = w
-after c w i Serve (suc _) = set_worker w i (record (worker_of w i) { sampled = w.clock })
-after c w i (Begin t) _ = set_task w t (begun i (task_of w t))
-after c w i (Pend t) _ = set_task w t (record (task_of w t) { phase = pended_phase (task_of w t).phase })
-after c w i (Done t) _ = after_done w i t
-after c w i (Admit r kind outcome) t = after_admit c w i r kind outcome t
-after c w i (Wait None) t = set_task w t (record (task_of w t) { place = (task_of w t).place + 1; waiting = waiting.Wake })
-after c w i (Wait (Some r)) t =
+after_wake w t (PaidBySleeper z) =
     record w {
-      tasks = slice_set w.tasks t (record (task_of w t) { place = (task_of w t).place + 1; waiting = waiting.Request r });
+      tasks = slice_set w.tasks t (woken (task_of w t));
+      sleepers = slice_set w.sleepers z (record (sleeper_of w z) { wakes_paid = (sleeper_of w z).wakes_paid + 1 });
+    }
+after_wake w t _ = set_task w t (record (woken (task_of w t)) { place = next_place (task_of w t) + 1; waiting = waiting.Yielded })
+
+abbrev pub after_turn : World → ℕ → Choice → World
+after_turn w i Passes = set_worker w i (record (worker_of w i) { left = true })
+after_turn w i ClosesQueue = record w { queue_closed = true }
+after_turn w i _ = w
+
+abbrev pub after_serve : World → ℕ → Choice → World
+after_serve w i Samples = set_worker w i (record (worker_of w i) { sampled = w.clock; sampled_before = (worker_of w i).sampled })
+after_serve w i _ = w
+
+-- what an act of task t changes
+abbrev pub after_act : Configuration → World → ℕ → Event → ℕ → World
+after_act c w i (Admit r kind outcome) t = after_admit c w i r kind outcome t
+after_act c w i (Wait None) t = set_task w t (record (task_of w t) { place = next_place (task_of w t) + 1; waiting = waiting.Wake })
+after_act c w i (Wait (Some r)) t =
+    record w {
+      tasks = slice_set w.tasks t (record (task_of w t) { place = next_place (task_of w t) + 1; waiting = waiting.Request r });
       requests = slice_set w.requests r (record (request_of w r) { waiter = Some t });
     }
-after c w i (Got r outcome) t =
+after_act c w i (Got r outcome) t =
     let it = task_of w t in
     record w {
       tasks = slice_set w.tasks t (record it { place = place_after_got it.waiting it.place; held = without_newest it.held; waiting = waiting.Nothing });
       requests = slice_set w.requests r (record (request_of w r) { observed = false });
     }
-after c w i Pass t = set_task w t (record (task_of w t) { waiting = waiting.Nothing })
-after c w i (Wake t) r =
+after_act c w i (Drop r) t =
     record w {
-      tasks = slice_set w.tasks t (woken (task_of w t));
-      requests = slice_set w.requests r (record (request_of w r) { wakes_paid = (request_of w r).wakes_paid + 1 });
+      tasks = slice_set w.tasks t (record (task_of w t) { place = next_place (task_of w t) + 1; held = without_newest (task_of w t).held });
+      requests = slice_set w.requests r (dropped (request_of w r));
     }
-after c w i (Enrol r outcome) _ = after_enrol c w i r outcome
-after c w i (Stage r) _ =
+after_act c w i (Timer z until) t =
     record w {
-      workers = slice_set w.workers i (record (worker_of w i) { ready = drop 1 (worker_of w i).ready });
+      tasks = slice_set w.tasks t (record (task_of w t) { place = next_place (task_of w t) + 1; waiting = waiting.Timer z });
+      sleepers = w.sleepers ++ new_sleeper until i t ∷ [];
+    }
+after_act c w i (GotTimer z) t = set_task w t (record (task_of w t) { waiting = waiting.Nothing })
+after_act c w i Pass t =
+    set_task w t (record (task_of w t) { place = place_after_pass (task_of w t).waiting (task_of w t).place (next_place (task_of w t)); waiting = waiting.Nothing })
+after_act c w i _ t = w
+
+abbrev pub acting_task : Choice → ℕ
+acting_task (ByTask t) = t
+acting_task _ = 0
+
+abbrev pub after : Configuration → World → ℕ → Event → Choice → World
+after c w i Turn choice = after_turn w i choice
+after c w i Serve choice = after_serve w i choice
+after c w i (Begin t) choice = set_task w t (begun i (task_of w t))
+after c w i (Pend t) choice = set_task w t (record (task_of w t) { phase = pended_phase (task_of w t).phase })
+after c w i (Done t) choice = after_done w t
+after c w i (Fault t n) choice = after_done w t
+after c w i (Admit r kind outcome) choice = after_act c w i (Admit r kind outcome) (acting_task choice)
+after c w i (Wait r) choice = after_act c w i (Wait r) (acting_task choice)
+after c w i (Got r outcome) choice = after_act c w i (Got r outcome) (acting_task choice)
+after c w i (Drop r) choice = after_act c w i (Drop r) (acting_task choice)
+after c w i (Timer z until) choice = after_act c w i (Timer z until) (acting_task choice)
+after c w i (GotTimer z) choice = after_act c w i (GotTimer z) (acting_task choice)
+after c w i Pass choice = after_act c w i Pass (acting_task choice)
+after c w i (Wake t) choice = after_wake w t choice
+after c w i (Enrol r outcome) choice =
+    set_request w r (enrolled (fires_at (worker_of w i).start c.tick (unwrap_or (operation_of w r).deadline 0)) outcome (request_of w r))
+after c w i (Stage r) choice =
+    record w {
+      workers = slice_set w.workers i (record (worker_of w i) { ready = after_first_queued w.requests (worker_of w i).ready });
       requests = slice_set w.requests r (record (request_of w r) { phase = phase.Staged });
     }
-after c w i Enter _ = record w { requests = map (flown i) w.requests }
-after c w i (Reap r n outcome) _ = after_reap w i r n outcome
-after c w i (Cancel r) _ = set_request w r (record (request_of w r) { cancel_staged = true })
-after c w i (Release r) _ = set_request w r (record (request_of w r) { released = true })
-after c w i (Sleep until) _ = set_worker w i (record (worker_of w i) { rest = rest_until until })
-after c w i Close _ =
+after c w i Enter choice = record w { requests = map (flown i) w.requests }
+after c w i (Reap r n outcome) choice = after_reap w i r n outcome
+after c w i (Expire r outcome) choice = set_request w r (expired outcome (request_of w r))
+after c w i (Cancel r) choice = set_request w r (record (request_of w r) { cancel_staged = true })
+after c w i (Release r) choice = set_request w r (record (request_of w r) { released = true })
+after c w i (Fire z) choice = record w { sleepers = slice_set w.sleepers z (record (sleeper_of w z) { fired = true }) }
+after c w i (Sleep until) choice = set_worker w i (record (worker_of w i) { rest = rest_until until })
+after c w i Close choice =
     record w {
       workers = slice_set w.workers i (record (worker_of w i) { phase = worker.Closing });
       set_closed = w.set_closed || (i == 0);
     }
-after c w i Stop _ = record w { stopped = true }
-after c w i End _ = set_worker w i (record (worker_of w i) { phase = worker.Ended; inbox = [] })
-after c w i Land _ = w
+after c w i Stop choice = record w { stopped = true }
+after c w i End choice = set_worker w i (record (worker_of w i) { phase = worker.Ended; inbox = [] })
+after c w i Land choice = w
+after c w i Clock choice = w
+after c w i Stir choice = w
 
 -- The result of an operation lands on the ring of the request's worker, and rouses it.
 abbrev pub after_landing : World → ℕ → OpResult → World
@@ -260,3 +323,11 @@ after_landing w r n =
       workers = slice_set w.workers i (record (worker_of w i) { landed = (worker_of w i).landed ++ r ∷ []; rest = rest.Awake });
       requests = slice_set w.requests r (record (request_of w r) { phase = phase.Landed n });
     }
+
+-- The clock moves, and rouses who slept until then.
+abbrev pub after_clock : World → ℕ → World
+after_clock w d = record w { clock = w.clock + d; workers = map (roused (w.clock + d)) w.workers }
+
+-- The wait of worker i returns for nothing.
+abbrev pub after_stir : World → ℕ → World
+after_stir w i = set_worker w i (record (worker_of w i) { rest = rest.Awake })

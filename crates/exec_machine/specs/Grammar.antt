@@ -8,10 +8,10 @@ use Rattle.exec_outcomes.specs.declared.outcome.OpResult.TheVariants.{Count, Err
 use Rattle.exec_outcomes.specs.Text.{text_of_result}
 use Rattle.exec_machine.specs.declared.config.Configuration.{Configuration}
 use Rattle.exec_machine.specs.declared.config.Word.{Word}
-use Rattle.exec_machine.specs.declared.config.Word.TheVariants.{Send, Await, End}
+use Rattle.exec_machine.specs.declared.config.Word.TheVariants.{Send, Poll, Await, Drop, Sleep, Yield, End, Fault}
 use Rattle.exec_machine.specs.declared.config.Trace.{Trace}
 use Rattle.exec_machine.specs.declared.step.Step.{Step}
-use Rattle.exec_machine.specs.declared.step.Step.TheVariants.{Work, Land}
+use Rattle.exec_machine.specs.declared.step.Step.TheVariants.{Work, Clock, Land, Stir}
 
 -- what a trace says
 pub record Plan : Type 0 where
@@ -35,8 +35,13 @@ header_lines c =
 
 abbrev pub text_of_word : Word → List ℕ
 text_of_word (Send socket length) = codes "send " ++ decimal socket ++ 32 ∷ decimal length
+text_of_word (Poll listener) = codes "poll " ++ decimal listener
 text_of_word Await = codes "await"
+text_of_word Drop = codes "drop"
+text_of_word (Sleep time) = codes "sleep " ++ decimal time
+text_of_word Yield = codes "yield"
 text_of_word End = codes "end"
+text_of_word (Fault code) = codes "fault " ++ decimal code
 
 -- the words of a script, a space before each
 abbrev pub text_of_words : List Word → List ℕ
@@ -44,6 +49,8 @@ text_of_words words = flat_map (λ word. 32 ∷ text_of_word word) words
 
 abbrev pub text_of_step : Step → List ℕ
 text_of_step (Work worker count) = codes "w " ++ decimal worker ++ 32 ∷ decimal count
+text_of_step (Clock by) = codes "c " ++ decimal by
+text_of_step (Stir worker) = codes "e " ++ decimal worker
 text_of_step (Land request result) = codes "k " ++ decimal request ++ 32 ∷ text_of_result result
 
 -- the lines of a trace that say something, in order
@@ -55,8 +62,10 @@ plan_lines p =
 -- Bounds of what a line says: a number is at most 2^64 - 1, an error number isn't 0.
 abbrev pub WordFits : Configuration → Word → Type 0
 WordFits c (Send socket length) = (socket < c.sockets) × (0 < length) × (length ≤ 1048576)
-WordFits c Await = Unit {0}
-WordFits c End = Unit {0}
+WordFits c (Poll listener) = listener < c.sockets
+WordFits c (Sleep time) = time < 2 ^ 64
+WordFits c (Fault code) = code < 2 ^ 64
+WordFits c _ = Unit {0}
 
 abbrev pub ResultFits : OpResult → Type 0
 ResultFits (Count n) = n < 2 ^ 64
@@ -64,25 +73,27 @@ ResultFits (Errno code) = (0 < code) × (code < 2 ^ 64)
 
 abbrev pub StepFits : Step → Type 0
 StepFits (Work worker count) = (worker < 2 ^ 64) × (0 < count) × (count < 2 ^ 64)
+StepFits (Clock by) = by < 2 ^ 64
+StepFits (Stir worker) = worker < 2 ^ 64
 StepFits (Land request result) = (request < 2 ^ 64) × ResultFits result
 
--- the one header that is read so far
-abbrev pub the_config : Configuration
-the_config =
-    record {
-      workers = 1;
-      interval = 31;
-      ring = 16;
-      tick = 5000000;
-      connect = 10000000;
-      rw = 10000000;
-      spin = record { budget = 0; most = 0; quick = 0; iterations = 0 };
-      files = 0;
-      sockets = 1;
-    }
+-- Each number of the header is below 2^64. Whether it is in its range is another question.
+pub record HeaderFits (c : Configuration) : Type 0 where
+  pub workers : c.workers < 2 ^ 64
+  pub interval : c.interval < 2 ^ 64
+  pub ring : c.ring < 2 ^ 64
+  pub tick : c.tick < 2 ^ 64
+  pub connect : c.connect < 2 ^ 64
+  pub rw : c.rw < 2 ^ 64
+  pub budget : c.spin.budget < 2 ^ 64
+  pub most : c.spin.most < 2 ^ 64
+  pub quick : c.spin.quick < 2 ^ 64
+  pub iterations : c.spin.iterations < 2 ^ 64
+  pub files : c.files < 2 ^ 64
+  pub sockets : c.sockets < 2 ^ 64
 
 pub record IsPlan (p : Plan) : Type 0 where
-  pub header : p.config ≡ the_config
+  pub header : HeaderFits p.config
   pub no_scripts : p.scripts ≡ []
   pub some_word : 0 < length p.root
   pub words_fit : All (WordFits p.config) p.root
@@ -114,4 +125,4 @@ plan_of t = record { config = t.config; scripts = map (λ script. script.items) 
 -- how many steps a line asks for
 abbrev pub count_of : Step → ℕ
 count_of (Work worker count) = count
-count_of (Land request result) = 1
+count_of _ = 1

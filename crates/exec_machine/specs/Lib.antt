@@ -1,3 +1,5 @@
+pub mod Choice
+pub mod Ranges
 pub mod World
 pub mod Allowed
 pub mod After

@@ -16,10 +16,10 @@ use Rattle.exec_machine.specs.declared.state.TaskPhase.{TaskPhase}
 use Rattle.exec_machine.specs.declared.state.TaskPhase.TheVariants.{Done}
 use Rattle.exec_machine.specs.declared.state.Waiting.{Waiting}
 use Rattle.exec_machine.specs.declared.state.Waiting.TheVariants.{Nothing}
-use Rattle.exec_machine.specs.declared.state.Forwarding.{Forwarding}
 use Rattle.exec_machine.specs.declared.state.Forwarding.TheVariants.{Unsent}
 use Rattle.exec_machine.specs.declared.state.Phase.TheVariants.{Resolved}
 use Rattle.exec_machine.specs.declared.state.Request.{Request}
+use Rattle.exec_machine.specs.declared.state.Sleeper.{Sleeper}
 
 pub record Worker : Type 0 where
   pub phase : WorkerPhase
@@ -29,10 +29,13 @@ pub record Worker : Type 0 where
   -- the moment at which it began, and the one that it last sampled, in nanoseconds
   pub start : ℕ
   pub sampled : ℕ
+  -- the moment that it had sampled before that one
+  pub sampled_before : ℕ
   -- its next enter takes nothing
   pub busy : Bool
   pub inbox : List Message
-  -- its requests that are Queued, and those that are Landed, each in order of coming
+  -- its requests as they were Queued, without those that were staged since (what was resolved meanwhile still
+  -- stands there and is passed over), and those that are Landed, each in order of coming
   pub ready : List ℕ
   pub landed : List ℕ
 
@@ -72,15 +75,6 @@ pub record Operation : Type 0 where
   pub hinted : Bool
   pub switched : Bool
 
-pub record Sleeper : Type 0 where
-  pub until : ℕ
-  pub worker : ℕ
-  pub task : ℕ
-  pub fired : Bool
-  pub removed : Bool
-  pub forwarding : Forwarding
-  pub wakes_paid : ℕ
-
 pub record Open : Type 0 where
   pub mutations : ℕ
   pub frontier : ℕ
@@ -109,7 +103,7 @@ pub record World : Type 0 where
 
 -- a worker that has ended
 abbrev pub nobody : Worker
-nobody = record { phase = Ended; left = true; rest = Awake; start = 0; sampled = 0; busy = false; inbox = []; ready = []; landed = [] }
+nobody = record { phase = Ended; left = true; rest = Awake; start = 0; sampled = 0; sampled_before = 0; busy = false; inbox = []; ready = []; landed = [] }
 
 -- a task that is over
 abbrev pub no_task : Task
@@ -118,6 +112,10 @@ no_task = record { script = []; place = 0; adapters = []; held = []; phase = Don
 -- an operation of nothing
 abbrev pub no_operation : Operation
 no_operation = record { kind = Send; target = 0; offset = 0; length = 0; skip = 0; deadline = None; seen = 0; moved = 0; hinted = false; switched = false }
+
+-- a sleeper that is over and owes nothing
+abbrev pub no_sleeper : Sleeper
+no_sleeper = record { until = 0; worker = 0; task = 0; fired = true; removed = true; forwarding = Unsent; wakes_paid = 1 }
 
 -- a request that is resolved and released
 abbrev pub no_request : Request
@@ -146,3 +144,6 @@ operation_of w r = slice_index_or w.operations r no_operation
 
 abbrev pub request_of : World → ℕ → Request
 request_of w r = slice_index_or w.requests r no_request
+
+abbrev pub sleeper_of : World → ℕ → Sleeper
+sleeper_of w z = slice_index_or w.sleepers z no_sleeper

@@ -1,6 +1,7 @@
 //! What a trace sets up: the configuration, the scripts, and the steps.
 
 use crate::step::Step;
+use std::fmt;
 
 /// How long a worker without work looks for some before it sleeps. All four are 0 where it doesn't.
 #[derive(Clone, Copy, Debug, PartialEq, Eq)]
@@ -43,10 +44,54 @@ pub struct Configuration {
 pub enum Word {
     /// Registers a send to this socket of so many bytes.
     Send { socket: usize, length: u64 },
+    /// Registers a readiness poll of this listener.
+    Poll { listener: usize },
     /// Waits for the newest held request, or with none held for a wake.
     Await,
+    /// Lets the newest held request go. With none held it asks for nothing.
+    Drop,
+    /// Sleeps so many nanoseconds.
+    Sleep { time: u64 },
+    /// Wakes the task itself, and lets others go first.
+    Yield,
     /// Ends the task.
     End,
+    /// Ends the task with a fault.
+    Fault { code: u64 },
+}
+
+/// A part of a configuration that has a range.
+#[derive(Clone, Copy, Debug, PartialEq, Eq)]
+pub enum Field {
+    /// How many workers there are.
+    Workers,
+    /// Every how many picks the global queue is looked at first.
+    Interval,
+    /// How many operations a ring can hold.
+    Ring,
+    /// The tick of the timeout wheel.
+    Tick,
+    /// How long a connect may take.
+    Connect,
+    /// How long another request of a socket may take.
+    Rw,
+    /// The four numbers of the spin.
+    Spin,
+    /// How many files are open.
+    Files,
+    /// How many sockets there are.
+    Sockets,
+    /// The slots of the timeout wheel, by its tick and its longest deadline.
+    Layout,
+}
+
+/// A part of a configuration that is out of its range.
+#[derive(Clone, Copy, Debug, PartialEq, Eq)]
+pub struct OutOfRange {
+    /// Which part it is.
+    pub field: Field,
+    /// What it says: of the spin its first number, of the layout the tick.
+    pub value: u64,
 }
 
 /// A whole trace.
@@ -60,4 +105,26 @@ pub struct Trace {
     pub root: Vec<Word>,
     /// The steps, in order.
     pub steps: Vec<Step>,
+}
+
+impl fmt::Display for Field {
+    ghost use Rattle.std.specs.Prelude.{Some};
+    ghost use Rattle.exec_machine.specs.Text.{text_of_field};
+
+    ghost output = { λ f. Some (text_of_field f) };
+
+    fn fmt<W: fmt::Write>(&self, f: &mut fmt::Formatter<W>) -> fmt::Result {
+        match self {
+            Field::Workers => write!(f, "workers"),
+            Field::Interval => write!(f, "interval"),
+            Field::Ring => write!(f, "ring"),
+            Field::Tick => write!(f, "tick"),
+            Field::Connect => write!(f, "connect"),
+            Field::Rw => write!(f, "rw"),
+            Field::Spin => write!(f, "spin"),
+            Field::Files => write!(f, "files"),
+            Field::Sockets => write!(f, "sockets"),
+            Field::Layout => write!(f, "layout"),
+        }
+    }
 }

@@ -23,6 +23,11 @@ pub enum Event {
     Done {
         task: usize,
     },
+    /// The task is over, with this fault.
+    Fault {
+        task: usize,
+        code: u64,
+    },
     /// The polled task makes a request. With an outcome where its deadline had passed.
     Admit {
         request: usize,
@@ -37,6 +42,19 @@ pub enum Event {
     Got {
         request: usize,
         outcome: Outcome,
+    },
+    /// The polled task lets go of the request.
+    Drop {
+        request: usize,
+    },
+    /// The polled task makes a sleeper until a moment in nanoseconds, and waits for it.
+    Timer {
+        timer: usize,
+        until: u64,
+    },
+    /// The polled task takes the fired sleeper.
+    GotTimer {
+        timer: usize,
     },
     /// The polled task was woken, and goes on.
     Pass,
@@ -61,6 +79,11 @@ pub enum Event {
         result: OpResult,
         outcome: Option<Outcome>,
     },
+    /// The deadline of the request has come. It is over where the kernel doesn't have it, else cancelled.
+    Expire {
+        request: usize,
+        outcome: Option<Outcome>,
+    },
     /// The cancel of the request is put into the submission queue.
     Cancel {
         request: usize,
@@ -68,6 +91,10 @@ pub enum Event {
     /// What the request owned is let go.
     Release {
         request: usize,
+    },
+    /// The moment of the sleeper has come.
+    Fire {
+        timer: usize,
     },
     /// The worker sleeps until a moment in nanoseconds, or without end.
     Sleep {
@@ -81,6 +108,10 @@ pub enum Event {
     End,
     /// The operation has landed.
     Land,
+    /// The clock has moved.
+    Clock,
+    /// The wait of a worker has returned for nothing.
+    Stir,
 }
 
 /// What became of a step.
@@ -114,6 +145,7 @@ impl fmt::Display for Event {
             Event::Begin { task } => write!(f, "begin {task}"),
             Event::Pend { task } => write!(f, "pend {task}"),
             Event::Done { task } => write!(f, "done {task}"),
+            Event::Fault { task, code } => write!(f, "fault {task} {code}"),
             Event::Admit {
                 request,
                 kind,
@@ -129,6 +161,9 @@ impl fmt::Display for Event {
                 request: Some(request),
             } => write!(f, "wait {request}"),
             Event::Got { request, outcome } => write!(f, "got {request} {outcome}"),
+            Event::Drop { request } => write!(f, "drop {request}"),
+            Event::Timer { timer, until } => write!(f, "timer {timer} {until}"),
+            Event::GotTimer { timer } => write!(f, "got timer {timer}"),
             Event::Pass => write!(f, "got pass"),
             Event::Wake { task } => write!(f, "wake {task}"),
             Event::Enrol {
@@ -151,14 +186,25 @@ impl fmt::Display for Event {
                 result,
                 outcome: Some(outcome),
             } => write!(f, "reap {request} {result} {outcome}"),
+            Event::Expire {
+                request,
+                outcome: None,
+            } => write!(f, "expire {request}"),
+            Event::Expire {
+                request,
+                outcome: Some(outcome),
+            } => write!(f, "expire {request} {outcome}"),
             Event::Cancel { request } => write!(f, "cancel {request}"),
             Event::Release { request } => write!(f, "release {request}"),
+            Event::Fire { timer } => write!(f, "fire {timer}"),
             Event::Sleep { until: None } => write!(f, "sleep ever"),
             Event::Sleep { until: Some(until) } => write!(f, "sleep {until}"),
             Event::Close => write!(f, "close"),
             Event::Stop => write!(f, "stop"),
             Event::End => write!(f, "end"),
             Event::Land => write!(f, "land"),
+            Event::Clock => write!(f, "clock"),
+            Event::Stir => write!(f, "stir"),
         }
     }
 }

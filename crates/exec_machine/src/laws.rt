@@ -9,30 +9,31 @@ ghost use Rattle.exec_outcomes.specs.Outcomes.{HasCome, outcome_of};
 ghost use Rattle.exec_machine.specs.declared.config.Configuration.{Configuration};
 ghost use Rattle.exec_machine.specs.declared.config.Word.{Word};
 ghost use Rattle.exec_machine.specs.declared.event.Line.{Line};
-ghost use Rattle.exec_machine.specs.Grammar.{the_config};
+ghost use Rattle.exec_machine.specs.Choice.{Choice};
+ghost use Rattle.exec_machine.specs.Choice.Choice.{Plain};
 ghost use Rattle.exec_machine.specs.World.{operation_of, request_of};
 ghost use Rattle.exec_machine.specs.Allowed.{is_resolved};
 ghost use Rattle.exec_machine.specs.Run.{RunsBy, first_world, world_after};
-ghost use Rattle.exec_machine.specs.Examples.{one_send, refused, until_asleep, until_ended};
+ghost use Rattle.exec_machine.specs.Examples.{the_config, one_send, flying_choices, refused, until_asleep, until_ended};
 ghost use Rattle.exec_machine.specs.Results.{results_of, reaps, sent_in_two};
 
 /// The machine keeps of a request's results only how many bytes they moved. In each run that stands for all
 /// results that the log shows of it, as long as the request isn't over; so wherever a result is judged, the
 /// outcome is that of all its results, and another operation is needed only if no cancellation was asked for.
 pub fn outcomes_are_of_all_results()
-    ensures come { (c : Configuration) (script : List Word) (lines : List Line) (choices : List ℕ) (r : ℕ) →
+    ensures come { (c : Configuration) (script : List Word) (lines : List Line) (choices : List Choice) (r : ℕ) →
         RunsBy c (first_world script) lines choices →
         let w = world_after c (first_world script) lines choices in
         let o = operation_of w r in
         is_resolved (request_of w r).phase ≡ false → HasCome o.kind o.length o.moved (results_of r lines) }
-    ensures judged { (c : Configuration) (script : List Word) (lines later : List Line) (choices : List ℕ)
+    ensures judged { (c : Configuration) (script : List Word) (lines later : List Line) (choices : List Choice)
         (i r : ℕ) (n : OpResult) (outcome : Option Outcome) →
         RunsBy c (first_world script) (lines ++ reaps i r n outcome ∷ later) choices →
         let w = world_after c (first_world script) lines choices in
         let o = operation_of w r in
         outcome ≡ outcome_of o.kind o.length
         (results_of r lines ++ record { result = n; cancelled = (request_of w r).cancelled } ∷ []) }
-    ensures more { (c : Configuration) (script : List Word) (lines later : List Line) (choices : List ℕ)
+    ensures more { (c : Configuration) (script : List Word) (lines later : List Line) (choices : List Choice)
         (i r : ℕ) (n : OpResult) →
         RunsBy c (first_world script) (lines ++ reaps i r n None ∷ later) choices →
         (request_of (world_after c (first_world script) lines choices) r).cancelled ≡ false }
@@ -48,6 +49,6 @@ pub fn results_in_logs()
 
 /// A run in which a send needs a second operation.
 pub fn a_send_in_two()
-    ensures run { RunsBy the_config (first_world one_send) sent_in_two (replicate 13 0) }
+    ensures run { RunsBy the_config (first_world one_send) sent_in_two (flying_choices ++ replicate 6 Plain) }
     ensures results { results_of 0 sent_in_two ≡ record { result = Count 4; cancelled = false } ∷ [] }
 {}

@@ -109,6 +109,25 @@ pub struct Request {
     pub forwarding: Forwarding,
 }
 
+/// How a sleeper stands: a task waits for its moment.
+#[derive(Clone, Copy, Debug, PartialEq, Eq)]
+pub struct Sleeper {
+    /// Its moment, in nanoseconds.
+    pub until: u64,
+    /// The worker that made it.
+    pub worker: usize,
+    /// The task that waits for it.
+    pub task: usize,
+    /// Whether its moment has come and was told.
+    pub fired: bool,
+    /// Whether it was taken away before that.
+    pub removed: bool,
+    /// How far it was handed to its own worker.
+    pub forwarding: Forwarding,
+    /// How many wakes it has paid.
+    pub wakes_paid: u64,
+}
+
 /// What a worker is told through its inbox.
 #[derive(Clone, Copy, Debug, PartialEq, Eq)]
 pub enum Message {

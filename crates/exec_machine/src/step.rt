@@ -8,8 +8,12 @@ use std::fmt;
 pub enum Step {
     /// The worker takes so many steps.
     Work { worker: usize, count: u64 },
+    /// The clock moves by so many nanoseconds.
+    Clock { by: u64 },
     /// The operation of the request lands with the result.
     Land { request: usize, result: OpResult },
+    /// The wait of the worker returns for nothing.
+    Stir { worker: usize },
 }
 
 /// One step of one party.
@@ -17,8 +21,12 @@ pub enum Step {
 pub enum Action {
     /// The worker takes one step.
     Work { worker: usize },
+    /// The clock moves by so many nanoseconds.
+    Clock { by: u64 },
     /// The operation of the request lands with the result.
     Land { request: usize, result: OpResult },
+    /// The wait of the worker returns for nothing.
+    Stir { worker: usize },
 }
 
 impl fmt::Display for Action {
@@ -30,7 +38,9 @@ impl fmt::Display for Action {
     fn fmt<W: fmt::Write>(&self, f: &mut fmt::Formatter<W>) -> fmt::Result {
         match self {
             Action::Work { worker } => write!(f, "w {worker}"),
+            Action::Clock { by } => write!(f, "c {by}"),
             Action::Land { request, result } => write!(f, "k {request} {result}"),
+            Action::Stir { worker } => write!(f, "e {worker}"),
         }
     }
 }

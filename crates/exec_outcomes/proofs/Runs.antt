@@ -7,7 +7,6 @@ use Rattle.std.proofs.lemmas.List.Sums.{sum_by-append, sum_by-cons}
 use Rattle.exec_base.specs.declared.error.Error.TheVariants.{Timeout}
 use Rattle.exec_outcomes.specs.declared.outcome.Outcome.TheVariants.{Failure}
 use Rattle.exec_outcomes.specs.declared.outcome.Kind.{Kind}
-use Rattle.exec_outcomes.specs.declared.outcome.Kind.TheVariants.{Send}
 use Rattle.exec_outcomes.specs.declared.outcome.OpResult.{OpResult}
 use Rattle.exec_outcomes.specs.declared.outcome.OpResult.TheVariants.{Count, Errno}
 use Rattle.exec_outcomes.specs.declared.outcome.Judged.{Judged}
@@ -74,17 +73,17 @@ moved-below length before (x ∷ xs) none some =
     ]
 
 -- the shortest list by which a request can have come so far
-one_count : (length moved : ℕ) → 0 < moved → moved < length → HasCome Send length moved (record { result = Count moved; cancelled = false } ∷ [])
-one_count length moved some below = record {
+one_count : (kind : Kind) (length moved : ℕ) → 0 < moved → moved < length → HasCome kind length moved (record { result = Count moved; cancelled = false } ∷ [])
+one_count kind length moved some below = record {
   undecided = rw (zero-add moved, lt-ltb 0 moved some, lt-leb length moved below);
   amount = sym (zero-add moved);
 }
 
 so_far-HasCome : (kind : Kind) (length moved : ℕ) → (0 < moved → moved < length) → HasCome kind length moved (so_far moved)
-so_far-HasCome Send length moved below =
+so_far-HasCome kind length moved below =
     let one : List Judged = record { result = Count moved; cancelled = false } ∷ [] in
     elim (cases_lt 0 moved) [
-      | inl some ↦ rw (cond-true (ltb 0 moved) one [] (lt-ltb 0 moved some)) (one_count length moved some (below some))
+      | inl some ↦ rw (cond-true (ltb 0 moved) one [] (lt-ltb 0 moved some)) (one_count kind length moved some (below some))
       | inr none ↦ rw (cond-false (ltb 0 moved) one [] (le-ltb 0 moved none)) (record { undecided = refl; amount = omega arith })
     ]
 
@@ -104,8 +103,8 @@ next kind length moved results r come =
 
 -- a result that says nothing moved nothing
 moved_by-lasting : (kind : Kind) (r : OpResult) (b : Bool) → moved_by (lasting kind (record { result = r; cancelled = b } ∷ [])) ≡ bytes_of r
-moved_by-lasting Send (Count n) b = zero-add n
-moved_by-lasting Send (Errno c) b =
+moved_by-lasting kind (Count n) b = zero-add n
+moved_by-lasting kind (Errno c) b =
     elim (cases_Bool ((c == 4) || (c == 11))) [ inl transient ↦ rw transient | inr lasts ↦ rw lasts ]
 
 pub goes_on : (kind : Kind) (length moved : ℕ) (results : List Judged) (r : Judged) → HasCome kind length moved results → outcome_next kind length moved r ≡ None → HasCome kind length (moved + bytes_of r.result) (results ++ r ∷ [])

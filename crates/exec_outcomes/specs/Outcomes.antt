@@ -1,8 +1,9 @@
 -- What a list of results means for a request.
 use Rattle.std.specs.Prelude.{ℕ, Bool, false, not, ◌+◌, ◌==◌, ◌||◌, ◌&&◌, ◌≡◌, List, [], ◌∷◌, ◌++◌, Option, Some, None, if◌then◌else◌, nat_le, nat_lt, filter, find, sum_by, length}
-use Rattle.exec_base.specs.declared.error.Error.TheVariants.{SendFailed, Timeout}
+use Rattle.exec_base.specs.declared.error.Error.TheVariants.{SendFailed, Timeout, Io}
+use Rattle.exec_base.specs.declared.error.Cause.TheVariants.{Code}
 use Rattle.exec_outcomes.specs.declared.outcome.Kind.{Kind}
-use Rattle.exec_outcomes.specs.declared.outcome.Kind.TheVariants.{Send}
+use Rattle.exec_outcomes.specs.declared.outcome.Kind.TheVariants.{Send, Poll}
 use Rattle.exec_outcomes.specs.declared.outcome.OpResult.{OpResult}
 use Rattle.exec_outcomes.specs.declared.outcome.OpResult.TheVariants.{Count, Errno}
 use Rattle.exec_outcomes.specs.declared.outcome.Judged.{Judged}
@@ -11,8 +12,8 @@ use Rattle.exec_outcomes.specs.declared.outcome.Outcome.TheVariants.{Success, Fa
 
 -- An interrupted call (EINTR, 4) and one that would have to wait (EAGAIN, 11) say nothing of the request.
 abbrev pub is_transient : Kind → OpResult → Bool
-is_transient Send (Count n) = false
-is_transient Send (Errno c) = (c == 4) || (c == 11)
+is_transient kind (Count n) = false
+is_transient kind (Errno c) = (c == 4) || (c == 11)
 
 -- the results that say something
 abbrev pub lasting : Kind → List Judged → List Judged
@@ -35,7 +36,8 @@ abbrev pub with_totals : ℕ → List Judged → List (Judged × ℕ)
 with_totals before [] = []
 with_totals before (r ∷ rs) = (r, before + bytes_of r.result) ∷ with_totals (before + bytes_of r.result) rs
 
--- A result decides where it moved nothing, or where with it all bytes are moved.
+-- A result decides where it moved nothing, or where with it all is moved that was asked for: the bytes of a
+-- send, or the one event of a poll.
 abbrev pub decides : ℕ → Judged × ℕ → Bool
 decides length r = not (is_positive r.0.result) || nat_le length r.1
 
@@ -49,8 +51,15 @@ abbrev pub send_verdict : OpResult → Bool → Outcome
 send_verdict (Count n) cancelled = if nat_lt 0 n then Success else Failure SendFailed
 send_verdict (Errno c) cancelled = if (c == 125) && cancelled then Failure Timeout else Failure SendFailed
 
+-- What the deciding result of a poll means: any count is an event, and an error is handed on, but that a
+-- cancelled operation ends in time where cancellation was asked for.
+abbrev pub poll_verdict : OpResult → Bool → Outcome
+poll_verdict (Count n) cancelled = Success
+poll_verdict (Errno c) cancelled = if (c == 125) && cancelled then Failure Timeout else Failure (Io (Code c))
+
 abbrev pub verdict : Kind → Judged → Outcome
 verdict Send r = send_verdict r.result r.cancelled
+verdict Poll r = poll_verdict r.result r.cancelled
 
 abbrev pub last_is_cancelled : List Judged → Bool
 last_is_cancelled [] = false

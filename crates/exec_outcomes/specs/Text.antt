@@ -3,7 +3,7 @@ use Rattle.std.specs.Prelude.{ℕ, List, ◌∷◌, codes}
 use Rattle.std.specs.Fmt.{decimal}
 use Rattle.exec_base.specs.Error.{word_of}
 use Rattle.exec_outcomes.specs.declared.outcome.Kind.{Kind}
-use Rattle.exec_outcomes.specs.declared.outcome.Kind.TheVariants.{Send}
+use Rattle.exec_outcomes.specs.declared.outcome.Kind.TheVariants.{Send, Poll}
 use Rattle.exec_outcomes.specs.declared.outcome.OpResult.{OpResult}
 use Rattle.exec_outcomes.specs.declared.outcome.OpResult.TheVariants.{Count, Errno}
 use Rattle.exec_outcomes.specs.declared.outcome.Outcome.{Outcome}
@@ -12,6 +12,7 @@ use Rattle.exec_outcomes.specs.declared.outcome.Outcome.TheVariants.{Success, Fa
 -- the script word that makes such a request
 abbrev pub text_of_kind : Kind → List ℕ
 text_of_kind Send = codes "send"
+text_of_kind Poll = codes "poll"
 
 -- a count in decimal; an error number with a minus sign
 abbrev pub text_of_result : OpResult → List ℕ

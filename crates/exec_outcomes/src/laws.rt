@@ -1,11 +1,12 @@
 //! Laws of the meaning of results.
 
 ghost use Rattle.std.specs.Prelude.{◌≡◌, ◌≢◌, ℕ, ◌+◌, ◌<◌, ◌≤◌, Bool, List, [], ◌∷◌, ◌++◌, Some, None, if◌then◌else◌};
-ghost use Rattle.exec_base.specs.declared.error.Error.TheVariants.{SendFailed, Timeout};
+ghost use Rattle.exec_base.specs.declared.error.Error.TheVariants.{SendFailed, Timeout, Io};
+ghost use Rattle.exec_base.specs.declared.error.Cause.TheVariants.{Code};
 ghost use Rattle.exec_outcomes.specs.Outcomes.{HasCome, bytes_of, outcome_next, outcome_of};
 ghost use Rattle.exec_outcomes.specs.declared.outcome.Judged.{Judged};
 ghost use Rattle.exec_outcomes.specs.declared.outcome.Kind.{Kind};
-ghost use Rattle.exec_outcomes.specs.declared.outcome.Kind.TheVariants.{Send};
+ghost use Rattle.exec_outcomes.specs.declared.outcome.Kind.TheVariants.{Send, Poll};
 ghost use Rattle.exec_outcomes.specs.declared.outcome.OpResult.TheVariants.{Count, Errno};
 ghost use Rattle.exec_outcomes.specs.declared.outcome.Outcome.TheVariants.{Failure, Success};
 
@@ -26,4 +27,13 @@ pub fn send_by_cases()
     ensures would_block { (length moved : ℕ) (cancelled : Bool) → moved < length → outcome_next Send length moved (record { result = Errno 11; cancelled = cancelled }) ≡ (if cancelled then Some (Failure Timeout) else None) }
     ensures canceled { (length moved : ℕ) (cancelled : Bool) → moved < length → outcome_next Send length moved (record { result = Errno 125; cancelled = cancelled }) ≡ Some (Failure (if cancelled then Timeout else SendFailed)) }
     ensures refused { (length moved : ℕ) (cancelled : Bool) → moved < length → (code : ℕ) → code ≢ 4 → code ≢ 11 → code ≢ 125 → outcome_next Send length moved (record { result = Errno code; cancelled = cancelled }) ≡ Some (Failure SendFailed) }
+{}
+
+/// What one more result means for an unfinished poll, case by case.
+pub fn poll_by_cases()
+    ensures event { (cancelled : Bool) (n : ℕ) → outcome_next Poll 1 0 (record { result = Count n; cancelled = cancelled }) ≡ Some Success }
+    ensures interrupted { (cancelled : Bool) → outcome_next Poll 1 0 (record { result = Errno 4; cancelled = cancelled }) ≡ (if cancelled then Some (Failure Timeout) else None) }
+    ensures would_block { (cancelled : Bool) → outcome_next Poll 1 0 (record { result = Errno 11; cancelled = cancelled }) ≡ (if cancelled then Some (Failure Timeout) else None) }
+    ensures canceled { (cancelled : Bool) → outcome_next Poll 1 0 (record { result = Errno 125; cancelled = cancelled }) ≡ Some (Failure (if cancelled then Timeout else Io (Code 125))) }
+    ensures refused { (cancelled : Bool) (code : ℕ) → code ≢ 4 → code ≢ 11 → code ≢ 125 → outcome_next Poll 1 0 (record { result = Errno code; cancelled = cancelled }) ≡ Some (Failure (Io (Code code))) }
 {}

@@ -8,6 +8,8 @@ use std::fmt;
 pub enum Kind {
     /// To send all bytes of a buffer to a socket.
     Send,
+    /// To be told of one event of a listener.
+    Poll,
 }
 
 /// The result of one operation, as the kernel gave it.
@@ -46,6 +48,7 @@ impl fmt::Display for Kind {
     fn fmt<W: fmt::Write>(&self, f: &mut fmt::Formatter<W>) -> fmt::Result {
         match self {
             Kind::Send => write!(f, "send"),
+            Kind::Poll => write!(f, "poll"),
         }
     }
 }

@@ -6,22 +6,11 @@ ghost use Rattle.exec_outcomes.specs.Outcomes.{HasCome, bytes_of, outcome_next, 
 ghost use Rattle.exec_outcomes.specs.declared.outcome.Judged.{Judged};
 ghost use Rattle.exec_outcomes.specs.declared.outcome.Kind.TheVariants.{Send};
 
+use crate::results::{
+    CANCELED, INTERRUPTED, LARGEST_WINDOW, WOULD_BLOCK, another, counted_by, is_within,
+};
 use exec_base::error::Error;
 use exec_outcomes::outcome::{OpResult, Outcome};
-
-/// EINTR: the operation was interrupted.
-pub const INTERRUPTED: u64 = 4;
-/// EAGAIN: the operation would have had to wait.
-pub const WOULD_BLOCK: u64 = 11;
-/// ECANCELED: the operation was cancelled.
-pub const CANCELED: u64 = 125;
-
-/// The largest window of an operation, in bytes.
-pub const LARGEST_WINDOW: u64 = 0xffff_ffff;
-/// The largest count that a result can say.
-pub const LARGEST_COUNT: u64 = 0x7fff_ffff;
-/// The largest error number that a result can say.
-pub const LARGEST_ERRNO: u64 = 4095;
 
 /// A send of a whole buffer. It keeps the buffer until it is released, and how many bytes were sent, over all
 /// its operations. Ports `SendRequest`.
@@ -66,7 +55,7 @@ impl SendRequest {
         ensures counted { self.new ≡ record self.old { sent = self.old.sent + bytes_of given } }
     {
         let outcome = self.judge(given, cancelled);
-        self.sent += bytes_moved(given);
+        self.sent += counted_by(given);
         outcome
     }
 
@@ -91,10 +80,7 @@ impl SendRequest {
         ensures { result ≡ is_lawful (window_of Send self.now.length self.now.sent) given }
     {
         let window = self.length.saturating_sub(self.sent).min(LARGEST_WINDOW);
-        match given {
-            OpResult::Count(count) => count <= window && count <= LARGEST_COUNT,
-            OpResult::Errno(code) => 1 <= code && code <= LARGEST_ERRNO,
-        }
+        is_within(window, given)
     }
 
     /// Lets the buffer go.
@@ -102,27 +88,6 @@ impl SendRequest {
         ensures { self.new ≡ record self.old { write = None } }
     {
         self.write = None;
-    }
-}
-
-/// How many bytes an operation moved.
-fn bytes_moved(given: OpResult) -> u64
-    ensures { result ≡ bytes_of given }
-{
-    match given {
-        OpResult::Count(count) => count,
-        OpResult::Errno(_) => 0,
-    }
-}
-
-/// What comes of a request that needs another operation: a cancelled one is given up.
-fn another(cancelled: bool) -> Option<Outcome>
-    ensures { result ≡ (if cancelled then Some (Outcome.Failure Error.Timeout) else None) }
-{
-    if cancelled {
-        Some(Outcome::Failure(Error::Timeout))
-    } else {
-        None
     }
 }
 

@@ -1,8 +1,9 @@
 -- How lines, steps and what was given of them go together.
-use Rattle.std.proofs.Common.{◌≡◌, ℕ, suc, Bool, true, false, cond, ◌+◌, ◌-◌, ◌<◌, ◌≤◌, ◌⊎◌, inl, inr, List, [], ◌∷◌, ◌++◌, Option, Some, None, option_and_then, Result, Ok, Err, OnOk, OnErr, refl, sym, ap, subst, append_assoc, append-nil, ◌∙◌, arith, eq-eqb, add-zero, zero-add, take, drop, length, get_or}
+use Rattle.std.proofs.Common.{◌≡◌, ℕ, suc, Bool, true, false, not, cond, filter, ◌+◌, ◌-◌, ◌<◌, ◌≤◌, ◌⊎◌, inl, inr, List, [], ◌∷◌, ◌++◌, Option, Some, None, option_and_then, Result, Ok, Err, OnOk, OnErr, refl, sym, ap, subst, append_assoc, append-nil, ◌∙◌, arith, eq-eqb, add-zero, zero-add, take, drop, length, get_or}
 use Rattle.std.specs.Io.KnownBytes.{append_known}
 use Rattle.std.proofs.lemmas.Grind.{flat_map-append}
 use Rattle.std.proofs.lemmas.List.{take-append-drop, take_more}
+use Rattle.std.proofs.lemmas.List.Elements.{filter-append}
 use Rattle.exec_outcomes.specs.declared.outcome.OpResult.{OpResult}
 use Rattle.exec_outcomes.specs.declared.outcome.OpResult.TheVariants.{Count, Errno}
 use Rattle.exec_machine.specs.declared.config.Configuration.{Configuration}
@@ -14,13 +15,11 @@ use Rattle.exec_machine.specs.declared.step.Step.TheVariants as step
 use Rattle.exec_machine.specs.declared.step.Action.{Action}
 use Rattle.exec_machine.specs.declared.step.Action.TheVariants as action
 use Rattle.exec_machine.specs.World.{World}
-use Rattle.exec_machine.specs.Run.{Follows, after_line, RunsBy, same_result, is_refused, after_work, after_step, after_steps}
-use Rattle.exec_machine.specs.Text.{text_of_log}
-use Rattle.exec_core.specs.declared.executor.Core.{Core}
-use Rattle.exec_core.specs.View.{world}
-use Rattle.exec_core.specs.Sound.{Applies}
+use Rattle.exec_machine.specs.Choice.{Choice}
+use Rattle.exec_machine.specs.Run.{RunsBy, same_result, is_refused, after_work, after_step, after_steps}
+use Rattle.exec_machine.specs.Text.{text_of_log, is_quiet_line}
 use Rattle.exec_run.specs.Log.{Gave, GaveFront, AreTaken, IsBegun}
-use Rattle.exec_run.specs.Steps.{whole_line, RunsTo, TakesLine, BreaksLine, Works, Leads, Breaks}
+use Rattle.exec_run.specs.Steps.{whole_line, told_text, RunsTo, TakesLine, BreaksLine, Works, Leads, Breaks}
 
 -- what holds of each error
 pub on_err : {T E P : Type 0} (r : Result T E) → P → OnErr r P
@@ -59,57 +58,32 @@ front_on old mid new xs ys gave front =
       gave = gave_on old mid new xs front.out gave front.gave;
     }
 
-log_of_one : (l : Line) → whole_line l ≡ text_of_log (l ∷ [])
-log_of_one l = sym (append-nil (whole_line l))
+gave_untold : (quiet : Bool) (old : Option (List ℕ)) → Gave old old (told_text quiet [])
+gave_untold true old = gave_none old
+gave_untold false old = gave_none old
 
-log_of_more : (ls ms : List Line) → text_of_log ls ++ text_of_log ms ≡ text_of_log (ls ++ ms)
-log_of_more ls ms = sym (flat_map-append whole_line ls ms)
-
-log_and_line : (ls : List Line) (l : Line) → text_of_log ls ++ whole_line l ≡ text_of_log (ls ++ l ∷ [])
-log_and_line ls l = ap (λ xs. text_of_log ls ++ xs) (log_of_one l) ∙ log_of_more ls (l ∷ [])
+told_of_more : (quiet : Bool) (ls ms : List Line) → told_text quiet ls ++ told_text quiet ms ≡ told_text quiet (ls ++ ms)
+told_of_more true ls ms =
+    sym (flat_map-append whole_line (filter (λ l. not (is_quiet_line l)) ls) (filter (λ l. not (is_quiet_line l)) ms))
+    ∙ ap text_of_log (sym (filter-append (λ l. not (is_quiet_line l)) ls ms))
+told_of_more false ls ms = sym (flat_map-append whole_line ls ms)
 
 -- RUNS
 
-pub line_runs : (c : Configuration) (w v : World) (a : Action) (l : Line) (choice : ℕ) → l.action ≡ a → Follows c w a l.said choice → v ≡ after_line c w a l.said choice → RunsTo c w (l ∷ []) (choice ∷ []) v
-line_runs c w v a l choice is follows becomes ls cs runs = (
-  subst (λ (x : Action). Follows c w x l.said choice) (sym is) follows,
-  subst (λ (x : World). RunsBy c x ls cs) (becomes ∙ ap (λ (x : Action). after_line c w x l.said choice) (sym is)) runs,
-)
-
-pub runs_on : (c : Configuration) (w v u : World) (ls ms : List Line) (cs ds : List ℕ) → RunsTo c w ls cs v → RunsTo c v ms ds u → RunsTo c w (ls ++ ms) (cs ++ ds) u
+pub runs_on : (c : Configuration) (w v u : World) (ls ms : List Line) (cs ds : List Choice) → RunsTo c w ls cs v → RunsTo c v ms ds u → RunsTo c w (ls ++ ms) (cs ++ ds) u
 runs_on c w v u ls ms cs ds first second ns es runs =
     let both : RunsBy c w (ls ++ (ms ++ ns)) (cs ++ (ds ++ es)) = first (ms ++ ns) (ds ++ es) (second ns es runs) in
     let lines_on : RunsBy c w ((ls ++ ms) ++ ns) (cs ++ (ds ++ es)) = subst (λ (x : List Line). RunsBy c w x (cs ++ (ds ++ es))) (sym (append_assoc ls ms ns)) both in
-    subst (λ (x : List ℕ). RunsBy c w ((ls ++ ms) ++ ns) x) (sym (append_assoc cs ds es)) lines_on
+    subst (λ (x : List Choice). RunsBy c w ((ls ++ ms) ++ ns) x) (sym (append_assoc cs ds es)) lines_on
 
-pub runs_done : (c : Configuration) (w v : World) (ls : List Line) (cs : List ℕ) → RunsTo c w ls cs v → RunsBy c w ls cs
+pub runs_done : (c : Configuration) (w v : World) (ls : List Line) (cs : List Choice) → RunsTo c w ls cs v → RunsBy c w ls cs
 runs_done c w v ls cs runs =
     let done : RunsBy c w (ls ++ []) (cs ++ []) = runs [] [] tt in
     let lines_done : RunsBy c w ls (cs ++ []) = subst (λ (x : List Line). RunsBy c w x (cs ++ [])) (append-nil ls) done in
-    subst (λ (x : List ℕ). RunsBy c w ls x) (append-nil cs) lines_done
+    subst (λ (x : List Choice). RunsBy c w ls x) (append-nil cs) lines_done
 
--- what a step of the executor does, whose line is then given
-pub takes_line : (c d : Core) (a : Action) (l : Line) (old new : Option (List ℕ)) → Applies c a l d → Gave old new (whole_line l) → TakesLine c.config (world c) a l (world d) old new
-takes_line c d a l old new applies gave =
-    record {
-      action = applies.action;
-      choice = applies.choice;
-      runs = line_runs c.config (world c) (world d) a l applies.choice applies.action applies.follows applies.becomes;
-      gave = gave;
-    }
-
-pub breaks_line : (c d : Core) (a : Action) (l : Line) (old new : Option (List ℕ)) → Applies c a l d → GaveFront old new (whole_line l) → BreaksLine c.config (world c) a old new
-breaks_line c d a l old new applies front =
-    record {
-      line = l;
-      action = applies.action;
-      choice = applies.choice;
-      runs = runs_done c.config (world c) (world d) (l ∷ []) (applies.choice ∷ []) (line_runs c.config (world c) (world d) a l applies.choice applies.action applies.follows applies.becomes);
-      gave = front;
-    }
-
-pub takes_under : (c d : Configuration) (w v : World) (a : Action) (l : Line) (old new : Option (List ℕ)) → d ≡ c → TakesLine d w a l v old new → TakesLine c w a l v old new
-takes_under c d w v a l old new config takes = subst (λ (x : Configuration). TakesLine x w a l v old new) config takes
+pub takes_under : (quiet : Bool) (c d : Configuration) (w v : World) (a : Action) (l : Line) (old new : Option (List ℕ)) → d ≡ c → TakesLine quiet d w a l v old new → TakesLine quiet c w a l v old new
+takes_under quiet c d w v a l old new config takes = subst (λ (x : Configuration). TakesLine quiet x w a l v old new) config takes
 
 -- THE LINES OF A WORKER
 
@@ -130,18 +104,18 @@ last_line i l ls is = rw (is, eq-eqb i i refl) (either_way (is_refused l.said) l
 behind : (i m n : ℕ) (lines ls : List Line) (l : Line) → ((n : ℕ) (ls : List Line) → after_work i (m + n) (lines ++ ls) ≡ after_work i n ls) → after_work i (m + n) ((lines ++ l ∷ []) ++ ls) ≡ after_work i n (l ∷ ls)
 behind i m n lines ls l accepted = ap (after_work i (m + n)) (append_assoc lines (l ∷ []) ls) ∙ accepted n (l ∷ ls)
 
-pub works_none : (c : Configuration) (w : World) (i : ℕ) (old : Option (List ℕ)) → Works c w i 0 w old old
-works_none c w i old =
+pub works_none : (quiet : Bool) (c : Configuration) (w : World) (i : ℕ) (old : Option (List ℕ)) → Works quiet c w i 0 w old old
+works_none quiet c w i old =
     record {
       lines = [];
       choices = [];
       accepted = λ n ls. ap (λ k. after_work i k ls) (zero-add n);
       runs = λ ls cs runs. runs;
-      gave = gave_none old;
+      gave = gave_untold quiet old;
     }
 
-pub works_more : (c : Configuration) (w v u : World) (i m : ℕ) (l : Line) (e : Event) (old mid new : Option (List ℕ)) → Works c w i m v old mid → TakesLine c v (action.Work i) l u mid new → l.said ≡ Did e → Works c w i (m + 1) u old new
-works_more c w v u i m l e old mid new works takes did =
+pub works_more : (quiet : Bool) (c : Configuration) (w v u : World) (i m : ℕ) (l : Line) (e : Event) (old mid new : Option (List ℕ)) → Works quiet c w i m v old mid → TakesLine quiet c v (action.Work i) l u mid new → l.said ≡ Did e → Works quiet c w i (m + 1) u old new
+works_more quiet c w v u i m l e old mid new works takes did =
     record {
       lines = works.lines ++ l ∷ [];
       choices = works.choices ++ takes.choice ∷ [];
@@ -150,7 +124,7 @@ works_more c w v u i m l e old mid new works takes did =
           ap (λ k. after_work i k ((works.lines ++ l ∷ []) ++ ls)) next
           ∙ behind i m (suc n) works.lines ls l works.accepted ∙ accepted_line i n l e ls takes.action did;
       runs = runs_on c w v u works.lines (l ∷ []) works.choices (takes.choice ∷ []) works.runs takes.runs;
-      gave = subst (λ (xs : List ℕ). Gave old new xs) (log_and_line works.lines l) (gave_on old mid new (text_of_log works.lines) (whole_line l) works.gave takes.gave);
+      gave = subst (λ (xs : List ℕ). Gave old new xs) (told_of_more quiet works.lines (l ∷ [])) (gave_on old mid new (told_text quiet works.lines) (told_text quiet (l ∷ [])) works.gave takes.gave);
     }
 
 -- STEPS
@@ -159,8 +133,8 @@ works_more c w v u i m l e old mid new works takes did =
 step_done : (s : Step) (lines : List Line) → ((ls : List Line) → after_step s (lines ++ ls) ≡ Some ls) → (ss : List Step) (ls : List Line) → after_steps (s ∷ ss) (lines ++ ls) ≡ after_steps ss ls
 step_done s lines closes ss ls = ap (option_and_then (after_steps ss)) (closes ls)
 
-pub works_lead : (c : Configuration) (w v : World) (i n : ℕ) (old new : Option (List ℕ)) → Works c w i n v old new → Leads c w (step.Work i n ∷ []) v old new
-works_lead c w v i n old new works =
+pub works_lead : (quiet : Bool) (c : Configuration) (w v : World) (i n : ℕ) (old new : Option (List ℕ)) → Works quiet c w i n v old new → Leads quiet c w (step.Work i n ∷ []) v old new
+works_lead quiet c w v i n old new works =
     record {
       lines = works.lines;
       choices = works.choices;
@@ -169,11 +143,11 @@ works_lead c w v i n old new works =
       gave = works.gave;
     }
 
-pub works_all : (c : Configuration) (w v : World) (i m n : ℕ) (old new : Option (List ℕ)) → m ≡ n → Works c w i m v old new → Leads c w (step.Work i n ∷ []) v old new
-works_all c w v i m n old new all works = subst (λ (k : ℕ). Leads c w (step.Work i k ∷ []) v old new) all (works_lead c w v i m old new works)
+pub works_all : (quiet : Bool) (c : Configuration) (w v : World) (i m n : ℕ) (old new : Option (List ℕ)) → m ≡ n → Works quiet c w i m v old new → Leads quiet c w (step.Work i n ∷ []) v old new
+works_all quiet c w v i m n old new all works = subst (λ (k : ℕ). Leads quiet c w (step.Work i k ∷ []) v old new) all (works_lead quiet c w v i m old new works)
 
-pub works_refused : (c : Configuration) (w v u : World) (i m n : ℕ) (l : Line) (old mid new : Option (List ℕ)) → Works c w i m v old mid → TakesLine c v (action.Work i) l u mid new → l.said ≡ Refused → m < n → Leads c w (step.Work i n ∷ []) u old new
-works_refused c w v u i m n l old mid new works takes refused more =
+pub works_refused : (quiet : Bool) (c : Configuration) (w v u : World) (i m n : ℕ) (l : Line) (old mid new : Option (List ℕ)) → Works quiet c w i m v old mid → TakesLine quiet c v (action.Work i) l u mid new → l.said ≡ Refused → m < n → Leads quiet c w (step.Work i n ∷ []) u old new
+works_refused quiet c w v u i m n l old mid new works takes refused more =
     record {
       lines = works.lines ++ l ∷ [];
       choices = works.choices ++ takes.choice ∷ [];
@@ -182,7 +156,7 @@ works_refused c w v u i m n l old mid new works takes refused more =
           ap (λ k. after_work i k ((works.lines ++ l ∷ []) ++ ls)) split
           ∙ behind i m (suc (n - (m + 1))) works.lines ls l works.accepted ∙ refused_line i (n - (m + 1)) l ls takes.action refused);
       runs = runs_on c w v u works.lines (l ∷ []) works.choices (takes.choice ∷ []) works.runs takes.runs;
-      gave = subst (λ (xs : List ℕ). Gave old new xs) (log_and_line works.lines l) (gave_on old mid new (text_of_log works.lines) (whole_line l) works.gave takes.gave);
+      gave = subst (λ (xs : List ℕ). Gave old new xs) (told_of_more quiet works.lines (l ∷ [])) (gave_on old mid new (told_text quiet works.lines) (told_text quiet (l ∷ [])) works.gave takes.gave);
     }
 
 -- some steps of one worker's line are taken
@@ -210,8 +184,8 @@ lines_done steps lines has_lines =
     ∙ ap (λ (ss : List Step). after_steps ss (lines ++ [])) (sym (append-nil steps)) ∙ has_lines [] []
 
 -- where all lines of what was taken were given
-pub broke_between : (c : Configuration) (w v : World) (taken steps : List Step) (old new : Option (List ℕ)) → AreTaken taken steps → Leads c w taken v old new → Breaks c w steps old new
-broke_between c w v taken steps old new are_taken leads =
+pub broke_between : (quiet : Bool) (c : Configuration) (w v : World) (taken steps : List Step) (old new : Option (List ℕ)) → AreTaken taken steps → Leads quiet c w taken v old new → Breaks quiet c w steps old new
+broke_between quiet c w v taken steps old new are_taken leads =
     record {
       taken = taken;
       are_taken = are_taken;
@@ -219,16 +193,16 @@ broke_between c w v taken steps old new are_taken leads =
       choices = leads.choices;
       has_lines = lines_done taken leads.lines leads.has_lines;
       runs = runs_done c w v leads.lines leads.choices leads.runs;
-      gave = whole_front old new (text_of_log leads.lines) leads.gave;
+      gave = whole_front old new (told_text quiet leads.lines) leads.gave;
     }
 
-pub works_broke : (c : Configuration) (w v : World) (i m n : ℕ) (old mid new : Option (List ℕ)) → Works c w i m v old mid → m ≤ n → new ≡ mid → Breaks c w (step.Work i n ∷ []) old new
-works_broke c w v i m n old mid new works fewer same =
-    subst (λ (x : Option (List ℕ)). Breaks c w (step.Work i n ∷ []) old x) (sym same)
-    (broke_between c w v (step.Work i m ∷ []) (step.Work i n ∷ []) old mid (part_taken i m n fewer) (works_lead c w v i m old mid works))
+pub works_broke : (quiet : Bool) (c : Configuration) (w v : World) (i m n : ℕ) (old mid new : Option (List ℕ)) → Works quiet c w i m v old mid → m ≤ n → new ≡ mid → Breaks quiet c w (step.Work i n ∷ []) old new
+works_broke quiet c w v i m n old mid new works fewer same =
+    subst (λ (x : Option (List ℕ)). Breaks quiet c w (step.Work i n ∷ []) old x) (sym same)
+    (broke_between quiet c w v (step.Work i m ∷ []) (step.Work i n ∷ []) old mid (part_taken i m n fewer) (works_lead quiet c w v i m old mid works))
 
-pub works_broke_line : (c : Configuration) (w v : World) (i m n : ℕ) (old mid new : Option (List ℕ)) → Works c w i m v old mid → m < n → BreaksLine c v (action.Work i) mid new → Breaks c w (step.Work i n ∷ []) old new
-works_broke_line c w v i m n old mid new works more breaks =
+pub works_broke_line : (quiet : Bool) (c : Configuration) (w v : World) (i m n : ℕ) (old mid new : Option (List ℕ)) → Works quiet c w i m v old mid → m < n → BreaksLine quiet c v (action.Work i) mid new → Breaks quiet c w (step.Work i n ∷ []) old new
+works_broke_line quiet c w v i m n old mid new works more breaks =
     let l = breaks.line in
     record {
       taken = step.Work i (m + 1) ∷ [];
@@ -238,61 +212,81 @@ works_broke_line c w v i m n old mid new works more breaks =
       has_lines = ap (option_and_then (after_steps []))
           (ap (after_work i (m + 1)) (sym (append-nil (works.lines ++ l ∷ []))) ∙ behind i m 1 works.lines [] l works.accepted ∙ last_line i l [] breaks.action);
       runs = works.runs (l ∷ []) (breaks.choice ∷ []) breaks.runs;
-      gave = subst (λ (xs : List ℕ). GaveFront old new xs) (log_and_line works.lines l) (front_on old mid new (text_of_log works.lines) (whole_line l) works.gave breaks.gave);
+      gave = subst (λ (xs : List ℕ). GaveFront old new xs) (told_of_more quiet works.lines (l ∷ [])) (front_on old mid new (told_text quiet works.lines) (told_text quiet (l ∷ [])) works.gave breaks.gave);
     }
 
 -- where the next line was not taken, or not given as a whole
-pub works_stopped : (c d : Configuration) (w v : World) (i m n : ℕ) (old mid new : Option (List ℕ)) → d ≡ c → Works c w i m v old mid → m < n → (new ≡ mid) ⊎ BreaksLine d v (action.Work i) mid new → Breaks c w (step.Work i n ∷ []) old new
-works_stopped c d w v i m n old mid new config works more (inl same) = works_broke c w v i m n old mid new works (omega arith) same
-works_stopped c d w v i m n old mid new config works more (inr breaks) =
-    works_broke_line c w v i m n old mid new works more (subst (λ (x : Configuration). BreaksLine x v (action.Work i) mid new) config breaks)
+pub works_stopped : (quiet : Bool) (c d : Configuration) (w v : World) (i m n : ℕ) (old mid new : Option (List ℕ)) → d ≡ c → Works quiet c w i m v old mid → m < n → (new ≡ mid) ⊎ BreaksLine quiet d v (action.Work i) mid new → Breaks quiet c w (step.Work i n ∷ []) old new
+works_stopped quiet c d w v i m n old mid new config works more (inl same) = works_broke quiet c w v i m n old mid new works (omega arith) same
+works_stopped quiet c d w v i m n old mid new config works more (inr breaks) =
+    works_broke_line quiet c w v i m n old mid new works more (subst (λ (x : Configuration). BreaksLine quiet x v (action.Work i) mid new) config breaks)
 
--- LANDINGS
+-- STEPS OF ONE LINE
 
 same_as_itself : (n : OpResult) → same_result n n ≡ true
 same_as_itself (Count m) = eq-eqb m m refl
 same_as_itself (Errno e) = eq-eqb e e refl
 
-landing_done : (r : ℕ) (n : OpResult) (l : Line) → l.action ≡ action.Land r n → (ls : List Line) → after_step (step.Land r n) ((l ∷ []) ++ ls) ≡ Some ls
-landing_done r n l is ls = rw (is, eq-eqb r r refl, same_as_itself n) refl
+-- the one action that the step asks for
+abbrev pub IsOneAction : Step → Action → Type 0
+IsOneAction s a = (l : Line) → l.action ≡ a → (ls : List Line) → after_step s (l ∷ ls) ≡ Some ls
 
-pub landing_leads : (c : Configuration) (w v : World) (r : ℕ) (n : OpResult) (l : Line) (old new : Option (List ℕ)) → TakesLine c w (action.Land r n) l v old new → Leads c w (step.Land r n ∷ []) v old new
-landing_leads c w v r n l old new takes =
+pub clock_once : (d : ℕ) → IsOneAction (step.Clock d) (action.Clock d)
+clock_once d l is ls = rw (is, eq-eqb d d refl) refl
+
+pub landing_once : (r : ℕ) (n : OpResult) → IsOneAction (step.Land r n) (action.Land r n)
+landing_once r n l is ls = rw (is, eq-eqb r r refl, same_as_itself n) refl
+
+pub stir_once : (i : ℕ) → IsOneAction (step.Stir i) (action.Stir i)
+stir_once i l is ls = rw (is, eq-eqb i i refl) refl
+
+one_leads : (quiet : Bool) (c : Configuration) (w v : World) (s : Step) (a : Action) (l : Line) (old new : Option (List ℕ)) → IsOneAction s a → TakesLine quiet c w a l v old new → Leads quiet c w (s ∷ []) v old new
+one_leads quiet c w v s a l old new once takes =
     record {
       lines = l ∷ [];
       choices = takes.choice ∷ [];
-      has_lines = step_done (step.Land r n) (l ∷ []) (landing_done r n l takes.action);
+      has_lines = step_done s (l ∷ []) (once l takes.action);
       runs = takes.runs;
-      gave = subst (λ (xs : List ℕ). Gave old new xs) (log_of_one l) takes.gave;
+      gave = takes.gave;
     }
+
+pub one_leads_on : {T E : Type 0} (r : Result T E) (quiet : Bool) (c : Configuration) (w v : World) (t s : Step) (a : Action) (old new : Option (List ℕ)) → t ≡ s → IsOneAction s a → OnOk r ((l : Line) × TakesLine quiet c w a l v old new) → OnOk r (Leads quiet c w (t ∷ []) v old new)
+one_leads_on (Ok x) quiet c w v t s a old new is once takes =
+    subst (λ (y : Step). Leads quiet c w (y ∷ []) v old new) (sym is) (one_leads quiet c w v s a takes.0 old new once takes.1)
+one_leads_on (Err e) quiet c w v t s a old new is once takes = tt
 
 -- nothing was taken, and nothing given
-pub broke_before : (c : Configuration) (w : World) (steps : List Step) (old new : Option (List ℕ)) → new ≡ old → Breaks c w steps old new
-broke_before c w steps old new same =
-    subst (λ (x : Option (List ℕ)). Breaks c w steps old x) (sym same)
-    (record { taken = []; are_taken = none_taken steps; lines = []; choices = []; has_lines = refl; runs = tt; gave = no_front old [] })
+pub broke_before : (quiet : Bool) (c : Configuration) (w : World) (steps : List Step) (old new : Option (List ℕ)) → new ≡ old → Breaks quiet c w steps old new
+broke_before quiet c w steps old new same =
+    subst (λ (x : Option (List ℕ)). Breaks quiet c w steps old x) (sym same)
+    (record { taken = []; are_taken = none_taken steps; lines = []; choices = []; has_lines = refl; runs = tt; gave = no_front old (told_text quiet []) })
 
-pub landing_broke : (c : Configuration) (w : World) (r : ℕ) (n : OpResult) (old new : Option (List ℕ)) → (new ≡ old) ⊎ BreaksLine c w (action.Land r n) old new → Breaks c w (step.Land r n ∷ []) old new
-landing_broke c w r n old new (inl same) = broke_before c w (step.Land r n ∷ []) old new same
-landing_broke c w r n old new (inr breaks) =
+one_broke : (quiet : Bool) (c : Configuration) (w : World) (s : Step) (a : Action) (old new : Option (List ℕ)) → IsOneAction s a → (new ≡ old) ⊎ BreaksLine quiet c w a old new → Breaks quiet c w (s ∷ []) old new
+one_broke quiet c w s a old new once (inl same) = broke_before quiet c w (s ∷ []) old new same
+one_broke quiet c w s a old new once (inr breaks) =
     let l = breaks.line in
     record {
-      taken = step.Land r n ∷ [];
-      are_taken = all_taken (step.Land r n ∷ []);
+      taken = s ∷ [];
+      are_taken = all_taken (s ∷ []);
       lines = l ∷ [];
       choices = breaks.choice ∷ [];
-      has_lines = ap (option_and_then (after_steps [])) (landing_done r n l breaks.action []);
+      has_lines = ap (option_and_then (after_steps [])) (once l breaks.action []);
       runs = breaks.runs;
-      gave = subst (λ (xs : List ℕ). GaveFront old new xs) (log_of_one l) breaks.gave;
+      gave = breaks.gave;
     }
+
+pub one_broke_on : {T E : Type 0} (r : Result T E) (quiet : Bool) (c : Configuration) (w : World) (t s : Step) (a : Action) (old new : Option (List ℕ)) → t ≡ s → IsOneAction s a → OnErr r ((new ≡ old) ⊎ BreaksLine quiet c w a old new) → OnErr r (Breaks quiet c w (t ∷ []) old new)
+one_broke_on (Ok x) quiet c w t s a old new is once broke = tt
+one_broke_on (Err e) quiet c w t s a old new is once broke =
+    subst (λ (y : Step). Breaks quiet c w (y ∷ []) old new) (sym is) (one_broke quiet c w s a old new once broke)
 
 -- ALL STEPS
 
-pub leads_none : (c : Configuration) (w : World) (old : Option (List ℕ)) → Leads c w [] w old old
-leads_none c w old = record { lines = []; choices = []; has_lines = λ ss ls. refl; runs = λ ls cs runs. runs; gave = gave_none old }
+pub leads_none : (quiet : Bool) (c : Configuration) (w : World) (old : Option (List ℕ)) → Leads quiet c w [] w old old
+leads_none quiet c w old = record { lines = []; choices = []; has_lines = λ ss ls. refl; runs = λ ls cs runs. runs; gave = gave_untold quiet old }
 
-pub leads_on : (c : Configuration) (w v u : World) (ss ts : List Step) (old mid new : Option (List ℕ)) → Leads c w ss v old mid → Leads c v ts u mid new → Leads c w (ss ++ ts) u old new
-leads_on c w v u ss ts old mid new first second =
+pub leads_on : (quiet : Bool) (c : Configuration) (w v u : World) (ss ts : List Step) (old mid new : Option (List ℕ)) → Leads quiet c w ss v old mid → Leads quiet c v ts u mid new → Leads quiet c w (ss ++ ts) u old new
+leads_on quiet c w v u ss ts old mid new first second =
     record {
       lines = first.lines ++ second.lines;
       choices = first.choices ++ second.choices;
@@ -301,8 +295,8 @@ leads_on c w v u ss ts old mid new first second =
           ∙ ap (after_steps (ss ++ (ts ++ rs))) (append_assoc first.lines second.lines ls)
           ∙ first.has_lines (ts ++ rs) (second.lines ++ ls) ∙ second.has_lines rs ls;
       runs = runs_on c w v u first.lines second.lines first.choices second.choices first.runs second.runs;
-      gave = subst (λ (xs : List ℕ). Gave old new xs) (log_of_more first.lines second.lines)
-          (gave_on old mid new (text_of_log first.lines) (text_of_log second.lines) first.gave second.gave);
+      gave = subst (λ (xs : List ℕ). Gave old new xs) (told_of_more quiet first.lines second.lines)
+          (gave_on old mid new (told_text quiet first.lines) (told_text quiet second.lines) first.gave second.gave);
     }
 
 more_begun : (some line more : List Step) → (some ≡ []) ⊎ IsBegun some line → (some ≡ []) ⊎ IsBegun some (line ++ more)
@@ -331,8 +325,8 @@ taken_on taken steps front more are_taken =
       next = more_begun are_taken.some are_taken.rest more are_taken.next;
     }
 
-pub broke_on : (c : Configuration) (w v : World) (front ss more : List Step) (old mid new : Option (List ℕ)) → Leads c w front v old mid → Breaks c v ss mid new → Breaks c w (front ++ (ss ++ more)) old new
-broke_on c w v front ss more old mid new leads breaks =
+pub broke_on : (quiet : Bool) (c : Configuration) (w v : World) (front ss more : List Step) (old mid new : Option (List ℕ)) → Leads quiet c w front v old mid → Breaks quiet c v ss mid new → Breaks quiet c w (front ++ (ss ++ more)) old new
+broke_on quiet c w v front ss more old mid new leads breaks =
     record {
       taken = front ++ breaks.taken;
       are_taken = taken_on breaks.taken ss front more breaks.are_taken;
@@ -340,8 +334,8 @@ broke_on c w v front ss more old mid new leads breaks =
       choices = leads.choices ++ breaks.choices;
       has_lines = leads.has_lines breaks.taken breaks.lines ∙ breaks.has_lines;
       runs = leads.runs breaks.lines breaks.choices breaks.runs;
-      gave = subst (λ (xs : List ℕ). GaveFront old new xs) (log_of_more leads.lines breaks.lines)
-          (front_on old mid new (text_of_log leads.lines) (text_of_log breaks.lines) leads.gave breaks.gave);
+      gave = subst (λ (xs : List ℕ). GaveFront old new xs) (told_of_more quiet leads.lines breaks.lines)
+          (front_on old mid new (told_text quiet leads.lines) (told_text quiet breaks.lines) leads.gave breaks.gave);
     }
 
 -- the steps up to one, that one, and those behind it
@@ -351,14 +345,14 @@ split_at_step steps i d within =
     ∙ ap (λ (x : List Step). x ++ drop (i + 1) steps) (sym (take_more steps i d within))
     ∙ take-append-drop (i + 1) steps
 
-pub leads_to_next : (c e : Configuration) (w v u : World) (steps : List Step) (i : ℕ) (d : Step) (old mid new : Option (List ℕ)) → e ≡ c → i < length steps → Leads c w (take i steps) v old mid → Leads e v (get_or steps i d ∷ []) u mid new → Leads c w (take (i + 1) steps) u old new
-leads_to_next c e w v u steps i d old mid new config within first second =
-    let under : Leads c v (get_or steps i d ∷ []) u mid new = subst (λ (x : Configuration). Leads x v (get_or steps i d ∷ []) u mid new) config second in
-    subst (λ (x : List Step). Leads c w x u old new) (sym (take_more steps i d within))
-    (leads_on c w v u (take i steps) (get_or steps i d ∷ []) old mid new first under)
+pub leads_to_next : (quiet : Bool) (c e : Configuration) (w v u : World) (steps : List Step) (i : ℕ) (d : Step) (old mid new : Option (List ℕ)) → e ≡ c → i < length steps → Leads quiet c w (take i steps) v old mid → Leads quiet e v (get_or steps i d ∷ []) u mid new → Leads quiet c w (take (i + 1) steps) u old new
+leads_to_next quiet c e w v u steps i d old mid new config within first second =
+    let under : Leads quiet c v (get_or steps i d ∷ []) u mid new = subst (λ (x : Configuration). Leads quiet x v (get_or steps i d ∷ []) u mid new) config second in
+    subst (λ (x : List Step). Leads quiet c w x u old new) (sym (take_more steps i d within))
+    (leads_on quiet c w v u (take i steps) (get_or steps i d ∷ []) old mid new first under)
 
-pub broke_at : (c e : Configuration) (w v : World) (steps : List Step) (i : ℕ) (d : Step) (old mid new : Option (List ℕ)) → e ≡ c → i < length steps → Leads c w (take i steps) v old mid → Breaks e v (get_or steps i d ∷ []) mid new → Breaks c w steps old new
-broke_at c e w v steps i d old mid new config within leads breaks =
-    let under : Breaks c v (get_or steps i d ∷ []) mid new = subst (λ (x : Configuration). Breaks x v (get_or steps i d ∷ []) mid new) config breaks in
-    subst (λ (x : List Step). Breaks c w x old new) (split_at_step steps i d within)
-    (broke_on c w v (take i steps) (get_or steps i d ∷ []) (drop (i + 1) steps) old mid new leads under)
+pub broke_at : (quiet : Bool) (c e : Configuration) (w v : World) (steps : List Step) (i : ℕ) (d : Step) (old mid new : Option (List ℕ)) → e ≡ c → i < length steps → Leads quiet c w (take i steps) v old mid → Breaks quiet e v (get_or steps i d ∷ []) mid new → Breaks quiet c w steps old new
+broke_at quiet c e w v steps i d old mid new config within leads breaks =
+    let under : Breaks quiet c v (get_or steps i d ∷ []) mid new = subst (λ (x : Configuration). Breaks quiet x v (get_or steps i d ∷ []) mid new) config breaks in
+    subst (λ (x : List Step). Breaks quiet c w x old new) (split_at_step steps i d within)
+    (broke_on quiet c w v (take i steps) (get_or steps i d ∷ []) (drop (i + 1) steps) old mid new leads under)

@@ -1,11 +1,12 @@
 -- What the functions that read and check a trace do.
-use Rattle.std.specs.Prelude.{◌≡◌, ℕ, ◌+◌, ◌<◌, ◌≤◌, List, [], ◌++◌, Option, Some, IfSome, length, sum_by}
+use Rattle.std.specs.Prelude.{◌≡◌, ℕ, ◌+◌, ◌<◌, ◌≤◌, List, [], ◌++◌, Option, Some, None, IfSome, length, sum_by}
 use Rattle.exec_machine.specs.declared.config.Trace.{Trace}
 use Rattle.exec_machine.specs.Grammar.{Plan, IsTraceOf, IsFirstFault, count_of, plan_of}
+use Rattle.exec_machine.specs.Ranges.{first_out_of_range}
 use Rattle.exec_base.specs.Io.{Rose}
 use Rattle.exec_run.specs.declared.trace_error.TraceError.{TraceError}
-use Rattle.exec_run.specs.declared.trace_error.TraceError.TheVariants.{ReadFault, TooLong, Syntax, WriteFault, NoMemory}
-use Rattle.exec_run.specs.Refusal.{most_steps, HasTooManyBytes}
+use Rattle.exec_run.specs.declared.trace_error.TraceError.TheVariants.{ReadFault, TooLong, Syntax, Config, WriteFault, NoMemory}
+use Rattle.exec_run.specs.Refusal.{most_steps, HasTooManyBytes, IsOutOfRange}
 
 -- what a source had left is what it has left behind these bytes
 abbrev pub HasRead : Option (List ℕ) → Option (List ℕ) → List ℕ → Type 0
@@ -25,6 +26,7 @@ CannotTake ReadFault old new = Rose old new
 CannotTake NoMemory old new = Unit {0}
 CannotTake (TooLong count) old new = ⊥
 CannotTake (Syntax line) old new = ⊥
+CannotTake (Config it) old new = ⊥
 CannotTake WriteFault old new = ⊥
 
 -- why the text was not read
@@ -33,17 +35,20 @@ CannotRead ReadFault source old new = Rose old new
 CannotRead (TooLong count) source old new = HasTooManyBytes source count
 CannotRead NoMemory source old new = Unit {0}
 CannotRead (Syntax line) source old new = ⊥
+CannotRead (Config it) source old new = ⊥
 CannotRead WriteFault source old new = ⊥
 
--- the trace is that of the text, and doesn't ask for too many steps
+-- the trace is that of the text, doesn't ask for too many steps, and its configuration is in its ranges
 pub record IsChecked (text : List ℕ) (t : Trace) : Type 0 where
   pub spelled : IsTraceOf text (plan_of t)
   pub few : sum_by count_of t.steps.items ≤ most_steps
+  pub in_range : first_out_of_range t.config ≡ None
 
 -- why the text is not run
 abbrev pub CannotRun : TraceError → List ℕ → Type 0
 CannotRun (Syntax line) text = IsFirstFault text line
 CannotRun (TooLong count) text = (p : Plan) × IsTraceOf text p × (count ≡ sum_by count_of p.steps) × (most_steps < count)
+CannotRun (Config it) text = IsOutOfRange text it
 CannotRun NoMemory text = Unit {0}
 CannotRun ReadFault text = ⊥
 CannotRun WriteFault text = ⊥

@@ -1,11 +1,14 @@
 -- Why a run is refused before its first step, and how that is written.
-use Rattle.std.specs.Prelude.{◌≡◌, ℕ, ◌+◌, ◌^◌, ◌<◌, ◌≤◌, ◌⊎◌, List, [], ◌∷◌, ◌++◌, Option, IfSome, String, string_bytes, map, length, sum_by, codes}
+use Rattle.std.specs.Prelude.{◌≡◌, ℕ, Bool, true, false, ◌+◌, ◌^◌, ◌<◌, ◌≤◌, ◌⊎◌, List, [], ◌∷◌, ◌++◌, Option, Some, IfSome, String, string_bytes, map, length, sum_by, codes}
 use Rattle.std.specs.Fmt.{decimal}
 use Rattle.std.specs.declared.alloc.Global.{Global}
 use Rattle.exec_base.specs.Io.{Rose}
+use Rattle.exec_machine.specs.declared.config.OutOfRange.{OutOfRange}
 use Rattle.exec_machine.specs.Grammar.{Plan, IsTraceOf, IsFirstFault, count_of}
+use Rattle.exec_machine.specs.Ranges.{first_out_of_range}
+use Rattle.exec_machine.specs.Text.{text_of_field}
 use Rattle.exec_run.specs.declared.complaint.Complaint.{Complaint}
-use Rattle.exec_run.specs.declared.complaint.Complaint.TheVariants.{Usage, ReadFault, TooLong, Syntax}
+use Rattle.exec_run.specs.declared.complaint.Complaint.TheVariants.{Usage, ReadFault, TooLong, Syntax, Config}
 
 -- the most bytes that a trace may have
 abbrev pub most_bytes : ℕ
@@ -43,26 +46,51 @@ pub record HasFault (source : Option (List ℕ)) (line : ℕ) : Type 0 where
 abbrev pub IsTooLong : Option (List ℕ) → ℕ → Type 0
 IsTooLong source count = HasTooManyBytes source count ⊎ HasTooManySteps source count
 
--- the words ask for the run of a trace
-abbrev pub AskForTrace : List (String Global) → Type 0
-AskForTrace words = map string_bytes words ≡ codes "trace" ∷ []
+-- The text is a trace that doesn't ask for too many steps, and this is the first part of its configuration
+-- that is out of its range.
+pub record IsOutOfRange (text : List ℕ) (it : OutOfRange) : Type 0 where
+  pub plan : Plan
+  pub spelled : IsTraceOf text plan
+  pub few : sum_by count_of plan.steps ≤ most_steps
+  pub first : first_out_of_range plan.config ≡ Some it
+
+-- The source held such a text.
+pub record HasOutOfRange (source : Option (List ℕ)) (it : OutOfRange) : Type 0 where
+  pub text : List ℕ
+  pub read : IsTextIn source text
+  pub out : IsOutOfRange text it
+
+-- the words that ask for the run of a trace, with a quiet log or with a whole one
+abbrev pub words_of_trace : Bool → List (List ℕ)
+words_of_trace true = codes "trace" ∷ codes "quiet" ∷ []
+words_of_trace false = codes "trace" ∷ []
+
+abbrev pub AskForTrace : Bool → List (String Global) → Type 0
+AskForTrace quiet words = map string_bytes words ≡ words_of_trace quiet
+
+-- they ask for one or the other
+abbrev pub AskForSomeTrace : List (String Global) → Type 0
+AskForSomeTrace words = (quiet : Bool) × AskForTrace quiet words
 
 -- what is the case where a complaint is made, by the words, the source and its counts of faults
 abbrev pub HasCause : Complaint → List (String Global) → Option (List ℕ) → ℕ → ℕ → Type 0
-HasCause Usage words source old new = AskForTrace words → ⊥
-HasCause ReadFault words source old new = AskForTrace words × Rose old new
-HasCause (TooLong count) words source old new = AskForTrace words × IsTooLong source count
-HasCause (Syntax line) words source old new = AskForTrace words × HasFault source line
+HasCause Usage words source old new = AskForSomeTrace words → ⊥
+HasCause ReadFault words source old new = AskForSomeTrace words × Rose old new
+HasCause (TooLong count) words source old new = AskForSomeTrace words × IsTooLong source count
+HasCause (Syntax line) words source old new = AskForSomeTrace words × HasFault source line
+HasCause (Config it) words source old new = AskForSomeTrace words × HasOutOfRange source it
 
 -- the status that a complaint ends with
 abbrev pub status_of : Complaint → ℕ
 status_of Usage = 1
 status_of (Syntax line) = 2
+status_of (Config it) = 3
 status_of (TooLong count) = 4
 status_of ReadFault = 5
 
 abbrev pub text_of_complaint : Complaint → List ℕ
 text_of_complaint Usage = codes "error Usage"
 text_of_complaint (Syntax line) = codes "error Syntax " ++ decimal line
+text_of_complaint (Config it) = codes "error Config " ++ text_of_field it.field ++ 32 ∷ decimal it.value
 text_of_complaint (TooLong count) = codes "error TooLong " ++ decimal count
 text_of_complaint ReadFault = codes "error ReadFault"

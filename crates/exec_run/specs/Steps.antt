@@ -1,17 +1,18 @@
 -- What the functions that take the steps of a trace do.
-use Rattle.std.specs.Prelude.{◌≡◌, ℕ, ◌+◌, ◌⊎◌, List, [], ◌∷◌, ◌++◌, Option, Some}
+use Rattle.std.specs.Prelude.{◌≡◌, ℕ, Bool, ◌+◌, ◌⊎◌, List, [], ◌∷◌, ◌++◌, Option, Some}
 use Rattle.exec_base.specs.Io.{Rose}
 use Rattle.exec_machine.specs.declared.config.Configuration.{Configuration}
 use Rattle.exec_machine.specs.declared.event.Line.{Line}
 use Rattle.exec_machine.specs.declared.step.Step.{Step}
 use Rattle.exec_machine.specs.declared.step.Action.{Action}
 use Rattle.exec_machine.specs.World.{World}
+use Rattle.exec_machine.specs.Choice.{Choice}
 use Rattle.exec_machine.specs.Run.{RunsBy, after_work, after_steps}
-use Rattle.exec_machine.specs.Text.{text_of_line, text_of_log}
+use Rattle.exec_machine.specs.Text.{text_of_line, text_of_log, told_lines}
 use Rattle.exec_core.specs.declared.executor.Core.{Core}
 use Rattle.exec_core.specs.Sound.{Sound}
 use Rattle.exec_run.specs.declared.trace_error.TraceError.{TraceError}
-use Rattle.exec_run.specs.declared.trace_error.TraceError.TheVariants.{ReadFault, TooLong, Syntax, WriteFault, NoMemory}
+use Rattle.exec_run.specs.declared.trace_error.TraceError.TheVariants.{ReadFault, TooLong, Syntax, Config, WriteFault, NoMemory}
 use Rattle.exec_run.specs.declared.complaint.Complaint.{Complaint}
 use Rattle.exec_run.specs.Refusal.{status_of}
 use Rattle.exec_run.specs.Explains.{complaint_line}
@@ -24,55 +25,60 @@ BrokeBy NoMemory old new = Unit {0}
 BrokeBy ReadFault old new = ⊥
 BrokeBy (TooLong count) old new = ⊥
 BrokeBy (Syntax line) old new = ⊥
+BrokeBy (Config it) old new = ⊥
 
 -- a line and its line feed
 abbrev pub whole_line : Line → List ℕ
 whole_line l = text_of_line l ++ 10 ∷ []
 
+-- what is given of these lines
+abbrev pub told_text : Bool → List Line → List ℕ
+told_text quiet lines = text_of_log (told_lines quiet lines)
+
 -- The lines are a run between two states: what is a run from the second goes on behind them.
-abbrev pub RunsTo : Configuration → World → List Line → List ℕ → World → Type 0
-RunsTo c from lines choices to = (ls : List Line) (cs : List ℕ) → RunsBy c to ls cs → RunsBy c from (lines ++ ls) (choices ++ cs)
+abbrev pub RunsTo : Configuration → World → List Line → List Choice → World → Type 0
+RunsTo c from lines choices to = (ls : List Line) (cs : List Choice) → RunsBy c to ls cs → RunsBy c from (lines ++ ls) (choices ++ cs)
 
--- One line was taken from a state on to another, and given.
-pub record TakesLine (c : Configuration) (from : World) (a : Action) (l : Line) (to : World) (old new : Option (List ℕ)) : Type 0 where
+-- One line was taken from a state on to another, and told.
+pub record TakesLine (quiet : Bool) (c : Configuration) (from : World) (a : Action) (l : Line) (to : World) (old new : Option (List ℕ)) : Type 0 where
   pub action : l.action ≡ a
-  pub choice : ℕ
+  pub choice : Choice
   pub runs : RunsTo c from (l ∷ []) (choice ∷ []) to
-  pub gave : Gave old new (whole_line l)
+  pub gave : Gave old new (told_text quiet (l ∷ []))
 
--- A line could not be taken, or not be given as a whole.
-pub record BreaksLine (c : Configuration) (from : World) (a : Action) (old new : Option (List ℕ)) : Type 0 where
+-- A line could not be taken, or not be told as a whole.
+pub record BreaksLine (quiet : Bool) (c : Configuration) (from : World) (a : Action) (old new : Option (List ℕ)) : Type 0 where
   pub line : Line
   pub action : line.action ≡ a
-  pub choice : ℕ
+  pub choice : Choice
   pub runs : RunsBy c from (line ∷ []) (choice ∷ [])
-  pub gave : GaveFront old new (whole_line line)
+  pub gave : GaveFront old new (told_text quiet (line ∷ []))
 
--- So many lines of a worker were taken and given, and none was refused.
-pub record Works (c : Configuration) (from : World) (worker count : ℕ) (to : World) (old new : Option (List ℕ)) : Type 0 where
+-- So many lines of a worker were taken and told, and none was refused.
+pub record Works (quiet : Bool) (c : Configuration) (from : World) (worker count : ℕ) (to : World) (old new : Option (List ℕ)) : Type 0 where
   pub lines : List Line
-  pub choices : List ℕ
+  pub choices : List Choice
   pub accepted : (n : ℕ) (ls : List Line) → after_work worker (count + n) (lines ++ ls) ≡ after_work worker n ls
   pub runs : RunsTo c from lines choices to
-  pub gave : Gave old new (text_of_log lines)
+  pub gave : Gave old new (told_text quiet lines)
 
--- The lines of the steps were taken and given.
-pub record Leads (c : Configuration) (from : World) (steps : List Step) (to : World) (old new : Option (List ℕ)) : Type 0 where
+-- The lines of the steps were taken and told.
+pub record Leads (quiet : Bool) (c : Configuration) (from : World) (steps : List Step) (to : World) (old new : Option (List ℕ)) : Type 0 where
   pub lines : List Line
-  pub choices : List ℕ
+  pub choices : List Choice
   pub has_lines : (ss : List Step) (ls : List Line) → after_steps (steps ++ ss) (lines ++ ls) ≡ after_steps ss ls
   pub runs : RunsTo c from lines choices to
-  pub gave : Gave old new (text_of_log lines)
+  pub gave : Gave old new (told_text quiet lines)
 
--- The steps were not all taken, or the last line not given as a whole.
-pub record Breaks (c : Configuration) (from : World) (steps : List Step) (old new : Option (List ℕ)) : Type 0 where
+-- The steps were not all taken, or the last line not told as a whole.
+pub record Breaks (quiet : Bool) (c : Configuration) (from : World) (steps : List Step) (old new : Option (List ℕ)) : Type 0 where
   pub taken : List Step
   pub are_taken : AreTaken taken steps
   pub lines : List Line
-  pub choices : List ℕ
+  pub choices : List Choice
   pub has_lines : after_steps taken lines ≡ Some []
   pub runs : RunsBy c from lines choices
-  pub gave : GaveFront old new (text_of_log lines)
+  pub gave : GaveFront old new (told_text quiet lines)
 
 -- the executor is as it was made, and can go on
 pub record GoesOn (old new : Core) : Type 0 where

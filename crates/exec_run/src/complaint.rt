@@ -3,6 +3,7 @@
 ghost use Rattle.std.specs.Prelude.{◌≡◌, Some};
 ghost use Rattle.exec_run.specs.Refusal.{status_of, text_of_complaint};
 
+use exec_machine::config::OutOfRange;
 use std::fmt;
 
 /// Why the program ran nothing.
@@ -16,6 +17,8 @@ pub enum Complaint {
     TooLong(u128),
     /// This line is the first at which the text is no trace.
     Syntax(usize),
+    /// This part of the configuration is the first that is out of its range.
+    Config(OutOfRange),
 }
 
 impl Complaint {
@@ -26,6 +29,7 @@ impl Complaint {
         match self {
             Complaint::Usage => 1,
             Complaint::Syntax(_) => 2,
+            Complaint::Config(_) => 3,
             Complaint::TooLong(_) => 4,
             Complaint::ReadFault => 5,
         }
@@ -39,6 +43,9 @@ impl fmt::Display for Complaint {
         match self {
             Complaint::Usage => write!(f, "error Usage"),
             Complaint::Syntax(line) => write!(f, "error Syntax {line}"),
+            Complaint::Config(OutOfRange { field, value }) => {
+                write!(f, "error Config {field} {value}")
+            }
             Complaint::TooLong(count) => write!(f, "error TooLong {count}"),
             Complaint::ReadFault => write!(f, "error ReadFault"),
         }

@@ -4,6 +4,7 @@ ghost use Rattle.std.specs.Prelude.{◌≡◌, ◌<◌, ◌≤◌, [], Some, IfO
 ghost use Rattle.exec_run.specs.Refusal.{IsTextIn};
 ghost use Rattle.exec_run.specs.Reading.{ReadsPiece, CannotTake, CannotRead, IsChecked, CannotRun};
 
+use crate::ranges::first_out_of_range;
 use crate::trace_error::TraceError;
 use exec_base::io::{Failed, Input};
 use exec_machine::config::Trace;
@@ -58,7 +59,7 @@ pub fn read_all<I: Input>(alloc: Global, source: &mut I) -> Result<Vec<u8>, Trac
     Err(TraceError::TooLong(text.len() as u128))
 }
 
-/// The trace that the text spells, unless it asks for too many steps.
+/// The trace that the text spells, unless it asks for too many steps or its configuration is out of range.
 pub fn check(alloc: Global, text: &[u8]) -> Result<Trace, TraceError>
     ensures ok { IfOk result (IsChecked text.now) }
     ensures err { IfErr result (λ e. CannotRun e text.now) }
@@ -71,6 +72,9 @@ pub fn check(alloc: Global, text: &[u8]) -> Result<Trace, TraceError>
     let total = total_steps(trace.steps.as_slice());
     if total > MOST_STEPS {
         return Err(TraceError::TooLong(total));
+    }
+    if let Some(part) = first_out_of_range(trace.config) {
+        return Err(TraceError::Config(part));
     }
     Ok(trace)
 }

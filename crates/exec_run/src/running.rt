@@ -1,7 +1,7 @@
 //! From the words and the source to the sink and the status.
 
-ghost use Rattle.std.specs.Prelude.{◌≡◌, ◌≤◌, ◌↔◌, [], Some, IsTrue, IfErr, IfSome, OnOk};
-ghost use Rattle.exec_run.specs.Refusal.{AskForTrace};
+ghost use Rattle.std.specs.Prelude.{◌≡◌, Bool, ◌≤◌, [], Some, IfErr, IfSome, IfNone, OnOk};
+ghost use Rattle.exec_run.specs.Refusal.{AskForTrace, AskForSomeTrace};
 ghost use Rattle.exec_run.specs.Log.{GaveLog};
 ghost use Rattle.exec_run.specs.Explains.{IsCauseOf, IsGivenAt, Explains};
 ghost use Rattle.exec_run.specs.Steps.{Complains};
@@ -14,19 +14,22 @@ use crate::writing::give_complaint;
 use exec_base::io::{Input, Output};
 use std::alloc::Global;
 
-/// Reads a trace from the source, runs it, and gives its log to the sink, line by line.
+/// Reads a trace from the source, runs it, and gives its log to the sink, line by line. A quiet log is the same
+/// without the lines whose event is `turn`, `serve` or `enter`.
 ///
 /// Nothing is given before the whole text is read and checked. The errors, in this order: `ReadFault` where
 /// the source fails, `TooLong` where the text has too many bytes, `Syntax` where it is no trace, `TooLong`
-/// where it asks for too many steps. Then the run begins, which ends with `WriteFault` where the sink fails.
+/// where it asks for too many steps, `Config` where a part of its configuration is out of range, and this names
+/// the first. Then the run begins, which ends with `WriteFault` where the sink fails.
 /// `NoMemory` comes wherever an allocation fails.
 pub fn run_trace<I: Input, O: Output>(
     alloc: Global,
     source: &mut I,
     sink: &mut O,
+    quiet: bool,
 ) -> Result<(), TraceError>
     // The source held a trace, and the sink was given a log of it.
-    ensures ok { OnOk result (GaveLog (I.left source.old) (O.given sink.old) (O.given sink.new)) }
+    ensures ok { OnOk result (GaveLog quiet (I.left source.old) (O.given sink.old) (O.given sink.new)) }
     // The counts of faults never fall.
     ensures count { O.faults sink.old ≤ O.faults sink.new }
     // The source was read to its end.
@@ -35,21 +38,25 @@ pub fn run_trace<I: Input, O: Output>(
     ensures err { IfErr result (λ e. IsCauseOf e (I.left source.old)
         (I.faults source.old) (I.faults source.new) (O.faults sink.old) (O.faults sink.new)) }
     // What was given up to an error is nothing or a front of a log.
-    ensures given { IfErr result (λ e. IsGivenAt e (I.left source.old)
+    ensures given { IfErr result (λ e. IsGivenAt quiet e (I.left source.old)
         (O.given sink.old) (O.given sink.new)) }
 {
     let text = read_all(alloc, source)?;
     let trace = check(alloc, text.as_slice())?;
-    log_trace(alloc, sink, trace)
+    log_trace(alloc, sink, quiet, trace)
 }
 
-/// Whether the words ask for the run of a trace.
-fn asks_for_trace(words: &[String]) -> bool
-    ensures { IsTrue result ↔ AskForTrace words.now }
+/// Whether the log is to be quiet, where the words ask for the run of a trace.
+fn asked_quiet(words: &[String]) -> Option<bool>
+    ensures some { IfSome result (λ quiet. AskForTrace quiet words.now) }
+    ensures none { IfNone result (AskForSomeTrace words.now → ⊥) }
 {
     match words {
-        [word] => word.as_str() == "trace",
-        _ => false,
+        [command] if command.as_str() == "trace" => Some(false),
+        [command, detail] if command.as_str() == "trace" && detail.as_str() == "quiet" => {
+            Some(true)
+        }
+        _ => None,
     }
 }
 
@@ -67,10 +74,10 @@ fn complain<O: Output>(alloc: Global, sink: &mut O, complaint: Complaint) -> u8
 
 /// The whole program: the words say what to run, and the answer is the status.
 ///
-/// The words `trace` run the trace of the source. Statuses: 0 where its whole log was given; 1 where the
-/// words are anything else; 2 where the text is no trace, 4 where it's too long, 5 where the source fails;
-/// 6 where the sink fails; 7 where there is no memory. By 1, 2, 4 and 5 the sink is given one line that
-/// begins with `error`.
+/// The words `trace` run the trace of the source, and the words `trace quiet` run it with a quiet log.
+/// Statuses: 0 where its whole log was given; 1 where the words are anything else; 2 where the text is no
+/// trace, 3 where its configuration is out of range, 4 where it's too long, 5 where the source fails; 6 where
+/// the sink fails; 7 where there is no memory. By 1 to 5 the sink is given one line that begins with `error`.
 pub fn run<I: Input, O: Output>(alloc: Global, words: &[String], source: &mut I, sink: &mut O) -> u8
     // The status says what happened.
     ensures explains { Explains result words.now (I.left source.old)
@@ -79,15 +86,16 @@ pub fn run<I: Input, O: Output>(alloc: Global, words: &[String], source: &mut I,
     // The source was read to its end.
     ensures to_end { result ≡ 0 → IfSome (I.left source.old) (λ _. I.left source.new ≡ Some []) }
 {
-    if !asks_for_trace(words) {
+    let Some(quiet) = asked_quiet(words) else {
         return complain(alloc, sink, Complaint::Usage);
-    }
-    match run_trace(alloc, source, sink) {
+    };
+    match run_trace(alloc, source, sink, quiet) {
         Ok(()) => 0,
         Err(TraceError::WriteFault) => 6,
         Err(TraceError::NoMemory) => 7,
         Err(TraceError::ReadFault) => complain(alloc, sink, Complaint::ReadFault),
         Err(TraceError::TooLong(count)) => complain(alloc, sink, Complaint::TooLong(count)),
         Err(TraceError::Syntax(line)) => complain(alloc, sink, Complaint::Syntax(line)),
+        Err(TraceError::Config(part)) => complain(alloc, sink, Complaint::Config(part)),
     }
 }

@@ -1,19 +1,20 @@
 //! The steps of a trace are taken, and their lines given.
 
-ghost use Rattle.std.specs.Prelude.{◌≡◌, ◌≤◌, ◌⊎◌, List, [], ◌∷◌, IfOk, IfErr, OnOk, OnErr};
+ghost use Rattle.std.specs.Prelude.{◌≡◌, ◌≤◌, ◌⊎◌, List, [], ◌∷◌, None, IfOk, IfErr, OnOk, OnErr};
 ghost use Rattle.exec_machine.specs.declared.event.Line.{Line};
 ghost use Rattle.exec_machine.specs.declared.step.Step.TheVariants as step;
 ghost use Rattle.exec_machine.specs.declared.step.Action.TheVariants as action;
 ghost use Rattle.exec_machine.specs.Grammar.{Plan, IsPlan, plan_of};
+ghost use Rattle.exec_machine.specs.Ranges.{first_out_of_range};
 ghost use Rattle.exec_machine.specs.Run.{IsLogOf};
-ghost use Rattle.exec_machine.specs.Text.{text_of_log};
+ghost use Rattle.exec_machine.specs.Text.{text_of_log, told_lines};
 ghost use Rattle.exec_core.specs.View.{world};
 ghost use Rattle.exec_core.specs.Sound.{Sound};
 ghost use Rattle.exec_run.specs.Log.{Gave, GaveFrontOfLog};
 ghost use Rattle.exec_run.specs.Steps.{BrokeBy, TakesLine, BreaksLine, Leads, Breaks, GoesOn};
 
 use crate::trace_error::TraceError;
-use crate::writing::{flush_all, give_line};
+use crate::writing::{flush_all, tell_line};
 use exec_base::io::Output;
 use exec_core::executor::Core;
 use exec_machine::config::Trace;
@@ -21,25 +22,47 @@ use exec_machine::event::{Line, Said};
 use exec_machine::step::{Action, Step};
 use std::alloc::Global;
 
-/// Takes one step of one party, and gives its line.
+/// Takes one step of one party, and tells its line.
 fn take_line<O: Output>(
     alloc: Global,
     core: &mut Core,
     sink: &mut O,
+    quiet: bool,
     action: Action,
 ) -> Result<Line, TraceError>
     requires { Sound core.old }
     ensures count { O.faults sink.old ≤ O.faults sink.new }
     ensures goes_on { OnOk result (GoesOn core.old core.new) }
-    ensures takes { IfOk result (λ line. TakesLine core.old.config (world core.old) action line
+    ensures takes { IfOk result (λ line. TakesLine quiet core.old.config (world core.old) action line
         (world core.new) (O.given sink.old) (O.given sink.new)) }
     ensures why { IfErr result (λ e. BrokeBy e (O.faults sink.old) (O.faults sink.new)) }
     ensures breaks { OnErr result ((O.given sink.new ≡ O.given sink.old)
-        ⊎ BreaksLine core.old.config (world core.old) action (O.given sink.old) (O.given sink.new)) }
+        ⊎ BreaksLine quiet core.old.config (world core.old) action (O.given sink.old) (O.given sink.new)) }
 {
     let line = core.apply(alloc, action)?;
-    give_line(alloc, sink, line)?;
+    tell_line(alloc, sink, quiet, line)?;
     Ok(line)
+}
+
+/// Takes one step of a party that takes one alone, and tells its line.
+fn take_one<O: Output>(
+    alloc: Global,
+    core: &mut Core,
+    sink: &mut O,
+    quiet: bool,
+    action: Action,
+) -> Result<(), TraceError>
+    requires { Sound core.old }
+    ensures count { O.faults sink.old ≤ O.faults sink.new }
+    ensures goes_on { OnOk result (GoesOn core.old core.new) }
+    ensures takes { OnOk result ((l : Line) × TakesLine quiet core.old.config (world core.old) action l
+        (world core.new) (O.given sink.old) (O.given sink.new)) }
+    ensures why { IfErr result (λ e. BrokeBy e (O.faults sink.old) (O.faults sink.new)) }
+    ensures breaks { OnErr result ((O.given sink.new ≡ O.given sink.old)
+        ⊎ BreaksLine quiet core.old.config (world core.old) action (O.given sink.old) (O.given sink.new)) }
+{
+    take_line(alloc, core, sink, quiet, action)?;
+    Ok(())
 }
 
 /// Takes so many steps of the worker, or as many as there are up to the first that is refused.
@@ -47,20 +70,21 @@ fn take_work<O: Output>(
     alloc: Global,
     core: &mut Core,
     sink: &mut O,
+    quiet: bool,
     worker: usize,
     count: u64,
 ) -> Result<(), TraceError>
     requires { Sound core.old }
     ensures count { O.faults sink.old ≤ O.faults sink.new }
     ensures goes_on { OnOk result (GoesOn core.old core.new) }
-    ensures leads { OnOk result (Leads core.old.config (world core.old) (step.Work worker count ∷ [])
+    ensures leads { OnOk result (Leads quiet core.old.config (world core.old) (step.Work worker count ∷ [])
         (world core.new) (O.given sink.old) (O.given sink.new)) }
     ensures why { IfErr result (λ e. BrokeBy e (O.faults sink.old) (O.faults sink.new)) }
-    ensures breaks { OnErr result (Breaks core.old.config (world core.old)
+    ensures breaks { OnErr result (Breaks quiet core.old.config (world core.old)
         (step.Work worker count ∷ []) (O.given sink.old) (O.given sink.new)) }
 {
     for _ in 0..count {
-        let line = take_line(alloc, core, sink, Action::Work { worker })?;
+        let line = take_line(alloc, core, sink, quiet, Action::Work { worker })?;
         match line.said {
             Said::Refused => return Ok(()),
             Said::Did(_) => {}
@@ -74,19 +98,21 @@ fn take_step<O: Output>(
     alloc: Global,
     core: &mut Core,
     sink: &mut O,
+    quiet: bool,
     step: Step,
 ) -> Result<(), TraceError>
     requires { Sound core.old }
     ensures count { O.faults sink.old ≤ O.faults sink.new }
     ensures goes_on { OnOk result (GoesOn core.old core.new) }
-    ensures leads { OnOk result (Leads core.old.config (world core.old) (step ∷ [])
+    ensures leads { OnOk result (Leads quiet core.old.config (world core.old) (step ∷ [])
         (world core.new) (O.given sink.old) (O.given sink.new)) }
     ensures why { IfErr result (λ e. BrokeBy e (O.faults sink.old) (O.faults sink.new)) }
-    ensures breaks { OnErr result (Breaks core.old.config (world core.old) (step ∷ [])
+    ensures breaks { OnErr result (Breaks quiet core.old.config (world core.old) (step ∷ [])
         (O.given sink.old) (O.given sink.new)) }
 {
     match step {
-        Step::Work { worker, count } => take_work(alloc, core, sink, worker, count),
+        Step::Work { worker, count } => take_work(alloc, core, sink, quiet, worker, count),
+        Step::Clock { by } => take_one(alloc, core, sink, quiet, Action::Clock { by }),
         Step::Land {
             request,
             result: landed,
@@ -95,9 +121,9 @@ fn take_step<O: Output>(
                 request,
                 result: landed,
             };
-            take_line(alloc, core, sink, action)?;
-            Ok(())
+            take_one(alloc, core, sink, quiet, action)
         }
+        Step::Stir { worker } => take_one(alloc, core, sink, quiet, Action::Stir { worker }),
     }
 }
 
@@ -106,32 +132,40 @@ fn take_steps<O: Output>(
     alloc: Global,
     core: &mut Core,
     sink: &mut O,
+    quiet: bool,
     steps: &[Step],
 ) -> Result<(), TraceError>
     requires { Sound core.old }
     ensures count { O.faults sink.old ≤ O.faults sink.new }
-    ensures leads { OnOk result (Leads core.old.config (world core.old) steps.now
+    ensures leads { OnOk result (Leads quiet core.old.config (world core.old) steps.now
         (world core.new) (O.given sink.old) (O.given sink.new)) }
     ensures why { IfErr result (λ e. BrokeBy e (O.faults sink.old) (O.faults sink.new)) }
-    ensures breaks { OnErr result (Breaks core.old.config (world core.old) steps.now
+    ensures breaks { OnErr result (Breaks quiet core.old.config (world core.old) steps.now
         (O.given sink.old) (O.given sink.new)) }
 {
     for step in steps {
-        take_step(alloc, core, sink, *step)?;
+        take_step(alloc, core, sink, quiet, *step)?;
     }
     Ok(())
 }
 
-/// Runs the trace, and gives its log.
-pub fn log_trace<O: Output>(alloc: Global, sink: &mut O, trace: Trace) -> Result<(), TraceError>
-    requires { IsPlan (plan_of trace) }
+/// Runs the trace, and gives its log, or its quiet log.
+pub fn log_trace<O: Output>(
+    alloc: Global,
+    sink: &mut O,
+    quiet: bool,
+    trace: Trace,
+) -> Result<(), TraceError>
+    requires plan { IsPlan (plan_of trace) }
+    requires in_range { first_out_of_range trace.config ≡ None }
     ensures count { O.faults sink.old ≤ O.faults sink.new }
     ensures ok { OnOk result ((lines : List Line) × IsLogOf (plan_of trace) trace.steps.items lines
-        × Gave (O.given sink.old) (O.given sink.new) (text_of_log lines)) }
+        × Gave (O.given sink.old) (O.given sink.new) (text_of_log (told_lines quiet lines))) }
     ensures why { IfErr result (λ e. BrokeBy e (O.faults sink.old) (O.faults sink.new)) }
-    ensures front { OnErr result (GaveFrontOfLog (plan_of trace) (O.given sink.old) (O.given sink.new)) }
+    ensures front { OnErr result (GaveFrontOfLog quiet (plan_of trace)
+        (O.given sink.old) (O.given sink.new)) }
 {
     let mut core = Core::new(alloc, trace.config, trace.root)?;
-    take_steps(alloc, &mut core, sink, trace.steps.as_slice())?;
+    take_steps(alloc, &mut core, sink, quiet, trace.steps.as_slice())?;
     flush_all(sink)
 }

@@ -3,6 +3,7 @@
 ghost use Rattle.std.specs.Prelude.{◌≡◌};
 ghost use Rattle.exec_run.specs.declared.trace_error.TraceError.TheVariants.{NoMemory};
 
+use exec_machine::config::OutOfRange;
 use std::alloc::AllocError;
 
 /// Why a trace was not run, or not to its end.
@@ -15,6 +16,8 @@ pub enum TraceError {
     TooLong(u128),
     /// This line, counted from 1, is the first at which the text is no trace.
     Syntax(usize),
+    /// This part of the configuration is the first that is out of its range.
+    Config(OutOfRange),
     /// A call of the sink failed.
     WriteFault,
     /// There was no memory for the text, for the executor or for a line.

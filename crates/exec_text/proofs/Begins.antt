@@ -1,17 +1,15 @@
 -- How the lines of a trace begin.
-use Rattle.std.proofs.Common.{◌≡◌, ◌≢◌, ℕ, ◌+◌, ◌<◌, ◌≤◌, zero, suc, List, [], ◌∷◌, ◌++◌, All, refl, sym, ap, ◌∙◌, arith, map, length, get_or, take, drop, append_assoc, codes, length-append, subst}
+use Rattle.std.proofs.Common.{◌≡◌, ◌≢◌, ℕ, ◌+◌, ◌<◌, ◌≤◌, zero, suc, List, [], ◌∷◌, ◌++◌, All, refl, sym, ap, ◌∙◌, arith, map, length, get_or, take, drop, append_assoc, codes, length-append, subst, filter}
+use Rattle.std.specs.Str.Lines.{lines}
+use Rattle.std.proofs.lemmas.List.{length-map, take-append-drop, length-take-le, get_or_at, get_or_append_left, get_or-map, append-nil}
 use Rattle.exec_machine.specs.declared.config.Configuration.{Configuration}
 use Rattle.exec_machine.specs.declared.config.Word.{Word}
 use Rattle.exec_machine.specs.declared.config.Word.TheVariants.{End}
 use Rattle.exec_machine.specs.declared.step.Step.{Step}
 use Rattle.exec_machine.specs.declared.step.Step.TheVariants.{Work}
-use Rattle.exec_machine.specs.Grammar.{Plan, IsPlan, plan_lines, the_config, text_of_words, text_of_step, WordFits, StepFits}
-use Rattle.std.specs.Fmt.{digits}
-use Rattle.std.proofs.lemmas.List.{append_cancel_left, length-map, take-append-drop, length-take-le, get_or_at, get_or_append_left, get_or-map, append-nil}
-use Rattle.std.proofs.Common.{filter}
-use Rattle.std.specs.Str.Lines.{lines}
-use Rattle.exec_machine.specs.Grammar.{says_something, IsTraceOf}
+use Rattle.exec_machine.specs.Grammar.{Plan, HeaderFits, IsPlan, plan_lines, text_of_words, text_of_step, WordFits, StepFits, says_something, IsTraceOf}
 use Rattle.exec_text.specs.Reading.{header, IsRoot, IsTop, IsMarkedTop}
+use Rattle.exec_text.proofs.Headers.{header_length, header_same, append_same}
 
 abbrev pub Begins : List (List ℕ) → Type 0
 Begins said = (p : Plan) × IsPlan p × (rest : List (List ℕ)) × (said ++ rest ≡ plan_lines p)
@@ -20,105 +18,108 @@ Begins said = (p : Plan) × IsPlan p × (rest : List (List ℕ)) × (said ++ res
 abbrev pub below : List Word → List Step → List (List ℕ)
 below root steps = (codes "root" ++ text_of_words root) ∷ codes "steps" ∷ map text_of_step steps
 
-abbrev pub lines_of : Configuration → List (List Word) → List Word → List Step → List (List ℕ)
-lines_of config scripts root steps = plan_lines (record { config = config; scripts = scripts; root = root; steps = steps })
+abbrev lines_of : Plan → List (List Word) → List (List ℕ)
+lines_of p scripts = plan_lines (record p { scripts = scripts })
 
--- the header, written out
-pub header_is : header ≡ codes "workers 1" ∷ codes "interval 31" ∷ codes "ring 16" ∷ codes "tick 5000000" ∷ codes "connect 10000000" ∷ codes "rw 10000000" ∷ codes "spin 0 0 0 0" ∷ codes "files 0" ∷ codes "sockets 1" ∷ []
-unfolding header digits
-header_is = refl
-
-pub header_length : length header ≡ 9
+pub plan_is : (p : Plan) → IsPlan p → plan_lines p ≡ header p.config ++ below p.root p.steps
 unfolding header
-header_length = refl
-
-pub plan_is : (p : Plan) → IsPlan p → plan_lines p ≡ header ++ below p.root p.steps
-unfolding header
-plan_is p h = ap (λ (c : Configuration). lines_of c p.scripts p.root p.steps) h.header ∙ ap (λ (s : List (List Word)). lines_of the_config s p.root p.steps) h.no_scripts
+plan_is p h = ap (lines_of p) h.no_scripts
 
 -- a plan of such parts
-abbrev pub plan_from : List Word → List Step → Plan
-plan_from root steps = record { config = the_config; scripts = []; root = root; steps = steps }
+abbrev pub plan_from : Configuration → List Word → List Step → Plan
+plan_from c root steps = record { config = c; scripts = []; root = root; steps = steps }
 
-pub parts_fit : (root : List Word) (steps : List Step) → 0 < length root → All (WordFits the_config) root → All StepFits steps → IsPlan (plan_from root steps)
-parts_fit root steps l w s = record { header = refl; no_scripts = refl; some_word = l; words_fit = w; steps_fit = s }
+pub parts_fit : (c : Configuration) (root : List Word) (steps : List Step) → HeaderFits c → 0 < length root → All (WordFits c) root → All StepFits steps → IsPlan (plan_from c root steps)
+parts_fit c root steps h l w s = record { header = h; no_scripts = refl; some_word = l; words_fit = w; steps_fit = s }
 
-pub least_plan : IsPlan (plan_from (End ∷ []) [])
-least_plan = parts_fit (End ∷ []) [] (omega arith) (λ k d h. elim k as (λ (k : ℕ). k < 1 → WordFits the_config (get_or (End ∷ []) k d)) [ zero ↦ λ _. tt | suc j ↦ λ l. absurd (omega arith) ] h) (λ k d h. absurd (omega arith))
+pub least_plan : (c : Configuration) → HeaderFits c → IsPlan (plan_from c (End ∷ []) [])
+least_plan c h =
+    parts_fit c (End ∷ []) [] h (omega arith) (λ k d h. elim k as (λ (k : ℕ). k < 1 → WordFits c (get_or (End ∷ []) k d)) [ zero ↦ λ _. tt | suc j ↦ λ l. absurd (omega arith) ] h) (λ k d h. absurd (omega arith))
 
-pub header_front : (k : ℕ) → Begins (take k header)
-header_front k =
-    let p = plan_from (End ∷ []) [] in (
+pub header_front : (c : Configuration) (k : ℕ) → HeaderFits c → Begins (take k (header c))
+header_front c k fits =
+    let h = header c in
+    let p = plan_from c (End ∷ []) [] in (
       p,
-      least_plan,
-      drop k header ++ below (End ∷ []) [],
-      sym (append_assoc (take k header) (drop k header) (below (End ∷ []) [])) ∙ ap (λ (h : List (List ℕ)). h ++ below (End ∷ []) []) (take-append-drop k header) ∙ sym (plan_is p least_plan),
+      least_plan c fits,
+      drop k h ++ below (End ∷ []) [],
+      sym (append_assoc (take k h) (drop k h) (below (End ∷ []) [])) ∙ ap (λ (x : List (List ℕ)). x ++ below (End ∷ []) []) (take-append-drop k h) ∙ sym (plan_is p (least_plan c fits)),
     )
 
-pub header_next : (k : ℕ) (line : List ℕ) → k < 9 → Begins (take k header ++ line ∷ []) → line ≡ get_or header k []
-header_next k line small b =
-    let e : take k header ++ line ∷ b.2 ≡ header ++ below b.0.root b.0.steps = sym (append_assoc (take k header) (line ∷ []) b.2) ∙ b.3 ∙ plan_is b.0 b.1 in
-    let l : length (take k header) ≡ k = length-take-le k header (omega (arith, header_length)) in
-    sym (get_or_at (take k header) line b.2 [] k l) ∙ ap (λ (x : List (List ℕ)). get_or x k []) e ∙ get_or_append_left header (below b.0.root b.0.steps) [] k (omega (arith, header_length))
+-- the next line of a header is that of some header
+pub header_next : (c : Configuration) (k : ℕ) (line : List ℕ) → k < 9 → Begins (take k (header c) ++ line ∷ []) → (d : Configuration) × HeaderFits d × (line ≡ get_or (header d) k [])
+header_next c k line small b =
+    let d = b.0.config in
+    let e : take k (header c) ++ line ∷ b.2 ≡ header d ++ below b.0.root b.0.steps = sym (append_assoc (take k (header c)) (line ∷ []) b.2) ∙ b.3 ∙ plan_is b.0 b.1 in
+    let l : length (take k (header c)) ≡ k = length-take-le k (header c) (omega (arith, header_length c)) in (
+      d,
+      b.1.header,
+      sym (get_or_at (take k (header c)) line b.2 [] k l) ∙ ap (λ (x : List (List ℕ)). get_or x k []) e ∙ get_or_append_left (header d) (below b.0.root b.0.steps) [] k (omega (arith, header_length d)),
+    )
 
 pub plan_length : (p : Plan) → IsPlan p → length (plan_lines p) ≡ 11 + length p.steps
-plan_length p h = ap length (plan_is p h) ∙ length-append header (below p.root p.steps) ∙ omega (arith, header_length, length-map p.steps text_of_step)
+plan_length p h = ap length (plan_is p h) ∙ length-append (header p.config) (below p.root p.steps) ∙ omega (arith, header_length p.config, length-map p.steps text_of_step)
 
-pub header_short : (k : ℕ) (p : Plan) → k ≤ 9 → IsPlan p → plan_lines p ≢ take k header
-header_short k p small h e = omega (arith, plan_length p h, ap length e, length-take-le k header (omega (arith, header_length)))
+pub header_short : (c : Configuration) (k : ℕ) (p : Plan) → k ≤ 9 → IsPlan p → plan_lines p ≢ take k (header c)
+header_short c k p small h e = omega (arith, plan_length p h, ap length e, length-take-le k (header c) (omega (arith, header_length c)))
 
-pub root_next : (line : List ℕ) → Begins (header ++ line ∷ []) → (root : List Word) × IsRoot line root
-root_next line b =
-    let e : header ++ line ∷ b.2 ≡ header ++ below b.0.root b.0.steps = sym (append_assoc header (line ∷ []) b.2) ∙ b.3 ∙ plan_is b.0 b.1 in
-    let c = append_cancel_left header _ _ e in
-    (b.0.root, record { spelled = cc; some = b.1.some_word; fit = subst (λ (g : Configuration). All (WordFits g) b.0.root) b.1.header b.1.words_fit })
+-- what stands below a header that was read
+pub behind_header : (c : Configuration) (xs : List (List ℕ)) (p : Plan) → HeaderFits c → IsPlan p → header c ++ xs ≡ plan_lines p → (c ≡ p.config) × (xs ≡ below p.root p.steps)
+behind_header c xs p f h e =
+    let i = append_same (header c) (header p.config) xs (below p.root p.steps) (header_length c ∙ sym (header_length p.config)) (e ∙ plan_is p h) in
+    (header_same c p.config f h.header i.0, i.1)
 
-pub top_begins : (said : List (List ℕ)) (root : List Word) → IsTop said root → Begins said
-top_begins said root t =
-    let p = plan_from root [] in
-    let h = parts_fit root [] t.root_line.some t.root_line.fit (λ k d l. absurd (omega arith)) in (
+pub root_next : (c : Configuration) (line : List ℕ) → HeaderFits c → Begins (header c ++ line ∷ []) → (root : List Word) × IsRoot c line root
+root_next c line f b =
+    let i = behind_header c (line ∷ b.2) b.0 f b.1 (sym (append_assoc (header c) (line ∷ []) b.2) ∙ b.3) in
+    (b.0.root, record { spelled = ap (λ (x : List (List ℕ)). get_or x 0 []) i.1; some = b.1.some_word; fit = subst (λ (g : Configuration). All (WordFits g) b.0.root) (sym i.0) b.1.words_fit })
+
+pub top_begins : (c : Configuration) (said : List (List ℕ)) (root : List Word) → IsTop c said root → Begins said
+top_begins c said root t =
+    let p = plan_from c root [] in
+    let h = parts_fit c root [] t.header_fits t.root_line.some t.root_line.fit (λ k d l. absurd (omega arith)) in (
       p,
       h,
       codes "steps" ∷ [],
-      ap (λ (s : List (List ℕ)). s ++ codes "steps" ∷ []) t.spelled ∙ append_assoc header (t.line ∷ []) (codes "steps" ∷ []) ∙ ap (λ (l : List ℕ). header ++ l ∷ codes "steps" ∷ []) t.root_line.spelled ∙ sym (plan_is p h),
+      ap (λ (s : List (List ℕ)). s ++ codes "steps" ∷ []) t.spelled ∙ append_assoc (header c) (t.line ∷ []) (codes "steps" ∷ []) ∙ ap (λ (l : List ℕ). header c ++ l ∷ codes "steps" ∷ []) t.root_line.spelled ∙ sym (plan_is p h),
     )
 
-pub top_short : (said : List (List ℕ)) (root : List Word) (p : Plan) → IsTop said root → IsPlan p → plan_lines p ≢ said
-top_short said root p t h e = omega (arith, plan_length p h, ap length e, ap length t.spelled, length-append header (t.line ∷ []), header_length)
+pub top_short : (c : Configuration) (said : List (List ℕ)) (root : List Word) (p : Plan) → IsTop c said root → IsPlan p → plan_lines p ≢ said
+top_short c said root p t h e = omega (arith, plan_length p h, ap length e, ap length t.spelled, length-append (header c) (t.line ∷ []), header_length c)
 
-pub mark_next : (said : List (List ℕ)) (root : List Word) (line : List ℕ) → IsTop said root → Begins (said ++ line ∷ []) → line ≡ codes "steps"
-mark_next said root line t b =
-    let s : (said ++ line ∷ []) ++ b.2 ≡ header ++ t.line ∷ line ∷ b.2 = append_assoc said (line ∷ []) b.2 ∙ ap (λ (s : List (List ℕ)). s ++ line ∷ b.2) t.spelled ∙ append_assoc header (t.line ∷ []) (line ∷ b.2) in
-    let e : header ++ t.line ∷ line ∷ b.2 ≡ header ++ below b.0.root b.0.steps = sym s ∙ b.3 ∙ plan_is b.0 b.1 in
-    let c = append_cancel_left header _ _ e in cc
+pub mark_next : (c : Configuration) (said : List (List ℕ)) (root : List Word) (line : List ℕ) → IsTop c said root → Begins (said ++ line ∷ []) → line ≡ codes "steps"
+mark_next c said root line t b =
+    let s : (said ++ line ∷ []) ++ b.2 ≡ header c ++ t.line ∷ line ∷ b.2 = append_assoc said (line ∷ []) b.2 ∙ ap (λ (s : List (List ℕ)). s ++ line ∷ b.2) t.spelled ∙ append_assoc (header c) (t.line ∷ []) (line ∷ b.2) in
+    let i = behind_header c (t.line ∷ line ∷ b.2) b.0 t.header_fits b.1 (sym s ∙ b.3) in
+    ap (λ (x : List (List ℕ)). get_or x 1 []) i.1
 
-pub mark_top : (said : List (List ℕ)) (root : List Word) → IsTop said root → IsMarkedTop (said ++ codes "steps" ∷ []) root
-mark_top said root t = record {
+pub mark_top : (c : Configuration) (said : List (List ℕ)) (root : List Word) → IsTop c said root → IsMarkedTop c (said ++ codes "steps" ∷ []) root
+mark_top c said root t = record {
+  header_fits = t.header_fits;
   line = t.line;
-  spelled = ap (λ (s : List (List ℕ)). s ++ codes "steps" ∷ []) t.spelled ∙ append_assoc header (t.line ∷ []) (codes "steps" ∷ []);
+  spelled = ap (λ (s : List (List ℕ)). s ++ codes "steps" ∷ []) t.spelled ∙ append_assoc (header c) (t.line ∷ []) (codes "steps" ∷ []);
   root_line = t.root_line;
 }
 
 -- the plan of a marked top and steps
-pub steps_fit : (said : List (List ℕ)) (root : List Word) (steps : List Step) (m : IsMarkedTop said root) → All StepFits steps → IsPlan (plan_from root steps)
-steps_fit said root steps m fit = parts_fit root steps m.root_line.some m.root_line.fit fit
+pub steps_fit : (c : Configuration) (said : List (List ℕ)) (root : List Word) (steps : List Step) (m : IsMarkedTop c said root) → All StepFits steps → IsPlan (plan_from c root steps)
+steps_fit c said root steps m fit = parts_fit c root steps m.header_fits m.root_line.some m.root_line.fit fit
 
-pub steps_spelled : (said : List (List ℕ)) (root : List Word) (steps : List Step) (m : IsMarkedTop said root) → All StepFits steps → said ++ map text_of_step steps ≡ plan_lines (plan_from root steps)
-steps_spelled said root steps m fit =
-    ap (λ (s : List (List ℕ)). s ++ map text_of_step steps) m.spelled ∙ append_assoc header (m.line ∷ codes "steps" ∷ []) (map text_of_step steps) ∙ ap (λ (l : List ℕ). header ++ l ∷ codes "steps" ∷ map text_of_step steps) m.root_line.spelled ∙ sym (plan_is (plan_from root steps) (steps_fit said root steps m fit))
+pub steps_spelled : (c : Configuration) (said : List (List ℕ)) (root : List Word) (steps : List Step) (m : IsMarkedTop c said root) → All StepFits steps → said ++ map text_of_step steps ≡ plan_lines (plan_from c root steps)
+steps_spelled c said root steps m fit =
+    ap (λ (s : List (List ℕ)). s ++ map text_of_step steps) m.spelled ∙ append_assoc (header c) (m.line ∷ codes "steps" ∷ []) (map text_of_step steps) ∙ ap (λ (l : List ℕ). header c ++ l ∷ codes "steps" ∷ map text_of_step steps) m.root_line.spelled ∙ sym (plan_is (plan_from c root steps) (steps_fit c said root steps m fit))
 
-pub steps_begin : (said : List (List ℕ)) (root : List Word) (steps : List Step) → IsMarkedTop said root → All StepFits steps → Begins (said ++ map text_of_step steps)
-steps_begin said root steps m fit =
-    (plan_from root steps, steps_fit said root steps m fit, [], append-nil (said ++ map text_of_step steps) ∙ steps_spelled said root steps m fit)
+pub steps_begin : (c : Configuration) (said : List (List ℕ)) (root : List Word) (steps : List Step) → IsMarkedTop c said root → All StepFits steps → Begins (said ++ map text_of_step steps)
+steps_begin c said root steps m fit =
+    (plan_from c root steps, steps_fit c said root steps m fit, [], append-nil (said ++ map text_of_step steps) ∙ steps_spelled c said root steps m fit)
 
-pub steps_next : (said : List (List ℕ)) (root : List Word) (steps : List Step) (line : List ℕ) → IsMarkedTop said root → Begins ((said ++ map text_of_step steps) ++ line ∷ []) → (s : Step) × StepFits s × (line ≡ text_of_step s)
-steps_next said root steps line m b =
+pub steps_next : (c : Configuration) (said : List (List ℕ)) (root : List Word) (steps : List Step) (line : List ℕ) → IsMarkedTop c said root → Begins ((said ++ map text_of_step steps) ++ line ∷ []) → (s : Step) × StepFits s × (line ≡ text_of_step s)
+steps_next c said root steps line m b =
     let t = map text_of_step steps in
-    let s : ((said ++ t) ++ line ∷ []) ++ b.2 ≡ header ++ m.line ∷ codes "steps" ∷ (t ++ line ∷ b.2) =
-    append_assoc (said ++ t) (line ∷ []) b.2 ∙ append_assoc said t (line ∷ b.2) ∙ ap (λ (s : List (List ℕ)). s ++ (t ++ line ∷ b.2)) m.spelled ∙ append_assoc header (m.line ∷ codes "steps" ∷ []) (t ++ line ∷ b.2) in
-    let e : header ++ m.line ∷ codes "steps" ∷ (t ++ line ∷ b.2) ≡ header ++ below b.0.root b.0.steps = sym s ∙ b.3 ∙ plan_is b.0 b.1 in
-    let c = append_cancel_left header _ _ e in
-    let tail : t ++ line ∷ b.2 ≡ map text_of_step b.0.steps = ap (drop 2) c in
+    let s : ((said ++ t) ++ line ∷ []) ++ b.2 ≡ header c ++ m.line ∷ codes "steps" ∷ (t ++ line ∷ b.2) =
+    append_assoc (said ++ t) (line ∷ []) b.2 ∙ append_assoc said t (line ∷ b.2) ∙ ap (λ (s : List (List ℕ)). s ++ (t ++ line ∷ b.2)) m.spelled ∙ append_assoc (header c) (m.line ∷ codes "steps" ∷ []) (t ++ line ∷ b.2) in
+    let i = behind_header c (m.line ∷ codes "steps" ∷ (t ++ line ∷ b.2)) b.0 m.header_fits b.1 (sym s ∙ b.3) in
+    let tail : t ++ line ∷ b.2 ≡ map text_of_step b.0.steps = ap (drop 2) i.1 in
     let d : Step = Work 0 0 in
     let l : length t ≡ length steps = length-map steps text_of_step in
     let few : length steps < length b.0.steps = omega (arith, ap length tail, length-append t (line ∷ b.2), length-map b.0.steps text_of_step) in (
@@ -128,7 +129,7 @@ steps_next said root steps line m b =
     )
 
 -- what was read is what the text spells
-pub trace_from : (text : List ℕ) (said : List (List ℕ)) (scripts : List (List Word)) (root : List Word) (steps : List Step) → scripts ≡ [] → IsMarkedTop said root → All StepFits steps → filter says_something (lines text) ≡ said ++ map text_of_step steps → IsTraceOf text (record { config = the_config; scripts = scripts; root = root; steps = steps })
-trace_from text said scripts root steps none m fit e =
-    let P : List (List Word) → Type 0 = λ s. IsTraceOf text (record { config = the_config; scripts = s; root = root; steps = steps }) in
-    subst P (sym none) (record { plan = steps_fit said root steps m fit; spelled = e ∙ steps_spelled said root steps m fit })
+pub trace_from : (text : List ℕ) (said : List (List ℕ)) (c : Configuration) (scripts : List (List Word)) (root : List Word) (steps : List Step) → scripts ≡ [] → IsMarkedTop c said root → All StepFits steps → filter says_something (lines text) ≡ said ++ map text_of_step steps → IsTraceOf text (record { config = c; scripts = scripts; root = root; steps = steps })
+trace_from text said c scripts root steps none m fit e =
+    let P : List (List Word) → Type 0 = λ s. IsTraceOf text (record { config = c; scripts = s; root = root; steps = steps }) in
+    subst P (sym none) (record { plan = steps_fit c said root steps m fit; spelled = e ∙ steps_spelled c said root steps m fit })

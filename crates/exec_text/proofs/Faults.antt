@@ -1,19 +1,20 @@
 -- First faults.
-use Rattle.std.proofs.Common.{◌≡◌, ◌≢◌, ℕ, ◌+◌, ◌-◌, ◌<◌, ◌≤◌, inl, inr, List, [], ◌∷◌, ◌++◌, refl, sym, ap, ◌∙◌, arith, length, take, drop, filter, append_assoc, subst}
+use Rattle.std.proofs.Common.{◌≡◌, ◌≢◌, ℕ, ◌+◌, ◌-◌, ◌<◌, ◌≤◌, inl, inr, List, [], ◌∷◌, ◌++◌, All, sym, ap, ◌∙◌, arith, length, get_or, map, codes, take, drop, filter, append_assoc, subst}
 use Rattle.std.specs.Str.Lines.{lines}
-use Rattle.std.proofs.lemmas.List.{take_all, take-append-drop, take-take, append-nil}
+use Rattle.std.proofs.lemmas.List.{take_all, take-append-drop, take-take, append-nil, map_push}
 use Rattle.std.proofs.lemmas.List.Elements.{filter-append}
-use Rattle.exec_machine.specs.Grammar.{Plan, IsPlan, plan_lines, says_something, CanGoOn, IsTrace, IsFirstFault}
-use Rattle.exec_text.specs.Reading.{said_before, IsNextSaid, IsLastSaid}
-use Rattle.exec_text.specs.Laws.{TraceHasNoFault, FaultIsOne}
-use Rattle.std.proofs.Common.{All, get_or, map, codes}
-use Rattle.std.proofs.lemmas.List.{take_more, map_push}
+use Rattle.exec_machine.specs.declared.config.Configuration.{Configuration}
 use Rattle.exec_machine.specs.declared.config.Word.{Word}
 use Rattle.exec_machine.specs.declared.step.Step.{Step}
-use Rattle.exec_machine.specs.Grammar.{text_of_step, StepFits}
-use Rattle.exec_text.specs.Reading.{header, IsRoot, IsTop, IsMarkedTop, all_said}
+use Rattle.exec_machine.specs.Grammar.{Plan, HeaderFits, IsPlan, plan_lines, says_something, CanGoOn, IsTrace, IsFirstFault, text_of_step, StepFits}
+use Rattle.exec_text.specs.declared.read_error.ReadError.{ReadError}
+use Rattle.exec_text.specs.declared.read_error.ReadError.TheVariants.{Syntax, NoMemory}
+use Rattle.exec_text.specs.Reading.{OnSyntax, said_before, IsNextSaid, IsLastSaid, IsMissing, IsStuck, header, IsRoot, IsTop, IsMarkedTop, all_said}
+use Rattle.exec_text.specs.Laws.{TraceHasNoFault, FaultIsOne}
 use Rattle.exec_text.proofs.Said.{said_all}
-use Rattle.exec_text.proofs.Begins.{Begins, header_length, header_front, header_next, header_short, root_next, top_begins, top_short, mark_next, steps_begin, steps_next}
+use Rattle.exec_text.proofs.Headers.{header_length, config_of, config_fits}
+use Rattle.exec_text.proofs.Numbers.{AllSmall}
+use Rattle.exec_text.proofs.Begins.{Begins, header_front, header_next, header_short, root_next, top_begins, top_short, mark_next, steps_begin, steps_next}
 
 pub fault_at : (text : List ℕ) (old next : ℕ) (line : List ℕ) → IsNextSaid text old next line → Begins (said_before text old) → (Begins (said_before text old ++ line ∷ []) → ⊥) → IsFirstFault text next
 unfolding said_before
@@ -66,52 +67,59 @@ fault_is_one text m n f g =
     let a : m < n → ⊥ = order text m n f g in
     let b : n < m → ⊥ = order text n m g f in omega (arith, a, b)
 
--- at the header
-pub header_end : (text t : List ℕ) (old next place : ℕ) → t ≡ text → place < 9 → said_before text old ≡ take place header → IsLastSaid t old next → IsFirstFault text (next + 1)
-header_end text t old next place e small s n =
-    fault_end text old next (subst (λ (x : List ℕ). IsLastSaid x old next) e n) (subst Begins (sym s) (header_front place)) (λ p h q. header_short place p (omega arith) h (q ∙ s))
+-- where a line is missing
+fault_missing : (text : List ℕ) (old number : ℕ) → IsMissing text old number → Begins (said_before text old) → ((p : Plan) → IsPlan p → plan_lines p ≢ said_before text old) → IsFirstFault text number
+fault_missing text old number m begun over = subst (IsFirstFault text) (sym m.2) (fault_end text old m.0 m.1 begun over)
 
-pub header_wrong : (text t : List ℕ) (old next place : ℕ) (line : List ℕ) → t ≡ text → place < 9 → said_before text old ≡ take place header → IsNextSaid t old next line → line ≢ get_or header place [] → IsFirstFault text next
-header_wrong text t old next place line e small s n other =
-    fault_at text old next line (subst (λ (x : List ℕ). IsNextSaid x old next line) e n) (subst Begins (sym s) (header_front place)) (λ b. other (header_next place line small (subst (λ (x : List (List ℕ)). Begins (x ++ line ∷ [])) s b)))
+-- at the header, of which so many lines were read
+stuck_at : (text : List ℕ) (old k line : ℕ) (c : Configuration) (Wrong : List ℕ → Type 0) → HeaderFits c → k < 9 → said_before text old ≡ take k (header c) → ((l : List ℕ) → Wrong l → (d : Configuration) → HeaderFits d → l ≢ get_or (header d) k []) → IsStuck text old Wrong line → IsFirstFault text line
+stuck_at text old k line c Wrong fits small s over h =
+    let begun = subst Begins (sym s) (header_front c k fits) in
+    elim h [
+      | inl a ↦ fault_at text old line a.0 a.1 begun (λ b. let r = header_next c k a.0 small (subst (λ (x : List (List ℕ)). Begins (x ++ a.0 ∷ [])) s b) in over a.0 a.2 r.0 r.1 r.2)
+      | inr a ↦ fault_missing text old line a begun (λ p plan q. header_short c k p (omega arith) plan (q ∙ s))
+    ]
 
-pub header_right : (text t : List ℕ) (old next place : ℕ) (line : List ℕ) → t ≡ text → place < 9 → said_before text old ≡ take place header → IsNextSaid t old next line → line ≡ get_or header place [] → said_before text next ≡ take (place + 1) header
-header_right text t old next place line e small s n same =
-    let m = subst (λ (x : List ℕ). IsNextSaid x old next line) e n in
-    m.said ∙ ap (λ (x : List (List ℕ)). x ++ line ∷ []) s ∙ ap (λ (x : List ℕ). take place header ++ x ∷ []) same ∙ sym (take_more header place [] (omega (arith, header_length)))
+-- and these are its numbers so far
+pub header_stuck : (text t : List ℕ) (old k : ℕ) (ns : List ℕ) (Wrong : List ℕ → Type 0) (e : ReadError) → t ≡ text → AllSmall ns → k < 9 → said_before t old ≡ take k (header (config_of ns)) → ((l : List ℕ) → Wrong l → (d : Configuration) → HeaderFits d → l ≢ get_or (header d) k []) → OnSyntax e (IsStuck t old Wrong) → OnSyntax e (IsFirstFault text)
+header_stuck text t old k ns Wrong (Syntax line) same below small s over h = subst (λ (x : List ℕ). IsFirstFault x line) same (stuck_at t old k line (config_of ns) Wrong (config_fits ns below) small s over h)
+header_stuck text t old k ns Wrong NoMemory same below small s over h = tt
 
-pub header_all : (place : ℕ) → place ≡ 9 → take place header ≡ header
-header_all place e = take_all place header (omega (arith, header_length))
+header_all : (c : Configuration) → take 9 (header c) ≡ header c
+header_all c = take_all 9 (header c) (omega (arith, header_length c))
 
 -- at the root
-header_begins : Begins header
-header_begins = subst Begins (header_all 9 refl) (header_front 9)
+header_begins : (c : Configuration) → HeaderFits c → Begins (header c)
+header_begins c h = subst Begins (header_all c) (header_front c 9 h)
 
-pub root_end : (text : List ℕ) (old next : ℕ) → said_before text old ≡ header → IsLastSaid text old next → IsFirstFault text (next + 1)
-root_end text old next s n =
-    fault_end text old next n (subst Begins (sym s) header_begins) (λ p h q. header_short 9 p (omega arith) h (q ∙ s ∙ sym (header_all 9 refl)))
+pub root_missing : (text : List ℕ) (old : ℕ) (c : Configuration) (e : ReadError) → HeaderFits c → said_before text old ≡ header c → OnSyntax e (IsMissing text old) → OnSyntax e (IsFirstFault text)
+root_missing text old c (Syntax line) h s m =
+    fault_missing text old line m (subst Begins (sym s) (header_begins c h)) (λ p f q. header_short c 9 p (omega arith) f (q ∙ s ∙ sym (header_all c)))
+root_missing text old c NoMemory h s m = tt
 
-pub root_wrong : (text : List ℕ) (old next : ℕ) (line : List ℕ) → said_before text old ≡ header → IsNextSaid text old next line → ((root : List Word) → IsRoot line root → ⊥) → IsFirstFault text next
-root_wrong text old next line s n over =
-    fault_at text old next line n (subst Begins (sym s) header_begins)
-    (λ b. let r = root_next line (subst (λ (x : List (List ℕ)). Begins (x ++ line ∷ [])) s b) in over r.0 r.1)
+pub root_wrong : (text : List ℕ) (old next : ℕ) (line : List ℕ) (c : Configuration) → HeaderFits c → said_before text old ≡ header c → IsNextSaid text old next line → ((root : List Word) → IsRoot c line root → ⊥) → IsFirstFault text next
+root_wrong text old next line c h s n over =
+    fault_at text old next line n (subst Begins (sym s) (header_begins c h))
+    (λ b. let r = root_next c line h (subst (λ (x : List (List ℕ)). Begins (x ++ line ∷ [])) s b) in over r.0 r.1)
 
-pub root_right : (text : List ℕ) (old next : ℕ) (line : List ℕ) (root : List Word) → said_before text old ≡ header → IsNextSaid text old next line → IsRoot line root → IsTop (said_before text next) root
-root_right text old next line root s n r = record { line = line; spelled = n.said ∙ ap (λ (x : List (List ℕ)). x ++ line ∷ []) s; root_line = r }
+pub root_right : (text : List ℕ) (old next : ℕ) (line : List ℕ) (c : Configuration) (root : List Word) → HeaderFits c → said_before text old ≡ header c → IsNextSaid text old next line → IsRoot c line root → IsTop c (said_before text next) root
+root_right text old next line c root h s n r = record { header_fits = h; line = line; spelled = n.said ∙ ap (λ (x : List (List ℕ)). x ++ line ∷ []) s; root_line = r }
 
 -- at the line `steps`
-pub mark_end : (text : List ℕ) (old next : ℕ) (root : List Word) → IsTop (said_before text old) root → IsLastSaid text old next → IsFirstFault text (next + 1)
-mark_end text old next root t n = fault_end text old next n (top_begins (said_before text old) root t) (λ p h q. top_short (said_before text old) root p t h q)
+pub mark_missing : (text : List ℕ) (old : ℕ) (c : Configuration) (root : List Word) (e : ReadError) → IsTop c (said_before text old) root → OnSyntax e (IsMissing text old) → OnSyntax e (IsFirstFault text)
+mark_missing text old c root (Syntax line) t m =
+    fault_missing text old line m (top_begins c (said_before text old) root t) (λ p h q. top_short c (said_before text old) root p t h q)
+mark_missing text old c root NoMemory t m = tt
 
-pub mark_wrong : (text : List ℕ) (old next : ℕ) (line : List ℕ) (root : List Word) → IsTop (said_before text old) root → IsNextSaid text old next line → line ≢ codes "steps" → IsFirstFault text next
-mark_wrong text old next line root t n other =
-    fault_at text old next line n (top_begins (said_before text old) root t) (λ b. other (mark_next (said_before text old) root line t b))
+pub mark_wrong : (text : List ℕ) (old next : ℕ) (line : List ℕ) (c : Configuration) (root : List Word) → IsTop c (said_before text old) root → IsNextSaid text old next line → line ≢ codes "steps" → IsFirstFault text next
+mark_wrong text old next line c root t n other =
+    fault_at text old next line n (top_begins c (said_before text old) root t) (λ b. other (mark_next c (said_before text old) root line t b))
 
 -- at the steps
-pub step_wrong : (text t : List ℕ) (first old next : ℕ) (line : List ℕ) (root : List Word) (steps : List Step) → t ≡ text → IsMarkedTop (said_before text first) root → All StepFits steps → said_before text old ≡ said_before text first ++ map text_of_step steps → IsNextSaid t old next line → ((s : Step) → StepFits s → line ≢ text_of_step s) → IsFirstFault text next
-step_wrong text t first old next line root steps e m fit s n over =
-    fault_at text old next line (subst (λ (x : List ℕ). IsNextSaid x old next line) e n) (subst Begins (sym s) (steps_begin (said_before text first) root steps m fit))
-    (λ b. let r = steps_next (said_before text first) root steps line m (subst (λ (x : List (List ℕ)). Begins (x ++ line ∷ [])) s b) in over r.0 r.1 r.2)
+pub step_wrong : (text t : List ℕ) (first old next : ℕ) (line : List ℕ) (c : Configuration) (root : List Word) (steps : List Step) → t ≡ text → IsMarkedTop c (said_before text first) root → All StepFits steps → said_before text old ≡ said_before text first ++ map text_of_step steps → IsNextSaid t old next line → ((s : Step) → StepFits s → line ≢ text_of_step s) → IsFirstFault text next
+step_wrong text t first old next line c root steps e m fit s n over =
+    fault_at text old next line (subst (λ (x : List ℕ). IsNextSaid x old next line) e n) (subst Begins (sym s) (steps_begin c (said_before text first) root steps m fit))
+    (λ b. let r = steps_next c (said_before text first) root steps line m (subst (λ (x : List (List ℕ)). Begins (x ++ line ∷ [])) s b) in over r.0 r.1 r.2)
 
 pub step_right : (text t : List ℕ) (first old next : ℕ) (line : List ℕ) (steps : List Step) (step : Step) → t ≡ text → said_before text old ≡ said_before text first ++ map text_of_step steps → IsNextSaid t old next line → line ≡ text_of_step step → said_before text next ≡ said_before text first ++ map text_of_step (steps ++ step ∷ [])
 step_right text t first old next line steps step e s n same =

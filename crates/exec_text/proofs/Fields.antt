@@ -1,10 +1,11 @@
 -- A line has one first field, and a script one first word.
-use Rattle.std.proofs.Common.{◌≡◌, ◌≢◌, ℕ, ◌<◌, List, [], ◌∷◌, ◌++◌, refl, sym, ◌∙◌, arith, length}
+use Rattle.std.proofs.Common.{◌≡◌, ◌≢◌, ℕ, ◌<◌, List, [], ◌∷◌, ◌++◌, refl, sym, ap, ◌∙◌, arith, length, take, drop}
 use Rattle.std.proofs.Common.{Bool, true, false, not, eqb, eq-eqb, Option, Some, None, IfSome, IfNone}
 use Rattle.std.specs.Cmp.Lexicographic.{pointwise}
 use Rattle.std.proofs.lemmas.Bool.{false≢true, eqb-true}
 use Rattle.std.proofs.lemmas.Bool.Decides.{Decides-eqb}
-use Rattle.std.proofs.lemmas.List.{nil_from_length}
+use Rattle.std.proofs.lemmas.List.{nil_from_length, take-append-drop}
+use Rattle.std.proofs.Math.Seq.{take-append_seam}
 use Rattle.std.proofs.lemmas.Slice.Eq.{slice_eq-Decides}
 use Rattle.exec_text.specs.Reading.{IsCut, NoSpace, IsField}
 
@@ -56,3 +57,14 @@ told_other xs ys zs r h e t = told_unequal xs ys zs (pointwise eqb xs ys) refl e
 
 pub told_same : (xs ys zs : List ℕ) (r : Bool) → r ≡ not (pointwise eqb xs ys) → ys ≡ zs → r ≡ false → xs ≡ zs
 told_same xs ys zs r h e t = told_equal xs ys zs (pointwise eqb xs ys) refl e (not_false (pointwise eqb xs ys) (sym h ∙ t))
+
+-- what `strip_prefix` says of a prefix
+pub stripped : (s p q rest : List ℕ) → pointwise eqb (take (length p) s) p ≡ true → rest ≡ drop (length p) s → p ≡ q → s ≡ q ++ rest
+stripped s p q rest t e h =
+    sym (take-append-drop (length p) s) ∙ ap (λ (x : List ℕ). x ++ drop (length p) s) (told_equal (take (length p) s) p q (pointwise eqb (take (length p) s) p) refl h t)
+    ∙ ap (λ (x : List ℕ). q ++ x) (sym e)
+
+pub unstripped : (s p q rest : List ℕ) → pointwise eqb (take (length p) s) p ≡ false → p ≡ q → s ≢ q ++ rest
+unstripped s p q rest f h e =
+    let front : take (length p) s ≡ p = ap (take (length p)) (e ∙ ap (λ (x : List ℕ). x ++ rest) (sym h)) ∙ take-append_seam p rest in
+    told_unequal (take (length p) s) p p (pointwise eqb (take (length p) s) p) refl refl f front

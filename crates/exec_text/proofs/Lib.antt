@@ -1,5 +1,6 @@
 pub mod Fields
 pub mod Numbers
+pub mod Headers
 pub mod Begins
 pub mod Faults
 pub mod Said

@@ -1,15 +1,16 @@
--- The fields of a step line.
-use Rattle.std.proofs.Common.{◌≡◌, ◌≢◌, ℕ, ◌<◌, ◌^◌, List, [], ◌∷◌, ◌++◌, codes, decimal, refl, sym, ap, ◌∙◌, arith, get_or, drop}
+-- The parts of a step line.
+use Rattle.std.proofs.Common.{◌≡◌, ◌≢◌, ℕ, ◌<◌, ◌^◌, List, [], ◌∷◌, ◌++◌, codes, decimal, refl, sym, ap, ◌∙◌, arith, length, get_or, drop}
 use Rattle.std.proofs.lemmas.List.{append-nil}
+use Rattle.std.proofs.lemmas.Fmt.{decimal_injective}
 use Rattle.exec_outcomes.specs.declared.outcome.OpResult.{OpResult}
 use Rattle.exec_outcomes.specs.declared.outcome.OpResult.TheVariants.{Count, Errno}
 use Rattle.exec_outcomes.specs.Text.{text_of_result}
 use Rattle.exec_machine.specs.declared.step.Step.{Step}
-use Rattle.exec_machine.specs.declared.step.Step.TheVariants.{Work, Land}
+use Rattle.exec_machine.specs.declared.step.Step.TheVariants.{Work, Clock, Land, Stir}
 use Rattle.exec_machine.specs.Grammar.{text_of_step, StepFits, ResultFits}
-use Rattle.exec_text.specs.Reading.{NoSpace, IsField}
+use Rattle.exec_text.specs.Reading.{IsCut, NoSpace, IsField, IsNumber}
 use Rattle.exec_text.proofs.Fields.{field_same}
-use Rattle.exec_text.proofs.Numbers.{no_space_decimal, decimal_starts}
+use Rattle.exec_text.proofs.Numbers.{decimal_starts, number_one}
 
 pub errno_none : (bs code : List ℕ) → bs ≡ 45 ∷ code → ((n : ℕ) → 0 < n → n < 2 ^ 64 → code ≢ decimal n) → (o : OpResult) → ResultFits o → bs ≢ text_of_result o
 errno_none bs code h over (Count n) fits e =
@@ -17,97 +18,138 @@ errno_none bs code h over (Count n) fits e =
     let k : 45 ≡ get_or (decimal n) 0 0 = ap (λ (b : List ℕ). get_or b 0 0) (sym h ∙ e) in omega arith
 errno_none bs code h over (Errno n) fits e = over n fits.0 fits.1 (ap (drop 1) (sym h ∙ e))
 
--- the three parts of a step line
+-- a step line is a letter, a number and more
 abbrev pub letter : Step → List ℕ
 letter (Work worker count) = codes "w"
+letter (Clock by) = codes "c"
 letter (Land request result) = codes "k"
+letter (Stir worker) = codes "e"
 
-abbrev pub party_of : Step → List ℕ
-party_of (Work worker count) = decimal worker
-party_of (Land request result) = decimal request
+abbrev pub first_of : Step → ℕ
+first_of (Work worker count) = worker
+first_of (Clock by) = by
+first_of (Land request result) = request
+first_of (Stir worker) = worker
 
-abbrev pub what_of : Step → List ℕ
-what_of (Work worker count) = decimal count
-what_of (Land request result) = text_of_result result
+abbrev pub more_of : Step → List ℕ
+more_of (Work worker count) = 32 ∷ decimal count
+more_of (Clock by) = []
+more_of (Land request result) = 32 ∷ text_of_result result
+more_of (Stir worker) = []
 
-pub step_is : (s : Step) → text_of_step s ≡ letter s ++ 32 ∷ (party_of s ++ 32 ∷ what_of s)
+step_is : (s : Step) → text_of_step s ≡ letter s ++ 32 ∷ (decimal (first_of s) ++ more_of s)
 step_is (Work worker count) = refl
+step_is (Clock by) = ap (λ (t : List ℕ). codes "c " ++ t) (sym (append-nil (decimal by)))
 step_is (Land request result) = refl
+step_is (Stir worker) = ap (λ (t : List ℕ). codes "e " ++ t) (sym (append-nil (decimal worker)))
 
 letter_clean : (s : Step) → NoSpace (letter s)
 letter_clean (Work worker count) = (λ e. omega arith, tt)
+letter_clean (Clock by) = (λ e. omega arith, tt)
 letter_clean (Land request result) = (λ e. omega arith, tt)
+letter_clean (Stir worker) = (λ e. omega arith, tt)
 
-party_clean : (s : Step) → StepFits s → NoSpace (party_of s)
-party_clean (Work worker count) h = no_space_decimal worker h.0
-party_clean (Land request result) h = no_space_decimal request h.0
+first_small : (s : Step) → StepFits s → first_of s < 2 ^ 64
+first_small (Work worker count) h = h.0
+first_small (Clock by) h = h
+first_small (Land request result) h = h.0
+first_small (Stir worker) h = h
 
-result_clean : (o : OpResult) → ResultFits o → NoSpace (text_of_result o)
-result_clean (Count n) h = no_space_decimal n h
-result_clean (Errno n) h = (λ e. omega arith, no_space_decimal n h.1)
+more_cut : (s : Step) → IsCut (more_of s)
+more_cut (Work worker count) = refl
+more_cut (Clock by) = tt
+more_cut (Land request result) = refl
+more_cut (Stir worker) = tt
 
-what_clean : (s : Step) → StepFits s → NoSpace (what_of s)
-what_clean (Work worker count) h = no_space_decimal count h.2
-what_clean (Land request result) h = result_clean result h.1
+-- the line's letter, and what stands behind it
+pub letter_is : (line kind rest : List ℕ) (s : Step) → IsField line kind rest → line ≡ text_of_step s → (kind ≡ letter s) × (rest ≡ 32 ∷ (decimal (first_of s) ++ more_of s))
+letter_is line kind rest s f e = field_same line kind (letter s) rest _ f (record { spelled = e ∙ step_is s; no_space = letter_clean s; cut = refl })
 
--- a line that was cut twice, before `rest`
-pub record Cut (line kind party rest : List ℕ) : Type 0 where
+pub first_is : (line kind rest : List ℕ) (s : Step) → IsField line kind rest → StepFits s → line ≡ text_of_step s → IsNumber rest (first_of s) (more_of s)
+first_is line kind rest s f h e = record { spelled = (letter_is line kind rest s f e).1; small = first_small s h; cut = more_cut s }
+
+-- a line's letter, its first number and the rest
+pub record IsCutAt (line kind : List ℕ) (n : ℕ) (more : List ℕ) : Type 0 where
   pub tail : List ℕ
-  pub behind : List ℕ
-  pub first : IsField line kind tail
-  pub space : tail ≡ 32 ∷ behind
-  pub second : IsField behind party rest
+  pub field : IsField line kind tail
+  pub number : IsNumber tail n more
 
-pub cut_is : (line kind party rest : List ℕ) (c : Cut line kind party rest) → (s : Step) → StepFits s → line ≡ text_of_step s → (kind ≡ letter s) × (party ≡ party_of s) × (rest ≡ 32 ∷ what_of s)
-cut_is line kind party rest c s h e =
-    let a = field_same line kind (letter s) c.tail (32 ∷ (party_of s ++ 32 ∷ what_of s)) c.first (record { spelled = e ∙ step_is s; no_space = letter_clean s; cut = refl }) in
-    let t : 32 ∷ c.behind ≡ 32 ∷ (party_of s ++ 32 ∷ what_of s) = sym c.space ∙ a.1 in
-    let b = field_same c.behind party (party_of s) rest (32 ∷ what_of s) c.second (record { spelled = ap (drop 1) t; no_space = party_clean s h; cut = refl }) in
-    (a.0, b.0, b.1)
+pub cut_is : (line kind more : List ℕ) (n : ℕ) (s : Step) → IsCutAt line kind n more → StepFits s → line ≡ text_of_step s → (kind ≡ letter s) × (n ≡ first_of s) × (more ≡ more_of s)
+cut_is line kind more n s c h e =
+    let i = number_one c.tail more (more_of s) n (first_of s) c.number (first_is line kind c.tail s c.field h e) in
+    ((letter_is line kind c.tail s c.field e).0, i.0, i.1)
 
--- the line was cut a third time
-pub what_is : (line kind party rest behind what more : List ℕ) (c : Cut line kind party rest) → rest ≡ 32 ∷ behind → IsField behind what more → (s : Step) → StepFits s → line ≡ text_of_step s → (what ≡ what_of s) × (more ≡ [])
-what_is line kind party rest behind what more c space f s h e =
-    let a = cut_is line kind party rest c s h e in
-    let t : 32 ∷ behind ≡ 32 ∷ what_of s = sym space ∙ a.2 in
-    field_same behind what (what_of s) more [] f (record { spelled = ap (drop 1) t ∙ sym (append-nil (what_of s)); no_space = what_clean s h; cut = tt })
-
-pub cut_spelled : (line kind party rest behind what more : List ℕ) (c : Cut line kind party rest) → rest ≡ 32 ∷ behind → IsField behind what more → more ≡ [] → line ≡ kind ++ 32 ∷ (party ++ 32 ∷ what)
-cut_spelled line kind party rest behind what more c space f e =
-    let w : behind ≡ what = f.spelled ∙ ap (λ (m : List ℕ). what ++ m) e ∙ append-nil what in
-    c.first.spelled ∙ ap (λ (t : List ℕ). kind ++ t) c.space ∙ ap (λ (t : List ℕ). kind ++ 32 ∷ t) c.second.spelled
-    ∙ ap (λ (t : List ℕ). kind ++ 32 ∷ (party ++ t)) (space ∙ ap (λ (t : List ℕ). 32 ∷ t) w)
-
-pub letters : codes "w" ≢ codes "k"
-letters e = let m : ◌≡◌ {A = ℕ} 119 107 = ap (λ (b : List ℕ). get_or b 0 0) e in omega arith
-
-pub no_work : (line kind party rest behind what more : List ℕ) (c : Cut line kind party rest) → rest ≡ 32 ∷ behind → IsField behind what more → kind ≡ codes "w" → ((w n : ℕ) → w < 2 ^ 64 → 0 < n → n < 2 ^ 64 → party ≡ decimal w → what ≢ decimal n) → (s : Step) → StepFits s → line ≢ text_of_step s
-no_work line kind party rest behind what more c space f k over (Work w n) h e =
-    let s = Work w n in
-    over w n h.0 h.1 h.2 (cut_is line kind party rest c s h e).1 (what_is line kind party rest behind what more c space f s h e).0
-no_work line kind party rest behind what more c space f k over (Land r o) h e =
-    letters (sym k ∙ (cut_is line kind party rest c (Land r o) h e).0)
-
-pub no_landing : (line kind party rest behind what more : List ℕ) (c : Cut line kind party rest) → rest ≡ 32 ∷ behind → IsField behind what more → kind ≡ codes "k" → ((r : ℕ) (o : OpResult) → r < 2 ^ 64 → ResultFits o → party ≡ decimal r → what ≢ text_of_result o) → (s : Step) → StepFits s → line ≢ text_of_step s
-no_landing line kind party rest behind what more c space f k over (Work w n) h e =
-    letters (sym (cut_is line kind party rest c (Work w n) h e).0 ∙ k)
-no_landing line kind party rest behind what more c space f k over (Land r o) h e =
-    let s = Land r o in
-    over r o h.0 h.1 (cut_is line kind party rest c s h e).1 (what_is line kind party rest behind what more c space f s h e).0
-
-pub no_letter : (line kind party rest : List ℕ) (c : Cut line kind party rest) → kind ≢ codes "w" → kind ≢ codes "k" → (s : Step) → StepFits s → line ≢ text_of_step s
-no_letter line kind party rest c w k (Work a n) h e = w (cut_is line kind party rest c (Work a n) h e).0
-no_letter line kind party rest c w k (Land r o) h e = k (cut_is line kind party rest c (Land r o) h e).0
-
-pub cut_of : (line kind party rest tail : List ℕ) → IsField line kind tail → (x : List ℕ) × (tail ≡ 32 ∷ x) × IsField x party rest → Cut line kind party rest
-cut_of line kind party rest tail f p = record { tail = tail; behind = p.0; first = f; space = p.1; second = p.2 }
+pub cut_spelled : (line kind more : List ℕ) (n : ℕ) → IsCutAt line kind n more → line ≡ kind ++ 32 ∷ (decimal n ++ more)
+cut_spelled line kind more n c = c.field.spelled ∙ ap (λ (t : List ℕ). kind ++ t) c.number.spelled
 
 -- a step's line, cut
-pub cut_line : (s : Step) → StepFits s → Cut (text_of_step s) (letter s) (party_of s) (32 ∷ what_of s)
+cut_line : (s : Step) → StepFits s → IsCutAt (text_of_step s) (letter s) (first_of s) (more_of s)
 cut_line s h = record {
-  tail = 32 ∷ (party_of s ++ 32 ∷ what_of s);
-  behind = party_of s ++ 32 ∷ what_of s;
-  first = record { spelled = step_is s; no_space = letter_clean s; cut = refl };
-  space = refl;
-  second = record { spelled = refl; no_space = party_clean s h; cut = refl };
+  tail = 32 ∷ (decimal (first_of s) ++ more_of s);
+  field = record { spelled = step_is s; no_space = letter_clean s; cut = refl };
+  number = record { spelled = refl; small = first_small s h; cut = more_cut s };
 }
+
+-- which steps have which letter
+pub no_work : (kind more : List ℕ) (s : Step) → kind ≡ codes "w" → ((n : ℕ) → 0 < n → n < 2 ^ 64 → more ≢ 32 ∷ decimal n) → StepFits s → kind ≡ letter s → more ≢ more_of s
+no_work kind more (Work v n) k over h l e = over n h.1 h.2 e
+no_work kind more (Clock d) k over h l e = let x : ◌≡◌ {A = ℕ} 119 99 = ap (λ (b : List ℕ). get_or b 0 0) (sym k ∙ l) in omega arith
+no_work kind more (Land r o) k over h l e = let x : ◌≡◌ {A = ℕ} 119 107 = ap (λ (b : List ℕ). get_or b 0 0) (sym k ∙ l) in omega arith
+no_work kind more (Stir v) k over h l e = let x : ◌≡◌ {A = ℕ} 119 101 = ap (λ (b : List ℕ). get_or b 0 0) (sym k ∙ l) in omega arith
+
+pub no_landing : (kind more : List ℕ) (s : Step) → kind ≡ codes "k" → ((o : OpResult) → ResultFits o → more ≢ 32 ∷ text_of_result o) → StepFits s → kind ≡ letter s → more ≢ more_of s
+no_landing kind more (Work v n) k over h l e = let x : ◌≡◌ {A = ℕ} 107 119 = ap (λ (b : List ℕ). get_or b 0 0) (sym k ∙ l) in omega arith
+no_landing kind more (Clock d) k over h l e = let x : ◌≡◌ {A = ℕ} 107 99 = ap (λ (b : List ℕ). get_or b 0 0) (sym k ∙ l) in omega arith
+no_landing kind more (Land r o) k over h l e = over o h.1 e
+no_landing kind more (Stir v) k over h l e = let x : ◌≡◌ {A = ℕ} 107 101 = ap (λ (b : List ℕ). get_or b 0 0) (sym k ∙ l) in omega arith
+
+-- a line of another letter ends behind the number
+pub no_more : (kind more : List ℕ) (s : Step) → kind ≢ codes "w" → kind ≢ codes "k" → 0 < length more → kind ≡ letter s → more ≢ more_of s
+no_more kind more (Work v n) w k some l e = w l
+no_more kind more (Clock d) w k some l e = omega (arith, ap length e)
+no_more kind more (Land r o) w k some l e = k l
+no_more kind more (Stir v) w k some l e = omega (arith, ap length e)
+
+pub no_letter : (kind : List ℕ) (s : Step) → kind ≢ codes "w" → kind ≢ codes "k" → kind ≢ codes "c" → kind ≢ codes "e" → kind ≢ letter s
+no_letter kind (Work v n) w k d e l = w l
+no_letter kind (Clock by) w k d e l = d l
+no_letter kind (Land r o) w k d e l = k l
+no_letter kind (Stir v) w k d e l = e l
+
+-- a line of no step
+pub no_step : (line kind more : List ℕ) (n : ℕ) (s : Step) → IsCutAt line kind n more → (StepFits s → kind ≡ letter s → more ≢ more_of s) → StepFits s → line ≢ text_of_step s
+no_step line kind more n s c over h e = let i = cut_is line kind more n s c h e in over h i.0 i.2
+
+result_same : (a b : OpResult) → ResultFits a → ResultFits b → text_of_result a ≡ text_of_result b → a ≡ b
+result_same (Count m) (Count n) f g e = ap Count (decimal_injective m n f g e)
+result_same (Count m) (Errno n) f g e =
+    let q = decimal_starts m f in
+    let k : ◌≡◌ {A = ℕ} (get_or (decimal m) 0 0) 45 = ap (λ (b : List ℕ). get_or b 0 0) e in absurd (omega arith)
+result_same (Errno m) (Count n) f g e =
+    let q = decimal_starts n g in
+    let k : ◌≡◌ {A = ℕ} 45 (get_or (decimal n) 0 0) = ap (λ (b : List ℕ). get_or b 0 0) e in absurd (omega arith)
+result_same (Errno m) (Errno n) f g e = ap Errno (decimal_injective m n f.1 g.1 (ap (drop 1) e))
+
+-- A line is that of one step: the letters differ, and so do the parts of steps of one letter.
+parts_same : (s t : Step) → StepFits s → StepFits t → get_or (letter s) 0 0 ≡ get_or (letter t) 0 0 → first_of s ≡ first_of t → more_of s ≡ more_of t → s ≡ t
+parts_same (Work v n) (Work w m) f g l i e = ap (λ (x : ℕ). Work x n) i ∙ ap (λ (x : ℕ). Work w x) (decimal_injective n m f.2 g.2 (ap (drop 1) e))
+parts_same (Work v n) (Clock d) f g l i e = absurd (omega arith)
+parts_same (Work v n) (Land r o) f g l i e = absurd (omega arith)
+parts_same (Work v n) (Stir w) f g l i e = absurd (omega arith)
+parts_same (Clock c) (Work w m) f g l i e = absurd (omega arith)
+parts_same (Clock c) (Clock d) f g l i e = ap Clock i
+parts_same (Clock c) (Land r o) f g l i e = absurd (omega arith)
+parts_same (Clock c) (Stir w) f g l i e = absurd (omega arith)
+parts_same (Land q p) (Work w m) f g l i e = absurd (omega arith)
+parts_same (Land q p) (Clock d) f g l i e = absurd (omega arith)
+parts_same (Land q p) (Land r o) f g l i e = ap (λ (x : ℕ). Land x p) i ∙ ap (λ (x : OpResult). Land r x) (result_same p o f.1 g.1 (ap (drop 1) e))
+parts_same (Land q p) (Stir w) f g l i e = absurd (omega arith)
+parts_same (Stir v) (Work w m) f g l i e = absurd (omega arith)
+parts_same (Stir v) (Clock d) f g l i e = absurd (omega arith)
+parts_same (Stir v) (Land r o) f g l i e = absurd (omega arith)
+parts_same (Stir v) (Stir w) f g l i e = ap Stir i
+
+pub step_same : (s t : Step) → StepFits s → StepFits t → text_of_step s ≡ text_of_step t → s ≡ t
+step_same s t f g e =
+    let i = cut_is (text_of_step s) (letter s) (more_of s) (first_of s) t (cut_line s f) g e in
+    parts_same s t f g (ap (λ (b : List ℕ). get_or b 0 0) i.0) i.1 i.2

@@ -1,213 +1,297 @@
 -- The words of a script.
-use Rattle.std.proofs.Common.{◌≡◌, ◌≢◌, ℕ, ◌<◌, ◌≤◌, ◌^◌, suc, List, [], ◌∷◌, ◌++◌, All, codes, decimal, refl, sym, ap, ◌∙◌, subst, arith, length, get_or, drop, append_assoc, length-append}
+use Rattle.std.proofs.Common.{◌≡◌, ◌≢◌, ℕ, ◌<◌, ◌≤◌, ◌^◌, suc, cond, ◌==◌, List, [], ◌∷◌, ◌++◌, All, codes, decimal, refl, sym, ap, ◌∙◌, subst, arith, length, get_or, drop, append_assoc}
 use Rattle.std.proofs.Common.{Option, Some, None, Result, Ok, Err, IfOk, IfSome, IfNone}
-use Rattle.std.proofs.lemmas.List.{flat_map_more}
+use Rattle.std.proofs.lemmas.List.{flat_map_more, append-nil, append_cancel_left}
 use Rattle.std.proofs.lemmas.Fmt.{decimal_injective}
+use Rattle.exec_machine.specs.declared.config.Configuration.{Configuration}
 use Rattle.exec_machine.specs.declared.config.Word.{Word}
-use Rattle.exec_machine.specs.declared.config.Word.TheVariants.{Send, Await, End}
-use Rattle.exec_machine.specs.Grammar.{the_config, text_of_word, text_of_words, WordFits}
-use Rattle.exec_text.specs.Reading.{IsCut, NoSpace, IsField, IsWord, IsRoot}
+use Rattle.exec_machine.specs.declared.config.Word.TheVariants.{Send, Poll, Await, Drop, Sleep, Yield, End, Fault}
+use Rattle.exec_machine.specs.Grammar.{text_of_word, text_of_words, WordFits}
+use Rattle.exec_text.specs.Reading.{IsCut, NoSpace, IsField, IsNumber, IsWord, IsRoot}
 use Rattle.exec_text.proofs.Fields.{cut_same, field_same}
-use Rattle.exec_text.proofs.Numbers.{no_space_decimal}
+use Rattle.exec_text.proofs.Numbers.{spaced, AllSmall, spaced_cut, spaced_same, front_number, number_one, no_space_decimal}
 
+-- a word is a name and numbers
 abbrev pub name_of : Word → List ℕ
 name_of (Send socket size) = codes "send"
+name_of (Poll listener) = codes "poll"
 name_of Await = codes "await"
+name_of Drop = codes "drop"
+name_of (Sleep time) = codes "sleep"
+name_of Yield = codes "yield"
 name_of End = codes "end"
+name_of (Fault code) = codes "fault"
 
-abbrev pub after_name : Word → List ℕ → List ℕ
-after_name (Send socket size) rest = 32 ∷ (decimal socket ++ 32 ∷ (decimal size ++ rest))
-after_name Await rest = rest
-after_name End rest = rest
+abbrev pub numbers_of : Word → List ℕ
+numbers_of (Send socket size) = socket ∷ size ∷ []
+numbers_of (Poll listener) = listener ∷ []
+numbers_of (Sleep time) = time ∷ []
+numbers_of (Fault code) = code ∷ []
+numbers_of Await = []
+numbers_of Drop = []
+numbers_of Yield = []
+numbers_of End = []
 
-word_is : (word : Word) (rest : List ℕ) → text_of_word word ++ rest ≡ name_of word ++ after_name word rest
+pub word_is : (word : Word) (rest : List ℕ) → text_of_word word ++ rest ≡ name_of word ++ spaced (numbers_of word) rest
 word_is (Send socket size) rest = ap (λ (t : List ℕ). codes "send " ++ t) (append_assoc (decimal socket) (32 ∷ decimal size) rest)
+word_is (Poll listener) rest = refl
 word_is Await rest = refl
+word_is Drop rest = refl
+word_is (Sleep time) rest = refl
+word_is Yield rest = refl
 word_is End rest = refl
+word_is (Fault code) rest = refl
+
+-- which are its own: the second letters of the names differ
+abbrev pub word_from : List ℕ → List ℕ → Word
+word_from name ns = by_letter (get_or name 1 0) (get_or ns 0 0) (get_or ns 1 0)
+  where
+    by_letter : ℕ → ℕ → ℕ → Word
+    by_letter l a b =
+        cond (l == 101) (Send a b)
+        (cond (l == 111) (Poll a) (cond (l == 119) Await (cond (l == 114) Drop (cond (l == 108) (Sleep a) (cond (l == 105) Yield (cond (l == 110) End (Fault a)))))))
+
+pub word_again : (word : Word) → word_from (name_of word) (numbers_of word) ≡ word
+word_again (Send socket size) = refl
+word_again (Poll listener) = refl
+word_again Await = refl
+word_again Drop = refl
+word_again (Sleep time) = refl
+word_again Yield = refl
+word_again End = refl
+word_again (Fault code) = refl
+
+-- a name says how many numbers come
+count_again : (word : Word) → length (numbers_of (word_from (name_of word) [])) ≡ length (numbers_of word)
+count_again (Send socket size) = refl
+count_again (Poll listener) = refl
+count_again Await = refl
+count_again Drop = refl
+count_again (Sleep time) = refl
+count_again Yield = refl
+count_again End = refl
+count_again (Fault code) = refl
+
+same_count : (v w : Word) → name_of v ≡ name_of w → length (numbers_of v) ≡ length (numbers_of w)
+same_count v w e = sym (count_again v) ∙ ap (λ (n : List ℕ). length (numbers_of (word_from n []))) e ∙ count_again w
 
 name_clean : (word : Word) → NoSpace (name_of word)
 name_clean (Send socket size) = (λ e. omega arith, (λ e. omega arith, (λ e. omega arith, (λ e. omega arith, tt))))
+name_clean (Poll listener) = (λ e. omega arith, (λ e. omega arith, (λ e. omega arith, (λ e. omega arith, tt))))
 name_clean Await = (λ e. omega arith, (λ e. omega arith, (λ e. omega arith, (λ e. omega arith, (λ e. omega arith, tt)))))
+name_clean Drop = (λ e. omega arith, (λ e. omega arith, (λ e. omega arith, (λ e. omega arith, tt))))
+name_clean (Sleep time) = (λ e. omega arith, (λ e. omega arith, (λ e. omega arith, (λ e. omega arith, (λ e. omega arith, tt)))))
+name_clean Yield = (λ e. omega arith, (λ e. omega arith, (λ e. omega arith, (λ e. omega arith, (λ e. omega arith, tt)))))
 name_clean End = (λ e. omega arith, (λ e. omega arith, (λ e. omega arith, tt)))
+name_clean (Fault code) = (λ e. omega arith, (λ e. omega arith, (λ e. omega arith, (λ e. omega arith, (λ e. omega arith, tt)))))
 
-after_cut : (word : Word) (rest : List ℕ) → IsCut rest → IsCut (after_name word rest)
-after_cut (Send socket size) rest h = refl
-after_cut Await rest h = h
-after_cut End rest h = h
+numbers_small : (c : Configuration) (word : Word) → c.sockets < 2 ^ 64 → WordFits c word → AllSmall (numbers_of word)
+numbers_small c (Send socket size) s h =
+    let l : socket < c.sockets = h.0 in
+    let m : size ≤ 1048576 = h.2 in (omega arith, (omega arith, tt))
+numbers_small c (Poll listener) s h = (omega arith, tt)
+numbers_small c Await s h = tt
+numbers_small c Drop s h = tt
+numbers_small c (Sleep time) s h = (h, tt)
+numbers_small c Yield s h = tt
+numbers_small c End s h = tt
+numbers_small c (Fault code) s h = (h, tt)
 
 -- the name of the word at the front
-pub name_is : (bs behind name rest r : List ℕ) (word : Word) → bs ≡ 32 ∷ behind → IsField behind name rest → IsWord bs word r → (name ≡ name_of word) × (rest ≡ after_name word r)
-name_is bs behind name rest r word space f w =
+pub name_is : (c : Configuration) (bs behind name rest r : List ℕ) (word : Word) → bs ≡ 32 ∷ behind → IsField behind name rest → IsWord c bs word r → (name ≡ name_of word) × (rest ≡ spaced (numbers_of word) r)
+name_is c bs behind name rest r word space f w =
     let t : 32 ∷ behind ≡ 32 ∷ (text_of_word word ++ r) = sym space ∙ w.spelled in
-    field_same behind name (name_of word) rest (after_name word r) f (record { spelled = ap (drop 1) t ∙ word_is word r; no_space = name_clean word; cut = after_cut word r w.cut })
+    field_same behind name (name_of word) rest (spaced (numbers_of word) r) f
+    (record { spelled = ap (drop 1) t ∙ word_is word r; no_space = name_clean word; cut = spaced_cut (numbers_of word) r w.cut })
 
-pub word_from_name : (bs behind name rest : List ℕ) (word : Word) → bs ≡ 32 ∷ behind → IsField behind name rest → name ≡ text_of_word word → WordFits the_config word → IsWord bs word rest
-word_from_name bs behind name rest word space f e fits = record {
-  spelled = space ∙ ap (λ (t : List ℕ). 32 ∷ t) (f.spelled ∙ ap (λ (n : List ℕ). n ++ rest) e);
-  fits = fits;
-  cut = f.cut;
-}
+pub word_moved : (c : Configuration) (a b r : List ℕ) (word : Word) → a ≡ b → IsWord c a word r → IsWord c b word r
+word_moved c a b r word e w = record { spelled = sym e ∙ w.spelled; fits = w.fits; cut = w.cut }
 
-pub no_word : (bs r : List ℕ) (word : Word) → ((behind : List ℕ) → bs ≢ 32 ∷ behind) → IsWord bs word r → ⊥
-no_word bs r word over w = over (text_of_word word ++ r) w.spelled
+-- a word of a name alone
+plain_is : (w : Word) → numbers_of w ≡ [] → text_of_word w ≡ name_of w
+plain_is w e = sym (append-nil (text_of_word w)) ∙ word_is w [] ∙ ap (λ (ns : List ℕ). name_of w ++ spaced ns []) e ∙ append-nil (name_of w)
 
-pub no_name : (bs behind name rest r : List ℕ) (word : Word) → bs ≡ 32 ∷ behind → IsField behind name rest → name ≢ codes "await" → name ≢ codes "end" → name ≢ codes "send" → IsWord bs word r → ⊥
-no_name bs behind name rest r (Send s n) space f a e d w = d (name_is bs behind name rest r (Send s n) space f w).0
-no_name bs behind name rest r Await space f a e d w = a (name_is bs behind name rest r Await space f w).0
-no_name bs behind name rest r End space f a e d w = e (name_is bs behind name rest r End space f w).0
+-- a word of a name and one number
+one_is : (w : Word) (n : ℕ) → numbers_of w ≡ n ∷ [] → text_of_word w ≡ name_of w ++ 32 ∷ decimal n
+one_is w n e =
+    sym (append-nil (text_of_word w)) ∙ word_is w [] ∙ ap (λ (ns : List ℕ). name_of w ++ spaced ns []) e
+    ∙ ap (λ (t : List ℕ). name_of w ++ 32 ∷ t) (append-nil (decimal n))
 
-pub send_whole : (bs behind name rest : List ℕ) → bs ≡ 32 ∷ behind → IsField behind name rest → name ≡ codes "send" → 32 ∷ codes "send" ++ rest ≡ bs
-send_whole bs behind name rest space f e = sym (space ∙ ap (λ (t : List ℕ). 32 ∷ t) (f.spelled ∙ ap (λ (n : List ℕ). n ++ rest) e))
+two_is : (w : Word) → 2 ≤ length (numbers_of w) → name_of w ≡ codes "send"
+two_is (Send s n) h = refl
+two_is (Poll l) h = absurd (omega arith)
+two_is Await h = absurd (omega arith)
+two_is Drop h = absurd (omega arith)
+two_is (Sleep d) h = absurd (omega arith)
+two_is Yield h = absurd (omega arith)
+two_is End h = absurd (omega arith)
+two_is (Fault n) h = absurd (omega arith)
 
-pub word_moved : (a b r : List ℕ) (word : Word) → a ≡ b → IsWord a word r → IsWord b word r
-word_moved a b r word e w = record { spelled = sym e ∙ w.spelled; fits = w.fits; cut = w.cut }
+send_named : (w : Word) → name_of w ≡ codes "send" → w ≡ Send (get_or (numbers_of w) 0 0) (get_or (numbers_of w) 1 0)
+send_named w e = sym (word_again w) ∙ ap (λ (n : List ℕ). word_from n (numbers_of w)) e
 
-pub no_send : (bs behind name rest r : List ℕ) (word : Word) → bs ≡ 32 ∷ behind → IsField behind name rest → name ≡ codes "send" → ((socket size : ℕ) (r : List ℕ) → IsWord (32 ∷ codes "send" ++ rest) (Send socket size) r → ⊥) → IsWord bs word r → ⊥
-no_send bs behind name rest r (Send s n) space f e over w = over s n r (word_moved bs (32 ∷ codes "send" ++ rest) r (Send s n) (sym (send_whole bs behind name rest space f e)) w)
-no_send bs behind name rest r Await space f e over w = let k : ◌≡◌ {A = ℕ} 115 97 = ap (λ (b : List ℕ). get_or b 0 0) (sym e ∙ (name_is bs behind name rest r Await space f w).0) in omega arith
-no_send bs behind name rest r End space f e over w = let k : ◌≡◌ {A = ℕ} 115 101 = ap (λ (b : List ℕ). get_or b 0 0) (sym e ∙ (name_is bs behind name rest r End space f w).0) in omega arith
+-- no word at the front: no name alone, and no number behind it
+pub no_first : (c : Configuration) (bs behind name rest r : List ℕ) (w : Word) → c.sockets < 2 ^ 64 → bs ≡ 32 ∷ behind → IsField behind name rest → ((v : Word) → name ≢ text_of_word v) → ((n : ℕ) (t : List ℕ) → IsNumber rest n t → ⊥) → IsWord c bs w r → ⊥
+no_first c bs behind name rest r w small space f plain over h =
+    let n = name_is c bs behind name rest r w space f h in
+    go (numbers_of w) refl n.0 n.1 (numbers_small c w small h.fits)
+  where
+    go : (ns : List ℕ) → numbers_of w ≡ ns → name ≡ name_of w → rest ≡ spaced (numbers_of w) r → AllSmall (numbers_of w) → ⊥
+    go [] e a b s = plain w (a ∙ sym (plain_is w e))
+    go (m ∷ ms) e a b s = over m (spaced ms r) (front_number rest m ms r (b ∙ ap (λ (x : List ℕ). spaced x r) e) (subst AllSmall e s).0 h.cut)
 
--- the numbers of a send
-pub send_rest : (bs r : List ℕ) (s n : ℕ) → IsWord (32 ∷ codes "send" ++ bs) (Send s n) r → bs ≡ 32 ∷ (decimal s ++ 32 ∷ (decimal n ++ r))
-send_rest bs r s n w = ap (drop 5) (w.spelled ∙ ap (λ (t : List ℕ). 32 ∷ t) (word_is (Send s n) r))
+-- no word at the front: neither a name alone nor one with the number behind it, nor a send
+pub no_numbered : (c : Configuration) (bs behind name rest t r : List ℕ) (n : ℕ) (w : Word) → c.sockets < 2 ^ 64 → bs ≡ 32 ∷ behind → IsField behind name rest → ((v : Word) → name ≢ text_of_word v) → IsNumber rest n t → name ≢ codes "send" → ((v : Word) → WordFits c v → name ++ 32 ∷ decimal n ≢ text_of_word v) → IsWord c bs w r → ⊥
+no_numbered c bs behind name rest t r n w small space f plain number send over h =
+    let k = name_is c bs behind name rest r w space f h in
+    go (numbers_of w) refl k.0 k.1 (numbers_small c w small h.fits)
+  where
+    go : (ns : List ℕ) → numbers_of w ≡ ns → name ≡ name_of w → rest ≡ spaced (numbers_of w) r → AllSmall (numbers_of w) → ⊥
+    go [] e a b s = plain w (a ∙ sym (plain_is w e))
+    go (m ∷ []) e a b s =
+        let i = number_one rest t r n m number (front_number rest m [] r (b ∙ ap (λ (x : List ℕ). spaced x r) e) (subst AllSmall e s).0 h.cut) in
+        over w h.fits (ap (λ (x : List ℕ). x ++ 32 ∷ decimal n) a ∙ ap (λ (x : ℕ). name_of w ++ 32 ∷ decimal x) i.0 ∙ sym (one_is w m e))
+    go (m ∷ k ∷ ms) e a b s = send (a ∙ two_is w (omega (arith, ap length e)))
 
-pub socket_is : (bs behind field rest r : List ℕ) (s n : ℕ) → bs ≡ 32 ∷ behind → IsField behind field rest → IsWord (32 ∷ codes "send" ++ bs) (Send s n) r → (field ≡ decimal s) × (rest ≡ 32 ∷ (decimal n ++ r))
-socket_is bs behind field rest r s n space f w =
-    let h : s < 1 = w.fits.0 in
-    let t : 32 ∷ behind ≡ 32 ∷ (decimal s ++ 32 ∷ (decimal n ++ r)) = sym space ∙ send_rest bs r s n w in
-    field_same behind field (decimal s) rest (32 ∷ (decimal n ++ r)) f (record { spelled = ap (drop 1) t; no_space = no_space_decimal s (omega arith); cut = refl })
+-- no word at the front: its name is that of a send, and its first number was read
+pub no_send : (c : Configuration) (bs behind name rest t r : List ℕ) (n : ℕ) (w : Word) → c.sockets < 2 ^ 64 → bs ≡ 32 ∷ behind → IsField behind name rest → IsNumber rest n t → name ≡ codes "send" → ((size : ℕ) (u : List ℕ) → IsWord c (32 ∷ codes "send " ++ decimal n ++ t) (Send n size) u → ⊥) → IsWord c bs w r → ⊥
+no_send c bs behind name rest t r n w small space f number e over h =
+    let a = get_or (numbers_of w) 0 0 in
+    let b = get_or (numbers_of w) 1 0 in
+    let g : IsWord c bs (Send a b) r = subst (λ (x : Word). IsWord c bs x r) (send_named w (sym (name_is c bs behind name rest r w space f h).0 ∙ e)) h in
+    let k = name_is c bs behind name rest r (Send a b) space f g in
+    let i = number_one rest t (spaced (b ∷ []) r) n a number (front_number rest a (b ∷ []) r k.1 (numbers_small c (Send a b) small g.fits).0 g.cut) in
+    over b r (record {
+      spelled = ap (λ (x : List ℕ). 32 ∷ codes "send " ++ decimal n ++ x) i.1 ∙ sym (ap (λ (x : List ℕ). 32 ∷ x) (word_is (Send n b) r));
+      fits = subst (λ (x : ℕ). WordFits c (Send x b)) (sym i.0) g.fits;
+      cut = g.cut;
+    })
 
-pub length_is : (bs behind field rest behind₂ field₂ rest₂ r : List ℕ) (s n : ℕ) → bs ≡ 32 ∷ behind → IsField behind field rest → rest ≡ 32 ∷ behind₂ → IsField behind₂ field₂ rest₂ → IsWord (32 ∷ codes "send" ++ bs) (Send s n) r → (field₂ ≡ decimal n) × (rest₂ ≡ r)
-length_is bs behind field rest behind₂ field₂ rest₂ r s n space f space₂ f₂ w =
-    let h : n ≤ 1048576 = w.fits.2 in
-    let a = socket_is bs behind field rest r s n space f w in
-    let t : 32 ∷ behind₂ ≡ 32 ∷ (decimal n ++ r) = sym space₂ ∙ a.1 in
-    field_same behind₂ field₂ (decimal n) rest₂ r f₂ (record { spelled = ap (drop 1) t; no_space = no_space_decimal n (omega arith); cut = w.cut })
-
-pub send_is : (bs behind field rest behind₂ field₂ rest₂ : List ℕ) (s n : ℕ) → bs ≡ 32 ∷ behind → IsField behind field rest → rest ≡ 32 ∷ behind₂ → IsField behind₂ field₂ rest₂ → field ≡ decimal s → field₂ ≡ decimal n → s < 1 → 0 < n → n ≤ 1048576 → IsWord (32 ∷ codes "send" ++ bs) (Send s n) rest₂
-send_is bs behind field rest behind₂ field₂ rest₂ s n space f space₂ f₂ e e₂ small some most =
-    let a : behind ≡ decimal s ++ 32 ∷ (decimal n ++ rest₂) = f.spelled ∙ ap (λ (t : List ℕ). t ++ rest) e ∙ ap (λ (t : List ℕ). decimal s ++ t) (space₂ ∙ ap (λ (t : List ℕ). 32 ∷ t) (f₂.spelled ∙ ap (λ (t : List ℕ). t ++ rest₂) e₂)) in
+-- the length of a send
+pub send_length : (c : Configuration) (bs r : List ℕ) (s n : ℕ) → IsWord c (32 ∷ codes "send " ++ decimal s ++ bs) (Send s n) r → IsNumber bs n r
+send_length c bs r s n w =
+    let m : n ≤ 1048576 = w.fits.2 in
     record {
-      spelled = ap (λ (t : List ℕ). 32 ∷ codes "send" ++ t) (space ∙ ap (λ (t : List ℕ). 32 ∷ t) a) ∙ sym (ap (λ (t : List ℕ). 32 ∷ t) (word_is (Send s n) rest₂));
-      fits = (small, some, most);
-      cut = f₂.cut;
+      spelled = append_cancel_left (decimal s) _ _ (ap (drop 6) (w.spelled ∙ ap (λ (x : List ℕ). 32 ∷ x) (word_is (Send s n) r)));
+      small = omega arith;
+      cut = w.cut;
     }
 
-pub send_bounds : (field field₂ : List ℕ) (x y s n : ℕ) → field ≡ decimal x → field₂ ≡ decimal y → x < 2 ^ 64 → y < 2 ^ 64 → field ≡ decimal s → field₂ ≡ decimal n → WordFits the_config (Send s n) → (x < 1) × (0 < y) × (y ≤ 1048576)
-send_bounds field field₂ x y s n a b hx hy e e₂ w =
-    let h0 : s < 1 = w.0 in
-    let h1 : 0 < n = w.1 in
-    let h2 : n ≤ 1048576 = w.2 in
-    let i : x ≡ s = decimal_injective x s hx (omega arith) (sym a ∙ e) in
-    let j : y ≡ n = decimal_injective y n hy (omega arith) (sym b ∙ e₂) in
-    (omega arith, omega arith, omega arith)
+-- a name and one number
+numbered_is : (name : List ℕ) (n : ℕ) (w : Word) → NoSpace name → name ++ 32 ∷ decimal n ≡ text_of_word w → (name ≡ name_of w) × (32 ∷ decimal n ≡ spaced (numbers_of w) [])
+numbered_is name n w clean e =
+    field_same (text_of_word w) name (name_of w) (32 ∷ decimal n) (spaced (numbers_of w) [])
+    (record { spelled = sym e; no_space = clean; cut = refl })
+    (record { spelled = sym (append-nil (text_of_word w)) ∙ word_is w []; no_space = name_clean w; cut = spaced_cut (numbers_of w) [] tt })
+
+same_number : (n m : ℕ) → n < 2 ^ 64 → m < 2 ^ 64 → 32 ∷ decimal n ≡ spaced (m ∷ []) [] → n ≡ m
+same_number n m a b e = decimal_injective n m a b (ap (drop 1) e ∙ append-nil (decimal m))
+
+two_numbers : (n a b : ℕ) → n < 2 ^ 64 → a < 2 ^ 64 → 32 ∷ decimal n ≢ spaced (a ∷ b ∷ []) []
+two_numbers n a b x y e =
+    let k = (cut_same (decimal n) (decimal a) [] (spaced (b ∷ []) []) (no_space_decimal n x) (no_space_decimal a y) tt refl (append-nil (decimal n) ∙ ap (drop 1) e)).1 in cc
+
+pub no_one_number : (c : Configuration) (name : List ℕ) (n : ℕ) → NoSpace name → n < 2 ^ 64 → c.sockets < 2 ^ 64 → name ≢ codes "sleep" → name ≢ codes "fault" → (name ≡ codes "poll" → c.sockets ≤ n) → (w : Word) → WordFits c w → name ++ 32 ∷ decimal n ≢ text_of_word w
+no_one_number c name n clean small sockets sleep fault poll (Send s k) h e =
+    let l : s < c.sockets = h.0 in two_numbers n s k small (omega arith) (numbered_is name n (Send s k) clean e).1
+no_one_number c name n clean small sockets sleep fault poll (Poll l) h e =
+    let i = numbered_is name n (Poll l) clean e in
+    let j : n ≡ l = same_number n l small (omega arith) i.1 in
+    let k : c.sockets ≤ n = poll i.0 in omega arith
+no_one_number c name n clean small sockets sleep fault poll Await h e = let i = (numbered_is name n Await clean e).1 in cc
+no_one_number c name n clean small sockets sleep fault poll Drop h e = let i = (numbered_is name n Drop clean e).1 in cc
+no_one_number c name n clean small sockets sleep fault poll (Sleep d) h e = sleep (numbered_is name n (Sleep d) clean e).0
+no_one_number c name n clean small sockets sleep fault poll Yield h e = let i = (numbered_is name n Yield clean e).1 in cc
+no_one_number c name n clean small sockets sleep fault poll End h e = let i = (numbered_is name n End clean e).1 in cc
+no_one_number c name n clean small sockets sleep fault poll (Fault k) h e = fault (numbered_is name n (Fault k) clean e).0
 
 -- A word at the front leaves one rest.
-pub rest_same : (bs r t : List ℕ) (v w : Word) → IsWord bs v r → IsWord bs w t → (v ≡ w) × (r ≡ t)
-rest_same bs r t (Send s n) (Send p m) a b =
-    let f0 : IsField (text_of_word (Send s n) ++ r) (codes "send") (after_name (Send s n) r) = record { spelled = word_is (Send s n) r; no_space = name_clean (Send s n); cut = refl } in
-    let e = (name_is bs (text_of_word (Send s n) ++ r) (codes "send") (after_name (Send s n) r) t (Send p m) a.spelled f0 b).1 in
-    let hs : s < 1 = a.fits.0 in
-    let hp : p < 1 = b.fits.0 in
-    let hn : n ≤ 1048576 = a.fits.2 in
-    let hm : m ≤ 1048576 = b.fits.2 in
-    let x = cut_same (decimal s) (decimal p) (32 ∷ (decimal n ++ r)) (32 ∷ (decimal m ++ t)) (no_space_decimal s (omega arith)) (no_space_decimal p (omega arith)) refl refl (ap (drop 1) e) in
-    let y = cut_same (decimal n) (decimal m) r t (no_space_decimal n (omega arith)) (no_space_decimal m (omega arith)) a.cut b.cut (ap (drop 1) x.1) in
-    let i : s ≡ p = omega arith in
-    let j : n ≡ m = decimal_injective n m (omega arith) (omega arith) y.0 in
-    (ap (λ (k : ℕ). Send k n) i ∙ ap (λ (k : ℕ). Send p k) j, y.1)
-rest_same bs r t (Send s n) Await a b =
-    let e : (115 ∷ 101 ∷ 110 ∷ 100 ∷ after_name (Send s n) r) ≡ codes "await" ++ t = sym (word_is (Send s n) r) ∙ ap (drop 1) (sym a.spelled ∙ b.spelled) in
-    let m : ◌≡◌ {A = ℕ} 115 97 = ap (λ (b : List ℕ). get_or b 0 0) e in absurd (omega arith)
-rest_same bs r t (Send s n) End a b =
-    let e : (115 ∷ 101 ∷ 110 ∷ 100 ∷ after_name (Send s n) r) ≡ codes "end" ++ t = sym (word_is (Send s n) r) ∙ ap (drop 1) (sym a.spelled ∙ b.spelled) in
-    let m : ◌≡◌ {A = ℕ} 115 101 = ap (λ (b : List ℕ). get_or b 0 0) e in absurd (omega arith)
-rest_same bs r t Await (Send p m) a b =
-    let e : codes "await" ++ r ≡ (115 ∷ 101 ∷ 110 ∷ 100 ∷ after_name (Send p m) t) = ap (drop 1) (sym a.spelled ∙ b.spelled) ∙ word_is (Send p m) t in
-    let m : ◌≡◌ {A = ℕ} 97 115 = ap (λ (b : List ℕ). get_or b 0 0) e in absurd (omega arith)
-rest_same bs r t Await Await a b = (refl, ap (drop 6) (sym a.spelled ∙ b.spelled))
-rest_same bs r t Await End a b = let e : codes "await" ++ r ≡ codes "end" ++ t = ap (drop 1) (sym a.spelled ∙ b.spelled) in
-    let m : ◌≡◌ {A = ℕ} 97 101 = ap (λ (b : List ℕ). get_or b 0 0) e in absurd (omega arith)
-rest_same bs r t End (Send p m) a b =
-    let e : codes "end" ++ r ≡ (115 ∷ 101 ∷ 110 ∷ 100 ∷ after_name (Send p m) t) = ap (drop 1) (sym a.spelled ∙ b.spelled) ∙ word_is (Send p m) t in
-    let m : ◌≡◌ {A = ℕ} 101 115 = ap (λ (b : List ℕ). get_or b 0 0) e in absurd (omega arith)
-rest_same bs r t End Await a b = let e : codes "end" ++ r ≡ codes "await" ++ t = ap (drop 1) (sym a.spelled ∙ b.spelled) in
-    let m : ◌≡◌ {A = ℕ} 101 97 = ap (λ (b : List ℕ). get_or b 0 0) e in absurd (omega arith)
-rest_same bs r t End End a b = (refl, ap (drop 4) (sym a.spelled ∙ b.spelled))
+pub rest_same : (c : Configuration) (bs r t : List ℕ) (v w : Word) → c.sockets < 2 ^ 64 → IsWord c bs v r → IsWord c bs w t → (v ≡ w) × (r ≡ t)
+rest_same c bs r t v w small a b =
+    let f : IsField (text_of_word v ++ r) (name_of v) (spaced (numbers_of v) r) = record { spelled = word_is v r; no_space = name_clean v; cut = spaced_cut (numbers_of v) r a.cut } in
+    let n = name_is c bs (text_of_word v ++ r) (name_of v) (spaced (numbers_of v) r) t w a.spelled f b in
+    let s = spaced_same (numbers_of v) (numbers_of w) r t (same_count v w n.0) (numbers_small c v small a.fits) (numbers_small c w small b.fits) a.cut b.cut n.1 in
+    (sym (word_again v) ∙ ap (λ (x : List ℕ). word_from x (numbers_of v)) n.0 ∙ ap (λ (x : List ℕ). word_from (name_of w) x) s.0 ∙ word_again w, s.1)
 
 pub words_cut : (ws : List Word) → IsCut (text_of_words ws)
 words_cut [] = tt
 words_cut (w ∷ ws) = refl
 
-abbrev pub AllFit : List Word → Type 0
-AllFit ws = All (WordFits the_config) ws
+abbrev pub AllFit : Configuration → List Word → Type 0
+AllFit c ws = All (WordFits c) ws
 
-head_fits : (w : Word) (ws : List Word) → AllFit (w ∷ ws) → WordFits the_config w
-head_fits w ws h = h 0 w (omega arith)
+head_fits : (c : Configuration) (w : Word) (ws : List Word) → AllFit c (w ∷ ws) → WordFits c w
+head_fits c w ws h = h 0 w (omega arith)
 
-tail_fits : (w : Word) (ws : List Word) → AllFit (w ∷ ws) → AllFit ws
-tail_fits w ws h = λ k d l. h (suc k) d (omega arith)
+tail_fits : (c : Configuration) (w : Word) (ws : List Word) → AllFit c (w ∷ ws) → AllFit c ws
+tail_fits c w ws h = λ k d l. h (suc k) d (omega arith)
 
-pub front_word : (w : Word) (ws : List Word) → AllFit (w ∷ ws) → IsWord (text_of_words (w ∷ ws)) w (text_of_words ws)
-front_word w ws h = record { spelled = refl; fits = head_fits w ws h; cut = words_cut ws }
+pub front_word : (c : Configuration) (w : Word) (ws : List Word) → AllFit c (w ∷ ws) → IsWord c (text_of_words (w ∷ ws)) w (text_of_words ws)
+front_word c w ws h = record { spelled = refl; fits = head_fits c w ws h; cut = words_cut ws }
 
 -- Words that fit and spell the rest.
-abbrev pub HasWords : List ℕ → Type 0
-HasWords rest = (ws : List Word) × AllFit ws × (rest ≡ text_of_words ws)
+abbrev pub HasWords : Configuration → List ℕ → Type 0
+HasWords c rest = (ws : List Word) × AllFit c ws × (rest ≡ text_of_words ws)
 
-pub words_past : (rest after : List ℕ) (w : Word) → IsWord rest w after → HasWords rest → HasWords after
-words_past rest after w h x = past x.0 x.1 x.2
+pub words_past : (c : Configuration) (rest after : List ℕ) (w : Word) → c.sockets < 2 ^ 64 → IsWord c rest w after → HasWords c rest → HasWords c after
+words_past c rest after w small h x = past x.0 x.1 x.2
   where
-    past : (ws : List Word) → AllFit ws → rest ≡ text_of_words ws → HasWords after
+    past : (ws : List Word) → AllFit c ws → rest ≡ text_of_words ws → HasWords c after
     past [] fit e = let k : [] ≡ 32 ∷ (text_of_word w ++ after) = sym e ∙ h.spelled in cc
-    past (v ∷ vs) fit e = (vs, tail_fits v vs fit, (rest_same rest after (text_of_words vs) w v h (word_moved (text_of_words (v ∷ vs)) rest (text_of_words vs) v (sym e) (front_word v vs fit))).1)
+    past (v ∷ vs) fit e = (vs, tail_fits c v vs fit, (rest_same c rest after (text_of_words vs) w v small h (word_moved c (text_of_words (v ∷ vs)) rest (text_of_words vs) v (sym e) (front_word c v vs fit))).1)
 
-pub no_words : (rest : List ℕ) → 0 < length rest → ((w : Word) (r : List ℕ) → IsWord rest w r → ⊥) → HasWords rest → ⊥
-no_words rest some over x = none x.0 x.1 x.2
+pub no_words : (c : Configuration) (rest : List ℕ) → 0 < length rest → ((w : Word) (r : List ℕ) → IsWord c rest w r → ⊥) → HasWords c rest → ⊥
+no_words c rest some over x = none x.0 x.1 x.2
   where
-    none : (ws : List Word) → AllFit ws → rest ≡ text_of_words ws → ⊥
+    none : (ws : List Word) → AllFit c ws → rest ≡ text_of_words ws → ⊥
     none [] fit e = omega (arith, ap length e)
-    none (v ∷ vs) fit e = over v (text_of_words vs) (word_moved (text_of_words (v ∷ vs)) rest (text_of_words vs) v (sym e) (front_word v vs fit))
+    none (v ∷ vs) fit e = over v (text_of_words vs) (word_moved c (text_of_words (v ∷ vs)) rest (text_of_words vs) v (sym e) (front_word c v vs fit))
 
-pub words_more : (bs rest after : List ℕ) (ws : List Word) (w : Word) → bs ≡ text_of_words ws ++ rest → IsWord rest w after → bs ≡ text_of_words (ws ++ w ∷ []) ++ after
-words_more bs rest after ws w e h =
+pub words_more : (c : Configuration) (bs rest after : List ℕ) (ws : List Word) (w : Word) → bs ≡ text_of_words ws ++ rest → IsWord c rest w after → bs ≡ text_of_words (ws ++ w ∷ []) ++ after
+words_more c bs rest after ws w e h =
     e ∙ ap (λ (t : List ℕ). text_of_words ws ++ t) h.spelled ∙ sym (append_assoc (text_of_words ws) (32 ∷ text_of_word w) after)
     ∙ ap (λ (t : List ℕ). t ++ after) (flat_map_more (λ (v : Word). 32 ∷ text_of_word v) [] ws w)
 
-pub word_shorter : (rest after : List ℕ) (w : Word) → IsWord rest w after → length after < length rest
-word_shorter rest after w h = omega (arith, ap length h.spelled, length-append (32 ∷ text_of_word w) after)
+-- Two scripts that fit and read the same are the same.
+pub words_same : (c : Configuration) (ws vs : List Word) → c.sockets < 2 ^ 64 → AllFit c ws → AllFit c vs → text_of_words ws ≡ text_of_words vs → ws ≡ vs
+words_same c [] [] small f g e = refl
+words_same c [] (v ∷ vs) small f g e = let k : 0 ≡ length (text_of_words (v ∷ vs)) = ap length e in absurd (omega arith)
+words_same c (w ∷ ws) [] small f g e = let k : length (text_of_words (w ∷ ws)) ≡ 0 = ap length e in absurd (omega arith)
+words_same c (w ∷ ws) (v ∷ vs) small f g e =
+    let s = rest_same c (text_of_words (w ∷ ws)) (text_of_words ws) (text_of_words vs) w v small (front_word c w ws f) (word_moved c (text_of_words (v ∷ vs)) (text_of_words (w ∷ ws)) (text_of_words vs) v (sym e) (front_word c v vs g)) in
+    ap (λ (x : Word). x ∷ ws) s.0 ∙ ap (λ (x : List Word). v ∷ x) (words_same c ws vs small (tail_fits c w ws f) (tail_fits c v vs g) s.1)
 
 -- the root line
 root_clean : NoSpace (codes "root")
 root_clean = (λ e. omega arith, (λ e. omega arith, (λ e. omega arith, (λ e. omega arith, tt))))
 
-pub root_fields : (line name rest : List ℕ) (root : List Word) → IsField line name rest → IsRoot line root → (name ≡ codes "root") × (rest ≡ text_of_words root)
-root_fields line name rest root f h = field_same line name (codes "root") rest (text_of_words root) f (record { spelled = h.spelled; no_space = root_clean; cut = words_cut root })
+pub root_fields : (c : Configuration) (line name rest : List ℕ) (root : List Word) → IsField line name rest → IsRoot c line root → (name ≡ codes "root") × (rest ≡ text_of_words root)
+root_fields c line name rest root f h = field_same line name (codes "root") rest (text_of_words root) f (record { spelled = h.spelled; no_space = root_clean; cut = words_cut root })
 
 some_text : (ws : List Word) → 0 < length ws → 0 < length (text_of_words ws)
 some_text [] h = absurd (omega arith)
 some_text (w ∷ ws) h = omega arith
 
-pub root_some : (line name rest : List ℕ) (root : List Word) → IsField line name rest → IsRoot line root → 0 < length rest
-root_some line name rest root f h = subst (λ (r : List ℕ). 0 < length r) (sym (root_fields line name rest root f h).1) (some_text root h.some)
+pub root_some : (c : Configuration) (line name rest : List ℕ) (root : List Word) → IsField line name rest → IsRoot c line root → 0 < length rest
+root_some c line name rest root f h = subst (λ (r : List ℕ). 0 < length r) (sym (root_fields c line name rest root f h).1) (some_text root h.some)
 
 some_words : (ws : List Word) → 0 < length (text_of_words ws) → 0 < length ws
 some_words [] h = absurd (omega arith)
 some_words (w ∷ ws) h = omega arith
 
-pub root_is : (line name rest : List ℕ) (root : List Word) → IsField line name rest → name ≡ codes "root" → 0 < length rest → rest ≡ text_of_words root → AllFit root → IsRoot line root
-root_is line name rest root f e some s fit = record {
+pub root_is : (c : Configuration) (line name rest : List ℕ) (root : List Word) → IsField line name rest → name ≡ codes "root" → 0 < length rest → rest ≡ text_of_words root → AllFit c root → IsRoot c line root
+root_is c line name rest root f e some s fit = record {
   spelled = f.spelled ∙ ap (λ (n : List ℕ). n ++ rest) e ∙ ap (λ (t : List ℕ). codes "root" ++ t) s;
   some = some_words root (subst (λ (r : List ℕ). 0 < length r) s some);
   fit = fit;
 }
 
-pub root_read : {V E : Type 0} (view : V → List Word) (r : Result (Option V) E) (line name rest : List ℕ) → IsField line name rest → name ≡ codes "root" → 0 < length rest → IfOk r (λ o. IfSome o (λ w. rest ≡ text_of_words (view w))) → IfOk r (λ o. IfSome o (λ w. AllFit (view w))) → IfOk r (λ o. IfSome o (λ w. IsRoot line (view w)))
-root_read view (Ok (Some w)) line name rest f e some s fit = root_is line name rest (view w) f e some s fit
-root_read view (Ok None) line name rest f e some s fit = tt
-root_read view (Err y) line name rest f e some s fit = tt
+pub root_read : {V E : Type 0} (c : Configuration) (view : V → List Word) (r : Result (Option V) E) (line name rest : List ℕ) → IsField line name rest → name ≡ codes "root" → 0 < length rest → IfOk r (λ o. IfSome o (λ w. rest ≡ text_of_words (view w))) → IfOk r (λ o. IfSome o (λ w. AllFit c (view w))) → IfOk r (λ o. IfSome o (λ w. IsRoot c line (view w)))
+root_read c view (Ok (Some w)) line name rest f e some s fit = root_is c line name rest (view w) f e some s fit
+root_read c view (Ok None) line name rest f e some s fit = tt
+root_read c view (Err y) line name rest f e some s fit = tt
 
-pub root_unread : {V E : Type 0} (r : Result (Option V) E) (line name rest : List ℕ) → IsField line name rest → IfOk r (λ o. IfNone o ((words : List Word) → AllFit words → rest ≢ text_of_words words)) → IfOk r (λ o. IfNone o ((root : List Word) → IsRoot line root → ⊥))
-root_unread (Ok (Some w)) line name rest f h = tt
-root_unread (Ok None) line name rest f h = λ root r. h root r.fit (root_fields line name rest root f r).1
-root_unread (Err y) line name rest f h = tt
+pub root_unread : {V E : Type 0} (c : Configuration) (r : Result (Option V) E) (line name rest : List ℕ) → IsField line name rest → IfOk r (λ o. IfNone o ((words : List Word) → AllFit c words → rest ≢ text_of_words words)) → IfOk r (λ o. IfNone o ((root : List Word) → IsRoot c line root → ⊥))
+root_unread c (Ok (Some w)) line name rest f h = tt
+root_unread c (Ok None) line name rest f h = λ root r. h root r.fit (root_fields c line name rest root f r).1
+root_unread c (Err y) line name rest f h = tt

@@ -1,9 +1,12 @@
 -- What the clauses of the reader say, beside the grammar.
-use Rattle.std.specs.Prelude.{◌≡◌, ◌≢◌, ℕ, ◌-◌, ◌<◌, ◌≤◌, List, [], ◌∷◌, ◌++◌, All, filter, length, take, drop, slice_index, codes}
+use Rattle.std.specs.Prelude.{◌≡◌, ◌≢◌, ℕ, ◌+◌, ◌-◌, ◌^◌, ◌<◌, ◌≤◌, ◌⊎◌, List, [], ◌∷◌, ◌++◌, All, filter, length, take, drop, slice_index, codes}
+use Rattle.std.specs.Fmt.{decimal}
 use Rattle.std.specs.List.{AllByRecursion}
 use Rattle.std.specs.Str.Lines.{lines}
+use Rattle.exec_machine.specs.declared.config.Configuration.{Configuration}
+use Rattle.exec_machine.specs.declared.config.Spin.{Spin}
 use Rattle.exec_machine.specs.declared.config.Word.{Word}
-use Rattle.exec_machine.specs.Grammar.{says_something, header_lines, the_config, text_of_word, text_of_words, WordFits}
+use Rattle.exec_machine.specs.Grammar.{says_something, header_lines, HeaderFits, text_of_word, text_of_words, WordFits}
 use Rattle.exec_text.specs.declared.read_error.ReadError.{ReadError}
 use Rattle.exec_text.specs.declared.read_error.ReadError.TheVariants.{Syntax, NoMemory}
 
@@ -39,6 +42,15 @@ pub record IsLastSaid (text : List ℕ) (old new : ℕ) : Type 0 where
   pub all : new ≡ length (lines text)
   pub said : said_before text new ≡ said_before text old
 
+-- After `old` lines no line says something, and this number is the one after the last.
+abbrev pub IsMissing : List ℕ → ℕ → ℕ → Type 0
+IsMissing text old number = (all : ℕ) × IsLastSaid text old all × (number ≡ all + 1)
+
+-- After `old` lines the next line that says something has this number and is wrong, or it's missing.
+abbrev pub IsStuck : List ℕ → ℕ → (List ℕ → Type 0) → ℕ → Type 0
+IsStuck text old Wrong number =
+    ((line : List ℕ) × IsNextSaid text old number line × Wrong line) ⊎ IsMissing text old number
+
 -- there are bytes, with neither a plus sign nor a leading zero at the front
 pub record IsPlain (bytes : List ℕ) : Type 0 where
   pub some : 0 < length bytes
@@ -59,30 +71,48 @@ pub record IsField (bytes field rest : List ℕ) : Type 0 where
   pub no_space : NoSpace field
   pub cut : IsCut rest
 
+-- a number at the front, behind a space, and the rest
+pub record IsNumber (bytes : List ℕ) (number : ℕ) (rest : List ℕ) : Type 0 where
+  pub spelled : bytes ≡ 32 ∷ (decimal number ++ rest)
+  pub small : number < 2 ^ 64
+  pub cut : IsCut rest
+
 -- a word at the front, behind a space, and the rest
-pub record IsWord (bytes : List ℕ) (word : Word) (rest : List ℕ) : Type 0 where
+pub record IsWord (c : Configuration) (bytes : List ℕ) (word : Word) (rest : List ℕ) : Type 0 where
   pub spelled : bytes ≡ 32 ∷ text_of_word word ++ rest
-  pub fits : WordFits the_config word
+  pub fits : WordFits c word
   pub cut : IsCut rest
 
 -- the header
-unfoldable pub header : List (List ℕ)
-header = header_lines the_config
+unfoldable pub header : Configuration → List (List ℕ)
+header c = header_lines c
+
+-- the line of the spin
+abbrev pub text_of_spin : Spin → List ℕ
+text_of_spin s = codes "spin " ++ decimal s.budget ++ 32 ∷ decimal s.most ++ 32 ∷ decimal s.quick ++ 32 ∷ decimal s.iterations
+
+pub record SpinFits (s : Spin) : Type 0 where
+  pub budget : s.budget < 2 ^ 64
+  pub most : s.most < 2 ^ 64
+  pub quick : s.quick < 2 ^ 64
+  pub iterations : s.iterations < 2 ^ 64
 
 -- the line spells these words, which can be the root's
-pub record IsRoot (line : List ℕ) (root : List Word) : Type 0 where
+pub record IsRoot (c : Configuration) (line : List ℕ) (root : List Word) : Type 0 where
   pub spelled : line ≡ codes "root" ++ text_of_words root
   pub some : 0 < length root
-  pub fit : All (WordFits the_config) root
+  pub fit : All (WordFits c) root
 
 -- the lines are the header and the line of the root
-pub record IsTop (said : List (List ℕ)) (root : List Word) : Type 0 where
+pub record IsTop (c : Configuration) (said : List (List ℕ)) (root : List Word) : Type 0 where
+  pub header_fits : HeaderFits c
   pub line : List ℕ
-  pub spelled : said ≡ header ++ line ∷ []
-  pub root_line : IsRoot line root
+  pub spelled : said ≡ header c ++ line ∷ []
+  pub root_line : IsRoot c line root
 
 -- the lines are the header, the line of the root, and `steps`
-pub record IsMarkedTop (said : List (List ℕ)) (root : List Word) : Type 0 where
+pub record IsMarkedTop (c : Configuration) (said : List (List ℕ)) (root : List Word) : Type 0 where
+  pub header_fits : HeaderFits c
   pub line : List ℕ
-  pub spelled : said ≡ header ++ line ∷ codes "steps" ∷ []
-  pub root_line : IsRoot line root
+  pub spelled : said ≡ header c ++ line ∷ codes "steps" ∷ []
+  pub root_line : IsRoot c line root

@@ -1,64 +1,101 @@
-//! The header, whose lines are fixed.
+//! The header, one line for each value.
 
-ghost use Rattle.std.specs.Prelude.{◌≡◌, ◌<◌, [], slice_index_or, OnOk, IfErr};
-ghost use Rattle.exec_machine.specs.Grammar.{IsFirstFault};
-ghost use Rattle.exec_text.specs.Reading.{OnSyntax, said_before, header};
+ghost use Rattle.std.specs.Prelude.{◌≡◌, ◌≢◌, ℕ, ◌<◌, ◌^◌, [], ◌∷◌, ◌++◌, decimal, IfOk, IfErr, IfSome, IfNone};
+ghost use Rattle.exec_machine.specs.declared.config.Spin.{Spin};
+ghost use Rattle.exec_machine.specs.Grammar.{HeaderFits, IsFirstFault};
+ghost use Rattle.exec_text.specs.Reading.{OnSyntax, IsStuck, said_before, header, text_of_spin, SpinFits};
 
 use crate::line::Lines;
+use crate::number::{next_number, number};
 use crate::read_error::ReadError;
 use exec_machine::config::{Configuration, Spin};
 
-/// What the header says.
-pub(crate) const CONFIGURATION: Configuration = Configuration {
-    workers: 1,
-    interval: 31,
-    ring: 16,
-    tick: 5000000,
-    connect: 10000000,
-    rw: 10000000,
-    spin: Spin {
-        budget: 0,
-        most: 0,
-        quick: 0,
-        iterations: 0,
-    },
-    files: 0,
-    sockets: 1,
-};
-
 /// Reads the header.
-pub(crate) fn read_header(lines: &mut Lines) -> Result<(), ReadError>
+pub(crate) fn read_header(lines: &mut Lines) -> Result<Configuration, ReadError>
     requires { lines.old.number ≡ 0 }
     ensures text { lines.new.text.now ≡ lines.old.text.now }
-    ensures ok { OnOk result (said_before lines.new.text.now lines.new.number ≡ header) }
+    ensures ok { IfOk result (λ c. said_before lines.new.text.now lines.new.number ≡ header c) }
+    ensures fits { IfOk result HeaderFits }
     ensures fault { IfErr result (λ e. OnSyntax e (IsFirstFault lines.old.text.now)) }
 {
-    for place in 0..9 {
-        let Some(line) = lines.next_said() else {
-            return Err(ReadError::Syntax(lines.number + 1));
-        };
-        if line != header_line(place).as_bytes() {
-            return Err(ReadError::Syntax(lines.number));
-        }
-    }
-    Ok(())
+    let workers = read_value(lines, "workers")?;
+    let interval = read_value(lines, "interval")?;
+    let ring = read_value(lines, "ring")?;
+    let tick = read_value(lines, "tick")?;
+    let connect = read_value(lines, "connect")?;
+    let rw = read_value(lines, "rw")?;
+    let spin = read_spin(lines)?;
+    let files = read_value(lines, "files")?;
+    let sockets = read_value(lines, "sockets")?;
+    Ok(Configuration {
+        workers: workers as usize,
+        interval,
+        ring,
+        tick,
+        connect,
+        rw,
+        spin,
+        files: files as usize,
+        sockets: sockets as usize,
+    })
 }
 
-/// The line at this place of the header.
-#[tactic(auto, using(crate::proofs::Begins::header_is))]
-fn header_line(place: usize) -> &'static str
-    requires { place < 9 }
-    ensures { result.now ≡ slice_index_or header place [] }
+/// Reads a line of the header that has one number behind this name.
+fn read_value(lines: &mut Lines, name: &str) -> Result<u64, ReadError>
+    ensures text { lines.new.text.now ≡ lines.old.text.now }
+    ensures ok { IfOk result (λ n. said_before lines.new.text.now lines.new.number ≡ said_before lines.old.text.now lines.old.number ++ (name.now ++ 32 ∷ decimal n) ∷ []) }
+    ensures fault { IfErr result (λ e. OnSyntax e (IsStuck lines.old.text.now lines.old.number (λ line. (n : ℕ) → n < 2 ^ 64 → line ≢ name.now ++ 32 ∷ decimal n))) }
 {
-    match place {
-        0 => "workers 1",
-        1 => "interval 31",
-        2 => "ring 16",
-        3 => "tick 5000000",
-        4 => "connect 10000000",
-        5 => "rw 10000000",
-        6 => "spin 0 0 0 0",
-        7 => "files 0",
-        _ => "sockets 1",
+    let line = lines.expect_said()?;
+    match value_of(line, name) {
+        Some(value) => Ok(value),
+        None => Err(ReadError::Syntax(lines.number)),
     }
+}
+
+/// The number of a line that is this name, a space and a number.
+fn value_of(line: &[u8], name: &str) -> Option<u64>
+    ensures found { IfSome result (λ n. line.now ≡ name.now ++ 32 ∷ decimal n) }
+    ensures none { IfNone result ((n : ℕ) → n < 2 ^ 64 → line.now ≢ name.now ++ 32 ∷ decimal n) }
+{
+    match line.strip_prefix(name.as_bytes())? {
+        [b' ', value @ ..] => number(value),
+        _ => None,
+    }
+}
+
+/// Reads the line of the spin.
+fn read_spin(lines: &mut Lines) -> Result<Spin, ReadError>
+    ensures text { lines.new.text.now ≡ lines.old.text.now }
+    ensures ok { IfOk result (λ s. said_before lines.new.text.now lines.new.number ≡ said_before lines.old.text.now lines.old.number ++ text_of_spin s ∷ []) }
+    ensures fits { IfOk result SpinFits }
+    ensures fault { IfErr result (λ e. OnSyntax e (IsStuck lines.old.text.now lines.old.number (λ line. (s : Spin) → SpinFits s → line ≢ text_of_spin s))) }
+{
+    let line = lines.expect_said()?;
+    match spin_of(line) {
+        Some(spin) => Ok(spin),
+        None => Err(ReadError::Syntax(lines.number)),
+    }
+}
+
+/// The spin that the line spells.
+fn spin_of(line: &[u8]) -> Option<Spin>
+    ensures found { IfSome result (λ s. line.now ≡ text_of_spin s) }
+    ensures fits { IfSome result SpinFits }
+    ensures none { IfNone result ((s : Spin) → SpinFits s → line.now ≢ text_of_spin s) }
+{
+    let rest = line.strip_prefix(b"spin".as_slice())?;
+    let (budget, rest) = next_number(rest)?;
+    let (most, rest) = next_number(rest)?;
+    let (quick, rest) = next_number(rest)?;
+    let (iterations, rest) = next_number(rest)?;
+    if !rest.is_empty() {
+        return None;
+    }
+    Some(Spin {
+        budget,
+        most,
+        quick,
+        iterations,
+    })
 }

@@ -1,9 +1,11 @@
 //! The lines of a text, one at a time.
 
-ghost use Rattle.std.specs.Prelude.{◌≡◌, ◌≢◌, ℕ, ◌+◌, ◌-◌, ◌<◌, ◌≤◌, [], ◌∷◌, ◌==◌, not, length, drop, slice_index, slice_index_or, IfSome, IfNone};
+ghost use Rattle.std.specs.Prelude.{◌≡◌, ◌≢◌, ℕ, ◌+◌, ◌-◌, ◌<◌, ◌≤◌, [], ◌∷◌, ◌==◌, not, length, drop, slice_index, slice_index_or, IfOk, IfErr, IfSome, IfNone};
 ghost use Rattle.std.specs.Str.Lines.{lines, strip_carriage_return};
 ghost use Rattle.exec_machine.specs.Grammar.{says_something};
-ghost use Rattle.exec_text.specs.Reading.{IsBeforeLine, IsNextSaid, IsLastSaid};
+ghost use Rattle.exec_text.specs.Reading.{OnSyntax, IsBeforeLine, IsNextSaid, IsLastSaid, IsMissing};
+
+use crate::read_error::ReadError;
 
 /// A text and a place between two of its lines.
 #[derive(Drop)]
@@ -42,6 +44,18 @@ impl<'a> Lines<'a> {
             }
         }
         None
+    }
+
+    /// The next line that says something. Where there is none, the line after the last is missing.
+    pub(crate) fn expect_said(&mut self) -> Result<&'a [u8], ReadError>
+        ensures text { self.new.text.now ≡ self.old.text.now }
+        ensures found { IfOk result (λ line. IsNextSaid self.old.text.now self.old.number self.new.number line.now) }
+        ensures missing { IfErr result (λ e. OnSyntax e (IsMissing self.old.text.now self.old.number)) }
+    {
+        match self.next_said() {
+            Some(line) => Ok(line),
+            None => Err(ReadError::Syntax(self.number + 1)),
+        }
     }
 
     /// The next line.

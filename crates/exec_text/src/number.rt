@@ -1,7 +1,9 @@
 //! Numbers in decimal.
 
-ghost use Rattle.std.specs.Prelude.{◌≡◌, ◌≢◌, ℕ, ◌<◌, ◌^◌, decimal, ◌↔◌, IsTrue, IfSome, IfNone};
-ghost use Rattle.exec_text.specs.Reading.{IsPlain};
+ghost use Rattle.std.specs.Prelude.{◌≡◌, ◌≢◌, ℕ, ◌<◌, ◌^◌, List, decimal, ◌↔◌, IsTrue, IfSome, IfNone};
+ghost use Rattle.exec_text.specs.Reading.{IsPlain, IsNumber};
+
+use crate::field::next_field;
 
 /// The number below 2^64 that the bytes spell, with no sign and no leading zero.
 pub(crate) fn number(bytes: &[u8]) -> Option<u64>
@@ -39,4 +41,14 @@ pub(crate) fn positive(bytes: &[u8]) -> Option<u64>
         return None;
     }
     Some(number)
+}
+
+/// The number behind the space at the front, and the rest.
+pub(crate) fn next_number(bytes: &[u8]) -> Option<(u64, &[u8])>
+    ensures found { IfSome result (λ x. IsNumber bytes.now x.0 x.1.now) }
+    ensures none { IfNone result ((n : ℕ) (rest : List ℕ) → IsNumber bytes.now n rest → ⊥) }
+{
+    let (field, rest) = next_field(bytes)?;
+    let number = number(field)?;
+    Some((number, rest))
 }

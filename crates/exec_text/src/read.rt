@@ -1,17 +1,18 @@
 //! A trace is read from its text.
 
 ghost use Rattle.std.specs.Prelude.{◌≡◌, List, [], ◌∷◌, ◌++◌, All, codes, map, sum_by, OnOk, IfOk, IfErr};
+ghost use Rattle.exec_machine.specs.declared.config.Configuration.{Configuration};
 ghost use Rattle.exec_machine.specs.declared.config.Word.{Word};
-ghost use Rattle.exec_machine.specs.Grammar.{text_of_step, StepFits, plan_of, IsTraceOf, IsFirstFault, count_of};
+ghost use Rattle.exec_machine.specs.Grammar.{HeaderFits, text_of_step, StepFits, plan_of, IsTraceOf, IsFirstFault, count_of};
 ghost use Rattle.exec_text.specs.Reading.{OnSyntax, said_before, all_said, header, IsTop, IsMarkedTop};
 ghost use Rattle.exec_text.specs.Laws.{TraceHasNoFault, FaultIsOne, PlanIsOne};
 
-use crate::header::{CONFIGURATION, read_header};
+use crate::header::read_header;
 use crate::line::Lines;
 use crate::read_error::ReadError;
 use crate::step::step_of;
 use crate::word::root_of;
-use exec_machine::config::{Trace, Word};
+use exec_machine::config::{Configuration, Trace, Word};
 use exec_machine::step::Step;
 use std::alloc::Global;
 
@@ -23,12 +24,12 @@ pub fn read_trace(alloc: Global, text: &[u8]) -> Result<Trace, ReadError>
     ensures fault { IfErr result (λ e. OnSyntax e (IsFirstFault text.now)) }
 {
     let mut lines = Lines::new(text);
-    read_header(&mut lines)?;
-    let root = read_root(alloc, &mut lines)?;
+    let config = read_header(&mut lines)?;
+    let root = read_root(alloc, &config, &mut lines)?;
     read_mark(&mut lines)?;
     let steps = read_steps(alloc, &mut lines)?;
     Ok(Trace {
-        config: CONFIGURATION,
+        config,
         scripts: Vec::new(alloc),
         root,
         steps,
@@ -36,16 +37,19 @@ pub fn read_trace(alloc: Global, text: &[u8]) -> Result<Trace, ReadError>
 }
 
 /// Reads the line of the root task.
-fn read_root(alloc: Global, lines: &mut Lines) -> Result<Vec<Word>, ReadError>
-    requires { said_before lines.old.text.now lines.old.number ≡ header }
+fn read_root(
+    alloc: Global,
+    config: &Configuration,
+    lines: &mut Lines,
+) -> Result<Vec<Word>, ReadError>
+    requires said { said_before lines.old.text.now lines.old.number ≡ header config.now }
+    requires fits { HeaderFits config.now }
     ensures text { lines.new.text.now ≡ lines.old.text.now }
-    ensures ok { IfOk result (λ root. IsTop (said_before lines.new.text.now lines.new.number) root.items) }
+    ensures ok { IfOk result (λ root. IsTop config.now (said_before lines.new.text.now lines.new.number) root.items) }
     ensures fault { IfErr result (λ e. OnSyntax e (IsFirstFault lines.old.text.now)) }
 {
-    let Some(line) = lines.next_said() else {
-        return Err(ReadError::Syntax(lines.number + 1));
-    };
-    match root_of(alloc, line)? {
+    let line = lines.expect_said()?;
+    match root_of(alloc, config, line)? {
         Some(root) => Ok(root),
         None => Err(ReadError::Syntax(lines.number)),
     }
@@ -53,14 +57,12 @@ fn read_root(alloc: Global, lines: &mut Lines) -> Result<Vec<Word>, ReadError>
 
 /// Reads the line `steps`.
 fn read_mark(lines: &mut Lines) -> Result<(), ReadError>
-    requires { (root : List Word) × IsTop (said_before lines.old.text.now lines.old.number) root }
+    requires { (c : Configuration) × (root : List Word) × IsTop c (said_before lines.old.text.now lines.old.number) root }
     ensures text { lines.new.text.now ≡ lines.old.text.now }
     ensures ok { OnOk result (said_before lines.new.text.now lines.new.number ≡ said_before lines.old.text.now lines.old.number ++ codes "steps" ∷ []) }
     ensures fault { IfErr result (λ e. OnSyntax e (IsFirstFault lines.old.text.now)) }
 {
-    let Some(line) = lines.next_said() else {
-        return Err(ReadError::Syntax(lines.number + 1));
-    };
+    let line = lines.expect_said()?;
     if line != b"steps".as_slice() {
         return Err(ReadError::Syntax(lines.number));
     }
@@ -69,7 +71,7 @@ fn read_mark(lines: &mut Lines) -> Result<(), ReadError>
 
 /// Reads the lines below `steps`.
 fn read_steps(alloc: Global, lines: &mut Lines) -> Result<Vec<Step>, ReadError>
-    requires { (root : List Word) × IsMarkedTop (said_before lines.old.text.now lines.old.number) root }
+    requires { (c : Configuration) × (root : List Word) × IsMarkedTop c (said_before lines.old.text.now lines.old.number) root }
     ensures ok { IfOk result (λ steps. all_said lines.old.text.now ≡ said_before lines.old.text.now lines.old.number ++ map text_of_step steps.items) }
     ensures fit { IfOk result (λ steps. All StepFits steps.items) }
     ensures fault { IfErr result (λ e. OnSyntax e (IsFirstFault lines.old.text.now)) }
@@ -91,11 +93,8 @@ pub fn total_steps(steps: &[Step]) -> u128
     let mut total = 0;
     for step in steps {
         total += match step {
-            Step::Work { worker: _, count } => u128::from(*count),
-            Step::Land {
-                request: _,
-                result: _,
-            } => 1,
+            Step::Work { count, .. } => u128::from(*count),
+            Step::Clock { .. } | Step::Land { .. } | Step::Stir { .. } => 1,
         };
     }
     total

@@ -6,8 +6,8 @@ ghost use Rattle.exec_outcomes.specs.Text.{text_of_result};
 ghost use Rattle.exec_machine.specs.declared.step.Step.{Step};
 ghost use Rattle.exec_machine.specs.Grammar.{text_of_step, StepFits, ResultFits};
 
-use crate::field::{first_field, next_field};
-use crate::number::{number, positive};
+use crate::field::first_field;
+use crate::number::{next_number, number, positive};
 use exec_machine::step::Step;
 use exec_outcomes::outcome::OpResult;
 
@@ -18,43 +18,51 @@ pub(crate) fn step_of(line: &[u8]) -> Option<Step>
     ensures none { IfNone result ((s : Step) → StepFits s → line.now ≢ text_of_step s) }
 {
     let (kind, rest) = first_field(line);
-    let (party, rest) = next_field(rest)?;
-    let (what, rest) = next_field(rest)?;
+    let (first, rest) = next_number(rest)?;
+    if kind == b"w".as_slice() {
+        return work_of(first as usize, rest);
+    }
+    if kind == b"k".as_slice() {
+        return landing_of(first as usize, rest);
+    }
     if !rest.is_empty() {
         return None;
     }
-    if kind == b"w".as_slice() {
-        return work_of(party, what);
+    if kind == b"c".as_slice() {
+        return Some(Step::Clock { by: first });
     }
-    if kind == b"k".as_slice() {
-        return landing_of(party, what);
+    if kind == b"e".as_slice() {
+        return Some(Step::Stir {
+            worker: first as usize,
+        });
     }
     None
 }
 
-/// The step in which the worker takes so many steps.
-fn work_of(worker: &[u8], count: &[u8]) -> Option<Step>
-    ensures found { IfSome result (λ s. codes "w " ++ worker.now ++ 32 ∷ count.now ≡ text_of_step s) }
+/// The step in which the worker takes so many steps, as the bytes behind it say.
+fn work_of(worker: usize, bytes: &[u8]) -> Option<Step>
+    ensures found { IfSome result (λ s. codes "w " ++ decimal worker ++ bytes.now ≡ text_of_step s) }
     ensures fits { IfSome result StepFits }
-    ensures none { IfNone result ((w n : ℕ) → w < 2 ^ 64 → 0 < n → n < 2 ^ 64 → worker.now ≡ decimal w → count.now ≢ decimal n) }
+    ensures none { IfNone result ((n : ℕ) → 0 < n → n < 2 ^ 64 → bytes.now ≢ 32 ∷ decimal n) }
 {
-    let worker = number(worker)? as usize;
+    let [b' ', count @ ..] = bytes else {
+        return None;
+    };
     let count = positive(count)?;
     Some(Step::Work { worker, count })
 }
 
-/// The step in which the operation of the request lands with the result.
-fn landing_of(request: &[u8], outcome: &[u8]) -> Option<Step>
-    ensures found { IfSome result (λ s. codes "k " ++ request.now ++ 32 ∷ outcome.now ≡ text_of_step s) }
+/// The step in which the operation of the request lands with the result that the bytes behind it spell.
+fn landing_of(request: usize, bytes: &[u8]) -> Option<Step>
+    ensures found { IfSome result (λ s. codes "k " ++ decimal request ++ bytes.now ≡ text_of_step s) }
     ensures fits { IfSome result StepFits }
-    ensures none { IfNone result ((r : ℕ) (o : OpResult) → r < 2 ^ 64 → ResultFits o → request.now ≡ decimal r → outcome.now ≢ text_of_result o) }
+    ensures none { IfNone result ((o : OpResult) → ResultFits o → bytes.now ≢ 32 ∷ text_of_result o) }
 {
-    let request = number(request)? as usize;
-    let outcome = result_of(outcome)?;
-    Some(Step::Land {
-        request,
-        result: outcome,
-    })
+    let [b' ', outcome @ ..] = bytes else {
+        return None;
+    };
+    let result = result_of(outcome)?;
+    Some(Step::Land { request, result })
 }
 
 /// The result that the bytes spell: a count, or an error number behind a minus sign.

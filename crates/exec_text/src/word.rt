@@ -1,40 +1,51 @@
 //! The words of a script.
 
-ghost use Rattle.std.specs.Prelude.{◌≡◌, ◌≢◌, ℕ, List, ◌∷◌, ◌++◌, All, codes, IfOk, IfSome, IfNone};
+ghost use Rattle.std.specs.Prelude.{◌≡◌, ◌≢◌, ℕ, ◌<◌, ◌^◌, List, ◌∷◌, ◌++◌, All, codes, decimal, IfOk, IfSome, IfNone};
+ghost use Rattle.exec_machine.specs.declared.config.Configuration.{Configuration};
 ghost use Rattle.exec_machine.specs.declared.config.Word.{Word};
-ghost use Rattle.exec_machine.specs.Grammar.{text_of_words, WordFits, the_config};
-ghost use Rattle.exec_text.specs.Reading.{IsRoot, IsWord};
+ghost use Rattle.exec_machine.specs.Grammar.{text_of_word, text_of_words, WordFits};
+ghost use Rattle.exec_text.specs.Reading.{NoSpace, IsRoot, IsWord};
 
 use crate::field::{first_field, next_field};
-use crate::number::number;
-use exec_machine::config::Word;
+use crate::number::next_number;
+use exec_machine::config::{Configuration, Word};
 use std::alloc::{AllocError, Global};
 
 /// The longest send.
 const MOST: u64 = 1048576;
 
 /// The words of the root line, of which there is at least one.
-pub(crate) fn root_of(alloc: Global, line: &[u8]) -> Result<Option<Vec<Word>>, AllocError>
-    ensures found { IfOk result (λ o. IfSome o (λ root. IsRoot line.now root.items)) }
-    ensures none { IfOk result (λ o. IfNone o ((root : List Word) → IsRoot line.now root → ⊥)) }
+pub(crate) fn root_of(
+    alloc: Global,
+    config: &Configuration,
+    line: &[u8],
+) -> Result<Option<Vec<Word>>, AllocError>
+    requires { config.now.sockets < 2 ^ 64 }
+    ensures found { IfOk result (λ o. IfSome o (λ root. IsRoot config.now line.now root.items)) }
+    ensures none { IfOk result (λ o. IfNone o ((root : List Word) → IsRoot config.now line.now root → ⊥)) }
 {
     let (name, rest) = first_field(line);
     if name != b"root".as_slice() || rest.is_empty() {
         return Ok(None);
     }
-    words_of(alloc, rest)
+    words_of(alloc, config, rest)
 }
 
 /// The words that the bytes spell, a space before each.
-fn words_of(alloc: Global, bytes: &[u8]) -> Result<Option<Vec<Word>>, AllocError>
+fn words_of(
+    alloc: Global,
+    config: &Configuration,
+    bytes: &[u8],
+) -> Result<Option<Vec<Word>>, AllocError>
+    requires { config.now.sockets < 2 ^ 64 }
     ensures found { IfOk result (λ o. IfSome o (λ words. bytes.now ≡ text_of_words words.items)) }
-    ensures fit { IfOk result (λ o. IfSome o (λ words. All (WordFits the_config) words.items)) }
-    ensures none { IfOk result (λ o. IfNone o ((words : List Word) → All (WordFits the_config) words → bytes.now ≢ text_of_words words)) }
+    ensures fit { IfOk result (λ o. IfSome o (λ words. All (WordFits config.now) words.items)) }
+    ensures none { IfOk result (λ o. IfNone o ((words : List Word) → All (WordFits config.now) words → bytes.now ≢ text_of_words words)) }
 {
     let mut words = Vec::new(alloc);
     let mut rest = bytes;
     while !rest.is_empty() {
-        let Some((word, after)) = next_word(rest) else {
+        let Some((word, after)) = next_word(config, rest) else {
             return Ok(None);
         };
         words.push(word)?;
@@ -44,33 +55,74 @@ fn words_of(alloc: Global, bytes: &[u8]) -> Result<Option<Vec<Word>>, AllocError
 }
 
 /// The word behind the space at the front, and the rest.
-fn next_word(bytes: &[u8]) -> Option<(Word, &[u8])>
-    ensures found { IfSome result (λ x. IsWord bytes.now x.0 x.1.now) }
-    ensures none { IfNone result ((word : Word) (rest : List ℕ) → IsWord bytes.now word rest → ⊥) }
+fn next_word<'a>(config: &Configuration, bytes: &'a [u8]) -> Option<(Word, &'a [u8])>
+    requires { config.now.sockets < 2 ^ 64 }
+    ensures found { IfSome result (λ x. IsWord config.now bytes.now x.0 x.1.now) }
+    ensures none { IfNone result ((word : Word) (rest : List ℕ) → IsWord config.now bytes.now word rest → ⊥) }
 {
     let (name, rest) = next_field(bytes)?;
+    if let Some(word) = plain_word(name) {
+        return Some((word, rest));
+    }
+    let (number, rest) = next_number(rest)?;
+    if name == b"send".as_slice() {
+        return send_of(config, number, rest);
+    }
+    let word = numbered_word(config, name, number)?;
+    Some((word, rest))
+}
+
+/// The word that is this name alone.
+fn plain_word(name: &[u8]) -> Option<Word>
+    requires { NoSpace name.now }
+    ensures found { IfSome result (λ word. name.now ≡ text_of_word word) }
+    ensures fits { IfSome result (λ word. (config : Configuration) → WordFits config word) }
+    ensures none { IfNone result ((word : Word) → name.now ≢ text_of_word word) }
+{
     if name == b"await".as_slice() {
-        return Some((Word::Await, rest));
+        return Some(Word::Await);
+    }
+    if name == b"drop".as_slice() {
+        return Some(Word::Drop);
+    }
+    if name == b"yield".as_slice() {
+        return Some(Word::Yield);
     }
     if name == b"end".as_slice() {
-        return Some((Word::End, rest));
-    }
-    if name == b"send".as_slice() {
-        return send_of(rest);
+        return Some(Word::End);
     }
     None
 }
 
-/// The send of which the socket and the length stand at the front, and the rest.
-fn send_of(bytes: &[u8]) -> Option<(Word, &[u8])>
-    ensures found { IfSome result (λ x. IsWord (32 ∷ codes "send" ++ bytes.now) x.0 x.1.now) }
-    ensures none { IfNone result ((socket length : ℕ) (rest : List ℕ) → IsWord (32 ∷ codes "send" ++ bytes.now) (Word.Send socket length) rest → ⊥) }
+/// The word that is this name and this number.
+fn numbered_word(config: &Configuration, name: &[u8], number: u64) -> Option<Word>
+    requires name { NoSpace name.now }
+    requires sockets { config.now.sockets < 2 ^ 64 }
+    ensures found { IfSome result (λ word. name.now ++ 32 ∷ decimal number ≡ text_of_word word) }
+    ensures fits { IfSome result (WordFits config.now) }
+    ensures none { IfNone result ((word : Word) → WordFits config.now word → name.now ++ 32 ∷ decimal number ≢ text_of_word word) }
 {
-    let (socket, rest) = next_field(bytes)?;
-    let (length, rest) = next_field(rest)?;
-    let socket = number(socket)? as usize;
-    let length = number(length)?;
-    if socket >= 1 || length == 0 || length > MOST {
+    if name == b"sleep".as_slice() {
+        return Some(Word::Sleep { time: number });
+    }
+    if name == b"fault".as_slice() {
+        return Some(Word::Fault { code: number });
+    }
+    let listener = number as usize;
+    if name == b"poll".as_slice() && listener < config.sockets {
+        return Some(Word::Poll { listener });
+    }
+    None
+}
+
+/// The send to the socket of which the length stands at the front, and the rest.
+fn send_of<'a>(config: &Configuration, socket: u64, bytes: &'a [u8]) -> Option<(Word, &'a [u8])>
+    ensures found { IfSome result (λ x. IsWord config.now (32 ∷ codes "send " ++ decimal socket ++ bytes.now) x.0 x.1.now) }
+    ensures none { IfNone result ((length : ℕ) (rest : List ℕ) → IsWord config.now (32 ∷ codes "send " ++ decimal socket ++ bytes.now) (Word.Send socket length) rest → ⊥) }
+{
+    let (length, rest) = next_number(bytes)?;
+    let socket = socket as usize;
+    if socket >= config.sockets || length == 0 || length > MOST {
         return None;
     }
     Some((Word::Send { socket, length }, rest))

@@ -1,13 +1,18 @@
-use Rattle.exec_run.specs.declared.complaint.Complaint.TheVariants.{TooLong, Syntax}
+use Rattle.exec_run.specs.declared.complaint.Complaint.TheVariants.{TooLong, Syntax, Config}
 use Rattle.exec_run.proofs.RunLemmas.{explained}
 use Rattle.exec_run.proofs.running.run.Goals as goal
 
 pub returns-in-Err-TooLong-clause-explains : goal.returns-in-Err-TooLong-clause-explains
 returns-in-Err-TooLong-clause-explains g c =
     let now = rw c.in-Err-TooLong.field-0-is at c.in-Err-TooLong.ensures in
-    explained (TooLong c.in-Err-TooLong.count) _ _ _ _ _ _ _ _ _ _ _ (c.asks_for_trace.ensures.0 c.if-not-asks_for_trace.false, now.err) now.given now.count c.complain-in-Err-TooLong.ensures
+    explained (TooLong c.in-Err-TooLong.count) _ _ _ _ _ _ _ _ _ _ _ ((c.in-Some.quiet, c.in-Some.ensures.some), now.err) now.given now.count c.complain-in-Err-TooLong.ensures
 
 pub returns-in-Err-Syntax-clause-explains : goal.returns-in-Err-Syntax-clause-explains
 returns-in-Err-Syntax-clause-explains g c =
     let now = rw c.in-Err-Syntax.field-0-is at c.in-Err-Syntax.ensures in
-    explained (Syntax c.in-Err-Syntax.line) _ _ _ _ _ _ _ _ _ _ _ (c.asks_for_trace.ensures.0 c.if-not-asks_for_trace.false, now.err) now.given now.count c.complain-in-Err-Syntax.ensures
+    explained (Syntax c.in-Err-Syntax.line) _ _ _ _ _ _ _ _ _ _ _ ((c.in-Some.quiet, c.in-Some.ensures.some), now.err) now.given now.count c.complain-in-Err-Syntax.ensures
+
+pub returns-in-Err-Config-clause-explains : goal.returns-in-Err-Config-clause-explains
+returns-in-Err-Config-clause-explains g c =
+    let now = rw c.in-Err-Config.field-0-is at c.in-Err-Config.ensures in
+    explained (Config c.in-Err-Config.part) _ _ _ _ _ _ _ _ _ _ _ ((c.in-Some.quiet, c.in-Some.ensures.some), now.err) now.given now.count c.complain-in-Err-Config.ensures

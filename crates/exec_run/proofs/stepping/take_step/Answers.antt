@@ -1,17 +1,35 @@
-use Rattle.std.proofs.Common.{◌∷◌, [], sym, subst}
-use Rattle.exec_machine.specs.declared.step.Step.{Step}
+use Rattle.exec_machine.specs.declared.step.Step.TheVariants as step
+use Rattle.exec_machine.specs.declared.step.Action.TheVariants as action
 use Rattle.exec_core.specs.View.{world}
-use Rattle.exec_run.specs.Steps.{Leads, Breaks}
-use Rattle.exec_run.proofs.StepLemmas.{on_err, landing_leads, landing_broke}
+use Rattle.exec_run.proofs.StepLemmas.{clock_once, landing_once, stir_once, one_leads_on, one_broke_on}
 use Rattle.exec_run.proofs.stepping.take_step.Goals as goal
 
-pub returns-in_err-take_line-in-Land-clause-breaks : goal.returns-in_err-take_line-in-Land-clause-breaks
-returns-in_err-take_line-in-Land-clause-breaks g c =
-    on_err c.from_residual.result
-    (subst (λ (x : Step). Breaks c.args.core.now.config (world c.args.core.now) (x ∷ []) (g.O.Output.given c.args.sink.now) (g.O.Output.given c.take_line.new.sink)) (sym c.in-Land.is)
-    (landing_broke c.args.core.now.config (world c.args.core.now) c.in-Land.request c.in-Land.landed _ _ c.in_err-take_line-in-Land.ensures.breaks))
+pub returns-in-Clock-clause-leads : goal.returns-in-Clock-clause-leads
+returns-in-Clock-clause-leads g c =
+    one_leads_on c.take_one.result c.args.quiet c.args.core.now.config (world c.args.core.now) _ c.args.step (step.Clock c.in-Clock.by) (action.Clock c.in-Clock.by) _ _
+    c.in-Clock.is (clock_once c.in-Clock.by) c.take_one.ensures.takes
 
-pub returns-in_ok-take_line-in-Land-clause-leads : goal.returns-in_ok-take_line-in-Land-clause-leads
-returns-in_ok-take_line-in-Land-clause-leads g c =
-    subst (λ (x : Step). Leads c.args.core.now.config (world c.args.core.now) (x ∷ []) (world c.take_line.new.core) (g.O.Output.given c.args.sink.now) (g.O.Output.given c.take_line.new.sink)) (sym c.in-Land.is)
-    (landing_leads c.args.core.now.config (world c.args.core.now) (world c.take_line.new.core) c.in-Land.request c.in-Land.landed c.in_ok-take_line-in-Land.field-0 _ _ c.in_ok-take_line-in-Land.ensures.takes)
+pub returns-in-Clock-clause-breaks : goal.returns-in-Clock-clause-breaks
+returns-in-Clock-clause-breaks g c =
+    one_broke_on c.take_one.result c.args.quiet c.args.core.now.config (world c.args.core.now) c.args.step (step.Clock c.in-Clock.by) (action.Clock c.in-Clock.by) _ _
+    c.in-Clock.is (clock_once c.in-Clock.by) c.take_one.ensures.breaks
+
+pub returns-in-Land-clause-leads : goal.returns-in-Land-clause-leads
+returns-in-Land-clause-leads g c =
+    one_leads_on c.take_one-in-Land.result c.args.quiet c.args.core.now.config (world c.args.core.now) _ c.args.step (step.Land c.in-Land.request c.in-Land.landed)
+    (action.Land c.in-Land.request c.in-Land.landed) _ _ c.in-Land.is (landing_once c.in-Land.request c.in-Land.landed) c.take_one-in-Land.ensures.takes
+
+pub returns-in-Land-clause-breaks : goal.returns-in-Land-clause-breaks
+returns-in-Land-clause-breaks g c =
+    one_broke_on c.take_one-in-Land.result c.args.quiet c.args.core.now.config (world c.args.core.now) c.args.step (step.Land c.in-Land.request c.in-Land.landed)
+    (action.Land c.in-Land.request c.in-Land.landed) _ _ c.in-Land.is (landing_once c.in-Land.request c.in-Land.landed) c.take_one-in-Land.ensures.breaks
+
+pub returns-in-Stir-clause-leads : goal.returns-in-Stir-clause-leads
+returns-in-Stir-clause-leads g c =
+    one_leads_on c.take_one-in-Stir.result c.args.quiet c.args.core.now.config (world c.args.core.now) _ c.args.step (step.Stir c.in-Stir.worker) (action.Stir c.in-Stir.worker) _ _
+    c.in-Stir.is (stir_once c.in-Stir.worker) c.take_one-in-Stir.ensures.takes
+
+pub returns-in-Stir-clause-breaks : goal.returns-in-Stir-clause-breaks
+returns-in-Stir-clause-breaks g c =
+    one_broke_on c.take_one-in-Stir.result c.args.quiet c.args.core.now.config (world c.args.core.now) c.args.step (step.Stir c.in-Stir.worker) (action.Stir c.in-Stir.worker) _ _
+    c.in-Stir.is (stir_once c.in-Stir.worker) c.take_one-in-Stir.ensures.breaks

@@ -8,5 +8,5 @@ abbrev pub invariant-loop-step : goal.invariant-loop-step
 invariant-loop-step g l = record {
   count : g.O.Output.faults l.initial.sink ≤ g.O.Output.faults l.sink;
   goes_on : GoesOn l.initial.core l.core;
-  leads : Leads l.initial.core.config (world l.initial.core) (take l.step-index l.steps) (world l.core) (g.O.Output.given l.initial.sink) (g.O.Output.given l.sink);
+  leads : Leads l.quiet l.initial.core.config (world l.initial.core) (take l.step-index l.steps) (world l.core) (g.O.Output.given l.initial.sink) (g.O.Output.given l.sink);
 }

@@ -8,5 +8,5 @@ abbrev pub invariant-loop : goal.invariant-loop
 invariant-loop g l = record {
   count : g.O.Output.faults l.initial.sink ≤ g.O.Output.faults l.sink;
   goes_on : GoesOn l.initial.core l.core;
-  works : Works l.initial.core.config (world l.initial.core) l.worker l.counter (world l.core) (g.O.Output.given l.initial.sink) (g.O.Output.given l.sink);
+  works : Works l.quiet l.initial.core.config (world l.initial.core) l.worker l.counter (world l.core) (g.O.Output.given l.initial.sink) (g.O.Output.given l.sink);
 }

@@ -1,15 +1,17 @@
 use Rattle.std.proofs.Common.{codes}
+use Rattle.std.proofs.lemmas.Result.{err_from_is_err_and}
 use Rattle.exec_text.proofs.Fields.{told_other}
-use Rattle.exec_text.proofs.Faults.{mark_end, mark_wrong}
+use Rattle.exec_text.proofs.Faults.{mark_missing, mark_wrong}
 use Rattle.exec_text.proofs.read.read_mark.Goals as goal
 
-pub returns-in_default-clause-fault : goal.returns-in_default-clause-fault
-returns-in_default-clause-fault c =
+pub returns-in_err-line-clause-fault : goal.returns-in_err-line-clause-fault
+returns-in_err-line-clause-fault c =
     let s = c.args.lines.now in
-    mark_end s.text.now s.number c.next_said.new.self.number c.requires.0 c.requires.1 c.in_default.ensures.none
+    let p = err_from_is_err_and c.from_residual.result c.from_residual.ensures.1 in
+    rw (p.1, p.2) (mark_missing s.text.now s.number c.requires.0 c.requires.1 _ c.requires.2 c.in_err-line.ensures.missing)
 
 pub returns-then-ne-clause-fault : goal.returns-then-ne-clause-fault
 returns-then-ne-clause-fault c =
     let s = c.args.lines.now in
-    mark_wrong s.text.now s.number c.next_said.new.self.number c.in-Some.line.now c.requires.0 c.requires.1 c.in-Some.ensures.found
-    (told_other c.in-Some.line.now c.as_slice.result.now (codes "steps") c.ne.result c.ne.ensures c.as_slice.ensures c.if-ne.true)
+    mark_wrong s.text.now s.number c.expect_said.new.self.number c.in_ok-line.line.now c.requires.0 c.requires.1 c.requires.2 c.in_ok-line.ensures.found
+    (told_other c.in_ok-line.line.now c.as_slice.result.now (codes "steps") c.ne.result c.ne.ensures c.as_slice.ensures c.if-ne.true)

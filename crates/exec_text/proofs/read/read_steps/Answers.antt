@@ -11,7 +11,7 @@ returns-in_default-step_of-clause-fault c =
     let s = c.args.lines.now in
     let l = c.loop-line in
     let i = l.invariant in
-    step_wrong s.text.now l.lines.text.now s.number l.lines.number c.next_said.new.self.number c.in-Some.line.now c.requires.0 l.steps.items i.same_text c.requires.1 i.fit i.said c.in-Some.ensures.found c.in_default-step_of.ensures.none
+    step_wrong s.text.now l.lines.text.now s.number l.lines.number c.next_said.new.self.number c.in-Some.line.now c.requires.0 c.requires.1 l.steps.items i.same_text c.requires.2 i.fit i.said c.in-Some.ensures.found c.in_default-step_of.ensures.none
 
 pub loop-line-preserved : goal.loop-line-preserved
 loop-line-preserved c =

@@ -1,14 +1,29 @@
 use Rattle.std.proofs.Common.{codes}
-use Rattle.exec_text.proofs.Fields.{told_unequal}
-use Rattle.exec_text.proofs.Words.{no_name}
+use Rattle.exec_text.proofs.Fields.{told_equal, told_unequal, none_then}
+use Rattle.exec_text.proofs.Words.{no_first, no_numbered, no_send}
 use Rattle.exec_text.proofs.word.next_word.Goals as goal
 
-pub returns-clause-none : goal.returns-clause-none
-returns-clause-none c = λ w r h.
+pub returns-in_err-number-clause-none : goal.returns-in_err-number-clause-none
+returns-in_err-number-clause-none c =
     let p = c.in_ok-name in
     let f = p.ensures.found in
-    no_name c.args.bytes.now f.0 p.name.now p.rest.now r w f.1 f.2
-    (told_unequal p.name.now c.as_slice.result.now (codes "await") c.eq.result c.eq.ensures c.as_slice.ensures c.if-eq.false)
-    (told_unequal p.name.now c.as_slice-2.result.now (codes "end") c.eq-2.result c.eq-2.ensures c.as_slice-2.ensures c.if-eq-2.false)
-    (told_unequal p.name.now c.as_slice-3.result.now (codes "send") c.eq-3.result c.eq-3.ensures c.as_slice-3.ensures c.if-eq-3.false)
-    h
+    rw c.from_residual-in_err-number.ensures (λ w r h.
+    no_first c.args.config.now c.args.bytes.now f.0 p.name.now p.rest.now r w c.requires f.1 f.2 c.in_default.ensures.none c.in_err-number.ensures.none h)
+
+pub returns-then-eq-clause-none : goal.returns-then-eq-clause-none
+returns-then-eq-clause-none c =
+    let p = c.in_ok-name in
+    let f = p.ensures.found in
+    let q = c.in_ok-number in
+    none_then c.send_of.result (λ over w r h.
+    no_send c.args.config.now c.args.bytes.now f.0 p.name.now p.rest.now q.rest.now r q.number w c.requires f.1 f.2 q.ensures.found
+    (told_equal p.name.now c.as_slice.result.now (codes "send") c.eq.result c.eq.ensures c.as_slice.ensures c.if-eq.true) over h) c.send_of.ensures.none
+
+pub returns-in_err-word-clause-none : goal.returns-in_err-word-clause-none
+returns-in_err-word-clause-none c =
+    let p = c.in_ok-name in
+    let f = p.ensures.found in
+    let q = c.in_ok-number in
+    rw c.from_residual-in_err-word.ensures (λ w r h.
+    no_numbered c.args.config.now c.args.bytes.now f.0 p.name.now p.rest.now q.rest.now r q.number w c.requires f.1 f.2 c.in_default.ensures.none q.ensures.found
+    (told_unequal p.name.now c.as_slice.result.now (codes "send") c.eq.result c.eq.ensures c.as_slice.ensures c.if-eq.false) c.in_err-word.ensures.none h)

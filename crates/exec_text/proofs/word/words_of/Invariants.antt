@@ -6,8 +6,8 @@ use Rattle.exec_text.proofs.word.words_of.Given as goal
 abbrev pub invariant-loop-rest : goal.invariant-loop-rest
 invariant-loop-rest l = record {
   spelled : l.fn.bytes ≡ text_of_words l.words.items ++ l.rest;
-  fit : AllFit l.words.items;
-  tails : HasWords l.fn.bytes → HasWords l.rest;
+  fit : AllFit l.fn.config l.words.items;
+  tails : HasWords l.fn.config l.fn.bytes → HasWords l.fn.config l.rest;
 }
 
 abbrev pub decreases-loop-rest : goal.decreases-loop-rest

@@ -1,6 +1,7 @@
 use Rattle.std.proofs.Common.{refl, sym, ap, true, ◌&&◌, ◌∙◌}
 use Rattle.exec_core.proofs.Settled.{settled_all, none_tracked}
 use Rattle.exec_driver.specs.Books.{is_unreleased}
+use Rattle.exec_core.proofs.Naps.{none_asleep}
 use Rattle.exec_core.proofs.executor.Core.end.Goals as goal
 
 pub returns : goal.returns
@@ -9,18 +10,22 @@ returns c =
     let at_end = c.requires.sound.place in
     let rs = c.args.self.now.driver.requests.items in
     let none = none_tracked is_unreleased rs c.args.self.now.driver.resources.items books.resources at_end.1 in
-    let at_left = c.requires.sound.class.1 in
+    let at_left = c.requires.sound.class.2 in
+    let done = c.requires.sound.class.1 in
     let closing = c.requires.sound.class.0 c.requires.running in
     record {
       config = refl;
-      allowed = (closing, settled_all rs (sym books.unresolved ∙ at_end.0) none, ap (λ b. b && true) at_left, refl);
+      allowed = (closing, settled_all rs (sym books.unresolved ∙ at_end.0) none, none_asleep c.args.self.now c.requires.sound.class.1 c.requires.sound, ap (λ b. b && true) at_left, refl);
       becomes = refl;
       kept = record {
         config = c.requires.sound.config;
+        sized = c.requires.sound.sized;
         time = c.requires.sound.time;
         root = c.requires.sound.root;
         books = books;
-        class = (λ h. cc, at_left);
+        sleeps = c.requires.sound.sleeps;
+        sleeping = c.requires.sound.sleeping;
+        class = (λ h. cc, done, at_left);
         place = at_end;
       };
     }

@@ -1,6 +1,7 @@
 use Rattle.std.proofs.Common.{refl, ap, ◌∙◌, sym, arith, Ok, ◌≡◌, true}
 use Rattle.std.proofs.lemmas.List.{length-set}
 use Rattle.exec_machine.specs.declared.event.Event.TheVariants as event
+use Rattle.exec_machine.specs.Choice.Choice.{Plain}
 use Rattle.exec_machine.specs.Allowed.{is_queued, of_worker}
 use Rattle.exec_core.specs.declared.place.Place.TheVariants as place
 use Rattle.exec_driver.specs.Books.{request_at}
@@ -8,15 +9,15 @@ use Rattle.exec_driver.proofs.Phases.{of_0}
 use Rattle.exec_core.proofs.Steps.{driven}
 use Rattle.exec_core.proofs.executor.Core.stage.Goals as goal
 
-pub returns-in-Some : goal.returns-in-Some
-returns-in-Some c =
+pub returns : goal.returns
+returns c =
     let k = c.args.self.now in
     let r = c.in-Some.request in
     let rs = k.driver.requests.items in
-    let was = c.in_ok-staged.ensures.queued r (ap Ok c.in-Some.is) in
+    let was = c.in_ok-request.ensures.queued r (ap Ok c.in-Some.is) in
     let sound = c.requires.sound.books.each r in
     let queued : is_queued (request_at rs r).phase ≡ true = ap is_queued was in
     let mine : of_worker 0 is_queued (request_at rs r) ≡ true = of_0 is_queued (request_at rs r) sound.owner ∙ queued in
-    driven k c.stage.new.self (place.Submit c.args.service) (place.Submit c.args.service) (event.Stage r) 0 _ _ _ _
-    c.requires.sound c.in_ok-staged.ensures.books (c.in_ok-staged.ensures.shows r (ap Ok c.in-Some.is)) (length-set rs r _)
-    (c.requires.sound.class, tt) (sym c.in_ok-staged.ensures.found ∙ c.in-Some.is, mine, sound.kept queued, omega (arith, c.requires.room, c.requires.sound.books.in_flight)) refl
+    driven k c.stage.new.self (place.Submit c.args.service) (place.Submit c.args.service) (event.Stage r) Plain _ _ _ _
+    c.requires.sound c.in_ok-request.ensures.books (c.in_ok-request.ensures.shows r (ap Ok c.in-Some.is)) (length-set rs r _)
+    (c.requires.sound.class, tt) (sym c.in_ok-request.ensures.found ∙ c.in-Some.is, mine, sound.kept queued, omega (arith, c.requires.room, c.requires.sound.books.in_flight, c.requires.sound.sized.ring)) refl

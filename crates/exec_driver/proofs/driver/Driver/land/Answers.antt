@@ -1,4 +1,4 @@
-use Rattle.std.proofs.Common.{◌==◌, ◌&&◌, refl, sym, ap, subst, ◌∙◌, IsTrue}
+use Rattle.std.proofs.Common.{◌==◌, ◌&&◌, refl, sym, ap, subst, ◌∙◌, IsTrue, not}
 use Rattle.std.proofs.lemmas.Bool.{false≢true}
 use Rattle.exec_outcomes.specs.declared.outcome.OpResult.{OpResult}
 use Rattle.exec_outcomes.specs.Lawful.{window_of, is_lawful}
@@ -7,8 +7,8 @@ use Rattle.exec_machine.specs.declared.state.Phase.{Phase}
 use Rattle.exec_machine.specs.declared.state.Phase.TheVariants.{Landed}
 use Rattle.exec_machine.specs.declared.state.Request.{Request}
 use Rattle.exec_driver.specs.Operations.{operations_view}
-use Rattle.exec_driver.specs.Books.{is_ready, is_on_ring, is_back, owes, is_unreleased, is_unresolved, operation_at}
-use Rattle.exec_driver.proofs.Change.{changed, keep, join, count_keep, each_keep, was_sound, there_from_test, timer_keep, length_keep}
+use Rattle.exec_driver.specs.Books.{is_ready, is_on_ring, is_back, owes, is_unreleased, is_unresolved, operation_at, is_unenrolled, is_to_cancel}
+use Rattle.exec_driver.proofs.Change.{changed, keep, join, count_keep, each_keep, was_sound, there_from_test, timers_keep, length_keep, covers_keep, buffers_keep, numbers_keep, going_keep}
 use Rattle.exec_driver.proofs.Phases.{phase-flying, same_result, owes_not, unreleased_not, unresolved_is}
 use Rattle.exec_driver.proofs.driver.Driver.land.Goals as goal
 
@@ -16,7 +16,7 @@ pub returns-clause-books : goal.returns-clause-books
 returns-clause-books c =
     let d = c.args.self.now in
     let b = c.requires.books in
-    let os = operations_view d.sends.items in
+    let os = operations_view d.asked.items in
     let r = c.args.request in
     let x = c.index_mut-entry.result.now in
     let q = record x { phase = Landed c.args.given } in
@@ -35,13 +35,21 @@ returns-clause-books c =
         kept = λ h. absurd (false≢true h);
         timely = old.timely;
         fresh = λ _. old.fresh going;
+        ungated = λ h. cc;
+        timed = λ h. (refl, (old.timed h).1);
+        watched = λ _ h. old.watched (ap is_in_flight was) h;
       });
-      ready = keep is_ready d.ready.items ch (sym (ap is_queued was)) b.ready;
+      buffers = buffers_keep d.asked.items ch refl b.buffers;
+      ready = going_keep is_ready d.ready.items ch (λ h. (going, sym (ap is_queued was))) b.ready;
+      numbers = numbers_keep d.ready.items ch b.numbers;
       staged = keep is_on_ring d.staged.items ch (sym (ap is_staged was)) b.staged;
       landed = join is_back d.landed.items c.push_back.new.self.items ch (ap is_landed was) refl c.in_ok-push_back.ensures.items b.landed;
       wakes = keep owes d.wakes.items ch (sym (owes_not x going)) b.wakes;
       resources = keep is_unreleased d.resources.items ch (sym (unreleased_not x going)) b.resources;
       in_flight = b.in_flight ∙ sym (count_keep (of_worker 0 is_in_flight) ch (sym (ap (λ (p : Phase). (x.worker == 0) && is_in_flight p) was)));
       unresolved = b.unresolved ∙ sym (count_keep is_unresolved ch (sym (unresolved_is x going)));
-      timers = λ u. b.timers u ∙ timer_keep u ch refl;
+      timers = timers_keep d.timers ch refl b.timers;
+      queued = b.queued ∙ sym (count_keep is_ready ch (sym (ap is_queued was)));
+      unenrolled = covers_keep is_unenrolled d.unenrolled.items ch (λ h. absurd (false≢true h)) b.unenrolled;
+      cancels = covers_keep is_to_cancel d.cancels.items ch (λ h. ap (λ (p : Phase). is_in_flight p && (x.cancelled && not x.cancel_staged)) was ∙ h) b.cancels;
     }

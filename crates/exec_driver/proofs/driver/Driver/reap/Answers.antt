@@ -1,11 +1,11 @@
 use Rattle.std.proofs.Common.{◌≡◌, ℕ, ◌<◌, false, List, length, refl, sym, ap, subst, ◌∙◌, arith, IsTrue}
 use Rattle.exec_outcomes.specs.Lawful.{window_of, is_lawful}
-use Rattle.exec_machine.specs.Allowed.{of_worker, is_queued, is_staged, is_resolved, is_in_flight}
+use Rattle.exec_machine.specs.Allowed.{of_worker, is_queued, is_staged, is_resolved, is_in_flight, is_none}
 use Rattle.exec_machine.specs.declared.state.Phase.TheVariants.{Landed}
 use Rattle.exec_machine.specs.declared.state.Request.{Request}
 use Rattle.exec_driver.specs.Operations.{operations_view}
-use Rattle.exec_driver.specs.Books.{is_ready, is_on_ring, is_back, owes, is_unreleased, is_unresolved, operation_at, request_at}
-use Rattle.exec_driver.proofs.Change.{changed, keep, leave_front, count_keep, count_down, was_sound, front_passes, timer_keep, length_keep, front_there, read_passes, along}
+use Rattle.exec_driver.specs.Books.{is_ready, is_on_ring, is_back, owes, is_unreleased, is_unresolved, operation_at, request_at, is_unenrolled, is_to_cancel, TracksGoing, AreNumbers, Buffers, IsOwned}
+use Rattle.exec_driver.proofs.Change.{changed, keep, leave_front, count_keep, count_down, was_sound, front_passes, timers_keep, length_keep, front_there, read_passes, along, covers_keep, buffers_set}
 use Rattle.exec_driver.proofs.Phases.{owes_not, unreleased_not, unresolved_is, of_0}
 use Rattle.std.proofs.Common.{◌+◌, drop, slice_get}
 use Rattle.std.specs.Prelude.{slice_set}
@@ -17,17 +17,21 @@ use Rattle.exec_machine.specs.declared.state.Phase.TheVariants.{Gated}
 use Rattle.exec_machine.specs.After.{reaped, joined}
 use Rattle.exec_driver.specs.Operations.{operation_view}
 use Rattle.exec_driver.specs.declared.driver.Judgement.{Judgement}
-use Rattle.exec_driver.specs.Books.{Tracks, IsSound, IsJudged, Shows}
+use Rattle.exec_driver.specs.Books.{IsSound, IsJudged, Shows}
 use Rattle.exec_driver.proofs.Change.{at_r, twice}
-use Rattle.exec_driver.proofs.Reaps.{landed_with, reaped_gated, view_at, sound_reaped, tracks_joined, each_both}
+use Rattle.exec_driver.proofs.Reaps.{landed_with, reaped_gated, view_at, sound_reaped, each_both, view_moved, going_joined, numbers_joined, released_reaped}
 use Rattle.exec_outcomes.proofs.Runs.{uncancelled}
+use Rattle.std.proofs.lemmas.Option.{slice_get_read}
+use Rattle.std.proofs.lemmas.Bool.{false≢true}
+use Rattle.exec_request.specs.Views.{moved_of}
+use Rattle.exec_request.specs.declared.request.Request.{Request as Asked}
 use Rattle.exec_driver.proofs.driver.Driver.reap.Goals as goal
 
 pub index_mut-entry-requires : goal.index_mut-entry-requires
 index_mut-entry-requires c =
     let d = c.args.self.now in
     let b = c.requires in
-    let os = operations_view d.sends.items in
+    let os = operations_view d.asked.items in
     let r = c.in-Some.request in
     let rs = d.requests.items in
     let rest = c.pop_front.new.self.items in
@@ -38,7 +42,7 @@ pub unreachable-requires : goal.unreachable-requires
 unreachable-requires c =
     let d = c.args.self.now in
     let b = c.requires in
-    let os = operations_view d.sends.items in
+    let os = operations_view d.asked.items in
     let r = c.in-Some.request in
     let rs = d.requests.items in
     let rest = c.pop_front.new.self.items in
@@ -54,7 +58,7 @@ pub overflow_sub-self : goal.overflow_sub-self
 overflow_sub-self c =
     let d = c.args.self.now in
     let b = c.requires in
-    let os = operations_view d.sends.items in
+    let os = operations_view d.asked.items in
     let r = c.in-Some.request in
     let rs = d.requests.items in
     let rest = c.pop_front.new.self.items in
@@ -68,22 +72,22 @@ overflow_sub-self c =
     let down = count_down (of_worker 0 is_in_flight) ch (of_0 is_in_flight x old.owner ∙ ap is_in_flight was) (of_0 is_in_flight q old.owner) in
     omega (arith, b.in_flight, down)
 
-pub index_mut-send-requires : goal.index_mut-send-requires
-index_mut-send-requires c =
+pub index_mut-asked-requires : goal.index_mut-asked-requires
+index_mut-asked-requires c =
     let d = c.args.self.now in
     let b = c.requires in
-    let os = operations_view d.sends.items in
+    let os = operations_view d.asked.items in
     let r = c.in-Some.request in
     let rs = d.requests.items in
     let rest = c.pop_front.new.self.items in
     let there = front_there is_back rs d.landed.items rest r refl b.landed c.in-Some.ensures.items in
-    omega (arith, d.sends.ok.0, b.same_length)
+    omega (arith, d.asked.ok.0, b.same_length)
 
 pub on_cqe-outcome-requires-clause-unfinished : goal.on_cqe-outcome-requires-clause-unfinished
 on_cqe-outcome-requires-clause-unfinished c =
     let d = c.args.self.now in
     let b = c.requires in
-    let os = operations_view d.sends.items in
+    let os = operations_view d.asked.items in
     let r = c.in-Some.request in
     let rs = d.requests.items in
     let rest = c.pop_front.new.self.items in
@@ -95,17 +99,17 @@ on_cqe-outcome-requires-clause-unfinished c =
     let old = was_sound os ch b.each in
     let was : x.phase ≡ Landed c.in-Landed.given = c.in-Landed.is in
     let given = c.in-Landed.given in
-    let s = c.index_mut-send.result.now in
+    let s = c.index_mut-asked.result.now in
     let o = operation_at os r in
-    let send_there : r < length d.sends.items = omega (arith, b.same_length) in
-    let same : o ≡ operation_view s = view_at d.sends.items r s c.index_mut-send.ensures.value send_there in
+    let send_there : r < length d.asked.items = omega (arith, b.same_length) in
+    let same : o ≡ operation_view s = view_at d.asked.items r s c.index_mut-asked.ensures.value send_there in
     subst (λ (p : Operation). p.moved < p.length) same (old.unfinished (ap is_resolved was))
 
 pub on_cqe-outcome-requires-clause-lawful : goal.on_cqe-outcome-requires-clause-lawful
 on_cqe-outcome-requires-clause-lawful c =
     let d = c.args.self.now in
     let b = c.requires in
-    let os = operations_view d.sends.items in
+    let os = operations_view d.asked.items in
     let r = c.in-Some.request in
     let rs = d.requests.items in
     let rest = c.pop_front.new.self.items in
@@ -117,17 +121,17 @@ on_cqe-outcome-requires-clause-lawful c =
     let old = was_sound os ch b.each in
     let was : x.phase ≡ Landed c.in-Landed.given = c.in-Landed.is in
     let given = c.in-Landed.given in
-    let s = c.index_mut-send.result.now in
+    let s = c.index_mut-asked.result.now in
     let o = operation_at os r in
-    let send_there : r < length d.sends.items = omega (arith, b.same_length) in
-    let same : o ≡ operation_view s = view_at d.sends.items r s c.index_mut-send.ensures.value send_there in
+    let send_there : r < length d.asked.items = omega (arith, b.same_length) in
+    let same : o ≡ operation_view s = view_at d.asked.items r s c.index_mut-asked.ensures.value send_there in
     subst (λ (p : Operation). IsTrue (is_lawful (window_of p.kind p.length p.moved) given)) same (old.lawful given was)
 
 pub settle-requires-clause-listed : goal.settle-requires-clause-listed
 settle-requires-clause-listed c =
     let d = c.args.self.now in
     let b = c.requires in
-    let os = operations_view d.sends.items in
+    let os = operations_view d.asked.items in
     let r = c.in-Some.request in
     let rs = d.requests.items in
     let rest = c.pop_front.new.self.items in
@@ -147,14 +151,17 @@ settle-requires-clause-listed c =
       resources = keep is_unreleased d.resources.items ch (sym (unreleased_not x going)) b.resources;
       in_flight = omega (arith, b.in_flight, down);
       unresolved = b.unresolved ∙ sym (count_keep is_unresolved ch (sym (unresolved_is x going)));
-      timers = λ u. b.timers u ∙ timer_keep u ch refl;
+      timers = timers_keep d.timers ch refl b.timers;
+      queued = b.queued ∙ sym (count_keep is_ready ch (sym (ap is_queued was)));
+      unenrolled = covers_keep is_unenrolled d.unenrolled.items ch (λ h. absurd (false≢true h)) b.unenrolled;
+      cancels = covers_keep is_to_cancel d.cancels.items ch (λ h. absurd (false≢true h)) b.cancels;
     }
 
 pub settle-requires-clause-there : goal.settle-requires-clause-there
 settle-requires-clause-there c =
     let d = c.args.self.now in
     let b = c.requires in
-    let os = operations_view d.sends.items in
+    let os = operations_view d.asked.items in
     let r = c.in-Some.request in
     let rs = d.requests.items in
     let rest = c.pop_front.new.self.items in
@@ -166,11 +173,11 @@ settle-requires-clause-there c =
     let old = was_sound os ch b.each in
     subst (λ (n : ℕ). r < n) (length_keep (length rs) ch refl) there
 
-pub settle-requires-clause-owner : goal.settle-requires-clause-owner
-settle-requires-clause-owner c =
+pub settle-requires-clause-watched : goal.settle-requires-clause-watched
+settle-requires-clause-watched c = λ none.
     let d = c.args.self.now in
     let b = c.requires in
-    let os = operations_view d.sends.items in
+    let os = operations_view d.asked.items in
     let r = c.in-Some.request in
     let rs = d.requests.items in
     let rest = c.pop_front.new.self.items in
@@ -180,13 +187,21 @@ settle-requires-clause-owner c =
     let ch = changed rs r x q c.index_mut-entry.ensures.value there in
     let passes = read_passes is_back ch (front_passes is_back rs d.landed.items rest r b.landed c.in-Some.ensures.items) in
     let old = was_sound os ch b.each in
-    ap (λ (z : Request). z.worker) (at_r ch) ∙ old.owner
+    let was : x.phase ≡ Landed c.in-Landed.given = c.in-Landed.is in
+    let given = c.in-Landed.given in
+    let s = c.index_mut-asked.result.now in
+    let o = operation_at os r in
+    let send_there : r < length d.asked.items = omega (arith, b.same_length) in
+    let same : o ≡ operation_view s = view_at d.asked.items r s c.index_mut-asked.ensures.value send_there in
+    let judged : Judged = record { result = given; cancelled = x.cancelled } in
+    let next : c.on_cqe-outcome.result ≡ outcome_next o.kind o.length o.moved judged = c.on_cqe-outcome.ensures.next ∙ ap (λ (p : Operation). outcome_next p.kind p.length p.moved judged) (sym same) in
+    ap (λ (z : Request). is_none z.timer) (at_r ch) ∙ old.watched (ap is_in_flight was) (uncancelled o.kind o.length o.moved given x.cancelled (sym next ∙ none))
 
 pub settle-requires-clause-gated : goal.settle-requires-clause-gated
 settle-requires-clause-gated c =
     let d = c.args.self.now in
     let b = c.requires in
-    let os = operations_view d.sends.items in
+    let os = operations_view d.asked.items in
     let r = c.in-Some.request in
     let rs = d.requests.items in
     let rest = c.pop_front.new.self.items in
@@ -202,7 +217,7 @@ pub settle-requires-clause-fresh : goal.settle-requires-clause-fresh
 settle-requires-clause-fresh c =
     let d = c.args.self.now in
     let b = c.requires in
-    let os = operations_view d.sends.items in
+    let os = operations_view d.asked.items in
     let r = c.in-Some.request in
     let rs = d.requests.items in
     let rest = c.pop_front.new.self.items in
@@ -219,7 +234,7 @@ pub returns-clause-books : goal.returns-clause-books
 returns-clause-books c =
     let d = c.args.self.now in
     let b = c.requires in
-    let os = operations_view d.sends.items in
+    let os = operations_view d.asked.items in
     let r = c.in-Some.request in
     let rs = d.requests.items in
     let rest = c.pop_front.new.self.items in
@@ -231,10 +246,10 @@ returns-clause-books c =
     let old = was_sound os ch b.each in
     let was : x.phase ≡ Landed c.in-Landed.given = c.in-Landed.is in
     let given = c.in-Landed.given in
-    let s = c.index_mut-send.result.now in
+    let s = c.index_mut-asked.result.now in
     let o = operation_at os r in
-    let send_there : r < length d.sends.items = omega (arith, b.same_length) in
-    let same : o ≡ operation_view s = view_at d.sends.items r s c.index_mut-send.ensures.value send_there in
+    let send_there : r < length d.asked.items = omega (arith, b.same_length) in
+    let same : o ≡ operation_view s = view_at d.asked.items r s c.index_mut-asked.ensures.value send_there in
     let outcome = c.on_cqe-outcome.result in
     let t = c.on_cqe-outcome.new.self in
     let settled = c.in_ok-settle.ensures in
@@ -245,23 +260,33 @@ returns-clause-books c =
     ∙ ap (λ (z : Request). slice_set rs r (reaped outcome z)) (at_r ch)
     ∙ ap (slice_set rs r) (reaped_gated outcome x) in
     let more = record o { moved = o.moved + bytes_of given } in
-    let view : operation_view t ≡ more = ap operation_view c.on_cqe-outcome.ensures.counted ∙ ap (λ (p : Operation). record p { moved = p.moved + bytes_of given }) (sym same) in
-    let eos : operations_view c.settle.new.self.sends.items ≡ slice_set os r more = ap operations_view settled.sends ∙ map-set operation_view d.sends.items r t ∙ ap (slice_set os r) view in
+    let kept = c.on_cqe-outcome.ensures.same in
+    let view : operation_view t ≡ more = view_moved s t (moved_of s + bytes_of given) kept.0 kept.1 kept.2 kept.3 c.on_cqe-outcome.ensures.moved ∙ ap (λ (p : Operation). record p { moved = p.moved + bytes_of given }) (sym same) in
+    let eos : operations_view c.settle.new.self.asked.items ≡ slice_set os r more = ap operations_view settled.asked ∙ map-set operation_view d.asked.items r t ∙ ap (slice_set os r) view in
     let next : outcome ≡ outcome_next o.kind o.length o.moved judged = c.on_cqe-outcome.ensures.next ∙ ap (λ (p : Operation). outcome_next p.kind p.length p.moved judged) (sym same) in
     let listed = settled.listed in
     let ch2 = changed rs r x (reaped outcome x) c.index_mut-entry.ensures.value there in
-    let views = operations_view c.settle.new.self.sends.items in
-    let os_there : r < length os = omega (arith, length-map d.sends.items operation_view) in
+    let views = operations_view c.settle.new.self.asked.items in
+    let going = ap is_resolved was in
+    let free = (old.fresh going).0 in
+    let had = (b.buffers r s (slice_get_read d.asked.items (length d.asked.items) r s refl send_there c.index_mut-asked.ensures.value)).0 (ap (λ (z : Request). z.released) (sym ch.read) ∙ free) in
+    let owned : IsOwned (reaped outcome x).released t = ((λ _. kept.4 ∙ had), (λ h. absurd (false≢true (sym (released_reaped outcome x ∙ free) ∙ h)))) in
+    let os_there : r < length os = omega (arith, length-map d.asked.items operation_view) in
     record {
-      same_length = ap length settled.sends ∙ length-set d.sends.items r t ∙ length_keep _ ch2 b.same_length ∙ ap length (sym e);
+      same_length = ap length settled.asked ∙ length-set d.asked.items r t ∙ length_keep _ ch2 b.same_length ∙ ap length (sym e);
       each = along (λ (ops : List Operation). (k : ℕ) → IsSound (operation_at ops k) (request_at new k)) (slice_set os r more) views eos
           (along (λ (zs : List Request). (k : ℕ) → IsSound (operation_at (slice_set os r more) k) (request_at zs k)) (slice_set rs r (reaped outcome x)) new e
           (each_both os more ch2 os_there b.each
           (sound_reaped outcome more x old.owner
           (λ h. subst (λ (p : Operation). p.moved < p.length) view (c.on_cqe-outcome.ensures.unfinished h))
           (λ h. uncancelled o.kind o.length o.moved given x.cancelled (sym next ∙ h)) old.timely (old.fresh (ap is_resolved was)))));
-      ready = along (λ (zs : List Request). Tracks is_ready zs c.settle.new.self.ready.items) (slice_set rs r (reaped outcome x)) new e
-          (tracks_joined outcome d.ready.items c.settle.new.self.ready.items ch2 (ap is_queued was) settled.ready b.ready);
+      buffers = along (λ (ss : List Asked). Buffers ss new) (slice_set d.asked.items r t) c.settle.new.self.asked.items settled.asked
+          (along (λ (zs : List Request). Buffers (slice_set d.asked.items r t) zs) (slice_set rs r (reaped outcome x)) new e
+          (buffers_set d.asked.items t ch2 send_there owned b.buffers));
+      ready = along (λ (zs : List Request). TracksGoing is_ready zs c.settle.new.self.ready.items) (slice_set rs r (reaped outcome x)) new e
+          (going_joined outcome d.ready.items c.settle.new.self.ready.items ch2 going (ap is_queued was) settled.ready b.ready);
+      numbers = along (λ (zs : List Request). AreNumbers zs c.settle.new.self.ready.items) (slice_set rs r (reaped outcome x)) new e
+          (numbers_joined outcome d.ready.items c.settle.new.self.ready.items ch2 settled.ready b.numbers);
       staged = listed.staged;
       landed = listed.landed;
       wakes = listed.wakes;
@@ -269,13 +294,16 @@ returns-clause-books c =
       in_flight = listed.in_flight;
       unresolved = listed.unresolved;
       timers = listed.timers;
+      queued = listed.queued;
+      unenrolled = listed.unenrolled;
+      cancels = listed.cancels;
     }
 
 pub returns-clause-judged : goal.returns-clause-judged
 returns-clause-judged c =
     let d = c.args.self.now in
     let b = c.requires in
-    let os = operations_view d.sends.items in
+    let os = operations_view d.asked.items in
     let r = c.in-Some.request in
     let rs = d.requests.items in
     let rest = c.pop_front.new.self.items in
@@ -287,10 +315,10 @@ returns-clause-judged c =
     let old = was_sound os ch b.each in
     let was : x.phase ≡ Landed c.in-Landed.given = c.in-Landed.is in
     let given = c.in-Landed.given in
-    let s = c.index_mut-send.result.now in
+    let s = c.index_mut-asked.result.now in
     let o = operation_at os r in
-    let send_there : r < length d.sends.items = omega (arith, b.same_length) in
-    let same : o ≡ operation_view s = view_at d.sends.items r s c.index_mut-send.ensures.value send_there in
+    let send_there : r < length d.asked.items = omega (arith, b.same_length) in
+    let same : o ≡ operation_view s = view_at d.asked.items r s c.index_mut-asked.ensures.value send_there in
     let outcome = c.on_cqe-outcome.result in
     let judged : Judged = record { result = given; cancelled = x.cancelled } in
     let next : outcome ≡ outcome_next o.kind o.length o.moved judged = c.on_cqe-outcome.ensures.next ∙ ap (λ (p : Operation). outcome_next p.kind p.length p.moved judged) (sym same) in
@@ -309,7 +337,7 @@ pub returns-clause-shows : goal.returns-clause-shows
 returns-clause-shows c =
     let d = c.args.self.now in
     let b = c.requires in
-    let os = operations_view d.sends.items in
+    let os = operations_view d.asked.items in
     let r = c.in-Some.request in
     let rs = d.requests.items in
     let rest = c.pop_front.new.self.items in
@@ -321,10 +349,10 @@ returns-clause-shows c =
     let old = was_sound os ch b.each in
     let was : x.phase ≡ Landed c.in-Landed.given = c.in-Landed.is in
     let given = c.in-Landed.given in
-    let s = c.index_mut-send.result.now in
+    let s = c.index_mut-asked.result.now in
     let o = operation_at os r in
-    let send_there : r < length d.sends.items = omega (arith, b.same_length) in
-    let same : o ≡ operation_view s = view_at d.sends.items r s c.index_mut-send.ensures.value send_there in
+    let send_there : r < length d.asked.items = omega (arith, b.same_length) in
+    let same : o ≡ operation_view s = view_at d.asked.items r s c.index_mut-asked.ensures.value send_there in
     let outcome = c.on_cqe-outcome.result in
     let t = c.on_cqe-outcome.new.self in
     let settled = c.in_ok-settle.ensures in
@@ -335,8 +363,9 @@ returns-clause-shows c =
     ∙ ap (λ (z : Request). slice_set rs r (reaped outcome z)) (at_r ch)
     ∙ ap (slice_set rs r) (reaped_gated outcome x) in
     let more = record o { moved = o.moved + bytes_of given } in
-    let view : operation_view t ≡ more = ap operation_view c.on_cqe-outcome.ensures.counted ∙ ap (λ (p : Operation). record p { moved = p.moved + bytes_of given }) (sym same) in
-    let eos : operations_view c.settle.new.self.sends.items ≡ slice_set os r more = ap operations_view settled.sends ∙ map-set operation_view d.sends.items r t ∙ ap (slice_set os r) view in
+    let kept = c.on_cqe-outcome.ensures.same in
+    let view : operation_view t ≡ more = view_moved s t (moved_of s + bytes_of given) kept.0 kept.1 kept.2 kept.3 c.on_cqe-outcome.ensures.moved ∙ ap (λ (p : Operation). record p { moved = p.moved + bytes_of given }) (sym same) in
+    let eos : operations_view c.settle.new.self.asked.items ≡ slice_set os r more = ap operations_view settled.asked ∙ map-set operation_view d.asked.items r t ∙ ap (slice_set os r) view in
     let next : outcome ≡ outcome_next o.kind o.length o.moved judged = c.on_cqe-outcome.ensures.next ∙ ap (λ (p : Operation). outcome_next p.kind p.length p.moved judged) (sym same) in
     λ j h.
     let i : Judgement = record { request = r; given = given; outcome = outcome } in
@@ -350,3 +379,21 @@ returns-clause-shows c =
       ready = settled.ready;
       landed = settled.landed ∙ c.in-Some.ensures.rest;
     })
+
+pub returns-clause-landed : goal.returns-clause-landed
+returns-clause-landed c = λ j h.
+    let d = c.args.self.now in
+    let b = c.requires in
+    let os = operations_view d.asked.items in
+    let r = c.in-Some.request in
+    let rs = d.requests.items in
+    let rest = c.pop_front.new.self.items in
+    let there = front_there is_back rs d.landed.items rest r refl b.landed c.in-Some.ensures.items in
+    let x = c.index_mut-entry.result.now in
+    let q = record x { phase = Gated } in
+    let ch = changed rs r x q c.index_mut-entry.ensures.value there in
+    let passes = read_passes is_back ch (front_passes is_back rs d.landed.items rest r b.landed c.in-Some.ensures.items) in
+    let old = was_sound os ch b.each in
+    let was : x.phase ≡ Landed c.in-Landed.given = c.in-Landed.is in
+    let down = count_down (of_worker 0 is_in_flight) ch (of_0 is_in_flight x old.owner ∙ ap is_in_flight was) (of_0 is_in_flight q old.owner) in
+    omega (arith, b.in_flight, down, c.in_ok-settle.ensures.flights)

@@ -1,15 +1,16 @@
-use Rattle.std.proofs.Common.{◌==◌, ◌&&◌, refl, sym, ap, ◌∙◌}
-use Rattle.exec_machine.specs.Allowed.{of_worker, is_staged, is_landed, is_resolved, is_in_flight}
+use Rattle.std.proofs.Common.{◌==◌, ◌&&◌, refl, sym, ap, ◌∙◌, ℕ, ◌+◌}
+use Rattle.exec_machine.specs.Allowed.{of_worker, is_staged, is_landed, is_resolved, is_in_flight, is_queued, is_none}
 use Rattle.exec_machine.specs.declared.state.Phase.{Phase}
 use Rattle.exec_machine.specs.declared.state.Phase.TheVariants.{Queued, Resolved}
 use Rattle.exec_machine.specs.declared.state.Request.{Request}
-use Rattle.exec_driver.specs.Books.{is_on_ring, is_back, owes, is_unreleased, is_unresolved, request_at}
-use Rattle.exec_driver.proofs.Change.{changed, keep, count_keep, timer_keep}
+use Rattle.exec_driver.specs.Books.{is_on_ring, is_back, owes, is_unreleased, is_unresolved, request_at, is_ready, is_unenrolled, is_to_cancel}
+use Rattle.exec_driver.proofs.Change.{changed, keep, count_keep, timers_keep, covers_keep, count_up}
 use Rattle.exec_driver.proofs.Phases.{owes_not, unreleased_not, unresolved_is}
 use Rattle.std.proofs.Common.{None}
 use Rattle.std.specs.Prelude.{slice_set}
 use Rattle.exec_machine.specs.After.{reaped}
 use Rattle.exec_driver.proofs.Change.{twice, after_at}
+use Rattle.std.proofs.lemmas.Bool.{true≢false, false≢true}
 use Rattle.exec_driver.proofs.driver.Driver.settle.Goals as goal
 
 pub returns-in_ok-push_back-in-None-clause-listed : goal.returns-in_ok-push_back-in-None-clause-listed
@@ -29,7 +30,10 @@ returns-in_ok-push_back-in-None-clause-listed c =
       resources = keep is_unreleased d.resources.items ch (sym (unreleased_not x (ap is_resolved was))) b.resources;
       in_flight = b.in_flight ∙ sym (count_keep (of_worker 0 is_in_flight) ch (sym (ap (λ (p : Phase). (x.worker == 0) && is_in_flight p) was)));
       unresolved = b.unresolved ∙ sym (count_keep is_unresolved ch (sym (unresolved_is x (ap is_resolved was))));
-      timers = λ u. b.timers u ∙ timer_keep u ch refl;
+      timers = timers_keep d.timers ch refl b.timers;
+      queued = ap (λ (n : ℕ). n + 1) b.queued ∙ sym (count_up is_ready ch (ap is_queued was) refl);
+      unenrolled = covers_keep is_unenrolled d.unenrolled.items ch (λ h. absurd (true≢false (sym h ∙ ap (λ (z : Request). is_none z.timer) ch.read ∙ c.requires.watched c.in-None.is))) b.unenrolled;
+      cancels = covers_keep is_to_cancel d.cancels.items ch (λ h. absurd (false≢true h)) b.cancels;
     }
 
 pub returns-in_ok-resolve-in-Some-clause-requests : goal.returns-in_ok-resolve-in-Some-clause-requests

@@ -10,4 +10,4 @@ returns-clause-judged c = λ results come.
 
 pub returns-clause-goes_on : goal.returns-clause-goes_on
 returns-clause-goes_on c = λ results come undecided.
-    rw c.bytes_moved.ensures (goes_on Send c.args.self.now.length c.args.self.now.sent results (record { result = c.args.given; cancelled = c.args.cancelled }) come (sym c.judge-outcome.ensures.next ∙ undecided))
+    rw c.counted_by.ensures (goes_on Send c.args.self.now.length c.args.self.now.sent results (record { result = c.args.given; cancelled = c.args.cancelled }) come (sym c.judge-outcome.ensures.next ∙ undecided))

@@ -1,0 +1,31 @@
+use Rattle.std.proofs.Common.{refl, ap, ◌≡◌, add-one, arith, rules, of_calls}
+use Rattle.exec_base.specs.declared.spinner.Spinner.{Spinner}
+use Rattle.exec_base.proofs.Looks.{Misses-more}
+use Rattle.exec_base.proofs.spinner.Spinner.spin.Goals as goal
+
+pub loop-init : goal.loop-init
+loop-init g c = (c.requires, refl, refl)
+
+pub loop-preserved : goal.loop-preserved
+loop-preserved g c =
+    let miss = rw c.if-condition.false at c.condition.ensures in
+    (search (rules, of_calls), c.loop.invariant.1, rw add-one (Misses-more (goal.C-step g) c.loop.counter c.args.condition c.loop.condition c.condition.new.self c.loop.invariant.2 miss))
+
+pub returns-then-condition-clause-calls : goal.returns-then-condition-clause-calls
+returns-then-condition-clause-calls g c =
+    let hit = rw c.if-condition.true at c.condition.ensures in
+    let budget : c.self.inside.budget ≡ c.args.self.now.budget = ap (λ (s : Spinner). s.budget) c.self.view_is in
+    record {
+      misses = c.loop.counter;
+      within = omega (arith, c.loop-test.true, budget);
+      before = c.loop.condition;
+      missed = c.loop.invariant.2;
+      last = c.condition.new.self;
+      hit = hit;
+    }
+
+pub returns-clause-calls : goal.returns-clause-calls
+returns-clause-calls g c =
+    let budget : c.self.inside.budget ≡ c.args.self.now.budget = ap (λ (s : Spinner). s.budget) c.self.view_is in
+    let all : c.loop.counter ≡ c.args.self.now.budget = omega (arith, c.loop-test.false, budget) in
+    record { last = c.loop.condition; missed = rw all at c.loop.invariant.2 }

@@ -1,0 +1,4 @@
+pub mod Chunks
+pub mod Poured
+pub mod Windows
+pub mod Written

@@ -1,0 +1,99 @@
+//! The ranges of a configuration.
+
+ghost use Rattle.std.specs.Prelude.{◌≡◌, ◌==◌, ◌&&◌, ◌^◌, ◌-◌, nat_le};
+ghost use Rattle.exec_machine.specs.Ranges.{first_out_of_range, tested_parts, ticks_needed, is_within};
+
+use exec_machine::config::{Configuration, Field, OutOfRange, Spin};
+
+/// The most that a count of 32 bits can be.
+const MOST_COUNT: u64 = 4_294_967_295;
+/// The most operations that a ring can hold.
+const MOST_OPERATIONS: u64 = 32_768;
+/// The longest timeout, in nanoseconds: 30 years of 365 days.
+const LONGEST_TIMEOUT: u64 = 946_080_000_000_000_000;
+/// The most files.
+const MOST_FILES: u64 = 64;
+/// The most sockets.
+const MOST_SOCKETS: u64 = 1024;
+/// The most slots of the timeout wheel.
+const MOST_SLOTS: u128 = 1_048_576;
+
+/// The first part of the configuration that is out of its range, in the order of the header, with what it
+/// says. The slots of the timeout wheel come last.
+pub fn first_out_of_range(config: Configuration) -> Option<OutOfRange>
+    ensures { result ≡ first_out_of_range config }
+{
+    for (field, value, is_in_range) in tested_parts(config) {
+        if !is_in_range {
+            return Some(OutOfRange { field, value });
+        }
+    }
+    None
+}
+
+/// Each part with what it says and whether that is in its range.
+fn tested_parts(config: Configuration) -> [(Field, u64, bool); 10]
+    ensures { result ≡ tested_parts config }
+{
+    let Configuration {
+        workers,
+        interval,
+        ring,
+        tick,
+        connect,
+        rw,
+        spin,
+        files,
+        sockets,
+    } = config;
+    let (files, sockets) = (files as u64, sockets as u64);
+    [
+        (Field::Workers, workers as u64, workers == 1),
+        (
+            Field::Interval,
+            interval,
+            is_within(1, MOST_COUNT, interval),
+        ),
+        (Field::Ring, ring, is_within(1, MOST_OPERATIONS, ring)),
+        (Field::Tick, tick, is_within(1, LONGEST_TIMEOUT, tick)),
+        (
+            Field::Connect,
+            connect,
+            is_within(1, LONGEST_TIMEOUT, connect),
+        ),
+        (Field::Rw, rw, is_within(1, LONGEST_TIMEOUT, rw)),
+        (Field::Spin, spin.budget, is_without_spin(spin)),
+        (Field::Files, files, files <= MOST_FILES),
+        (Field::Sockets, sockets, sockets <= MOST_SOCKETS),
+        (Field::Layout, tick, ticks_needed(config) <= MOST_SLOTS),
+    ]
+}
+
+/// Whether the number is neither below the least nor above the most.
+fn is_within(least: u64, most: u64, number: u64) -> bool
+    ensures { result ≡ is_within least most number }
+{
+    least <= number && number <= most
+}
+
+/// Whether no worker spins, and each other number is a count.
+fn is_without_spin(spin: Spin) -> bool
+    ensures { result ≡ ((spin.budget == 0) && nat_le spin.most (2 ^ 32 - 1) && nat_le spin.quick (2 ^ 32 - 1) && nat_le spin.iterations (2 ^ 32 - 1)) }
+{
+    spin.budget == 0
+        && spin.most <= MOST_COUNT
+        && spin.quick <= MOST_COUNT
+        && spin.iterations <= MOST_COUNT
+}
+
+/// How many ticks the longest deadline takes, and two more. A tick of 0 is out of its own range.
+fn ticks_needed(config: Configuration) -> u128
+    ensures { result ≡ ticks_needed config }
+{
+    let longest = u128::from(config.connect.max(config.rw));
+    let tick = u128::from(config.tick);
+    if tick == 0 {
+        return 2;
+    }
+    (longest + (tick - 1)) / tick + 2
+}

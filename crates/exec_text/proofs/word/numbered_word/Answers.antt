@@ -1,0 +1,15 @@
+use Rattle.std.proofs.Common.{codes, arith}
+use Rattle.exec_text.proofs.Fields.{told_unequal}
+use Rattle.exec_text.proofs.Words.{no_one_number}
+use Rattle.exec_text.proofs.word.numbered_word.Goals.{else-eq-3-via-then-eq-3+else-listener-config, else-eq-3-via-else-eq-3}
+use Rattle.exec_text.proofs.word.numbered_word.Goals as goal
+
+pub returns-clause-none : goal.returns-clause-none
+returns-clause-none c =
+    no_one_number c.args.config.now c.args.name.now c.args.number c.requires.name (omega arith) c.requires.sockets
+    (told_unequal c.args.name.now c.as_slice.result.now (codes "sleep") c.eq.result c.eq.ensures c.as_slice.ensures c.if-eq.false)
+    (told_unequal c.args.name.now c.as_slice-2.result.now (codes "fault") c.eq-2.result c.eq-2.ensures c.as_slice-2.ensures c.if-eq-2.false)
+    (λ e. elim c.else-eq-3.branch [
+      | else-eq-3-via-then-eq-3+else-listener-config w ↦ omega arith
+      | else-eq-3-via-else-eq-3 w ↦ absurd (told_unequal c.args.name.now c.as_slice-3.result.now (codes "poll") c.eq-3.result c.eq-3.ensures c.as_slice-3.ensures w.if-eq-3.false e)
+    ])

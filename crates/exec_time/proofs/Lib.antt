@@ -1,0 +1,7 @@
+pub mod Buckets
+pub mod Ranges
+pub mod Views
+pub mod Turns
+pub mod Sizes
+pub mod Slumber
+pub mod Endings

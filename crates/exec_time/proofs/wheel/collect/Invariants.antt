@@ -1,0 +1,10 @@
+use Rattle.std.proofs.Common.{◌≡◌, ◌≤◌, ◌+◌, ◌++◌, take}
+use Rattle.std.specs.VecDeque.{deque_len, deque_capacity}
+use Rattle.exec_time.specs.Entries.{bucket_in}
+use Rattle.exec_time.proofs.wheel.collect.Given as goal
+
+abbrev pub invariant-loop-entry : goal.invariant-loop-entry
+invariant-loop-entry l =
+    (l.ready.items ≡ l.initial.ready.items ++ bucket_in (take l.entry-index l.entries) l.slots l.slot)
+    × (deque_len l.ready ≤ deque_len l.initial.ready + l.entry-index)
+    × (deque_capacity l.ready ≡ deque_capacity l.initial.ready)

@@ -1,0 +1,10 @@
+pub mod Layouts
+pub mod Entries
+pub mod Wheel
+pub mod Turning
+pub mod WheelView
+pub mod Notes
+pub mod Sleepers
+pub mod Firsts
+pub mod Sleep
+pub mod WheelExamples

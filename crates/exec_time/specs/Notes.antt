@@ -1,0 +1,19 @@
+-- What is noted, and for how much more there is room.
+use Rattle.std.specs.Prelude.{◌≡◌, ℕ, ◌+◌, ◌≤◌, List, ◌++◌, vec_len}
+use Rattle.std.specs.Vec.{vec_capacity}
+use Rattle.exec_time.specs.declared.notes.TaskNo.{TaskNo}
+use Rattle.exec_time.specs.declared.notes.Completion.{Completion}
+use Rattle.exec_time.specs.declared.notes.Notes.{Notes}
+
+module _ {S : Type 0} where
+  -- so many wakes and so many completions can be noted without memory
+  pub record HasRoom (notes : Notes S) (n : ℕ) : Type 0 where
+    pub wakes : vec_len notes.wakes + n ≤ vec_capacity notes.wakes
+    pub completions : vec_len notes.completions + n ≤ vec_capacity notes.completions
+
+  -- these come at the end of what is noted, and the memory doesn't shrink
+  pub record Adds (old new : Notes S) (wakes : List TaskNo) (completions : List (Completion S)) : Type 0 where
+    pub wakes_added : new.wakes.items ≡ old.wakes.items ++ wakes
+    pub completions_added : new.completions.items ≡ old.completions.items ++ completions
+    pub wakes_memory : vec_capacity old.wakes ≤ vec_capacity new.wakes
+    pub completions_memory : vec_capacity old.completions ≤ vec_capacity new.completions

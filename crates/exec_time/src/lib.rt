@@ -1,0 +1,8 @@
+//! Deadlines: the wheel that holds those of requests, the sleepers of a worker, and a sleep.
+#![tactic(auto)]
+
+pub mod examples;
+pub mod notes;
+pub mod sleep;
+pub mod timers;
+pub mod wheel;

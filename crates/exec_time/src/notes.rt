@@ -1,0 +1,53 @@
+//! What a worker's parts leave to be told once their own work is done: wakes and completions.
+
+ghost use Rattle.std.specs.Prelude.{◌≡◌, ◌≤◌, ◌+◌, [], IfOk, OnOk, vec_len};
+ghost use Rattle.std.specs.Vec.{vec_capacity};
+ghost use Rattle.exec_time.specs.Notes.{HasRoom, Adds};
+
+use exec_base::error::Error;
+use std::alloc::{AllocError, Global};
+
+/// The number of a task, which stands for its waker.
+#[derive(Clone, Copy, Debug, PartialEq, Eq, PartialOrd, Ord)]
+pub struct TaskNo(pub u32);
+
+/// A result for who waits elsewhere, with the way to send it.
+#[derive(Drop)]
+pub struct Completion<S> {
+    /// Where the result goes.
+    pub sender: S,
+    /// The result: success, or why there is none.
+    pub result: Result<(), Error>,
+}
+
+/// Wakes and completions, in order of coming. `S` is what a result is sent by.
+#[derive(Drop)]
+pub struct Notes<S> {
+    /// The tasks to be woken.
+    pub wakes: Vec<TaskNo>,
+    /// The results to be sent.
+    pub completions: Vec<Completion<S>>,
+}
+
+impl<S> Notes<S> {
+    /// Nothing noted. It takes no memory.
+    pub fn new(alloc: Global) -> Self
+        ensures wakes { result.wakes.items ≡ [] }
+        ensures completions { result.completions.items ≡ [] }
+    {
+        Notes {
+            wakes: Vec::new(alloc),
+            completions: Vec::new(alloc),
+        }
+    }
+
+    /// Makes room for `n` more wakes and `n` more completions, which are then noted without memory. Err where
+    /// there is no memory; what is noted stays in any case.
+    pub fn reserve(&mut self, n: usize) -> Result<(), AllocError>
+        ensures same { Adds self.old self.new [] [] }
+        ensures ok { OnOk result (HasRoom self.new n) }
+    {
+        self.wakes.reserve(n)?;
+        self.completions.reserve(n)
+    }
+}
