@@ -102,7 +102,7 @@ is_same u v h = grind (arith, nat_tests)
 zero_first : (u v : ℕ) → u ≡ 0 → is_gt (nat_cmp u v) ≡ false
 zero_first u v h = grind (arith, nat_tests)
 
--- of a moment the deadline of request 0 is the first
+-- of the deadlines of one moment that of the lowest number is the first
 pub least_from : (a b : Deadline) → a.request ≡ 0 → a.moment ≤ b.moment → is_gt (deadline_cmp a b) ≡ false
 least_from a b none le =
     ⊎_elim
