@@ -2,7 +2,7 @@
 use Rattle.std.proofs.Common.{◌≡◌, ℕ, ◌+◌, ◌-◌, ◌/◌, ◌<◌, ◌≤◌, ◌%◌, zero, suc, Bool, true, false, cond, ◌==◌, List, [], ◌∷◌, length, map, Contains, All, nat_lt, nat_le, min, Option, None, Some, refl, sym, arith, inl, inr}
 use Rattle.std.proofs.lemmas.Grind.{common_steps}
 use Rattle.std.proofs.lemmas.List.Sums.{sum_by-le, get_or-le-sum_by, count_by-le-length}
-use Rattle.std.proofs.lemmas.Bool.{cases_lt}
+use Rattle.std.proofs.lemmas.Bool.{cases_lt, cases_eq}
 use Rattle.std.proofs.Math.Nat.{mul-le-mul_left, div-add-mod}
 use Rattle.std.specs.List.{range_with_len, find, list_any}
 use Rattle.std.specs.Option.{IfNone, IfSome}
@@ -76,16 +76,38 @@ slots_apart slots a b some less near same =
     more : (a / slots) < (b / slots) → (a / slots) + 1 ≤ b / slots
     more up = omega arith
 
--- whether a slot is among those of a range of ticks: not that of the next tick, within a revolution
+-- whether a slot is among those of a range of ticks: not that of a later tick, within a revolution
+pub slot_of_later : (slots a n b : ℕ) → 0 < slots → a + n ≤ b → b < a + slots → list_any (λ s. s == (b % slots)) (map (λ t. t % slots) (range_with_len a n)) ≡ false
+slot_of_later slots a zero b some below near = refl
+slot_of_later slots a (suc n) b some below near =
+    let apart : (a % slots) ≡ (b % slots) → ⊥ = slots_apart slots a b some (omega arith) near in
+    let rest : list_any (λ s. s == (b % slots)) (map (λ t. t % slots) (range_with_len (a + 1) n)) ≡ false = slot_of_later slots (a + 1) n b some (omega arith) (omega arith) in
+    grind (arith, common_steps, apart, rest)
+
+-- so not that of the next one
 pub slot_of_next : (slots first count : ℕ) → 0 < slots → count < slots → list_any (λ s. s == ((first + count) % slots)) (map (λ t. t % slots) (range_with_len first count)) ≡ false
-slot_of_next slots first count some less = none first count (first + count) some (omega arith) (omega arith)
+slot_of_next slots first count some less = slot_of_later slots first count (first + count) some (omega arith) (omega arith)
+
+-- and that of each tick of the range
+pub slot_of_passed : (slots a n b : ℕ) → a ≤ b → b < a + n → list_any (λ s. s == (b % slots)) (map (λ t. t % slots) (range_with_len a n)) ≡ true
+slot_of_passed slots a zero b low high = absurd (omega arith)
+slot_of_passed slots a (suc n) b low high =
+    elim (cases_eq a b) [
+      | inl same ↦ rw same (grind (arith, common_steps))
+      | inr other ↦ let rest : list_any (λ s. s == (b % slots)) (map (λ t. t % slots) (range_with_len (a + 1) n)) ≡ true = slot_of_passed slots (a + 1) n b (omega (arith, other)) (omega arith) in grind (arith, common_steps, rest)
+    ]
+
+-- the first number of a range that passes is no later than one that does
+pub find_before : (p : ℕ → Bool) (a n b : ℕ) → a ≤ b → b < a + n → p b ≡ true → (m : ℕ) × (find p (range_with_len a n) ≡ Some m) × (m ≤ b)
+find_before p a zero b low high passes = absurd (omega arith)
+find_before p a (suc n) b low high passes =
+    by_test (p a) refl (λ later. find_before p (a + 1) n b (omega (arith, later)) (omega arith) passes)
   where
-    none : (a n b : ℕ) → 0 < slots → a + n ≤ b → b < a + slots → list_any (λ s. s == (b % slots)) (map (λ t. t % slots) (range_with_len a n)) ≡ false
-    none a zero b some below near = refl
-    none a (suc n) b some below near =
-        let apart : (a % slots) ≡ (b % slots) → ⊥ = slots_apart slots a b some (omega arith) near in
-        let rest : list_any (λ s. s == (b % slots)) (map (λ t. t % slots) (range_with_len (a + 1) n)) ≡ false = none (a + 1) n b some (omega arith) (omega arith) in
-        grind (arith, common_steps, apart, rest)
+    by_test : (t : Bool) → p a ≡ t → ((a ≡ b → ⊥) → (m : ℕ) × (find p (range_with_len (a + 1) n) ≡ Some m) × (m ≤ b)) → (m : ℕ) × (find p (range_with_len a (suc n)) ≡ Some m) × (m ≤ b)
+    by_test true is rest = (a, rw is refl, low)
+    by_test false is rest =
+        let found = rest (λ same. absurd (let passes_here : p a ≡ true = rw same passes in cc)) in
+        (found.0, rw is found.1, found.2)
 
 -- a revolution at most is a full one where as much or more has elapsed
 pub full_turn : (elapsed slots count all : ℕ) → count ≡ min elapsed slots → all ≡ slots → (count == all) ≡ nat_le slots elapsed

@@ -8,3 +8,4 @@ pub mod Sleepers
 pub mod Firsts
 pub mod Sleep
 pub mod WheelExamples
+pub mod SleepExamples

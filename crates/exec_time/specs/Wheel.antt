@@ -53,7 +53,7 @@ moment_of w tick = w.start + tick * w.tick
 pub record IsSettled (w : Wheel) : Type 0 where
   pub ahead : (tick : ℕ) → 0 < w.active tick → w.current < tick
 
--- each active entry is less than one revolution ahead, and its moment is one of the clock
+-- each active entry is less than one revolution ahead, so no two active ticks have the same bucket
 pub record IsWithinReach (w : Wheel) : Type 0 where
   pub span : (tick : ℕ) → 0 < w.active tick → tick < w.current + w.slots
 

@@ -1,10 +1,18 @@
-//! Worked examples of wheels, proved by computation.
+//! Worked examples of wheels, sleepers and sleeps, proved by computation.
 
-ghost use Rattle.std.specs.Prelude.{◌≡◌, ◌≢◌, ◌+◌, [], ◌∷◌, Some, None};
+ghost use Rattle.std.specs.Prelude.{◌≡◌, ◌≢◌, ℕ, ◌+◌, ◌-◌, ◌^◌, [], ◌∷◌, Some, None, Ok, Err, true, false};
 ghost use Rattle.exec_time.specs.Layouts.{slots_of, longest};
 ghost use Rattle.exec_time.specs.Wheel.{target_of, scheduled, removed, next_moment};
 ghost use Rattle.exec_time.specs.Turning.{advanced};
 ghost use Rattle.exec_time.specs.WheelExamples.{ms, name, short, late, three_ahead, two_ahead, one_stale, two_left};
+ghost use Rattle.exec_base.specs.Slab.{value_at, removed as gone_from};
+ghost use Rattle.exec_base.specs.declared.error.Error.TheVariants as error;
+ghost use Rattle.exec_time.specs.Sleepers.{wakes_of, completions_of, is_forwarded, observation, displaced, deadline_at, left_at, IsFirst, IsDue, IsLowest};
+ghost use Rattle.exec_time.specs.SleepExamples.{task, named, local, forwarded, two};
+ghost use Rattle.exec_time.specs.Sleep.{asleep, heard, after_hearing};
+ghost use Rattle.exec_time.specs.declared.sleep.State.TheVariants as state;
+ghost use Rattle.exec_time.specs.declared.timers.TimerId.{TimerId as TimerName};
+ghost use Rattle.exec_time.specs.declared.timers.Observation.TheVariants.{Ready, Pending, Refresh};
 
 /// How many slots a wheel has, and which layouts there are not.
 #[tactic(auto, unfolding(crate::specs::Layouts::slots_of))]
@@ -47,4 +55,55 @@ pub fn next_deadlines()
     ensures first { next_moment two_left ≡ Some (ms 320) }
     ensures second { next_moment (removed two_left 64) ≡ Some (ms 645) }
     ensures nothing { next_moment (removed (removed two_left 64) 129) ≡ None }
+{}
+
+/// What a task finds at a sleeper, and whom it takes the place of.
+pub fn looks()
+    ensures gone { observation {S = ℕ} (task 5) None ≡ Ready tt }
+    ensures same { observation (task 5) (value_at two (named 0)) ≡ Pending }
+    ensures another { observation (task 4) (value_at two (named 0)) ≡ Refresh }
+    ensures replaces { displaced (task 4) (value_at two (named 0)) ≡ Ok (task 5) }
+    ensures too_late { displaced (task 4) (value_at (gone_from two (named 0)) (named 0)) ≡ Err (task 4) }
+    ensures here { is_forwarded (value_at two (named 0)) ≡ false }
+    ensures elsewhere { is_forwarded (value_at two (named 1)) ≡ true }
+{}
+
+/// Whom the end of a sleeper is told, and how.
+pub fn endings()
+    ensures wake { wakes_of local.observer ≡ task 5 ∷ [] }
+    ensures nothing_sent { completions_of (Ok tt) local.observer ≡ [] }
+    ensures no_wake { wakes_of forwarded.observer ≡ [] }
+    ensures sent { completions_of (Err error.Closed) forwarded.observer ≡ record { sender = 7; result = Err error.Closed } ∷ [] }
+{}
+
+/// When a sleeper is due, and which one comes first.
+pub fn dues()
+    ensures deadline { deadline_at two (named 1) ≡ Some 20 }
+    ensures early { left_at 19 (Some forwarded) ≡ Some forwarded }
+    ensures due { left_at 20 (Some forwarded) ≡ None }
+    ensures later { left_at 20 (Some local) ≡ Some local }
+    ensures is_due { IsDue two 20 (named 1) }
+    ensures is_not_due { IsDue two 29 (named 0) → ⊥ }
+    ensures comes_first { IsFirst two 20 (named 1) }
+    ensures comes_second { IsFirst two 30 (named 0) → ⊥ }
+    ensures lowest { IsLowest two (named 0) }
+    ensures not_lowest { IsLowest two (named 1) → ⊥ }
+{}
+
+/// When a sleep ends.
+pub fn sleeps()
+    ensures none { asleep 0 5 ≡ state.Done }
+    ensures short { asleep 1 5 ≡ state.Waiting 6 }
+    ensures cut { asleep (2 ^ 64 - 1) 5 ≡ state.Waiting (longest + 5) }
+    ensures last { asleep 9 (2 ^ 64 - 1) ≡ state.Waiting (2 ^ 64 - 1) }
+{}
+
+/// What a forwarded sleep hears.
+pub fn answers()
+    ensures waits { heard (Ok None) ≡ Ok false }
+    ensures over { heard (Ok (Some (Ok tt))) ≡ Ok true }
+    ensures refused { heard (Ok (Some (Err error.Full))) ≡ Err error.Full }
+    ensures closed { heard (Err error.Full) ≡ Err error.Closed }
+    ensures stays { (id : TimerName) → after_hearing (state.Forwarded 3 id) (Ok None) ≡ state.Forwarded 3 id }
+    ensures ends { (id : TimerName) → after_hearing (state.Forwarded 3 id) (Err error.Closed) ≡ state.Done }
 {}

@@ -202,32 +202,4 @@ impl Sleep {
 }
 
 #[cfg(test)]
-mod tests {
-    use super::*;
-    use std::test::*;
-
-    fn ends(sleep: &Sleep) -> Option<u64> {
-        match sleep.state() {
-            State::Waiting(deadline) => Some(deadline),
-            _ => None,
-        }
-    }
-
-    #[test]
-    fn deadlines(rt: HostRuntime) {
-        assert_eq!(rt; ends(&Sleep::new(0, 5)), None);
-        assert_eq!(rt; ends(&Sleep::new(1, 5)), Some(6));
-        assert_eq!(rt;
-            ends(&Sleep::new(u64::MAX, 5)),
-            Some(TimeoutWheel::MAX_TIMEOUT + 5)
-        );
-        assert_eq!(rt; ends(&Sleep::new(9, u64::MAX)), Some(u64::MAX));
-        assert_eq!(rt; ends(&Sleep::until(7, 5)), Some(7));
-        assert_eq!(rt; ends(&Sleep::until(5, 5)), None);
-        assert_eq!(rt; ends(&Sleep::until(4, 5)), None);
-        assert_eq!(rt;
-            ends(&Sleep::until(u64::MAX, 5)),
-            Some(TimeoutWheel::MAX_TIMEOUT + 5)
-        );
-    }
-}
+mod tests;

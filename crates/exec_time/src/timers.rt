@@ -320,4 +320,4 @@ fn tell<S: Drop>(observer: Observer<S>, result_told: Result<(), Error>, notes: &
 }
 
 #[cfg(test)]
-mod tests;
+pub(crate) mod tests;

@@ -45,13 +45,20 @@ fn name((index, generation): (u32, u64)) -> TimerId {
 }
 
 /// Whether the sleeper is gone or observed on its worker.
-fn is_local(timers: &Timers<u32>, id: TimerId) -> bool
+pub(crate) fn is_local(timers: &Timers<u32>, id: TimerId) -> bool
     ensures { IsTrue result → is_forwarded (value_at timers.now id.0) ≡ false }
 {
     match timers.sleepers.get(id.0) {
         None => true,
         Some(sleeper) => matches!(&sleeper.observer, Observer::Local(_)),
     }
+}
+
+/// Fires what is due at the moment `now`.
+pub(crate) fn expire(timers: &mut Timers<u32>, notes: &mut Notes<u32>, rt: &impl Abort, now: u64) {
+    let room = notes.reserve(timers.sleepers.len()).is_ok();
+    assert!(rt; room);
+    timers.expire(now, notes);
 }
 
 /// Compares what was told, and forgets it.

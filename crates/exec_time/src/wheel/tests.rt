@@ -284,3 +284,17 @@ fn a_run_of_a_late_start(rt: HostRuntime) {
     ];
     replay_all(rt.alloc(), &rt, 2251, 82, 917, &ops);
 }
+
+#[test]
+fn room_for_more_than_memory_is_refused(rt: HostRuntime) {
+    let valid = TimeoutWheel::validate_layout(100 * MS, 5 * MS).is_ok();
+    assert!(rt; valid);
+    let mut wheel = TimeoutWheel::new(rt.alloc(), 100 * MS, 5 * MS, 0).expect(&rt, "no memory");
+    replay(&mut wheel, &rt, Schedule(1, 0, 3));
+    let refused = wheel.reserve(usize::MAX).is_err();
+    assert!(rt; refused);
+    replay(&mut wheel, &rt, Next(Some(15 * MS)));
+    let room = wheel.reserve(1000).is_ok();
+    assert!(rt; room);
+    replay(&mut wheel, &rt, Advance(15 * MS, Some(&[(1, 0)])));
+}

@@ -1,8 +1,6 @@
 use Rattle.std.proofs.Common.{arith, ◌≡◌, ◌<◌, ◌≤◌, length}
-use Rattle.std.proofs.lemmas.Bool.{ltb-true}
 use Rattle.std.proofs.lemmas.Grind.{common_steps}
 use Rattle.exec_time.specs.WheelView.{wheel_of}
-use Rattle.exec_time.specs.Entries.{active_in}
 use Rattle.exec_time.proofs.Ranges.{active_few, active_is_among}
 use Rattle.exec_time.proofs.wheel.tests.is_settled.Goals as goal
 

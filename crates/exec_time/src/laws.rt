@@ -1,0 +1,21 @@
+//! Laws of wheels.
+
+ghost use Rattle.std.specs.Prelude.{◌≡◌, ℕ, ◌+◌, ◌<◌, ◌≤◌, [], Contains};
+ghost use Rattle.exec_base.specs.declared.slab.Id.{Id};
+ghost use Rattle.exec_time.specs.Wheel.{Wheel, IsSettled, IsWithinReach, fresh, scheduled, removed, slot_of, moment_of};
+ghost use Rattle.exec_time.specs.Turning.{advanced};
+
+/// Each active entry is less than a revolution ahead, whatever calls are made on a wheel.
+pub fn entries_are_within_reach()
+    ensures begins { (horizon tick start slots : ℕ) → IsWithinReach (fresh horizon tick start slots) }
+    ensures scheduled { (w : Wheel) (id : Id) (tick : ℕ) → IsWithinReach w → tick < w.current + w.slots → IsWithinReach (scheduled w id tick) }
+    ensures removed { (w : Wheel) (tick : ℕ) → IsWithinReach w → IsWithinReach (removed w tick) }
+    ensures advanced { (w : Wheel) (now : ℕ) → IsWithinReach w → IsWithinReach (advanced w now).wheel }
+{}
+
+/// The bucket of an active entry comes out at the first advance to its moment or a later one, and at none before.
+pub fn active_entries_come_out_on_time()
+    ensures never_early { (w : Wheel) (now tick : ℕ) → IsSettled w → IsWithinReach w → 0 < w.tick → 0 < w.active tick → now < moment_of w tick → (advanced w now).wheel.bucket (slot_of w tick) ≡ w.bucket (slot_of w tick) }
+    ensures then_empty { (w : Wheel) (now tick : ℕ) → IsSettled w → IsWithinReach w → 0 < w.tick → 0 < w.active tick → moment_of w tick ≤ now → (advanced w now).wheel.bucket (slot_of w tick) ≡ [] }
+    ensures then_out { (w : Wheel) (now tick : ℕ) (id : Id) → IsSettled w → IsWithinReach w → 0 < w.tick → 0 < w.active tick → moment_of w tick ≤ now → Contains (w.bucket (slot_of w tick)) id → Contains (advanced w now).wheel.ready id }
+{}
