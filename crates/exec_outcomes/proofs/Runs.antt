@@ -1,21 +1,16 @@
 -- What one more result makes of a list of results.
-use Rattle.std.proofs.Common.{◌≡◌, ℕ, ◌+◌, ◌<◌, Bool, true, false, cond, not, ◌||◌, ltb, leb, List, [], ◌∷◌, ◌++◌, Option, Some, None, find, refl, sym, ◌∙◌, ap, add-zero, arith, lt-ltb, le-ltb, leb-false, zero-add, inl, inr, ◌==◌, subst, if◌then◌else◌}
-use Rattle.std.proofs.lemmas.Bool.{or_parts, lt-leb, cases_lt, cases_Bool, cond-true, cond-false}
-use Rattle.std.proofs.lemmas.List.Folds.{find-append}
+use Rattle.std.proofs.Common.{◌≡◌, ℕ, suc, ◌+◌, Bool, true, false, cond, not, ◌||◌, ◌&&◌, List, [], ◌∷◌, ◌++◌, Option, Some, None, is_some, find, filter, drop, refl, sym, ◌∙◌, ap, add-zero, arith, zero-add, inl, inr, ◌⊎◌, ◌==◌, subst, if◌then◌else◌}
+use Rattle.std.specs.List.{list_any, after_first, position_or_len}
+use Rattle.std.proofs.lemmas.Bool.{and_parts, or_parts, cases_Bool}
+use Rattle.std.proofs.lemmas.List.Folds.{find-append, list_any-append}
 use Rattle.std.proofs.lemmas.List.Elements.{filter-append}
 use Rattle.std.proofs.lemmas.List.Sums.{sum_by-append, sum_by-cons}
-use Rattle.exec_base.specs.declared.error.Error.TheVariants.{Timeout}
-use Rattle.exec_outcomes.specs.declared.outcome.Outcome.TheVariants.{Failure}
 use Rattle.exec_outcomes.specs.declared.outcome.Kind.{Kind}
 use Rattle.exec_outcomes.specs.declared.outcome.OpResult.{OpResult}
 use Rattle.exec_outcomes.specs.declared.outcome.OpResult.TheVariants.{Count, Errno}
 use Rattle.exec_outcomes.specs.declared.outcome.Judged.{Judged}
 use Rattle.exec_outcomes.specs.declared.outcome.Outcome.{Outcome}
-use Rattle.exec_outcomes.specs.Outcomes.{is_transient, lasting, bytes_of, is_positive, moved_by, with_totals, decides, deciding, last_is_cancelled, outcome_by, outcome_of, HasCome, so_far, outcome_next}
-
--- the outcome by one more result, where so many bytes were moved and nothing was decided
-abbrev pub by_one_more : Kind → ℕ → ℕ → Judged → Option Outcome
-by_one_more kind length moved r = outcome_by kind (r ∷ []) (find (decides length) (with_totals moved (lasting kind (r ∷ []))))
+use Rattle.exec_outcomes.specs.Outcomes.{Asked, Cursor, first_part, second_kind, second_part, is_transient, refuses_hint, without_first, lasting, bytes_of, moved_by, with_totals, results_in, decides, passes_on, stops, verdict, last_is_cancelled, outcome_by, outcome_of_part, outcome_by_stop, outcome_of, outcome_next, moves_on, cursor_next, stop_of, present, HasCome}
 
 with_totals-append : (before : ℕ) (xs ys : List Judged) → with_totals before (xs ++ ys) ≡ with_totals before xs ++ with_totals (before + moved_by xs) ys
 with_totals-append before [] ys = ap (λ n. with_totals n ys) (sym (add-zero before))
@@ -24,110 +19,325 @@ with_totals-append before (x ∷ xs) ys =
     let sum : (before + bytes_of x.result) + moved_by xs ≡ before + moved_by (x ∷ xs) = omega (arith, sum_by-cons (λ (r : Judged). bytes_of r.result) x xs) in
     ap (λ tail. (x, before + bytes_of x.result) ∷ tail) (rest ∙ ap (λ n. with_totals (before + bytes_of x.result) xs ++ with_totals n ys) sum)
 
+results_in-with_totals : (before : ℕ) (xs : List Judged) → results_in (with_totals before xs) ≡ xs
+results_in-with_totals before [] = refl
+results_in-with_totals before (x ∷ xs) = ap (λ tail. x ∷ tail) (results_in-with_totals (before + bytes_of x.result) xs)
+
+results_in-append : (xs ys : List (Judged × ℕ)) → results_in (xs ++ ys) ≡ results_in xs ++ results_in ys
+results_in-append [] ys = refl
+results_in-append (x ∷ xs) ys = ap (λ tail. x.0 ∷ tail) (results_in-append xs ys)
+
+-- a search that fails goes on behind, and one that ends stays where it ended
 find-after_none : {X : Type 0} (p : X → Bool) (xs ys : List X) → find p xs ≡ None → find p (xs ++ ys) ≡ find p ys
 find-after_none p xs ys none = rw (find-append p xs ys, none)
+
+find-after_some : {X : Type 0} (p : X → Bool) (xs ys : List X) (x : X) → find p xs ≡ Some x → find p (xs ++ ys) ≡ Some x
+find-after_some p xs ys x found = rw (find-append p xs ys, found)
+
+found_later : {X : Type 0} (b : Bool) (x : X) (rest : Option X) → cond b (Some x) rest ≡ None → (b ≡ false) × (rest ≡ None)
+found_later true x rest none = cc
+found_later false x rest none = (refl, none)
+
+after_first-true : {X : Type 0} (p : X → Bool) (x : X) (xs : List X) → p x ≡ true → after_first p (x ∷ xs) ≡ xs
+after_first-true p x xs passes = rw passes
+
+after_first-false : {X : Type 0} (p : X → Bool) (x : X) (xs : List X) → p x ≡ false → after_first p (x ∷ xs) ≡ after_first p xs
+after_first-false p x xs fails =
+    let n = position_or_len p xs in
+    let one_more : (1 + n) + 1 ≡ suc (n + 1) = omega arith in
+    rw fails (ap (λ k. drop k (x ∷ xs)) one_more)
+
+after_first-none : {X : Type 0} (p : X → Bool) (xs ys : List X) → find p xs ≡ None → after_first p (xs ++ ys) ≡ after_first p ys
+after_first-none p [] ys none = refl
+after_first-none p (x ∷ xs) ys none =
+    let here = found_later (p x) x (find p xs) none in
+    after_first-false p x (xs ++ ys) here.0 ∙ after_first-none p xs ys here.1
+
+after_first-some : {X : Type 0} (p : X → Bool) (xs ys : List X) (s : X) → find p xs ≡ Some s → after_first p (xs ++ ys) ≡ after_first p xs ++ ys
+after_first-some p [] ys s found = cc
+after_first-some p (x ∷ xs) ys s found =
+    elim (cases_Bool (p x)) [
+      | inl passes ↦ after_first-true p x (xs ++ ys) passes ∙ ap (λ zs. zs ++ ys) (sym (after_first-true p x xs passes))
+      | inr fails ↦
+          let later : find p xs ≡ Some s = subst (λ b. cond b (Some x) (find p xs) ≡ Some s) fails found in
+          after_first-false p x (xs ++ ys) fails ∙ (after_first-some p xs ys s later ∙ ap (λ zs. zs ++ ys) (sym (after_first-false p x xs fails)))
+    ]
 
 last_is_cancelled-push : (xs : List Judged) (r : Judged) → last_is_cancelled (xs ++ r ∷ []) ≡ r.cancelled
 last_is_cancelled-push [] r = refl
 last_is_cancelled-push (x ∷ []) r = refl
 last_is_cancelled-push (x ∷ y ∷ xs) r = last_is_cancelled-push (y ∷ xs) r
 
-outcome_by-push : (kind : Kind) (xs : List Judged) (r : Judged) (first : Option (Judged × ℕ)) → outcome_by kind (xs ++ r ∷ []) first ≡ outcome_by kind (r ∷ []) first
-outcome_by-push kind xs r (Some d) = refl
-outcome_by-push kind xs r None = rw (last_is_cancelled-push xs r)
-
--- only where no result decides there is no outcome
-none_decides : (kind : Kind) (xs : List Judged) (first : Option (Judged × ℕ)) → outcome_by kind xs first ≡ None → first ≡ None
-none_decides kind xs (Some d) undecided = cc
-none_decides kind xs None undecided = refl
-
--- what a list makes of one more result depends on the bytes that it moved alone
-outcome_of-push : (kind : Kind) (length moved : ℕ) (results : List Judged) (r : Judged) → HasCome kind length moved results → outcome_of kind length (results ++ r ∷ []) ≡ by_one_more kind length moved r
-outcome_of-push kind length moved results r come =
-    let front : find (decides length) (with_totals 0 (lasting kind results)) ≡ None = none_decides kind results (deciding kind length results) come.undecided in
-    let amount : 0 + moved_by (lasting kind results) ≡ moved = omega (arith, come.amount) in
-    let kept : lasting kind (results ++ r ∷ []) ≡ lasting kind results ++ lasting kind (r ∷ []) = filter-append (λ (r : Judged). not (is_transient kind r.result)) results (r ∷ []) in
-    let totals : with_totals 0 (lasting kind (results ++ r ∷ [])) ≡ with_totals 0 (lasting kind results) ++ with_totals moved (lasting kind (r ∷ [])) =
-    ap (with_totals 0) kept ∙ (with_totals-append 0 (lasting kind results) (lasting kind (r ∷ []))
-    ∙ ap (λ n. with_totals 0 (lasting kind results) ++ with_totals n (lasting kind (r ∷ []))) amount) in
-    let found : deciding kind length (results ++ r ∷ []) ≡ find (decides length) (with_totals moved (lasting kind (r ∷ []))) =
-    ap (find (decides length)) totals ∙ find-after_none (decides length) (with_totals 0 (lasting kind results)) (with_totals moved (lasting kind (r ∷ []))) front in
-    outcome_by-push kind results r (deciding kind length (results ++ r ∷ []))
-    ∙ ap (λ first. outcome_by kind (r ∷ []) first) found
-
--- a test that fails at the first leaves the rest to search
-found_later : {X : Type 0} (b : Bool) (x : X) (rest : Option X) → cond b (Some x) rest ≡ None → (b ≡ false) × (rest ≡ None)
-found_later true x rest none = cc
-found_later false x rest none = (refl, none)
-
--- results that moved bytes and don't decide moved fewer than the length
-moved-below : (length before : ℕ) (xs : List Judged) → find (decides length) (with_totals before xs) ≡ None → 0 < moved_by xs → before + moved_by xs < length
-moved-below length before [] none some = absurd (omega arith)
-moved-below length before (x ∷ xs) none some =
-    let here = found_later (decides length (x, before + bytes_of x.result)) (x, before + bytes_of x.result) (find (decides length) (with_totals (before + bytes_of x.result) xs)) none in
-    let below : before + bytes_of x.result < length = leb-false length (before + bytes_of x.result) (or_parts (not (is_positive x.result)) (leb length (before + bytes_of x.result)) here.0).1 in
-    let sum : moved_by (x ∷ xs) ≡ bytes_of x.result + moved_by xs = sum_by-cons (λ (r : Judged). bytes_of r.result) x xs in
-    elim (cases_lt 0 (moved_by xs)) [
-      | inl more ↦ let later : (before + bytes_of x.result) + moved_by xs < length = moved-below length (before + bytes_of x.result) xs here.1 more in omega arith
-      | inr no_more ↦ omega arith
+-- striking the first that passes, where one does and where none does
+without_first-any : {X : Type 0} (p : X → Bool) (xs ys : List X) → list_any p xs ≡ true → without_first p (xs ++ ys) ≡ without_first p xs ++ ys
+without_first-any p [] ys some = cc
+without_first-any p (x ∷ xs) ys some =
+    elim (cases_Bool (p x)) [
+      | inl passes ↦ rw passes
+      | inr fails ↦
+          let later : list_any p xs ≡ true = subst (λ b. (b || list_any p xs) ≡ true) fails some in
+          rw fails (ap (λ zs. x ∷ zs) (without_first-any p xs ys later))
     ]
 
--- the shortest list by which a request can have come so far
-one_count : (kind : Kind) (length moved : ℕ) → 0 < moved → moved < length → HasCome kind length moved (record { result = Count moved; cancelled = false } ∷ [])
-one_count kind length moved some below = record {
-  undecided = rw (zero-add moved, lt-ltb 0 moved some, lt-leb length moved below);
-  amount = sym (zero-add moved);
-}
+without_first-none : {X : Type 0} (p : X → Bool) (xs ys : List X) → list_any p xs ≡ false → without_first p (xs ++ ys) ≡ without_first p xs ++ without_first p ys
+without_first-none p [] ys none = refl
+without_first-none p (x ∷ xs) ys none =
+    let parts = or_parts (p x) (list_any p xs) none in
+    rw parts.0 (ap (λ zs. x ∷ zs) (without_first-none p xs ys parts.1))
 
-so_far-HasCome : (kind : Kind) (length moved : ℕ) → (0 < moved → moved < length) → HasCome kind length moved (so_far moved)
-so_far-HasCome kind length moved below =
-    let one : List Judged = record { result = Count moved; cancelled = false } ∷ [] in
-    elim (cases_lt 0 moved) [
-      | inl some ↦ rw (cond-true (ltb 0 moved) one [] (lt-ltb 0 moved some)) (one_count kind length moved some (below some))
-      | inr none ↦ rw (cond-false (ltb 0 moved) one [] (le-ltb 0 moved none)) (record { undecided = refl; amount = omega arith })
+-- a filter finds nothing new
+list_any-filter : {X : Type 0} (p keep : X → Bool) (xs : List X) → list_any p xs ≡ false → list_any p (filter keep xs) ≡ false
+list_any-filter p keep [] none = refl
+list_any-filter p keep (x ∷ xs) none =
+    let parts = or_parts (p x) (list_any p xs) none in
+    elim (cases_Bool (keep x)) [
+      | inl kept ↦ rw (kept, parts.0) (list_any-filter p keep xs parts.1)
+      | inr struck ↦ rw struck (list_any-filter p keep xs parts.1)
     ]
 
-pub outcome_next-step : (kind : Kind) (length moved : ℕ) (r : Judged) → (0 < moved → moved < length) → outcome_next kind length moved r ≡ by_one_more kind length moved r
-outcome_next-step kind length moved r below = outcome_of-push kind length moved (so_far moved) r (so_far-HasCome kind length moved below)
+-- a result without a hint refuses none
+refuses_hint-unhinted : (r : Judged) → r.hinted ≡ false → refuses_hint r ≡ false
+refuses_hint-unhinted r unhinted = rw unhinted
 
-HasCome-below : {kind : Kind} {length moved : ℕ} {results : List Judged} → HasCome kind length moved results → 0 < moved → moved < length
-HasCome-below {kind} {length} {moved} {results} come some =
-    let front : find (decides length) (with_totals 0 (lasting kind results)) ≡ None = none_decides kind results (deciding kind length results) come.undecided in
-    let amount : moved ≡ moved_by (lasting kind results) = come.amount in
-    let sum : 0 < moved_by (lasting kind results) → 0 + moved_by (lasting kind results) < length = moved-below length 0 (lasting kind results) front in
-    omega arith
+-- where none refuses, none is struck
+struck_none : (kind : Kind) (r : Judged) → refuses_hint r ≡ false → lasting kind (r ∷ []) ≡ filter (λ (x : Judged). not (is_transient kind x.result)) (r ∷ [])
+struck_none kind r taken = elim (cases_Bool (is_transient kind r.result)) [ inl transient ↦ rw transient refl | inr lasts ↦ rw (lasts, taken) refl ]
 
-pub next : (kind : Kind) (length moved : ℕ) (results : List Judged) (r : Judged) → HasCome kind length moved results → outcome_of kind length (results ++ r ∷ []) ≡ outcome_next kind length moved r
-next kind length moved results r come =
-    outcome_of-push kind length moved results r come ∙ sym (outcome_next-step kind length moved r (HasCome-below come))
+-- the results that say something, with one more
+lasting-push : (kind : Kind) (hinted : Bool) (results : List Judged) (r : Judged) → (hinted ≡ true → list_any refuses_hint results ≡ false) → (r.hinted ≡ true → hinted ≡ true) → lasting kind (results ++ r ∷ []) ≡ lasting kind results ++ lasting kind (r ∷ [])
+lasting-push kind hinted results r unrefused allowed =
+    let keep : Judged → Bool = λ x. not (is_transient kind x.result) in
+    let kept : filter keep (results ++ r ∷ []) ≡ filter keep results ++ filter keep (r ∷ []) = filter-append keep results (r ∷ []) in
+    ap (without_first refuses_hint) kept ∙ elim (cases_Bool (list_any refuses_hint (filter keep results))) [
+      | inl some ↦
+          let refused : list_any refuses_hint results ≡ true = elim (cases_Bool (list_any refuses_hint results)) [ inl refuses ↦ refuses | inr free ↦ let none = list_any-filter refuses_hint keep results free in cc ] in
+          let unhinted : r.hinted ≡ false = elim (cases_Bool r.hinted) [ inl hint ↦ let none = unrefused (allowed hint) in cc | inr no_hint ↦ no_hint ] in
+          without_first-any refuses_hint (filter keep results) (filter keep (r ∷ [])) some
+          ∙ ap (λ zs. lasting kind results ++ zs) (sym (struck_none kind r (refuses_hint-unhinted r unhinted)))
+      | inr none ↦ without_first-none refuses_hint (filter keep results) (filter keep (r ∷ [])) none
+    ]
 
--- a result that says nothing moved nothing
-moved_by-lasting : (kind : Kind) (r : OpResult) (b : Bool) → moved_by (lasting kind (record { result = r; cancelled = b } ∷ [])) ≡ bytes_of r
-moved_by-lasting kind (Count n) b = zero-add n
-moved_by-lasting kind (Errno c) b =
-    elim (cases_Bool ((c == 4) || (c == 11))) [ inl transient ↦ rw transient | inr lasts ↦ rw lasts ]
+none_decides : (kind : Kind) (given_up : Bool) (first : Option (Judged × ℕ)) → outcome_by kind given_up first ≡ None → first ≡ None
+none_decides kind given_up (Some d) undecided = cc
+none_decides kind given_up None undecided = refl
 
-pub goes_on : (kind : Kind) (length moved : ℕ) (results : List Judged) (r : Judged) → HasCome kind length moved results → outcome_next kind length moved r ≡ None → HasCome kind length (moved + bytes_of r.result) (results ++ r ∷ [])
-goes_on kind length moved results r come undecided =
-    let one : moved_by (lasting kind (r ∷ [])) ≡ bytes_of r.result = moved_by-lasting kind r.result r.cancelled in
-    let kept : lasting kind (results ++ r ∷ []) ≡ lasting kind results ++ lasting kind (r ∷ []) = filter-append (λ (r : Judged). not (is_transient kind r.result)) results (r ∷ []) in
-    let total : moved_by (lasting kind (results ++ r ∷ [])) ≡ moved_by (lasting kind results) + moved_by (lasting kind (r ∷ [])) =
-    ap moved_by kept ∙ sum_by-append (λ (r : Judged). bytes_of r.result) (lasting kind results) (lasting kind (r ∷ [])) in
+second_only : (asked : Asked) (given_up : Bool) (o : Outcome) (later : List Judged) (b : Bool) → (if b then outcome_of_part (second_part asked) given_up (with_totals 0 later) else Some o) ≡ None → (b ≡ true) × (find (decides (second_part asked)) (with_totals 0 later) ≡ None)
+second_only asked given_up o later true none = (refl, none_decides (second_kind asked.kind) given_up (find (decides (second_part asked)) (with_totals 0 later)) none)
+second_only asked given_up o later false none = cc
+
+-- only in its second part does a stop leave a request undecided
+second_undecided : (asked : Asked) (given_up : Bool) (s : Judged × ℕ) (later : List Judged) → outcome_by_stop asked given_up (Some s) later ≡ None → (passes_on asked.kind (first_part asked) s ≡ true) × (find (decides (second_part asked)) (with_totals 0 later) ≡ None)
+second_undecided asked given_up s later undecided =
+    second_only asked given_up (verdict asked.kind s.0) later (passes_on asked.kind (first_part asked) s) undecided
+
+-- the results with their totals, with one more
+totals-push : (asked : Asked) (cursor : Cursor) (results : List Judged) (r : Judged) → HasCome asked cursor results → (r.hinted ≡ true → cursor.hinted ≡ true) → with_totals 0 (lasting asked.kind (results ++ r ∷ [])) ≡ with_totals 0 (lasting asked.kind results) ++ with_totals (moved_by (lasting asked.kind results)) (lasting asked.kind (r ∷ []))
+totals-push asked cursor results r come allowed =
+    let kind = asked.kind in
+    ap (with_totals 0) (lasting-push kind cursor.hinted results r come.unrefused allowed)
+    ∙ (with_totals-append 0 (lasting kind results) (lasting kind (r ∷ []))
+    ∙ ap (λ n. with_totals 0 (lasting kind results) ++ with_totals n (lasting kind (r ∷ []))) (zero-add (moved_by (lasting kind results))))
+
+-- the outcome by results with their totals
+by_totals : Asked → Bool → List (Judged × ℕ) → Option Outcome
+by_totals asked given_up rs = outcome_by_stop asked given_up (find (stops asked) rs) (results_in (after_first (stops asked) rs))
+
+-- while no result has stopped the first part, the next ones are judged as if they were the first
+by_totals-none : (asked : Asked) (given_up : Bool) (xs ys : List (Judged × ℕ)) → find (stops asked) xs ≡ None → by_totals asked given_up (xs ++ ys) ≡ by_totals asked given_up ys
+unfolding by_totals
+by_totals-none asked given_up xs ys none =
+    ap (λ o. outcome_by_stop asked given_up o (results_in (after_first (stops asked) (xs ++ ys)))) (find-after_none (stops asked) xs ys none)
+    ∙ ap (λ zs. outcome_by_stop asked given_up (find (stops asked) ys) (results_in zs)) (after_first-none (stops asked) xs ys none)
+
+-- what came after the stop, with more
+later-push : (asked : Asked) (xs : List (Judged × ℕ)) (s : Judged × ℕ) (n : ℕ) (more : List Judged) → find (stops asked) xs ≡ Some s → results_in (after_first (stops asked) (xs ++ with_totals n more)) ≡ results_in (after_first (stops asked) xs) ++ more
+later-push asked xs s n more stopped =
+    ap results_in (after_first-some (stops asked) xs (with_totals n more) s stopped)
+    ∙ (results_in-append (after_first (stops asked) xs) (with_totals n more)
+    ∙ ap (λ zs. results_in (after_first (stops asked) xs) ++ zs) (results_in-with_totals n more))
+
+-- once it is stopped, and its second part is undecided, the next ones go on with that part
+by_totals-some : (asked : Asked) (given_up : Bool) (xs : List (Judged × ℕ)) (s : Judged × ℕ) (n : ℕ) (more : List Judged) → find (stops asked) xs ≡ Some s → passes_on asked.kind (first_part asked) s ≡ true → find (decides (second_part asked)) (with_totals 0 (results_in (after_first (stops asked) xs))) ≡ None
+    → by_totals asked given_up (xs ++ with_totals n more) ≡ outcome_of_part (second_part asked) given_up (with_totals (moved_by (results_in (after_first (stops asked) xs))) more)
+unfolding by_totals
+by_totals-some asked given_up xs s n more stopped passes undecided =
+    let part = second_part asked in
+    let later : List Judged = results_in (after_first (stops asked) xs) in
+    let totals : with_totals 0 (later ++ more) ≡ with_totals 0 later ++ with_totals (moved_by later) more = with_totals-append 0 later more ∙ ap (λ m. with_totals 0 later ++ with_totals m more) (zero-add (moved_by later)) in
+    ap (λ o. outcome_by_stop asked given_up o (results_in (after_first (stops asked) (xs ++ with_totals n more)))) (find-after_some (stops asked) xs (with_totals n more) s stopped)
+    ∙ (ap (λ zs. outcome_by_stop asked given_up (Some s) zs) (later-push asked xs s n more stopped)
+    ∙ (ap (λ b. if b then outcome_of_part part given_up (with_totals 0 (later ++ more)) else Some (verdict asked.kind s.0)) passes
+    ∙ (ap (outcome_of_part part given_up) totals
+    ∙ ap (outcome_by part.kind given_up) (find-after_none (decides part) (with_totals 0 later) (with_totals (moved_by later) more) undecided))))
+
+-- the outcome that one more result gives, by the part in which it comes
+module _ (asked : Asked) (cursor : Cursor) (results : List Judged) (r : Judged) (come : HasCome asked cursor results) (allowed : r.hinted ≡ true → cursor.hinted ≡ true) where
+  pushed : outcome_of asked (results ++ r ∷ []) ≡ by_totals asked r.cancelled (with_totals 0 (lasting asked.kind results) ++ with_totals (moved_by (lasting asked.kind results)) (lasting asked.kind (r ∷ [])))
+  unfolding by_totals
+  pushed =
+      ap (λ b. by_totals asked b (with_totals 0 (lasting asked.kind (results ++ r ∷ [])))) (last_is_cancelled-push results r)
+      ∙ ap (by_totals asked r.cancelled) (totals-push asked cursor results r come allowed)
+
+  next_by : (o : Option (Judged × ℕ)) → stop_of asked results ≡ o → outcome_of asked (results ++ r ∷ []) ≡ outcome_next asked cursor r
+  unfolding by_totals
+  next_by None none =
+      let first : cursor.switched ≡ false = come.part ∙ ap is_some none in
+      let amount : cursor.moved ≡ moved_by (lasting asked.kind results) = come.amount ∙ ap (λ o. moved_by (if is_some o then results_in (after_first (stops asked) (with_totals 0 (lasting asked.kind results))) else lasting asked.kind results)) none in
+      pushed ∙ (by_totals-none asked r.cancelled (with_totals 0 (lasting asked.kind results)) (with_totals (moved_by (lasting asked.kind results)) (lasting asked.kind (r ∷ []))) none
+      ∙ rw (first, amount) refl)
+  next_by (Some s) stopped =
+      let later : List Judged = results_in (after_first (stops asked) (with_totals 0 (lasting asked.kind results))) in
+      let second : cursor.switched ≡ true = come.part ∙ ap is_some stopped in
+      let amount : cursor.moved ≡ moved_by later = come.amount ∙ ap (λ o. moved_by (if is_some o then later else lasting asked.kind results)) stopped in
+      let open_still = second_undecided asked (last_is_cancelled results) s later (ap (λ o. outcome_by_stop asked (last_is_cancelled results) o later) (sym stopped) ∙ come.undecided) in
+      pushed ∙ (by_totals-some asked r.cancelled (with_totals 0 (lasting asked.kind results)) s (moved_by (lasting asked.kind results)) (lasting asked.kind (r ∷ [])) stopped open_still.0 open_still.1
+      ∙ rw (second, amount) refl)
+
+pub next : (asked : Asked) (cursor : Cursor) (results : List Judged) (r : Judged) → HasCome asked cursor results → (r.hinted ≡ true → cursor.hinted ≡ true) → outcome_of asked (results ++ r ∷ []) ≡ outcome_next asked cursor r
+next asked cursor results r come allowed = next_by asked cursor results r come allowed (stop_of asked results) refl
+
+-- one result says something, or it moved nothing
+one_lasts : (kind : Kind) (r : OpResult) (hinted cancelled : Bool) → let x : Judged = record { result = r; hinted = hinted; cancelled = cancelled } in ((lasting kind (x ∷ []) ≡ []) × (bytes_of r ≡ 0)) ⊎ (lasting kind (x ∷ []) ≡ x ∷ [])
+one_lasts kind (Count n) false cancelled = inr refl
+one_lasts kind (Count n) true cancelled = inr refl
+one_lasts kind (Errno c) hinted cancelled =
+    elim (cases_Bool (is_transient kind (Errno c))) [
+      | inl transient ↦ inl (rw transient refl, refl)
+      | inr lasts ↦ elim (cases_Bool (hinted && (c == 95))) [
+        | inl refused ↦ inl (rw (lasts, refused) refl, refl)
+        | inr taken ↦ inr (rw (lasts, taken) refl)
+      ]
+    ]
+
+-- one result at most stops the first part only where it passes on, if nothing is decided
+stop_passes : (asked : Asked) (given_up : Bool) (x : Judged × ℕ) (d q : Bool) → passes_on asked.kind (first_part asked) x ≡ q → outcome_by_stop asked given_up (if d || q then Some x else None) [] ≡ None → (q || false) ≡ is_some (if d || q then Some x else None)
+stop_passes asked given_up x true true same none = refl
+stop_passes asked given_up x false true same none = refl
+stop_passes asked given_up x false false same none = refl
+stop_passes asked given_up x true false same none =
+    let open_still = second_undecided asked given_up x [] none in cc
+
+-- nothing comes after the only one
+after_only : {X : Type 0} (p : X → Bool) (x : X) → after_first p (x ∷ []) ≡ []
+after_only p x = elim (cases_Bool (p x)) [ inl passes ↦ rw passes refl | inr fails ↦ rw fails refl ]
+
+record StopsOnce (asked : Asked) (rs : List (Judged × ℕ)) : Type 0 where
+  passes : list_any (passes_on asked.kind (first_part asked)) rs ≡ is_some (find (stops asked) rs)
+  nothing_after : results_in (after_first (stops asked) rs) ≡ []
+
+stops_once : (asked : Asked) (given_up : Bool) (m : ℕ) (r : Judged) → by_totals asked given_up (with_totals m (r ∷ [])) ≡ None → StopsOnce asked (with_totals m (r ∷ []))
+unfolding by_totals
+stops_once asked given_up m r none =
+    let x : Judged × ℕ = (r, m + bytes_of r.result) in
+    let alone : after_first (stops asked) (x ∷ []) ≡ [] = after_only (stops asked) x in
+    let here : outcome_by_stop asked given_up (find (stops asked) (x ∷ [])) [] ≡ None = ap (λ zs. outcome_by_stop asked given_up (find (stops asked) (x ∷ [])) (results_in zs)) (sym alone) ∙ none in
     record {
-      undecided = next kind length moved results r come ∙ undecided;
-      amount = omega (arith, come.amount, total, one);
+      passes = stop_passes asked given_up x (decides (first_part asked) x) (passes_on asked.kind (first_part asked) x) refl here;
+      nothing_after = ap results_in alone;
     }
 
--- another operation is needed only where no cancellation was asked for
-uncancelled_by : (kind : Kind) (results : List Judged) (first : Option (Judged × ℕ)) → outcome_by kind results first ≡ None → last_is_cancelled results ≡ false
-uncancelled_by kind results (Some d) none = cc
-uncancelled_by kind results None none =
-    elim (cases_Bool (last_is_cancelled results)) [
-      | inl cancelled ↦ let given : Some (Failure Timeout) ≡ None = subst (λ b. (if b then Some (Failure Timeout) else None) ≡ None) cancelled none in cc
-      | inr not_cancelled ↦ not_cancelled
+one_stop : (asked : Asked) (given_up : Bool) (m : ℕ) (r : Judged) → by_totals asked given_up (with_totals m (lasting asked.kind (r ∷ []))) ≡ None → StopsOnce asked (with_totals m (lasting asked.kind (r ∷ [])))
+one_stop asked given_up m r none =
+    elim (one_lasts asked.kind r.result r.hinted r.cancelled) [
+      | inl nothing ↦ let P : List Judged → Type 0 = λ l. StopsOnce asked (with_totals m l) in subst P (sym nothing.0) (record { passes = refl; nothing_after = refl })
+      | inr itself ↦
+          let P : List Judged → Type 0 = λ l. StopsOnce asked (with_totals m l) in
+          let Q : List Judged → Type 0 = λ l. by_totals asked given_up (with_totals m l) ≡ None in
+          subst P (sym itself) (stops_once asked given_up m r (subst Q itself none))
     ]
 
-pub uncancelled : (kind : Kind) (length moved : ℕ) (n : OpResult) (b : Bool) → outcome_next kind length moved (record { result = n; cancelled = b }) ≡ None → b ≡ false
-uncancelled kind length moved n b none =
-    let all : List Judged = so_far moved ++ record { result = n; cancelled = b } ∷ [] in
-    sym (last_is_cancelled-push (so_far moved) (record { result = n; cancelled = b })) ∙ uncancelled_by kind all (deciding kind length all) none
+moved_by-lasting : (kind : Kind) (r : Judged) → moved_by (lasting kind (r ∷ [])) ≡ bytes_of r.result
+moved_by-lasting kind r =
+    elim (one_lasts kind r.result r.hinted r.cancelled) [
+      | inl nothing ↦ ap moved_by nothing.0 ∙ sym nothing.1
+      | inr itself ↦ ap moved_by itself ∙ zero-add (bytes_of r.result)
+    ]
+
+moved_by-append : (kind : Kind) (xs : List Judged) (r : Judged) → moved_by (xs ++ lasting kind (r ∷ [])) ≡ moved_by xs + bytes_of r.result
+moved_by-append kind xs r = sum_by-append (λ (x : Judged). bytes_of x.result) xs (lasting kind (r ∷ [])) ∙ ap (λ n. moved_by xs + n) (moved_by-lasting kind r)
+
+amount_by : (moves on : Bool) (n : ℕ) (later all : List Judged) → moves ≡ on → later ≡ [] → moved_by all ≡ n → (if moves then 0 else n) ≡ moved_by (if on then later else all)
+amount_by true true n later all same none sum = sym (ap moved_by none)
+amount_by false false n later all same none sum = sym sum
+amount_by true false n later all same none sum = cc
+amount_by false true n later all same none sum = cc
+
+unrefused-push : (hinted : Bool) (results : List Judged) (r : Judged) → (hinted ≡ true → list_any refuses_hint results ≡ false) → (hinted && not (refuses_hint r)) ≡ true → list_any refuses_hint (results ++ r ∷ []) ≡ false
+unrefused-push hinted results r unrefused both =
+    let parts = and_parts hinted (not (refuses_hint r)) both in
+    let taken : refuses_hint r ≡ false = elim (cases_Bool (refuses_hint r)) [ inl refused ↦ let against = ap not refused in cc | inr free ↦ free ] in
+    list_any-append refuses_hint results (r ∷ []) ∙ rw (unrefused parts.0, taken) refl
+
+module _ (asked : Asked) (cursor : Cursor) (results : List Judged) (r : Judged) (come : HasCome asked cursor results) (allowed : r.hinted ≡ true → cursor.hinted ≡ true) (undecided : outcome_next asked cursor r ≡ None) where
+  goes_on_by : (o : Option (Judged × ℕ)) → stop_of asked results ≡ o → HasCome asked (cursor_next asked cursor r) (results ++ r ∷ [])
+  unfolding by_totals
+  goes_on_by None none =
+      let kind = asked.kind in
+      let before : List (Judged × ℕ) = with_totals 0 (lasting kind results) in
+      let here : List (Judged × ℕ) = with_totals cursor.moved (lasting kind (r ∷ [])) in
+      let first : cursor.switched ≡ false = come.part ∙ ap is_some none in
+      let amount : cursor.moved ≡ moved_by (lasting kind results) = come.amount ∙ ap (λ o. moved_by (if is_some o then results_in (after_first (stops asked) before) else lasting kind results)) none in
+      let all : with_totals 0 (lasting kind (results ++ r ∷ [])) ≡ before ++ here = totals-push asked cursor results r come allowed ∙ ap (λ n. before ++ with_totals n (lasting kind (r ∷ []))) (sym amount) in
+      let open_still : by_totals asked r.cancelled here ≡ None = subst (λ b. (if b then outcome_of_part (second_part asked) r.cancelled here else by_totals asked r.cancelled here) ≡ None) first undecided in
+      let once = one_stop asked r.cancelled cursor.moved r open_still in
+      let stop : stop_of asked (results ++ r ∷ []) ≡ find (stops asked) here = ap (find (stops asked)) all ∙ find-after_none (stops asked) before here none in
+      let after : results_in (after_first (stops asked) (with_totals 0 (lasting kind (results ++ r ∷ [])))) ≡ [] = ap (λ rs. results_in (after_first (stops asked) rs)) all ∙ (ap results_in (after_first-none (stops asked) before here none) ∙ once.nothing_after) in
+      let total : moved_by (lasting kind (results ++ r ∷ [])) ≡ cursor.moved + bytes_of r.result = ap moved_by (lasting-push kind cursor.hinted results r come.unrefused allowed) ∙ (moved_by-append kind (lasting kind results) r ∙ ap (λ n. n + bytes_of r.result) (sym amount)) in
+      let moves : moves_on asked cursor r ≡ is_some (stop_of asked (results ++ r ∷ [])) = rw first (once.passes ∙ ap is_some (sym stop)) in
+      record {
+        undecided = next asked cursor results r come allowed ∙ undecided;
+        part = rw first (once.passes ∙ ap is_some (sym stop));
+        amount = amount_by (moves_on asked cursor r) (is_some (stop_of asked (results ++ r ∷ []))) (cursor.moved + bytes_of r.result) _ _ moves after total;
+        unrefused = unrefused-push cursor.hinted results r come.unrefused;
+      }
+  goes_on_by (Some s) stopped =
+      let kind = asked.kind in
+      let before : List (Judged × ℕ) = with_totals 0 (lasting kind results) in
+      let later : List Judged = results_in (after_first (stops asked) before) in
+      let n : ℕ = moved_by (lasting kind results) in
+      let second : cursor.switched ≡ true = come.part ∙ ap is_some stopped in
+      let amount : cursor.moved ≡ moved_by later = come.amount ∙ ap (λ o. moved_by (if is_some o then later else lasting kind results)) stopped in
+      let all : with_totals 0 (lasting kind (results ++ r ∷ [])) ≡ before ++ with_totals n (lasting kind (r ∷ [])) = totals-push asked cursor results r come allowed in
+      let stop : stop_of asked (results ++ r ∷ []) ≡ Some s = ap (find (stops asked)) all ∙ find-after_some (stops asked) before (with_totals n (lasting kind (r ∷ []))) s stopped in
+      let after : results_in (after_first (stops asked) (with_totals 0 (lasting kind (results ++ r ∷ [])))) ≡ later ++ lasting kind (r ∷ []) = ap (λ rs. results_in (after_first (stops asked) rs)) all ∙ later-push asked before s n (lasting kind (r ∷ [])) stopped in
+      let total : moved_by (present asked (results ++ r ∷ [])) ≡ cursor.moved + bytes_of r.result =
+      ap (λ o. moved_by (if is_some o then results_in (after_first (stops asked) (with_totals 0 (lasting kind (results ++ r ∷ [])))) else lasting kind (results ++ r ∷ []))) stop
+      ∙ (ap moved_by after ∙ (moved_by-append kind later r ∙ ap (λ m. m + bytes_of r.result) (sym amount))) in
+      record {
+        undecided = next asked cursor results r come allowed ∙ undecided;
+        part = rw second (ap is_some (sym stop));
+        amount = rw second (sym total);
+        unrefused = unrefused-push cursor.hinted results r come.unrefused;
+      }
+
+pub goes_on : (asked : Asked) (cursor : Cursor) (results : List Judged) (r : Judged) → HasCome asked cursor results → (r.hinted ≡ true → cursor.hinted ≡ true) → outcome_next asked cursor r ≡ None → HasCome asked (cursor_next asked cursor r) (results ++ r ∷ [])
+goes_on asked cursor results r come allowed undecided = goes_on_by asked cursor results r come allowed undecided (stop_of asked results) refl
+
+pub begins : (asked : Asked) → HasCome asked (record { moved = 0; switched = false; hinted = true }) []
+begins asked = record { undecided = refl; part = refl; amount = refl; unrefused = λ _. refl }
+
+pub unhinted : (asked : Asked) (cursor : Cursor) (results : List Judged) → HasCome asked cursor results → HasCome asked (record cursor { hinted = false }) results
+unhinted asked cursor results come = record { undecided = come.undecided; part = come.part; amount = come.amount; unrefused = λ no. cc }
+
+uncancelled_by : (kind : Kind) (given_up : Bool) (first : Option (Judged × ℕ)) → outcome_by kind given_up first ≡ None → given_up ≡ false
+uncancelled_by kind true (Some d) none = cc
+uncancelled_by kind true None none = cc
+uncancelled_by kind false first none = refl
+
+uncancelled_at : (asked : Asked) (given_up : Bool) (first : Option (Judged × ℕ)) (later : List Judged) → outcome_by_stop asked given_up first later ≡ None → given_up ≡ false
+uncancelled_at asked given_up None later none = uncancelled_by asked.kind given_up None none
+uncancelled_at asked given_up (Some s) later none =
+    let part = second_part asked in
+    let passes = (second_undecided asked given_up s later none).0 in
+    uncancelled_by part.kind given_up (find (decides part) (with_totals 0 later)) (subst (λ b. (if b then outcome_of_part part given_up (with_totals 0 later) else Some (verdict asked.kind s.0)) ≡ None) passes none)
+
+-- another operation is needed only where no cancellation was asked for
+pub uncancelled : (asked : Asked) (cursor : Cursor) (r : Judged) → outcome_next asked cursor r ≡ None → r.cancelled ≡ false
+uncancelled asked cursor r none =
+    let part = second_part asked in
+    let rs : List (Judged × ℕ) = with_totals cursor.moved (lasting asked.kind (r ∷ [])) in
+    let by = λ (b : Bool). if b then outcome_of_part part r.cancelled rs else outcome_by_stop asked r.cancelled (find (stops asked) rs) (results_in (after_first (stops asked) rs)) in
+    elim (cases_Bool cursor.switched) [
+      | inl second ↦ uncancelled_by part.kind r.cancelled (find (decides part) rs) (ap by (sym second) ∙ none)
+      | inr first ↦ uncancelled_at asked r.cancelled (find (stops asked) rs) (results_in (after_first (stops asked) rs)) (ap by (sym first) ∙ none)
+    ]

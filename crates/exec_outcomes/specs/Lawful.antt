@@ -1,14 +1,28 @@
 -- Which results a kernel may give for an operation.
-use Rattle.std.specs.Prelude.{ℕ, Bool, ◌&&◌, ◌^◌, ◌-◌, nat_le, min}
+use Rattle.std.specs.Prelude.{ℕ, Bool, ◌&&◌, ◌^◌, ◌+◌, ◌-◌, ◌*◌, ◌/◌, nat_le, min, if◌then◌else◌}
 use Rattle.exec_outcomes.specs.declared.outcome.Kind.{Kind}
-use Rattle.exec_outcomes.specs.declared.outcome.Kind.TheVariants.{Send, Poll}
+use Rattle.exec_outcomes.specs.declared.outcome.Kind.TheVariants.{Poll, Connect, Sync, Direct}
 use Rattle.exec_outcomes.specs.declared.outcome.OpResult.{OpResult}
 use Rattle.exec_outcomes.specs.declared.outcome.OpResult.TheVariants.{Count, Errno}
+use Rattle.exec_outcomes.specs.Outcomes.{Asked, Cursor, first_part, second_part}
 
--- the most that the next operation may answer: the bytes of a send that are left; for a poll what an i32 can say
-abbrev pub window_of : Kind → ℕ → ℕ → ℕ
-window_of Send length moved = min (length - moved) (2 ^ 32 - 1)
-window_of Poll length moved = 2 ^ 31 - 1
+-- whole pages of 4,096 bytes, as many as so many bytes need
+abbrev pub aligned : ℕ → ℕ
+aligned n = (n + 4095) / 4096 * 4096
+
+-- The most that an operation may answer: the bytes that are left, at most 2^32 - 1; of a direct read those of the
+-- aligned range, at most the whole pages that an i32 can say; where no bytes are moved what an i32 can say.
+abbrev pub window_in : Kind → ℕ → ℕ → ℕ
+window_in Poll length moved = 2 ^ 31 - 1
+window_in Connect length moved = 2 ^ 31 - 1
+window_in Sync length moved = 2 ^ 31 - 1
+window_in Direct length moved = min (aligned length - moved) 2147479552
+window_in _ length moved = min (length - moved) (2 ^ 32 - 1)
+
+abbrev pub window_of : Asked → Cursor → ℕ
+window_of asked cursor =
+    let part = if cursor.switched then second_part asked else first_part asked in
+    window_in part.kind part.length cursor.moved
 
 -- an error number from 1 to 4095, or a count that the window allows and an i32 can say
 abbrev pub is_lawful : ℕ → OpResult → Bool

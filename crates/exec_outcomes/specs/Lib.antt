@@ -1,3 +1,4 @@
 pub mod Text
-pub mod Lawful
 pub mod Outcomes
+pub mod Lawful
+pub mod Accounts

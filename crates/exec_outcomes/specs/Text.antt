@@ -3,7 +3,7 @@ use Rattle.std.specs.Prelude.{ℕ, List, ◌∷◌, codes}
 use Rattle.std.specs.Fmt.{decimal}
 use Rattle.exec_base.specs.Error.{word_of}
 use Rattle.exec_outcomes.specs.declared.outcome.Kind.{Kind}
-use Rattle.exec_outcomes.specs.declared.outcome.Kind.TheVariants.{Send, Poll}
+use Rattle.exec_outcomes.specs.declared.outcome.Kind.TheVariants.{Poll, Send, Recv, Fill, Connect, Read, Hint, Direct, Write, Dsync, Many, Sync}
 use Rattle.exec_outcomes.specs.declared.outcome.OpResult.{OpResult}
 use Rattle.exec_outcomes.specs.declared.outcome.OpResult.TheVariants.{Count, Errno}
 use Rattle.exec_outcomes.specs.declared.outcome.Outcome.{Outcome}
@@ -11,8 +11,18 @@ use Rattle.exec_outcomes.specs.declared.outcome.Outcome.TheVariants.{Success, Fa
 
 -- the script word that makes such a request
 abbrev pub text_of_kind : Kind → List ℕ
-text_of_kind Send = codes "send"
 text_of_kind Poll = codes "poll"
+text_of_kind Send = codes "send"
+text_of_kind Recv = codes "recv"
+text_of_kind Fill = codes "fill"
+text_of_kind Connect = codes "conn"
+text_of_kind Read = codes "read"
+text_of_kind Hint = codes "hint"
+text_of_kind Direct = codes "direct"
+text_of_kind Write = codes "write"
+text_of_kind Dsync = codes "dsync"
+text_of_kind Many = codes "many"
+text_of_kind Sync = codes "sync"
 
 -- a count in decimal; an error number with a minus sign
 abbrev pub text_of_result : OpResult → List ℕ

@@ -3,13 +3,34 @@
 use exec_base::error::{Error, Word};
 use std::fmt;
 
-/// What a request asks for. Ports the variants of `Request`.
+/// What a request asks for, by the word of a script that makes it. Ports the variants of `Request`, with what
+/// tells one from another among those of one variant.
 #[derive(Clone, Copy, Debug, PartialEq, Eq)]
 pub enum Kind {
-    /// To send all bytes of a buffer to a socket.
-    Send,
     /// To be told of one event of a listener.
     Poll,
+    /// To send all bytes of a buffer to a socket.
+    Send,
+    /// To receive some bytes.
+    Recv,
+    /// To receive exactly so many bytes.
+    Fill,
+    /// To connect a socket.
+    Connect,
+    /// To read exactly so many bytes of a file.
+    Read,
+    /// The same, with the hint to keep them out of the page cache.
+    Hint,
+    /// The same, past the page cache, by whole pages.
+    Direct,
+    /// To write bytes to a file.
+    Write,
+    /// The same, each operation durable by itself.
+    Dsync,
+    /// The same, made durable by one sync after all operations.
+    Many,
+    /// To make durable what was written.
+    Sync,
 }
 
 /// The result of one operation, as the kernel gave it.
@@ -26,6 +47,8 @@ pub enum OpResult {
 pub struct Judged {
     /// The result.
     pub result: OpResult,
+    /// Whether its operation had the hint.
+    pub hinted: bool,
     /// Whether cancellation of the request had been asked for when the result was reaped.
     pub cancelled: bool,
 }
@@ -47,8 +70,18 @@ impl fmt::Display for Kind {
 
     fn fmt<W: fmt::Write>(&self, f: &mut fmt::Formatter<W>) -> fmt::Result {
         match self {
-            Kind::Send => write!(f, "send"),
             Kind::Poll => write!(f, "poll"),
+            Kind::Send => write!(f, "send"),
+            Kind::Recv => write!(f, "recv"),
+            Kind::Fill => write!(f, "fill"),
+            Kind::Connect => write!(f, "conn"),
+            Kind::Read => write!(f, "read"),
+            Kind::Hint => write!(f, "hint"),
+            Kind::Direct => write!(f, "direct"),
+            Kind::Write => write!(f, "write"),
+            Kind::Dsync => write!(f, "dsync"),
+            Kind::Many => write!(f, "many"),
+            Kind::Sync => write!(f, "sync"),
         }
     }
 }
