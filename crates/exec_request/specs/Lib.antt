@@ -1,1 +1,2 @@
-pub mod Views
+pub mod States
+pub mod Buffers

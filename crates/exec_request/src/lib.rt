@@ -1,7 +1,6 @@
 //! The requests that a task makes of the kernel, each with the buffers that it owns.
 #![tactic(auto)]
 
-pub mod poll;
-pub mod request;
+pub mod buffers;
+pub mod open_record;
 pub mod results;
-pub mod send;

@@ -1,16 +1,22 @@
 //! What the numbers of a result say, for each kind of request.
 
-ghost use Rattle.std.specs.Prelude.{◌≡◌, IsTrue, if◌then◌else◌, None, ◌^◌, ◌-◌};
+ghost use Rattle.std.specs.Prelude.{◌≡◌, ◌<◌, if◌then◌else◌, Some, None};
 ghost use Rattle.exec_outcomes.specs.Lawful.{is_lawful};
-ghost use Rattle.exec_outcomes.specs.Outcomes.{bytes_of};
+ghost use Rattle.exec_request.specs.States.{asks_cancel};
 
-use exec_base::error::Error;
+use exec_base::error::{Cause, Error};
 use exec_outcomes::outcome::{OpResult, Outcome};
 
 /// EINTR: the operation was interrupted.
 pub const INTERRUPTED: u64 = 4;
 /// EAGAIN: the operation would have had to wait.
 pub const WOULD_BLOCK: u64 = 11;
+/// EOPNOTSUPP: the kernel doesn't know the hint.
+pub const UNSUPPORTED: u64 = 95;
+/// EISCONN: the socket is connected.
+pub const CONNECTED: u64 = 106;
+/// EALREADY: a connect is under way.
+pub const PENDING: u64 = 114;
 /// ECANCELED: the operation was cancelled.
 pub const CANCELED: u64 = 125;
 
@@ -21,13 +27,24 @@ pub const LARGEST_COUNT: u64 = 0x7fff_ffff;
 /// The largest error number that a result can say.
 pub const LARGEST_ERRNO: u64 = 4095;
 
-/// How much a result counts.
-pub(crate) fn counted_by(given: OpResult) -> u64
-    ensures { result ≡ bytes_of given }
-{
-    match given {
-        OpResult::Count(count) => count,
-        OpResult::Errno(_) => 0,
+/// How the waiter of a request stands when a result is reaped. Ports `WaiterState`.
+#[derive(Clone, Copy, Debug, PartialEq, Eq)]
+pub enum WaiterState {
+    /// Nobody has asked for cancellation.
+    Active {
+        /// The tick of the wheel at which its deadline comes, where it has one.
+        target_tick: Option<u64>,
+    },
+    /// Cancellation was asked for.
+    CancelRequested,
+}
+
+impl WaiterState {
+    /// Whether cancellation was asked for.
+    pub fn is_cancelled(self) -> bool
+        ensures { result ≡ asks_cancel self }
+    {
+        matches!(self, WaiterState::CancelRequested)
     }
 }
 
@@ -50,4 +67,12 @@ pub(crate) fn another(cancelled: bool) -> Option<Outcome>
     } else {
         None
     }
+}
+
+/// The error of an operation, handed on by its number.
+pub(crate) fn handed_on(code: u64) -> Option<Outcome>
+    requires { code < 65536 }
+    ensures { result ≡ Some (Outcome.Failure (Error.Io (Cause.Code code))) }
+{
+    Some(Outcome::Failure(Error::Io(Cause::Code(code as u16))))
 }

@@ -1,0 +1,27 @@
+-- The buffers of a send or a write, and how much of them has gone.
+use Rattle.std.specs.Prelude.{ℕ, Bool, ◌+◌, ◌-◌, ◌^◌, ◌==◌, ◌&&◌, List, [], length, take, drop, min, nat_le, slice_index_or}
+use Rattle.exec_bufs.specs.Buffers.{total}
+use Rattle.exec_request.specs.declared.buffers.WriteBuffers.{WriteBuffers}
+use Rattle.exec_request.specs.declared.buffers.WriteBuffers.TheVariants.{Single, Vectored}
+
+-- how many bytes there are
+abbrev pub length_of : WriteBuffers → ℕ
+length_of (Single buf offset) = length buf
+length_of (Vectored bufs chunk offset remaining) = total bufs
+
+-- how many of them have gone
+abbrev pub moved_of : WriteBuffers → ℕ
+moved_of (Single buf offset) = offset
+moved_of (Vectored bufs chunk offset remaining) = total bufs - remaining
+
+-- what went lies before the place that is told: whole chunks, and a part of the next
+abbrev pub is_sound : WriteBuffers → Bool
+is_sound (Single buf offset) = nat_le offset (length buf)
+is_sound (Vectored bufs chunk offset remaining) =
+    ((total (take chunk bufs) + offset) + remaining == total bufs) && nat_le offset (length (slice_index_or bufs chunk []))
+
+-- the most that one operation takes: of one buffer its rest, of several the rest of their next 1,024, and never more
+-- than 2^32 - 1 bytes
+abbrev pub batch_of : WriteBuffers → ℕ
+batch_of (Single buf offset) = min (length buf - offset) (2 ^ 32 - 1)
+batch_of (Vectored bufs chunk offset remaining) = min (total (take 1024 (drop chunk bufs)) - offset) (2 ^ 32 - 1)
