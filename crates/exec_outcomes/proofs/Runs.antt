@@ -1,16 +1,17 @@
 -- What one more result makes of a list of results.
-use Rattle.std.proofs.Common.{◌≡◌, ℕ, suc, ◌+◌, Bool, true, false, cond, not, ◌||◌, ◌&&◌, List, [], ◌∷◌, ◌++◌, Option, Some, None, is_some, find, filter, drop, refl, sym, ◌∙◌, ap, add-zero, arith, zero-add, inl, inr, ◌⊎◌, ◌==◌, subst, if◌then◌else◌}
+use Rattle.std.proofs.Common.{◌≡◌, ℕ, suc, ◌+◌, Bool, true, false, cond, not, ◌||◌, ◌&&◌, List, [], ◌∷◌, ◌++◌, Option, Some, None, is_some, find, filter, drop, refl, sym, ◌∙◌, ap, add-zero, arith, zero-add, inl, inr, ◌⊎◌, ◌==◌, subst, if◌then◌else◌, leb}
 use Rattle.std.specs.List.{list_any, after_first, position_or_len}
 use Rattle.std.proofs.lemmas.Bool.{and_parts, or_parts, cases_Bool}
 use Rattle.std.proofs.lemmas.List.Folds.{find-append, list_any-append}
 use Rattle.std.proofs.lemmas.List.Elements.{filter-append}
 use Rattle.std.proofs.lemmas.List.Sums.{sum_by-append, sum_by-cons}
 use Rattle.exec_outcomes.specs.declared.outcome.Kind.{Kind}
+use Rattle.exec_outcomes.specs.declared.outcome.Kind.TheVariants.{Poll, Send, Recv, Fill, Connect, Read, Hint, Direct, Write, Dsync, Many, Sync}
 use Rattle.exec_outcomes.specs.declared.outcome.OpResult.{OpResult}
 use Rattle.exec_outcomes.specs.declared.outcome.OpResult.TheVariants.{Count, Errno}
 use Rattle.exec_outcomes.specs.declared.outcome.Judged.{Judged}
 use Rattle.exec_outcomes.specs.declared.outcome.Outcome.{Outcome}
-use Rattle.exec_outcomes.specs.Outcomes.{Asked, Cursor, first_part, second_kind, second_part, is_transient, refuses_hint, without_first, lasting, bytes_of, moved_by, with_totals, results_in, decides, passes_on, stops, verdict, last_is_cancelled, outcome_by, outcome_of_part, outcome_by_stop, outcome_of, outcome_next, moves_on, cursor_next, stop_of, present, HasCome}
+use Rattle.exec_outcomes.specs.Outcomes.{Asked, Part, Cursor, takes_any, moves_bytes, is_positive, part_now, counted_for, first_part, second_kind, second_part, is_transient, refuses_hint, without_first, lasting, bytes_of, moved_by, with_totals, results_in, decides, passes_on, stops, verdict, last_is_cancelled, outcome_by, outcome_of_part, outcome_by_stop, outcome_of, outcome_next, moves_on, cursor_next, stop_of, present, HasCome}
 
 with_totals-append : (before : ℕ) (xs ys : List Judged) → with_totals before (xs ++ ys) ≡ with_totals before xs ++ with_totals (before + moved_by xs) ys
 with_totals-append before [] ys = ap (λ n. with_totals n ys) (sym (add-zero before))
@@ -256,6 +257,79 @@ moved_by-lasting kind r =
 moved_by-append : (kind : Kind) (xs : List Judged) (r : Judged) → moved_by (xs ++ lasting kind (r ∷ [])) ≡ moved_by xs + bytes_of r.result
 moved_by-append kind xs r = sum_by-append (λ (x : Judged). bytes_of x.result) xs (lasting kind (r ∷ [])) ∙ ap (λ n. moved_by xs + n) (moved_by-lasting kind r)
 
+-- what counts no bytes is decided by any result that says something
+takes_any-still : (kind : Kind) → moves_bytes kind ≡ false → takes_any kind ≡ true
+takes_any-still Connect still = refl
+takes_any-still Poll still = refl
+takes_any-still Sync still = refl
+takes_any-still Send still = cc
+takes_any-still Recv still = cc
+takes_any-still Fill still = cc
+takes_any-still Read still = cc
+takes_any-still Hint still = cc
+takes_any-still Direct still = cc
+takes_any-still Write still = cc
+takes_any-still Dsync still = cc
+takes_any-still Many still = cc
+
+passes_on-still : (kind : Kind) (part : Part) (x : Judged × ℕ) → moves_bytes kind ≡ false → passes_on kind part x ≡ false
+passes_on-still Connect part x still = refl
+passes_on-still Poll part x still = refl
+passes_on-still Sync part x still = refl
+passes_on-still Send part x still = cc
+passes_on-still Recv part x still = cc
+passes_on-still Fill part x still = cc
+passes_on-still Read part x still = cc
+passes_on-still Hint part x still = cc
+passes_on-still Direct part x still = cc
+passes_on-still Write part x still = cc
+passes_on-still Dsync part x still = cc
+passes_on-still Many part x still = cc
+
+any_test : (b c : Bool) → (not b || b && (true || c)) ≡ true
+any_test true c = refl
+any_test false c = refl
+
+decides-still : (part : Part) (x : Judged × ℕ) → moves_bytes part.kind ≡ false → decides part x ≡ true
+decides-still part x still =
+    rw (takes_any-still part.kind still) (any_test (is_positive x.0.result) (leb part.length x.1))
+
+found_only : {X : Type 0} (p : X → Bool) (x : X) → p x ≡ true → find p (x ∷ []) ≡ Some x
+found_only p x passes = rw passes refl
+
+still_first : (asked : Asked) (given_up : Bool) (m : ℕ) (r : Judged) → moves_bytes asked.kind ≡ false → by_totals asked given_up (with_totals m (lasting asked.kind (r ∷ []))) ≡ None → bytes_of r.result ≡ 0
+unfolding by_totals
+still_first asked given_up m r still none =
+    elim (one_lasts asked.kind r.result r.hinted r.cancelled) [
+      | inl nothing ↦ nothing.1
+      | inr itself ↦
+        let x : Judged × ℕ = (r, m + bytes_of r.result) in
+        let Q : List Judged → Type 0 = λ l. by_totals asked given_up (with_totals m l) ≡ None in
+        let d : decides (first_part asked) x ≡ true = decides-still (first_part asked) x still in
+        let stop : find (stops asked) (x ∷ []) ≡ Some x = found_only (stops asked) x (ap (λ b. b || passes_on asked.kind (first_part asked) x) d) in
+        let later : List Judged = results_in (after_first (stops asked) (x ∷ [])) in
+        let open_still = second_undecided asked given_up x later (ap (λ o. outcome_by_stop asked given_up o later) (sym stop) ∙ subst Q itself none) in
+        let never = passes_on-still asked.kind (first_part asked) x still in
+        cc
+    ]
+
+still_second : (part : Part) (given_up : Bool) (kind : Kind) (m : ℕ) (r : Judged) → moves_bytes part.kind ≡ false → outcome_of_part part given_up (with_totals m (lasting kind (r ∷ []))) ≡ None → bytes_of r.result ≡ 0
+still_second part given_up kind m r still none =
+    elim (one_lasts kind r.result r.hinted r.cancelled) [
+      | inl nothing ↦ nothing.1
+      | inr itself ↦
+        let x : Judged × ℕ = (r, m + bytes_of r.result) in
+        let Q : List Judged → Type 0 = λ l. outcome_of_part part given_up (with_totals m l) ≡ None in
+        let stop : find (decides part) (x ∷ []) ≡ Some x = found_only (decides part) x (decides-still part x still) in
+        let never = none_decides part.kind given_up (find (decides part) (x ∷ [])) (subst Q itself none) in
+        cc
+    ]
+
+-- what a part counts is all bytes of a result that doesn't decide it
+counted_by : (b : Bool) (n : ℕ) → (b ≡ false → n ≡ 0) → (if b then n else 0) ≡ n
+counted_by true n none = refl
+counted_by false n none = sym (none refl)
+
 amount_by : (moves on : Bool) (n : ℕ) (later all : List Judged) → moves ≡ on → later ≡ [] → moved_by all ≡ n → (if moves then 0 else n) ≡ moved_by (if on then later else all)
 amount_by true true n later all same none sum = sym (ap moved_by none)
 amount_by false false n later all same none sum = sym sum
@@ -280,14 +354,15 @@ module _ (asked : Asked) (cursor : Cursor) (results : List Judged) (r : Judged) 
       let all : with_totals 0 (lasting kind (results ++ r ∷ [])) ≡ before ++ here = totals-push asked cursor results r come allowed ∙ ap (λ n. before ++ with_totals n (lasting kind (r ∷ []))) (sym amount) in
       let open_still : by_totals asked r.cancelled here ≡ None = subst (λ b. (if b then outcome_of_part (second_part asked) r.cancelled here else by_totals asked r.cancelled here) ≡ None) first undecided in
       let once = one_stop asked r.cancelled cursor.moved r open_still in
+    let counted : counted_for (part_now asked cursor) r.result ≡ bytes_of r.result = rw first (counted_by (moves_bytes kind) (bytes_of r.result) (λ still. still_first asked r.cancelled cursor.moved r still open_still)) in
       let stop : stop_of asked (results ++ r ∷ []) ≡ find (stops asked) here = ap (find (stops asked)) all ∙ find-after_none (stops asked) before here none in
       let after : results_in (after_first (stops asked) (with_totals 0 (lasting kind (results ++ r ∷ [])))) ≡ [] = ap (λ rs. results_in (after_first (stops asked) rs)) all ∙ (ap results_in (after_first-none (stops asked) before here none) ∙ once.nothing_after) in
-      let total : moved_by (lasting kind (results ++ r ∷ [])) ≡ cursor.moved + bytes_of r.result = ap moved_by (lasting-push kind cursor.hinted results r come.unrefused allowed) ∙ (moved_by-append kind (lasting kind results) r ∙ ap (λ n. n + bytes_of r.result) (sym amount)) in
+      let total : moved_by (lasting kind (results ++ r ∷ [])) ≡ cursor.moved + counted_for (part_now asked cursor) r.result = ap moved_by (lasting-push kind cursor.hinted results r come.unrefused allowed) ∙ (moved_by-append kind (lasting kind results) r ∙ (ap (λ n. n + bytes_of r.result) (sym amount) ∙ ap (λ n. cursor.moved + n) (sym counted))) in
       let moves : moves_on asked cursor r ≡ is_some (stop_of asked (results ++ r ∷ [])) = rw first (once.passes ∙ ap is_some (sym stop)) in
       record {
         undecided = next asked cursor results r come allowed ∙ undecided;
         part = rw first (once.passes ∙ ap is_some (sym stop));
-        amount = amount_by (moves_on asked cursor r) (is_some (stop_of asked (results ++ r ∷ []))) (cursor.moved + bytes_of r.result) _ _ moves after total;
+        amount = amount_by (moves_on asked cursor r) (is_some (stop_of asked (results ++ r ∷ []))) (cursor.moved + counted_for (part_now asked cursor) r.result) _ _ moves after total;
         unrefused = unrefused-push cursor.hinted results r come.unrefused;
       }
   goes_on_by (Some s) stopped =
@@ -300,9 +375,12 @@ module _ (asked : Asked) (cursor : Cursor) (results : List Judged) (r : Judged) 
       let all : with_totals 0 (lasting kind (results ++ r ∷ [])) ≡ before ++ with_totals n (lasting kind (r ∷ [])) = totals-push asked cursor results r come allowed in
       let stop : stop_of asked (results ++ r ∷ []) ≡ Some s = ap (find (stops asked)) all ∙ find-after_some (stops asked) before (with_totals n (lasting kind (r ∷ []))) s stopped in
       let after : results_in (after_first (stops asked) (with_totals 0 (lasting kind (results ++ r ∷ [])))) ≡ later ++ lasting kind (r ∷ []) = ap (λ rs. results_in (after_first (stops asked) rs)) all ∙ later-push asked before s n (lasting kind (r ∷ [])) stopped in
-      let total : moved_by (present asked (results ++ r ∷ [])) ≡ cursor.moved + bytes_of r.result =
+      let here : List (Judged × ℕ) = with_totals cursor.moved (lasting kind (r ∷ [])) in
+    let open_still : outcome_of_part (second_part asked) r.cancelled here ≡ None = subst (λ b. (if b then outcome_of_part (second_part asked) r.cancelled here else by_totals asked r.cancelled here) ≡ None) second undecided in
+    let counted : counted_for (second_part asked) r.result ≡ bytes_of r.result = (counted_by (moves_bytes (second_kind kind)) (bytes_of r.result) (λ still. still_second (second_part asked) r.cancelled kind cursor.moved r still open_still)) in
+    let total : moved_by (present asked (results ++ r ∷ [])) ≡ cursor.moved + counted_for (second_part asked) r.result =
       ap (λ o. moved_by (if is_some o then results_in (after_first (stops asked) (with_totals 0 (lasting kind (results ++ r ∷ [])))) else lasting kind (results ++ r ∷ []))) stop
-      ∙ (ap moved_by after ∙ (moved_by-append kind later r ∙ ap (λ m. m + bytes_of r.result) (sym amount))) in
+      ∙ (ap moved_by after ∙ (moved_by-append kind later r ∙ (ap (λ m. m + bytes_of r.result) (sym amount) ∙ ap (λ n. cursor.moved + n) (sym counted)))) in
       record {
         undecided = next asked cursor results r come allowed ∙ undecided;
         part = rw second (ap is_some (sym stop));

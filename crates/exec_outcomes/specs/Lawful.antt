@@ -1,10 +1,10 @@
 -- Which results a kernel may give for an operation.
-use Rattle.std.specs.Prelude.{ℕ, Bool, ◌&&◌, ◌^◌, ◌+◌, ◌-◌, ◌*◌, ◌/◌, nat_le, min, if◌then◌else◌}
+use Rattle.std.specs.Prelude.{ℕ, Bool, ◌&&◌, ◌^◌, ◌+◌, ◌-◌, ◌*◌, ◌/◌, nat_le, min}
 use Rattle.exec_outcomes.specs.declared.outcome.Kind.{Kind}
 use Rattle.exec_outcomes.specs.declared.outcome.Kind.TheVariants.{Poll, Connect, Sync, Direct}
 use Rattle.exec_outcomes.specs.declared.outcome.OpResult.{OpResult}
 use Rattle.exec_outcomes.specs.declared.outcome.OpResult.TheVariants.{Count, Errno}
-use Rattle.exec_outcomes.specs.Outcomes.{Asked, Cursor, first_part, second_part}
+use Rattle.exec_outcomes.specs.Outcomes.{Asked, Cursor, part_now}
 
 -- whole pages of 4,096 bytes, as many as so many bytes need
 abbrev pub aligned : ℕ → ℕ
@@ -21,8 +21,7 @@ window_in _ length moved = min (length - moved) (2 ^ 32 - 1)
 
 abbrev pub window_of : Asked → Cursor → ℕ
 window_of asked cursor =
-    let part = if cursor.switched then second_part asked else first_part asked in
-    window_in part.kind part.length cursor.moved
+    window_in (part_now asked cursor).kind (part_now asked cursor).length cursor.moved
 
 -- an error number from 1 to 4095, or a count that the window allows and an i32 can say
 abbrev pub is_lawful : ℕ → OpResult → Bool

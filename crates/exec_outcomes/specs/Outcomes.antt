@@ -94,6 +94,13 @@ takes_any Poll = true
 takes_any Sync = true
 takes_any _ = false
 
+-- kinds whose results count bytes
+abbrev pub moves_bytes : Kind → Bool
+moves_bytes Connect = false
+moves_bytes Poll = false
+moves_bytes Sync = false
+moves_bytes _ = true
+
 -- this result did the last that a part asks for
 abbrev pub completes : Part → Judged × ℕ → Bool
 completes part r = is_positive r.0.result && (takes_any part.kind || nat_le part.length r.1)
@@ -214,11 +221,18 @@ abbrev pub moves_on : Asked → Cursor → Judged → Bool
 moves_on asked cursor r =
     not cursor.switched && list_any (passes_on asked.kind (first_part asked)) (with_totals cursor.moved (lasting asked.kind (r ∷ [])))
 
+abbrev pub part_now : Asked → Cursor → Part
+part_now asked cursor = if cursor.switched then second_part asked else first_part asked
+
+-- the bytes that a result adds to those of its part
+abbrev pub counted_for : Part → OpResult → ℕ
+counted_for part n = if moves_bytes part.kind then bytes_of n else 0
+
 -- how far the request has come by one more result
 abbrev pub cursor_next : Asked → Cursor → Judged → Cursor
 cursor_next asked cursor r =
     record {
-      moved = if moves_on asked cursor r then 0 else cursor.moved + bytes_of r.result;
+      moved = if moves_on asked cursor r then 0 else cursor.moved + counted_for (part_now asked cursor) r.result;
       switched = cursor.switched || moves_on asked cursor r;
       hinted = cursor.hinted && not (refuses_hint r);
     }
