@@ -1,2 +1,4 @@
 pub mod States
 pub mod Buffers
+pub mod Judging
+pub mod Views

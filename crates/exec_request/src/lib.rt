@@ -2,5 +2,12 @@
 #![tactic(auto)]
 
 pub mod buffers;
+pub mod connect;
 pub mod open_record;
+pub mod output;
+pub mod poll;
+pub mod recv;
 pub mod results;
+pub mod send;
+pub mod sync;
+pub mod window;

@@ -2,6 +2,7 @@
 
 ghost use Rattle.std.specs.Prelude.{◌≡◌, ◌<◌, if◌then◌else◌, Some, None};
 ghost use Rattle.exec_outcomes.specs.Lawful.{is_lawful};
+ghost use Rattle.exec_outcomes.specs.Outcomes.{bytes_of};
 ghost use Rattle.exec_request.specs.States.{asks_cancel};
 
 use exec_base::error::{Cause, Error};
@@ -45,6 +46,16 @@ impl WaiterState {
         ensures { result ≡ asks_cancel self }
     {
         matches!(self, WaiterState::CancelRequested)
+    }
+}
+
+/// How many bytes a result counts.
+pub(crate) fn counted_by(given: OpResult) -> u64
+    ensures { result ≡ bytes_of given }
+{
+    match given {
+        OpResult::Count(count) => count,
+        OpResult::Errno(_) => 0,
     }
 }
 

@@ -1,0 +1,29 @@
+-- What a request promises that judges one result by its cursor.
+use Rattle.std.proofs.Common.{◌≡◌, ℕ, ◌+◌, Bool, true, false, not, ◌&&◌, List, [], ◌∷◌, Option, refl, sym, ap, subst, ◌∙◌}
+use Rattle.std.specs.List.{list_any}
+use Rattle.exec_outcomes.specs.declared.outcome.Judged.{Judged}
+use Rattle.exec_outcomes.specs.declared.outcome.Outcome.{Outcome}
+use Rattle.exec_outcomes.specs.Outcomes.{Asked, Cursor, Part, outcome_next, cursor_next, moves_on, passes_on, first_part, with_totals, lasting, part_now, counted_for, refuses_hint}
+use Rattle.exec_outcomes.proofs.Runs.{next, goes_on}
+use Rattle.exec_request.specs.Judging.{Judges}
+
+pub judges : (asked : Asked) (before after : Cursor) (r : Judged) (answer : Option Outcome) → answer ≡ outcome_next asked before r → after ≡ cursor_next asked before r → (r.hinted ≡ true → before.hinted ≡ true) → Judges asked before after r answer
+judges asked before after r answer by moves allowed =
+    record {
+      judged = λ results come. by ∙ sym (next asked before results r come allowed);
+      goes_on = λ results come none. rw moves (goes_on asked before results r come allowed (sym by ∙ none));
+      next = by;
+      cursor = moves;
+    }
+
+list_any-never : {X : Type 0} (p : X → Bool) (xs : List X) → ((x : X) → p x ≡ false) → list_any p xs ≡ false
+list_any-never p [] never = refl
+list_any-never p (x ∷ xs) never = rw (never x) (list_any-never p xs never)
+
+-- a request of one part stays in it
+pub cursor_next-plain : (asked : Asked) (moved : ℕ) (switched hinted : Bool) (r : Judged) → ((x : Judged × ℕ) → passes_on asked.kind (first_part asked) x ≡ false)
+    → let before : Cursor = record { moved = moved; switched = switched; hinted = hinted } in
+    cursor_next asked before r ≡ record { moved = moved + counted_for (part_now asked before) r.result; switched = switched; hinted = hinted && not (refuses_hint r) }
+cursor_next-plain asked moved true hinted r never = refl
+cursor_next-plain asked moved false hinted r never =
+    rw (list_any-never (passes_on asked.kind (first_part asked)) (with_totals moved (lasting asked.kind (r ∷ []))) never) refl
