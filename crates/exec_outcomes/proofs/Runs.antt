@@ -198,7 +198,7 @@ pub next : (asked : Asked) (cursor : Cursor) (results : List Judged) (r : Judged
 next asked cursor results r come allowed = next_by asked cursor results r come allowed (stop_of asked results) refl
 
 -- one result says something, or it moved nothing
-one_lasts : (kind : Kind) (r : OpResult) (hinted cancelled : Bool) → let x : Judged = record { result = r; hinted = hinted; cancelled = cancelled } in ((lasting kind (x ∷ []) ≡ []) × (bytes_of r ≡ 0)) ⊎ (lasting kind (x ∷ []) ≡ x ∷ [])
+pub one_lasts : (kind : Kind) (r : OpResult) (hinted cancelled : Bool) → let x : Judged = record { result = r; hinted = hinted; cancelled = cancelled } in ((lasting kind (x ∷ []) ≡ []) × (bytes_of r ≡ 0)) ⊎ (lasting kind (x ∷ []) ≡ x ∷ [])
 one_lasts kind (Count n) false cancelled = inr refl
 one_lasts kind (Count n) true cancelled = inr refl
 one_lasts kind (Errno c) hinted cancelled =
@@ -219,7 +219,7 @@ stop_passes asked given_up x true false same none =
     let open_still = second_undecided asked given_up x [] none in cc
 
 -- nothing comes after the only one
-after_only : {X : Type 0} (p : X → Bool) (x : X) → after_first p (x ∷ []) ≡ []
+pub after_only : {X : Type 0} (p : X → Bool) (x : X) → after_first p (x ∷ []) ≡ []
 after_only p x = elim (cases_Bool (p x)) [ inl passes ↦ rw passes refl | inr fails ↦ rw fails refl ]
 
 record StopsOnce (asked : Asked) (rs : List (Judged × ℕ)) : Type 0 where

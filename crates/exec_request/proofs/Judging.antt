@@ -1,11 +1,14 @@
 -- What a request promises that judges one result by its cursor.
-use Rattle.std.proofs.Common.{◌≡◌, ℕ, ◌+◌, Bool, true, false, not, ◌&&◌, List, [], ◌∷◌, Option, refl, sym, ap, subst, ◌∙◌}
+use Rattle.std.proofs.Common.{◌≡◌, ℕ, ◌+◌, Bool, true, false, not, ◌&&◌, List, [], ◌∷◌, Option, refl, sym, ap, ◌∙◌, if◌then◌else◌}
 use Rattle.std.specs.List.{list_any}
 use Rattle.exec_outcomes.specs.declared.outcome.Judged.{Judged}
 use Rattle.exec_outcomes.specs.declared.outcome.Outcome.{Outcome}
 use Rattle.exec_outcomes.specs.Outcomes.{Asked, Cursor, Part, outcome_next, cursor_next, moves_on, passes_on, first_part, with_totals, lasting, part_now, counted_for, refuses_hint}
 use Rattle.exec_outcomes.proofs.Runs.{next, goes_on}
 use Rattle.exec_request.specs.Judging.{Judges}
+use Rattle.exec_request.specs.Hints.{asks_hint}
+use Rattle.exec_request.specs.declared.cache.Cache.{Cache}
+use Rattle.exec_request.specs.declared.cache.Cache.TheVariants.{Enabled, Disabled}
 
 pub judges : (asked : Asked) (before after : Cursor) (r : Judged) (answer : Option Outcome) → answer ≡ outcome_next asked before r → after ≡ cursor_next asked before r → (r.hinted ≡ true → before.hinted ≡ true) → Judges asked before after r answer
 judges asked before after r answer by moves allowed =
@@ -27,3 +30,15 @@ pub cursor_next-plain : (asked : Asked) (moved : ℕ) (switched hinted : Bool) (
 cursor_next-plain asked moved true hinted r never = refl
 cursor_next-plain asked moved false hinted r never =
     rw (list_any-never (passes_on asked.kind (first_part asked)) (with_totals moved (lasting asked.kind (r ∷ []))) never) refl
+
+-- a hint that was refused is given up
+abbrev pub given_up : Bool → Cache → Cache
+given_up refused cache = if refused then Enabled else cache
+
+-- what is left of it
+pub hint_left : (cache : Cache) (may refused : Bool) → asks_hint (given_up ((may && asks_hint cache) && refused) cache) ≡ (asks_hint cache && not ((may && asks_hint cache) && refused))
+hint_left Enabled true refused = refl
+hint_left Enabled false refused = refl
+hint_left Disabled true true = refl
+hint_left Disabled true false = refl
+hint_left Disabled false refused = refl

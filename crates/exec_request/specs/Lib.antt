@@ -1,4 +1,7 @@
 pub mod States
 pub mod Buffers
+pub mod Hints
+pub mod Ways
+pub mod Syncing
 pub mod Judging
 pub mod Views

@@ -1,10 +1,19 @@
 -- What requests ask for, how far they have come, and the windows of their next operations.
-use Rattle.std.specs.Prelude.{ℕ, Bool, true, false, not, ◌+◌, ◌-◌, ◌^◌, ◌&&◌, Option, Some, None, length, min, if◌then◌else◌}
+use Rattle.std.specs.Prelude.{◌≡◌, ℕ, Bool, true, false, not, ◌+◌, ◌-◌, ◌%◌, ◌^◌, ◌&&◌, Option, Some, None, length, replicate, min, if◌then◌else◌}
 use Rattle.exec_outcomes.specs.declared.outcome.Kind.TheVariants as kind
+use Rattle.exec_bufs.specs.Buffers.{Buffer}
+use Rattle.exec_outcomes.specs.Lawful.{aligned}
 use Rattle.exec_outcomes.specs.Outcomes.{Asked, Cursor}
 use Rattle.exec_request.specs.Buffers.{length_of, moved_of, batch_of}
+use Rattle.exec_request.specs.Hints.{asks_hint}
+use Rattle.exec_request.specs.Syncing.{write_kind, is_syncing, is_dsync}
+use Rattle.exec_request.specs.Ways.{asked_by, is_direct, is_switched, skipped, narrowed}
+use Rattle.exec_request.specs.declared.cache.Cache.TheVariants.{Disabled}
+use Rattle.exec_request.specs.declared.way.Way.TheVariants.{Direct}
 use Rattle.exec_request.specs.declared.send.SendRequest.{SendRequest}
+use Rattle.exec_request.specs.declared.read_at.ReadAtRequest.{ReadAtRequest}
 use Rattle.exec_request.specs.declared.recv.RecvRequest.{RecvRequest}
+use Rattle.exec_request.specs.declared.write_at.WriteAtRequest.{WriteAtRequest}
 use Rattle.exec_request.specs.declared.sync.SyncRequest.{SyncRequest}
 use Rattle.exec_request.specs.declared.connect.ConnectRequest.{ConnectRequest}
 use Rattle.exec_request.specs.declared.poll.PollRequest.{PollRequest}
@@ -37,6 +46,64 @@ recv_cursor r = record { moved = r.offset - r.start; switched = false; hinted = 
 
 abbrev pub recv_window : RecvRequest → Window
 recv_window r = plain_window operation.Recv r.fd (min (r.len - r.offset) (2 ^ 32 - 1))
+
+abbrev pub read_asked : ReadAtRequest → Asked
+read_asked r = asked_by r.way (length r.buf.bytes)
+
+abbrev pub read_cursor : ReadAtRequest → Cursor
+read_cursor r = record { moved = r.read; switched = is_switched r.way; hinted = asks_hint r.cache }
+
+-- its last operation had the hint, if its open had
+abbrev pub read_hinted : ReadAtRequest → Bool
+read_hinted r = not (is_direct r.way) && asks_hint r.cache
+
+abbrev pub read_window : Bool → ReadAtRequest → Window
+read_window hinted r =
+    record {
+      kind = operation.Read;
+      target = r.file;
+      offset = r.offset + r.read;
+      length = min (length r.buf.bytes - r.read) (if is_direct r.way then 2147479552 else 2 ^ 32 - 1);
+      hint = read_hinted r && hinted;
+      direct = is_direct r.way;
+      dsync = false;
+    }
+
+-- where its range begins in the file, and the buffer of the range alone
+abbrev pub reads_range : ReadAtRequest → ℕ × Buffer
+reads_range r = (r.offset + skipped r.way, narrowed r.way r.buf)
+
+-- a direct read of so many bytes from this offset on, of which nothing has come yet
+pub record IsDirectRead (r : ReadAtRequest) (file offset len : ℕ) : Type 0 where
+  pub of : r.file ≡ file
+  pub page : r.offset ≡ offset - offset % 4096
+  pub begins : r.read ≡ 0
+  pub way : r.way ≡ Direct (offset % 4096) len
+  pub hint : r.cache ≡ Disabled
+  pub buffer : r.buf ≡ record { bytes = replicate (aligned (offset % 4096 + len)) 0; capacity = aligned (offset % 4096 + len) }
+
+abbrev pub write_asked : WriteAtRequest → Asked
+write_asked w = record { kind = write_kind w.state; length = length_of w.write; skip = 0 }
+
+abbrev pub write_cursor : WriteAtRequest → Cursor
+write_cursor w = record { moved = if is_syncing w.state then 0 else moved_of w.write; switched = is_syncing w.state; hinted = asks_hint w.cache }
+
+-- its last operation had the hint, if its open had
+abbrev pub write_hinted : WriteAtRequest → Bool
+write_hinted w = not (is_syncing w.state) && asks_hint w.cache
+
+abbrev pub write_window : Bool → WriteAtRequest → Window
+write_window hinted w =
+    if is_syncing w.state then plain_window operation.Sync w.file 0
+    else record {
+      kind = operation.Write;
+      target = w.file;
+      offset = w.offset;
+      length = batch_of w.write;
+      hint = write_hinted w && hinted;
+      direct = false;
+      dsync = is_dsync w.state;
+    }
 
 abbrev pub poll_asked : PollRequest → Asked
 poll_asked p = record { kind = kind.Poll; length = 0; skip = 0 }

@@ -2,12 +2,16 @@
 #![tactic(auto)]
 
 pub mod buffers;
+pub mod cache;
 pub mod connect;
 pub mod open_record;
 pub mod output;
 pub mod poll;
+pub mod read_at;
 pub mod recv;
 pub mod results;
 pub mod send;
 pub mod sync;
+pub mod way;
 pub mod window;
+pub mod write_at;

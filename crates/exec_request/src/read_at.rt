@@ -1,0 +1,269 @@
+//! A read: bytes of a file, from an offset on, fill a buffer.
+//!
+//! A direct read fills a buffer of whole pages around its range, and is done once the range is there. A result that
+//! neither ends it nor leaves it at a page makes it a buffered read of the range alone, from nothing, and that at
+//! most once: there is no way back. What a read leaves in its buffer is shown only where it ends well.
+
+ghost use Rattle.std.specs.Prelude.{◌≡◌, ◌+◌, ◌-◌, ◌<◌, ◌≤◌, ◌^◌, true, false, length};
+ghost use Rattle.exec_outcomes.specs.Lawful.{aligned};
+ghost use Rattle.exec_outcomes.specs.Outcomes.{outcome_next, moves_on};
+ghost use Rattle.exec_outcomes.specs.declared.outcome.Kind.TheVariants.{Read, Direct};
+ghost use Rattle.exec_request.specs.Ways.{size_for};
+
+use crate::cache::Cache;
+use crate::open_record::OpenRecord;
+use crate::results::{
+    CANCELED, INTERRUPTED, LARGEST_WINDOW, UNSUPPORTED, WOULD_BLOCK, WaiterState, another, counted_by,
+};
+use crate::way::Way;
+use crate::window::{Operation, Window};
+use exec_base::error::Error;
+use exec_bufs::buf::IoBufMut;
+use exec_outcomes::outcome::{OpResult, Outcome};
+use std::alloc::{AllocError, Global};
+
+/// The alignment of direct reads, in bytes. Ports `DIRECT_ALIGN`.
+pub const DIRECT_ALIGN: u64 = 4096;
+/// The most bytes of one direct read: the whole pages that an i32 can say. Ports `DIRECT_CHUNK`.
+pub const DIRECT_CHUNK: u64 = 2_147_479_552;
+/// The largest end of a range in a file.
+pub const LARGEST_OFFSET: u64 = 0x7fff_ffff_ffff_ffff;
+
+/// A read of a range of a file. Ports `ReadAtRequest`.
+#[derive(Debug, Drop)]
+pub struct ReadAtRequest {
+    /// The open.
+    pub file: u32,
+    /// Where the buffer's first byte lies in the file.
+    pub offset: u64,
+    /// How many bytes of the buffer were read.
+    pub read: usize,
+    /// The buffer, as long as what is to be read.
+    pub buf: IoBufMut,
+    /// Whether its operations still ask for the hint.
+    pub cache: Cache,
+    /// How it goes.
+    pub way: Way,
+    pub ghost within: { read ≤ length buf.bytes },
+    pub ghost ends: { offset + length buf.bytes < 2 ^ 64 },
+    pub ghost sized: { length buf.bytes ≡ size_for way (length buf.bytes) },
+}
+
+impl ReadAtRequest {
+    ghost use Rattle.std.specs.Prelude.{◌⊎◌, ◌%◌, ◌&&◌, ◌↔◌, Bool, Ok, None, IsTrue, IfOk, IfSome, if◌then◌else◌};
+    ghost use Rattle.exec_outcomes.specs.Lawful.{is_lawful, window_of};
+    ghost use Rattle.exec_outcomes.specs.Outcomes.{cursor_next, is_unsupported};
+    ghost use Rattle.exec_request.specs.Hints.{asks_hint, has_hint, cache_for, without_hint};
+    ghost use Rattle.exec_request.specs.Judging.{Judges, judged_as};
+    ghost use Rattle.exec_request.specs.Ways.{is_direct, is_switched, switched_from};
+    ghost use Rattle.exec_request.specs.Views.{read_asked, read_cursor, read_hinted, read_window, reads_range, IsDirectRead};
+
+    /// A read of as many bytes as this buffer has, from `offset` on.
+    pub fn new(file: u32, offset: u64, buf: IoBufMut, cache: Cache) -> Self
+        requires { offset + length buf.bytes < 2 ^ 64 }
+        ensures file { result.file ≡ file }
+        ensures offset { result.offset ≡ offset }
+        ensures read { result.read ≡ 0 }
+        ensures buf { result.buf ≡ buf }
+        ensures cache { result.cache ≡ cache }
+        ensures way { result.way ≡ (if asks_hint cache then Way.Hinted else Way.Buffered) }
+    {
+        let way = if cache.is_disabled() {
+            Way::Hinted
+        } else {
+            Way::Buffered
+        };
+        ReadAtRequest {
+            file,
+            offset,
+            read: 0,
+            buf,
+            cache,
+            way,
+        }
+    }
+
+    /// A direct read of `len` bytes from `offset` on, into a buffer of its own. None where the range is empty, or
+    /// where its whole pages end past the largest offset of a file. An `Err` comes only for want of memory.
+    pub fn direct(alloc: Global, file: u32, offset: u64, len: usize) -> Result<Option<Self>, AllocError>
+        ensures none { result ≡ Ok None ↔ ((len ≡ 0) ⊎ (2 ^ 63 ≤ (offset - offset % 4096) + aligned (offset % 4096 + len))) }
+        ensures made { IfOk result (λ made. IfSome made (λ r. IsDirectRead r file offset len)) }
+    {
+        if len == 0 || len as u64 > LARGEST_OFFSET {
+            return Ok(None);
+        }
+        let skip = offset % DIRECT_ALIGN;
+        let pages = whole_pages(skip + len as u64);
+        if pages > LARGEST_OFFSET.saturating_sub(offset - skip) {
+            return Ok(None);
+        }
+        let mut buf = IoBufMut::with_capacity(alloc, pages as usize)?;
+        buf.set_len(pages as usize);
+        Ok(Some(ReadAtRequest {
+            file,
+            offset: offset - skip,
+            read: 0,
+            buf,
+            cache: Cache::Disabled,
+            way: Way::Direct {
+                skip: skip as usize,
+                len,
+            },
+        }))
+    }
+
+    /// What the next operation asks of the kernel. A request gives up the hint that its open has given up.
+    pub fn build_sqe(&mut self, open_: &Option<OpenRecord>) -> Window
+        ensures window { result ≡ read_window (has_hint open_.now) self.old }
+        ensures left { result.length ≡ window_of (read_asked self.old) (read_cursor self.old) }
+        ensures after { self.new ≡ record self.old { cache = if is_direct self.old.way then self.old.cache else cache_for (has_hint open_.now) self.old.cache } }
+    {
+        let direct = self.way.is_direct();
+        let left = (self.buf.len() - self.read) as u64;
+        let most = if direct { DIRECT_CHUNK } else { LARGEST_WINDOW };
+        let hint = !direct && self.cache.rw_flag(open_);
+        Window {
+            kind: Operation::Read,
+            target: self.file as usize,
+            offset: self.offset + self.read as u64,
+            length: left.min(most) as u32,
+            hint,
+            direct,
+            dsync: false,
+        }
+    }
+
+    /// Whether its last operation had the hint.
+    fn is_hinted(&self) -> bool
+        ensures { result ≡ read_hinted self.now }
+    {
+        !self.way.is_direct() && self.cache.is_disabled()
+    }
+
+    /// Judges the next result. Answers the outcome that all results so far give, or None where another
+    /// operation is needed. A refused hint is given up, also by the open.
+    pub fn on_cqe(&mut self, state: WaiterState, given: OpResult, open_: &mut Option<OpenRecord>) -> Option<Outcome>
+        requires lawful { IsTrue (is_lawful (window_of (read_asked self.old) (read_cursor self.old)) given) }
+        ensures judges { Judges (read_asked self.old) (read_cursor self.old) (read_cursor self.new) (judged_as (read_hinted self.old) state given) result }
+        ensures asked { read_asked self.new ≡ read_asked self.old }
+        ensures range { reads_range self.new ≡ reads_range self.old }
+        ensures open { open_.new ≡ (if read_hinted self.old && is_unsupported given then without_hint open_.old else open_.old) }
+        ensures file { self.new.file ≡ self.old.file }
+    {
+        let hinted = self.is_hinted();
+        let outcome = self.judge(state.is_cancelled(), given);
+        self.go_on(given);
+        self.cache.fallback(hinted, given, open_);
+        outcome
+    }
+
+    /// Counts the bytes of one more result, or goes on as a buffered read.
+    fn go_on(&mut self, given: OpResult)
+        requires lawful { IsTrue (is_lawful (window_of (read_asked self.old) (read_cursor self.old)) given) }
+        ensures cursor { (cancelled : Bool) → let next = cursor_next (read_asked self.old) (read_cursor self.old) (record { result = given; hinted = read_hinted self.old; cancelled = cancelled }) in
+            (self.new.read ≡ next.moved) × (is_switched self.new.way ≡ next.switched) }
+        ensures asked { read_asked self.new ≡ read_asked self.old }
+        ensures range { reads_range self.new ≡ reads_range self.old }
+        ensures file { self.new.file ≡ self.old.file }
+        ensures cache { self.new.cache ≡ self.old.cache }
+    {
+        if self.switches(given) {
+            self.switch();
+        } else {
+            self.read += counted_by(given) as usize;
+        }
+    }
+
+    /// What one more result means.
+    fn judge(&self, cancelled: bool, given: OpResult) -> Option<Outcome>
+        ensures { result ≡ outcome_next (read_asked self.now) (read_cursor self.now) (record { result = given; hinted = read_hinted self.now; cancelled = cancelled }) }
+    {
+        match self.way {
+            Way::Direct { skip, len } => {
+                let left = (skip as u64 + len as u64).saturating_sub(self.read as u64);
+                judge_direct(left, cancelled, given)
+            }
+            _ => {
+                let left = (self.buf.len() - self.read) as u64;
+                judge_buffered(left, self.cache.is_disabled(), cancelled, given)
+            }
+        }
+    }
+
+    /// Whether one more result makes this direct read a buffered one.
+    fn switches(&self, given: OpResult) -> bool
+        ensures switches { (cancelled : Bool) → result ≡ moves_on (read_asked self.now) (read_cursor self.now) (record { result = given; hinted = read_hinted self.now; cancelled = cancelled }) }
+        ensures direct { IsTrue result → is_direct self.now.way ≡ true }
+    {
+        match self.way {
+            Way::Direct { skip, len } => {
+                let left = (skip as u64 + len as u64).saturating_sub(self.read as u64);
+                leaves_pages(left, given)
+            }
+            _ => false,
+        }
+    }
+
+    /// Goes on as a buffered read of the range, from nothing.
+    fn switch(&mut self)
+        requires { is_direct self.old.way ≡ true }
+        ensures read { self.new.read ≡ 0 }
+        ensures way { self.new.way ≡ switched_from self.old.way }
+        ensures asked { read_asked self.new ≡ read_asked self.old }
+        ensures range { reads_range self.new ≡ reads_range self.old }
+        ensures file { self.new.file ≡ self.old.file }
+        ensures cache { self.new.cache ≡ self.old.cache }
+    {
+        if let Way::Direct { skip, len } = self.way {
+            self.buf.truncate(skip + len);
+            self.buf.advance(skip);
+            self.offset += skip as u64;
+            self.read = 0;
+            self.way = Way::Switched { skip, len };
+        }
+    }
+}
+
+/// So many bytes, up to the end of a page.
+fn whole_pages(count: u64) -> u64
+    requires { count < 2 ^ 64 - 4096 }
+    ensures { result ≡ aligned count }
+{
+    (count + (DIRECT_ALIGN - 1)) / DIRECT_ALIGN * DIRECT_ALIGN
+}
+
+/// What one more result of a direct read means where so many bytes are left up to the end of its range.
+fn judge_direct(left: u64, cancelled: bool, given: OpResult) -> Option<Outcome>
+    ensures { result ≡ outcome_next (record { kind = Direct; length = left; skip = 0 }) (record { moved = 0; switched = false; hinted = true }) (record { result = given; hinted = false; cancelled = cancelled }) }
+{
+    match given {
+        OpResult::Count(count) if count > 0 && count >= left => Some(Outcome::Success),
+        OpResult::Errno(CANCELED) => Some(Outcome::Failure(Error::ReadFailed)),
+        _ => another(cancelled),
+    }
+}
+
+/// Whether one more result of a direct read neither ends it nor leaves it at a page.
+fn leaves_pages(left: u64, given: OpResult) -> bool
+    ensures { result ≡ moves_on (record { kind = Direct; length = left; skip = 0 }) (record { moved = 0; switched = false; hinted = true }) (record { result = given; hinted = false; cancelled = false }) }
+{
+    match given {
+        OpResult::Count(0) => true,
+        OpResult::Count(count) => count < left && count % DIRECT_ALIGN != 0,
+        OpResult::Errno(INTERRUPTED | WOULD_BLOCK | CANCELED) => false,
+        OpResult::Errno(_) => true,
+    }
+}
+
+/// What one more result of a buffered read means where so many bytes are left.
+fn judge_buffered(left: u64, hinted: bool, cancelled: bool, given: OpResult) -> Option<Outcome>
+    ensures { result ≡ outcome_next (record { kind = Read; length = left; skip = 0 }) (record { moved = 0; switched = false; hinted = hinted }) (record { result = given; hinted = hinted; cancelled = cancelled }) }
+{
+    match given {
+        OpResult::Count(0) => Some(Outcome::Failure(Error::BlobInsufficientLength)),
+        OpResult::Count(count) if count >= left => Some(Outcome::Success),
+        OpResult::Count(_) | OpResult::Errno(INTERRUPTED | WOULD_BLOCK) => another(cancelled),
+        OpResult::Errno(UNSUPPORTED) if hinted => another(cancelled),
+        OpResult::Errno(_) => Some(Outcome::Failure(Error::ReadFailed)),
+    }
+}

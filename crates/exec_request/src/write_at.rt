@@ -1,0 +1,231 @@
+//! A write: all bytes of its buffers go to a file, from an offset on.
+//!
+//! It is durable in no way, or each of its operations is durable by itself, or one sync trails them all. The trailing
+//! sync begins once every byte is written, and what its results count is no bytes.
+
+ghost use Rattle.std.specs.Prelude.{◌≡◌, ℕ, ◌+◌, ◌-◌, ◌<◌, ◌^◌, IsTrue, true, false};
+ghost use Rattle.exec_outcomes.specs.Lawful.{is_lawful};
+ghost use Rattle.exec_outcomes.specs.Outcomes.{outcome_next};
+ghost use Rattle.exec_outcomes.specs.declared.outcome.Kind.TheVariants.{Write, Dsync, Many};
+ghost use Rattle.exec_request.specs.Buffers.{length_of, moved_of, is_sound};
+
+use crate::buffers::WriteBuffers;
+use crate::cache::Cache;
+use crate::open_record::OpenRecord;
+use crate::results::{
+    INTERRUPTED, UNSUPPORTED, WOULD_BLOCK, WaiterState, another, counted_by, handed_on,
+};
+use crate::sync::judge_sync;
+use crate::window::{Operation, Window};
+use exec_base::error::Error;
+use exec_outcomes::outcome::{OpResult, Outcome};
+
+/// How durable a write is, and how far. Ports `WriteAtState`.
+#[derive(Clone, Copy, Debug, PartialEq, Eq)]
+pub enum WriteAtState {
+    /// It writes, and nothing is durable by it.
+    Writing,
+    /// It writes, and each operation is durable when it ends.
+    WritingSync,
+    /// It writes, and a sync follows.
+    WritingBeforeSync,
+    /// All is written, and the sync that follows is under way.
+    Syncing,
+}
+
+impl WriteAtState {
+    ghost use Rattle.exec_request.specs.Syncing.{is_syncing};
+
+    /// Whether the trailing sync has begun.
+    pub fn is_syncing(self) -> bool
+        ensures { result ≡ is_syncing self }
+    {
+        matches!(self, WriteAtState::Syncing)
+    }
+}
+
+/// A write of all bytes of its buffers. Ports `WriteAtRequest`.
+#[derive(Debug, Drop)]
+pub struct WriteAtRequest {
+    /// The open.
+    pub file: u32,
+    /// Where the next byte goes in the file.
+    pub offset: u64,
+    /// The bytes, and how many were written.
+    pub write: WriteBuffers,
+    /// How durable it is, and how far.
+    pub state: WriteAtState,
+    /// Whether its operations still ask for the hint.
+    pub cache: Cache,
+    /// The changes of the open that a trailing sync covers.
+    pub seen: u64,
+    pub ghost sound: { is_sound write ≡ true },
+    pub ghost ends: { offset + (length_of write - moved_of write) < 2 ^ 64 },
+}
+
+impl WriteAtRequest {
+    ghost use Rattle.std.specs.Prelude.{◌≤◌, ◌&&◌, Bool, if◌then◌else◌};
+    ghost use Rattle.exec_outcomes.specs.Lawful.{window_of};
+    ghost use Rattle.exec_outcomes.specs.Outcomes.{cursor_next, is_unsupported};
+    ghost use Rattle.exec_request.specs.Hints.{asks_hint, has_hint, cache_for, without_hint};
+    ghost use Rattle.exec_request.specs.Judging.{Judges, judged_as};
+    ghost use Rattle.exec_request.specs.Syncing.{is_syncing};
+    ghost use Rattle.exec_request.specs.Views.{write_asked, write_cursor, write_hinted, write_window};
+
+    /// A write of these bytes, some of which may have been written already, from `offset` on. `seen` is what
+    /// `begin_sync` of the open's record answered.
+    pub fn new(
+        file: u32,
+        offset: u64,
+        write: WriteBuffers,
+        state: WriteAtState,
+        cache: Cache,
+        seen: u64,
+    ) -> Self
+        requires sound { is_sound write ≡ true }
+        requires ends { offset + (length_of write - moved_of write) < 2 ^ 64 }
+        ensures file { result.file ≡ file }
+        ensures offset { result.offset ≡ offset }
+        ensures write { result.write ≡ write }
+        ensures state { result.state ≡ state }
+        ensures cache { result.cache ≡ cache }
+        ensures seen { result.seen ≡ seen }
+    {
+        WriteAtRequest {
+            file,
+            offset,
+            write,
+            state,
+            cache,
+            seen,
+        }
+    }
+
+    /// What the next operation asks of the kernel. A request gives up the hint that its open has given up.
+    pub fn build_sqe(&mut self, open_: &Option<OpenRecord>) -> Window
+        ensures window { result ≡ write_window (has_hint open_.now) self.old }
+        ensures left { result.length ≤ window_of (write_asked self.old) (write_cursor self.old) }
+        ensures cache { self.new.cache ≡ (if is_syncing self.old.state then self.old.cache else cache_for (has_hint open_.now) self.old.cache) }
+        ensures write { self.new.write ≡ self.old.write }
+        ensures state { self.new.state ≡ self.old.state }
+        ensures offset { self.new.offset ≡ self.old.offset }
+        ensures seen { self.new.seen ≡ self.old.seen }
+        ensures file { self.new.file ≡ self.old.file }
+    {
+        if self.state.is_syncing() {
+            return Window::plain(Operation::Sync, self.file as usize, 0);
+        }
+        let hint = self.cache.rw_flag(open_);
+        Window {
+            kind: Operation::Write,
+            target: self.file as usize,
+            offset: self.offset,
+            length: self.write.batch_len() as u32,
+            hint,
+            direct: false,
+            dsync: matches!(self.state, WriteAtState::WritingSync),
+        }
+    }
+
+    /// Whether its last operation had the hint.
+    fn is_hinted(&self) -> bool
+        ensures { result ≡ write_hinted self.now }
+    {
+        !self.state.is_syncing() && self.cache.is_disabled()
+    }
+
+    /// Judges the next result. Answers the outcome that all results so far give, or None where another
+    /// operation is needed. A refused hint is given up, also by the open.
+    pub fn on_cqe(&mut self, state: WaiterState, given: OpResult, open_: &mut Option<OpenRecord>) -> Option<Outcome>
+        requires lawful { IsTrue (is_lawful (window_of (write_asked self.old) (write_cursor self.old)) given) }
+        ensures judges { Judges (write_asked self.old) (write_cursor self.old) (write_cursor self.new) (judged_as (write_hinted self.old) state given) result }
+        ensures asked { write_asked self.new ≡ write_asked self.old }
+        ensures range { self.new.offset + moved_of self.old.write ≡ self.old.offset + moved_of self.new.write }
+        ensures open { open_.new ≡ (if write_hinted self.old && is_unsupported given then without_hint open_.old else open_.old) }
+        ensures file { self.new.file ≡ self.old.file }
+        ensures seen { self.new.seen ≡ self.old.seen }
+    {
+        let hinted = self.is_hinted();
+        let outcome = self.judge(state.is_cancelled(), given);
+        self.go_on(given);
+        self.cache.fallback(hinted, given, open_);
+        outcome
+    }
+
+    /// Counts the bytes of one more result, or begins the trailing sync.
+    fn go_on(&mut self, given: OpResult)
+        requires lawful { IsTrue (is_lawful (window_of (write_asked self.old) (write_cursor self.old)) given) }
+        ensures cursor { (cancelled : Bool) → let next = cursor_next (write_asked self.old) (write_cursor self.old) (record { result = given; hinted = write_hinted self.old; cancelled = cancelled }) in
+            ((if is_syncing self.new.state then 0 else moved_of self.new.write) ≡ next.moved) × (is_syncing self.new.state ≡ next.switched) }
+        ensures asked { write_asked self.new ≡ write_asked self.old }
+        ensures range { self.new.offset + moved_of self.old.write ≡ self.old.offset + moved_of self.new.write }
+        ensures file { self.new.file ≡ self.old.file }
+        ensures seen { self.new.seen ≡ self.old.seen }
+        ensures cache { self.new.cache ≡ self.old.cache }
+    {
+        if self.state.is_syncing() {
+            return;
+        }
+        let count = counted_by(given);
+        self.write.advance(count as usize);
+        self.offset += count;
+        let trails = matches!(self.state, WriteAtState::WritingBeforeSync);
+        if trails && count > 0 && self.write.is_complete() {
+            self.state = WriteAtState::Syncing;
+        }
+    }
+
+    /// What one more result means.
+    fn judge(&self, cancelled: bool, given: OpResult) -> Option<Outcome>
+        requires { IsTrue (is_lawful (window_of (write_asked self.now) (write_cursor self.now)) given) }
+        ensures { result ≡ outcome_next (write_asked self.now) (write_cursor self.now) (record { result = given; hinted = write_hinted self.now; cancelled = cancelled }) }
+    {
+        let left = self.write.remaining_len() as u64;
+        let hinted = self.cache.is_disabled();
+        match self.state {
+            WriteAtState::Writing => judge_plain(left, hinted, cancelled, given),
+            WriteAtState::WritingSync => judge_durable(left, hinted, cancelled, given),
+            WriteAtState::WritingBeforeSync => judge_first(hinted, cancelled, given),
+            WriteAtState::Syncing => judge_sync(cancelled, given),
+        }
+    }
+}
+
+/// What one more result of a write that isn't durable means where so many bytes are left.
+fn judge_plain(left: u64, hinted: bool, cancelled: bool, given: OpResult) -> Option<Outcome>
+    ensures { result ≡ outcome_next (record { kind = Write; length = left; skip = 0 }) (record { moved = 0; switched = false; hinted = hinted }) (record { result = given; hinted = hinted; cancelled = cancelled }) }
+{
+    match given {
+        OpResult::Count(0) => Some(Outcome::Failure(Error::WriteFailed)),
+        OpResult::Count(count) if count >= left => Some(Outcome::Success),
+        OpResult::Count(_) | OpResult::Errno(INTERRUPTED | WOULD_BLOCK) => another(cancelled),
+        OpResult::Errno(UNSUPPORTED) if hinted => another(cancelled),
+        OpResult::Errno(_) => Some(Outcome::Failure(Error::WriteFailed)),
+    }
+}
+
+/// What one more result of a write means whose operations are durable, where so many bytes are left.
+fn judge_durable(left: u64, hinted: bool, cancelled: bool, given: OpResult) -> Option<Outcome>
+    requires { IsTrue (is_lawful 2147483647 given) }
+    ensures { result ≡ outcome_next (record { kind = Dsync; length = left; skip = 0 }) (record { moved = 0; switched = false; hinted = hinted }) (record { result = given; hinted = hinted; cancelled = cancelled }) }
+{
+    match given {
+        OpResult::Count(0) => Some(Outcome::Failure(Error::WriteFailed)),
+        OpResult::Count(count) if count >= left => Some(Outcome::Success),
+        OpResult::Count(_) | OpResult::Errno(INTERRUPTED | WOULD_BLOCK) => another(cancelled),
+        OpResult::Errno(UNSUPPORTED) if hinted => another(cancelled),
+        OpResult::Errno(code) => handed_on(code),
+    }
+}
+
+/// What one more result of a write means that a sync will follow, of which nothing has come yet: no bytes end it well.
+fn judge_first(hinted: bool, cancelled: bool, given: OpResult) -> Option<Outcome>
+    ensures { (left : ℕ) → result ≡ outcome_next (record { kind = Many; length = left; skip = 0 }) (record { moved = 0; switched = false; hinted = hinted }) (record { result = given; hinted = hinted; cancelled = cancelled }) }
+{
+    match given {
+        OpResult::Count(0) => Some(Outcome::Failure(Error::WriteFailed)),
+        OpResult::Count(_) | OpResult::Errno(INTERRUPTED | WOULD_BLOCK) => another(cancelled),
+        OpResult::Errno(UNSUPPORTED) if hinted => another(cancelled),
+        OpResult::Errno(_) => Some(Outcome::Failure(Error::WriteFailed)),
+    }
+}
