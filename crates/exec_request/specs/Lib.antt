@@ -5,3 +5,4 @@ pub mod Ways
 pub mod Syncing
 pub mod Judging
 pub mod Views
+pub mod Requests

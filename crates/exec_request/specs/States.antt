@@ -1,6 +1,9 @@
 -- Small words for states and answers.
-use Rattle.std.specs.Prelude.{Bool, true, false, Option, Some, None, Result, Ok, Err}
+use Rattle.std.specs.Prelude.{ℕ, Bool, true, false, [], Option, Some, None, Result, Ok, Err}
 use Rattle.exec_base.specs.declared.error.Error.{Error}
+use Rattle.exec_bufs.specs.Buffers.{Buffer}
+use Rattle.exec_outcomes.specs.Accounts.{Account, account_after, outcome_told}
+use Rattle.exec_outcomes.specs.declared.outcome.Kind.{Kind}
 use Rattle.exec_outcomes.specs.declared.outcome.Outcome.{Outcome}
 use Rattle.exec_outcomes.specs.declared.outcome.Outcome.TheVariants.{Success, Failure}
 use Rattle.exec_request.specs.declared.results.WaiterState.{WaiterState}
@@ -20,3 +23,23 @@ covered_or_failed (Some error) = Err error
 abbrev pub result_of : Outcome → Result (Unit {0}) Error
 result_of Success = Ok tt
 result_of (Failure error) = Err error
+
+-- a receive hands its buffer back with how far it is filled
+abbrev pub received : Buffer → ℕ → Outcome → Result (Buffer × ℕ) (Buffer × Error)
+received buf offset Success = Ok (buf, offset)
+received buf offset (Failure error) = Err (buf, error)
+
+-- a read hands its range back, or its buffer without a byte
+abbrev pub range_read : Buffer → Buffer → Outcome → Result Buffer (Buffer × Error)
+range_read range buf Success = Ok range
+range_read range buf (Failure error) = Err (record buf { bytes = [] }, error)
+
+-- what is told of a request, where its open has a record
+abbrev pub told_by : Kind → Outcome → Option Account → Outcome
+told_by kind ended None = ended
+told_by kind ended (Some account) = outcome_told kind account ended
+
+-- that record afterwards
+abbrev pub account_by : ℕ → Bool → ℕ → Kind → Outcome → Option Account → Option Account
+account_by file syncing seen kind ended None = None
+account_by file syncing seen kind ended (Some account) = Some (account_after file syncing seen kind ended account)

@@ -5,14 +5,16 @@
 ghost use Rattle.std.specs.Prelude.{◌≡◌, IsTrue, false};
 ghost use Rattle.exec_outcomes.specs.Lawful.{is_lawful, window_of};
 ghost use Rattle.exec_outcomes.specs.Outcomes.{outcome_next};
+ghost use Rattle.exec_request.specs.States.{result_of};
 ghost use Rattle.exec_request.specs.Judging.{Judges, judged_as};
 ghost use Rattle.exec_outcomes.specs.declared.outcome.Kind.TheVariants.{Connect};
 ghost use Rattle.exec_request.specs.Views.{connect_asked, connect_cursor, connect_window};
 
+use crate::output::{RequestOutput, RetiredResources, to_result};
 use crate::results::{
     CANCELED, CONNECTED, INTERRUPTED, PENDING, WOULD_BLOCK, WaiterState, another, handed_on,
 };
-use crate::window::{Operation, Window};
+use crate::window::{Opcode, Window};
 use exec_base::error::Error;
 use exec_outcomes::outcome::{OpResult, Outcome};
 
@@ -52,7 +54,19 @@ impl ConnectRequest {
     pub fn build_sqe(&self) -> Window
         ensures { result ≡ connect_window self.now }
     {
-        Window::plain(Operation::Connect, self.fd, 0)
+        Window::plain(Opcode::Connect, self.fd, 0)
+    }
+
+    /// Ends the request: what is told of it, and all that it owned.
+    pub fn complete(self, ended: Outcome) -> (RequestOutput, RetiredResources)
+        ensures told { result.0 ≡ RequestOutput.Connect (result_of ended) }
+        ensures retired { result.1 ≡ RetiredResources.Connect self.fd self.address }
+    {
+        let retired = RetiredResources::Connect {
+            fd: self.fd,
+            address: self.address,
+        };
+        (RequestOutput::Connect(to_result(ended)), retired)
     }
 
     /// Judges the next result. Answers the outcome that all results so far give, or None where another

@@ -9,6 +9,7 @@ pub mod output;
 pub mod poll;
 pub mod read_at;
 pub mod recv;
+pub mod request;
 pub mod results;
 pub mod send;
 pub mod sync;

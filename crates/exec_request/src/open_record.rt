@@ -7,7 +7,7 @@
 //! have taken the kernel's only word of lost bytes, so its failure stays, and no later one replaces it.
 
 ghost use Rattle.std.specs.Prelude.{◌≡◌, false};
-ghost use Rattle.exec_outcomes.specs.Accounts.{fresh_account, changed, covered, poisoned, is_dirty};
+ghost use Rattle.exec_outcomes.specs.Accounts.{fresh_account, changed, covered, poisoned, is_dirty, kept_as as kept_by};
 ghost use Rattle.exec_request.specs.States.{covered_or_failed};
 
 use exec_base::error::Error;
@@ -121,5 +121,15 @@ impl OpenRecord {
         ensures { self.new ≡ record self.old { hinted = false } }
     {
         self.hint = false;
+    }
+}
+
+/// An error as it is kept of a failed sync of that open: one of the kernel by the open's number. Ports `sync_failed`.
+pub(crate) fn kept_as(file: u32, error: Error) -> Error
+    ensures { result ≡ kept_by file error }
+{
+    match error {
+        Error::Io(cause) => Error::BlobSyncFailed(file, cause),
+        error => error,
     }
 }

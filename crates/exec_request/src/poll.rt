@@ -4,11 +4,13 @@ ghost use Rattle.std.specs.Prelude.{◌≡◌, IsTrue, false};
 ghost use Rattle.exec_outcomes.specs.Lawful.{is_lawful, window_of};
 ghost use Rattle.exec_outcomes.specs.Outcomes.{outcome_next};
 ghost use Rattle.exec_outcomes.specs.declared.outcome.Kind.TheVariants.{Poll};
+ghost use Rattle.exec_request.specs.States.{result_of};
 ghost use Rattle.exec_request.specs.Judging.{Judges, judged_as};
 ghost use Rattle.exec_request.specs.Views.{poll_asked, poll_cursor, poll_window};
 
+use crate::output::{RequestOutput, RetiredResources, to_result};
 use crate::results::{CANCELED, INTERRUPTED, WOULD_BLOCK, WaiterState, another, handed_on};
-use crate::window::{Operation, Window};
+use crate::window::{Opcode, Window};
 use exec_base::error::Error;
 use exec_outcomes::outcome::{OpResult, Outcome};
 
@@ -33,7 +35,16 @@ impl PollRequest {
     pub fn build_sqe(&self) -> Window
         ensures { result ≡ poll_window self.now }
     {
-        Window::plain(Operation::Poll, self.fd, 0)
+        Window::plain(Opcode::Poll, self.fd, 0)
+    }
+
+    /// Ends the request: what is told of it, and all that it owned.
+    pub fn complete(self, ended: Outcome) -> (RequestOutput, RetiredResources)
+        ensures told { result.0 ≡ RequestOutput.Poll (result_of ended) }
+        ensures retired { result.1 ≡ RetiredResources.Listener self.fd }
+    {
+        let retired = RetiredResources::Listener { fd: self.fd };
+        (RequestOutput::Poll(to_result(ended)), retired)
     }
 
     /// Judges the next result. Answers the outcome that all results so far give, or None where another

@@ -12,11 +12,12 @@ ghost use Rattle.exec_request.specs.Ways.{size_for};
 
 use crate::cache::Cache;
 use crate::open_record::OpenRecord;
+use crate::output::{RequestOutput, RetiredResources};
 use crate::results::{
     CANCELED, INTERRUPTED, LARGEST_WINDOW, UNSUPPORTED, WOULD_BLOCK, WaiterState, another, counted_by,
 };
 use crate::way::Way;
-use crate::window::{Operation, Window};
+use crate::window::{Opcode, Window};
 use exec_base::error::Error;
 use exec_bufs::buf::IoBufMut;
 use exec_outcomes::outcome::{OpResult, Outcome};
@@ -50,12 +51,13 @@ pub struct ReadAtRequest {
 }
 
 impl ReadAtRequest {
-    ghost use Rattle.std.specs.Prelude.{◌⊎◌, ◌%◌, ◌&&◌, ◌↔◌, Bool, Ok, None, IsTrue, IfOk, IfSome, if◌then◌else◌};
+    ghost use Rattle.std.specs.Prelude.{◌⊎◌, ◌%◌, ◌&&◌, ◌↔◌, Bool, [], Ok, None, IsTrue, IfOk, IfSome, if◌then◌else◌};
     ghost use Rattle.exec_outcomes.specs.Lawful.{is_lawful, window_of};
     ghost use Rattle.exec_outcomes.specs.Outcomes.{cursor_next, is_unsupported};
     ghost use Rattle.exec_request.specs.Hints.{asks_hint, has_hint, cache_for, without_hint};
+    ghost use Rattle.exec_request.specs.States.{range_read};
     ghost use Rattle.exec_request.specs.Judging.{Judges, judged_as};
-    ghost use Rattle.exec_request.specs.Ways.{is_direct, is_switched, switched_from};
+    ghost use Rattle.exec_request.specs.Ways.{is_direct, is_switched, switched_from, narrowed};
     ghost use Rattle.exec_request.specs.Views.{read_asked, read_cursor, read_hinted, read_window, reads_range, IsDirectRead};
 
     /// A read of as many bytes as this buffer has, from `offset` on.
@@ -123,7 +125,7 @@ impl ReadAtRequest {
         let most = if direct { DIRECT_CHUNK } else { LARGEST_WINDOW };
         let hint = !direct && self.cache.rw_flag(open_);
         Window {
-            kind: Operation::Read,
+            kind: Opcode::Read,
             target: self.file as usize,
             offset: self.offset + self.read as u64,
             length: left.min(most) as u32,
@@ -131,6 +133,54 @@ impl ReadAtRequest {
             direct,
             dsync: false,
         }
+    }
+
+    /// The most that the next operation may answer.
+    pub(crate) fn window_len(&self) -> u64
+        ensures { result ≡ window_of (read_asked self.now) (read_cursor self.now) }
+    {
+        let most = if self.way.is_direct() {
+            DIRECT_CHUNK
+        } else {
+            LARGEST_WINDOW
+        };
+        ((self.buf.len() - self.read) as u64).min(most)
+    }
+
+    /// Ends the request: what is told of it, with the buffer, and all else that it owned. The buffer has the range
+    /// where it was read, and else no byte.
+    pub fn complete(self, ended: Outcome) -> (RequestOutput, RetiredResources)
+        ensures told { result.0 ≡ RequestOutput.ReadAt (range_read (narrowed self.way self.buf) self.buf ended) }
+        ensures retired { result.1 ≡ RetiredResources.File self.file None }
+    {
+        let file = self.file;
+        let told = match ended {
+            Outcome::Success => Ok(self.into_range()),
+            Outcome::Failure(error) => Err((self.into_empty(), error)),
+        };
+        (
+            RequestOutput::ReadAt(told),
+            RetiredResources::File { file, write: None },
+        )
+    }
+
+    /// The buffer with the range alone.
+    pub(crate) fn into_range(mut self) -> IoBufMut
+        ensures { result ≡ narrowed self.way self.buf }
+    {
+        if let Way::Direct { skip, len } = self.way {
+            self.buf.truncate(skip + len);
+            self.buf.advance(skip);
+        }
+        self.buf
+    }
+
+    /// The buffer without a byte.
+    pub(crate) fn into_empty(mut self) -> IoBufMut
+        ensures { result ≡ record self.buf { bytes = [] } }
+    {
+        self.buf.clear();
+        self.buf
     }
 
     /// Whether its last operation had the hint.

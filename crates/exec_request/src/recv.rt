@@ -4,10 +4,11 @@
 
 ghost use Rattle.std.specs.Prelude.{◌≤◌};
 
+use crate::output::{RequestOutput, RetiredResources};
 use crate::results::{
     CANCELED, INTERRUPTED, LARGEST_WINDOW, WOULD_BLOCK, WaiterState, another, counted_by,
 };
-use crate::window::{Operation, Window};
+use crate::window::{Opcode, Window};
 use exec_base::error::Error;
 use exec_bufs::buf::IoBufMut;
 use exec_outcomes::outcome::{OpResult, Outcome};
@@ -38,6 +39,7 @@ impl RecvRequest {
     ghost use Rattle.std.specs.Prelude.{◌≡◌, IsTrue, false};
     ghost use Rattle.exec_outcomes.specs.Lawful.{is_lawful, window_of};
     ghost use Rattle.exec_outcomes.specs.Outcomes.{outcome_next};
+    ghost use Rattle.exec_request.specs.States.{received};
     ghost use Rattle.exec_request.specs.Judging.{Judges, judged_as};
     ghost use Rattle.exec_request.specs.Views.{recv_asked, recv_cursor, recv_window};
 
@@ -76,8 +78,14 @@ impl RecvRequest {
         ensures window { result ≡ recv_window self.now }
         ensures left { result.length ≡ window_of (recv_asked self.now) (recv_cursor self.now) }
     {
-        let left = (self.len - self.offset) as u64;
-        Window::plain(Operation::Recv, self.fd, left.min(LARGEST_WINDOW) as u32)
+        Window::plain(Opcode::Recv, self.fd, self.window_len() as u32)
+    }
+
+    /// The most that the next operation may answer.
+    pub(crate) fn window_len(&self) -> u64
+        ensures { result ≡ window_of (recv_asked self.now) (recv_cursor self.now) }
+    {
+        ((self.len - self.offset) as u64).min(LARGEST_WINDOW)
     }
 
     /// Judges the next result. Answers the outcome that all results so far give, or None where another
@@ -93,6 +101,19 @@ impl RecvRequest {
         let outcome = self.judge(state.is_cancelled(), given);
         self.offset += counted_by(given) as usize;
         outcome
+    }
+
+    /// Ends the request: what is told of it, with the buffer, and all else that it owned.
+    pub fn complete(self, ended: Outcome) -> (RequestOutput, RetiredResources)
+        ensures told { result.0 ≡ RequestOutput.Recv (received self.buf self.offset ended) }
+        ensures retired { result.1 ≡ RetiredResources.Socket self.fd }
+    {
+        let fd = self.fd;
+        let told = match ended {
+            Outcome::Success => Ok((self.buf, self.offset)),
+            Outcome::Failure(error) => Err((self.buf, error)),
+        };
+        (RequestOutput::Recv(told), RetiredResources::Socket { fd })
     }
 
     /// What one more result means, after as many bytes as were received.

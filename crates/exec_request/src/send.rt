@@ -7,8 +7,11 @@ ghost use Rattle.std.specs.Prelude.{◌≡◌, true};
 ghost use Rattle.exec_request.specs.Buffers.{is_sound};
 
 use crate::buffers::WriteBuffers;
-use crate::results::{CANCELED, INTERRUPTED, WOULD_BLOCK, WaiterState, another, counted_by};
-use crate::window::{Operation, Window};
+use crate::output::{RequestOutput, RetiredResources, to_result};
+use crate::results::{
+    CANCELED, INTERRUPTED, LARGEST_WINDOW, WOULD_BLOCK, WaiterState, another, counted_by,
+};
+use crate::window::{Opcode, Window};
 use exec_base::error::Error;
 use exec_outcomes::outcome::{OpResult, Outcome};
 
@@ -28,6 +31,7 @@ impl SendRequest {
     ghost use Rattle.std.specs.Prelude.{◌≤◌, IsTrue, false};
     ghost use Rattle.exec_outcomes.specs.Lawful.{is_lawful, window_of};
     ghost use Rattle.exec_outcomes.specs.Outcomes.{outcome_next};
+    ghost use Rattle.exec_request.specs.States.{result_of};
     ghost use Rattle.exec_request.specs.Judging.{Judges, judged_as};
     ghost use Rattle.exec_request.specs.Views.{send_asked, send_cursor, send_window};
 
@@ -51,7 +55,14 @@ impl SendRequest {
         ensures left { result.length ≤ window_of (send_asked self.now) (send_cursor self.now) }
     {
         let length = self.write.batch_len() as u32;
-        Window::plain(Operation::Send, self.fd, length)
+        Window::plain(Opcode::Send, self.fd, length)
+    }
+
+    /// The most that the next operation may answer.
+    pub(crate) fn window_len(&self) -> u64
+        ensures { result ≡ window_of (send_asked self.now) (send_cursor self.now) }
+    {
+        (self.write.remaining_len() as u64).min(LARGEST_WINDOW)
     }
 
     /// Judges the next result. Answers the outcome that all results so far give, or None where another
@@ -66,6 +77,18 @@ impl SendRequest {
         let outcome = self.judge(state.is_cancelled(), given);
         self.write.advance(counted_by(given) as usize);
         outcome
+    }
+
+    /// Ends the request: what is told of it, and all that it owned.
+    pub fn complete(self, ended: Outcome) -> (RequestOutput, RetiredResources)
+        ensures told { result.0 ≡ RequestOutput.Send (result_of ended) }
+        ensures retired { result.1 ≡ RetiredResources.Send self.fd self.write }
+    {
+        let retired = RetiredResources::Send {
+            fd: self.fd,
+            write: self.write,
+        };
+        (RequestOutput::Send(to_result(ended)), retired)
     }
 
     /// What one more result means, after as many bytes as were sent.

@@ -2,15 +2,19 @@
 //!
 //! It covers the changes that its open had seen when it was made, and never those that came later.
 
-ghost use Rattle.std.specs.Prelude.{◌≡◌, IsTrue, false};
+ghost use Rattle.std.specs.Prelude.{◌≡◌, IsTrue, false, None};
+ghost use Rattle.exec_outcomes.specs.Accounts.{account_after, outcome_told};
 ghost use Rattle.exec_outcomes.specs.Lawful.{is_lawful, window_of};
 ghost use Rattle.exec_outcomes.specs.Outcomes.{outcome_next};
 ghost use Rattle.exec_outcomes.specs.declared.outcome.Kind.TheVariants.{Sync};
+ghost use Rattle.exec_request.specs.States.{result_of, told_by, account_by};
 ghost use Rattle.exec_request.specs.Judging.{Judges, judged_as};
 ghost use Rattle.exec_request.specs.Views.{sync_asked, sync_cursor, sync_window};
 
+use crate::open_record::{OpenRecord, kept_as};
+use crate::output::{RequestOutput, RetiredResources, to_result};
 use crate::results::{INTERRUPTED, WOULD_BLOCK, WaiterState, another, handed_on};
-use crate::window::{Operation, Window};
+use crate::window::{Opcode, Window};
 use exec_outcomes::outcome::{OpResult, Outcome};
 
 /// A sync of an open. Ports `SyncRequest`.
@@ -34,7 +38,7 @@ impl SyncRequest {
     pub fn build_sqe(&self) -> Window
         ensures { result ≡ sync_window self.now }
     {
-        Window::plain(Operation::Sync, self.file as usize, 0)
+        Window::plain(Opcode::Sync, self.file as usize, 0)
     }
 
     /// Judges the next result. Answers the outcome that all results so far give, or None where another
@@ -45,6 +49,41 @@ impl SyncRequest {
         ensures same { self.new ≡ self.old }
     {
         judge_sync(state.is_cancelled(), given)
+    }
+
+    /// Ends the request: what is told of it, and all that it owned. The record of its open takes its end in.
+    pub fn complete(self, ended: Outcome, open_: &mut Option<OpenRecord>) -> (RequestOutput, RetiredResources)
+        ensures told { result.0 ≡ RequestOutput.Sync (result_of (told_by Sync ended open_.old)) }
+        ensures retired { result.1 ≡ RetiredResources.File self.file None }
+        ensures open { open_.new ≡ account_by self.file false self.seen Sync ended open_.old }
+    {
+        let told = match open_ {
+            Some(books) => self.settle(ended, books),
+            None => ended,
+        };
+        let retired = RetiredResources::File {
+            file: self.file,
+            write: None,
+        };
+        (RequestOutput::Sync(to_result(told)), retired)
+    }
+
+    /// Ends the request with this outcome, which the record of its open takes in. Answers what is told of it:
+    /// a failure of the open in place of a success.
+    pub(crate) fn settle(&self, ended: Outcome, books: &mut OpenRecord) -> Outcome
+        ensures account { books.new ≡ account_after self.now.file false self.now.seen Sync ended books.old }
+        ensures told { result ≡ outcome_told Sync books.old ended }
+    {
+        match ended {
+            Outcome::Success => match books.end_sync(self.seen) {
+                Ok(()) => Outcome::Success,
+                Err(error) => Outcome::Failure(error),
+            },
+            Outcome::Failure(error) => {
+                books.poison(kept_as(self.file, error));
+                ended
+            }
+        }
     }
 }
 

@@ -2,9 +2,9 @@
 
 ghost use Rattle.std.specs.Prelude.{◌≡◌, false};
 
-/// The kind of an operation.
+/// The kind of an operation. Stands for the operation code of a submission.
 #[derive(Clone, Copy, Debug, PartialEq, Eq)]
-pub enum Operation {
+pub enum Opcode {
     /// Bytes go to a socket.
     Send,
     /// Bytes come from a socket.
@@ -26,7 +26,7 @@ pub enum Operation {
 #[derive(Clone, Copy, Debug, PartialEq, Eq)]
 pub struct Window {
     /// What the operation does.
-    pub kind: Operation,
+    pub kind: Opcode,
     /// The number of its socket, listener or open.
     pub target: usize,
     /// Where it begins in the file, in bytes; 0 where there is no file.
@@ -43,7 +43,7 @@ pub struct Window {
 
 impl Window {
     /// An operation on a socket or a listener, or a sync: all of it but the bytes.
-    pub(crate) fn plain(kind: Operation, target: usize, length: u32) -> Window
+    pub(crate) fn plain(kind: Opcode, target: usize, length: u32) -> Window
         ensures { result ≡ record { kind = kind; target = target; offset = 0; length = length; hint = false; direct = false; dsync = false } }
     {
         Window {

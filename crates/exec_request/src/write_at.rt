@@ -11,12 +11,13 @@ ghost use Rattle.exec_request.specs.Buffers.{length_of, moved_of, is_sound};
 
 use crate::buffers::WriteBuffers;
 use crate::cache::Cache;
-use crate::open_record::OpenRecord;
+use crate::open_record::{OpenRecord, kept_as};
+use crate::output::{RequestOutput, RetiredResources, to_result};
 use crate::results::{
-    INTERRUPTED, UNSUPPORTED, WOULD_BLOCK, WaiterState, another, counted_by, handed_on,
+    INTERRUPTED, LARGEST_COUNT, LARGEST_WINDOW, UNSUPPORTED, WOULD_BLOCK, WaiterState, another, counted_by, handed_on,
 };
 use crate::sync::judge_sync;
-use crate::window::{Operation, Window};
+use crate::window::{Opcode, Window};
 use exec_base::error::Error;
 use exec_outcomes::outcome::{OpResult, Outcome};
 
@@ -64,12 +65,14 @@ pub struct WriteAtRequest {
 }
 
 impl WriteAtRequest {
-    ghost use Rattle.std.specs.Prelude.{◌≤◌, ◌&&◌, Bool, if◌then◌else◌};
+    ghost use Rattle.std.specs.Prelude.{◌≤◌, ◌&&◌, Bool, Some, if◌then◌else◌};
     ghost use Rattle.exec_outcomes.specs.Lawful.{window_of};
     ghost use Rattle.exec_outcomes.specs.Outcomes.{cursor_next, is_unsupported};
     ghost use Rattle.exec_request.specs.Hints.{asks_hint, has_hint, cache_for, without_hint};
+    ghost use Rattle.exec_request.specs.States.{result_of, told_by, account_by};
     ghost use Rattle.exec_request.specs.Judging.{Judges, judged_as};
-    ghost use Rattle.exec_request.specs.Syncing.{is_syncing};
+    ghost use Rattle.exec_outcomes.specs.Accounts.{account_after, after_success, after_failure, outcome_told};
+    ghost use Rattle.exec_request.specs.Syncing.{is_syncing, write_kind};
     ghost use Rattle.exec_request.specs.Views.{write_asked, write_cursor, write_hinted, write_window};
 
     /// A write of these bytes, some of which may have been written already, from `offset` on. `seen` is what
@@ -113,11 +116,11 @@ impl WriteAtRequest {
         ensures file { self.new.file ≡ self.old.file }
     {
         if self.state.is_syncing() {
-            return Window::plain(Operation::Sync, self.file as usize, 0);
+            return Window::plain(Opcode::Sync, self.file as usize, 0);
         }
         let hint = self.cache.rw_flag(open_);
         Window {
-            kind: Operation::Write,
+            kind: Opcode::Write,
             target: self.file as usize,
             offset: self.offset,
             length: self.write.batch_len() as u32,
@@ -150,6 +153,86 @@ impl WriteAtRequest {
         self.go_on(given);
         self.cache.fallback(hinted, given, open_);
         outcome
+    }
+
+    /// The most that the next operation may answer.
+    pub(crate) fn window_len(&self) -> u64
+        ensures { result ≡ window_of (write_asked self.now) (write_cursor self.now) }
+    {
+        if self.state.is_syncing() {
+            return LARGEST_COUNT;
+        }
+        (self.write.remaining_len() as u64).min(LARGEST_WINDOW)
+    }
+
+    /// Ends the request: what is told of it, and all that it owned. The record of its open takes its end in.
+    pub fn complete(self, ended: Outcome, open_: &mut Option<OpenRecord>) -> (RequestOutput, RetiredResources)
+        ensures told { result.0 ≡ RequestOutput.WriteAt (result_of (told_by (write_kind self.state) ended open_.old)) }
+        ensures retired { result.1 ≡ RetiredResources.File self.file (Some self.write) }
+        ensures open { open_.new ≡ account_by self.file (is_syncing self.state) self.seen (write_kind self.state) ended open_.old }
+    {
+        let told = match open_ {
+            Some(books) => self.settle(ended, books),
+            None => ended,
+        };
+        let retired = RetiredResources::File {
+            file: self.file,
+            write: Some(self.write),
+        };
+        (RequestOutput::WriteAt(to_result(told)), retired)
+    }
+
+    /// Ends the request with this outcome, which the record of its open takes in. Answers what is told of it:
+    /// a failure of the open in place of a durable success. Ports `wrote` of an open, with the end of a trailing
+    /// sync.
+    pub(crate) fn settle(&self, ended: Outcome, books: &mut OpenRecord) -> Outcome
+        ensures account { books.new ≡ account_after self.now.file (is_syncing self.now.state) self.now.seen (write_kind self.now.state) ended books.old }
+        ensures told { result ≡ outcome_told (write_kind self.now.state) books.old ended }
+    {
+        match ended {
+            Outcome::Success => self.settle_success(books),
+            Outcome::Failure(error) => {
+                self.settle_failure(error, books);
+                ended
+            }
+        }
+    }
+
+    /// All was written, and made durable as asked.
+    fn settle_success(&self, books: &mut OpenRecord) -> Outcome
+        ensures account { books.new ≡ after_success self.now.seen (write_kind self.now.state) books.old }
+        ensures told { result ≡ outcome_told (write_kind self.now.state) books.old Outcome.Success }
+    {
+        match self.state {
+            WriteAtState::Writing => {
+                books.complete();
+                Outcome::Success
+            }
+            WriteAtState::WritingSync => match books.failure() {
+                Some(error) => Outcome::Failure(error),
+                None => Outcome::Success,
+            },
+            WriteAtState::WritingBeforeSync | WriteAtState::Syncing => {
+                match books.end_sync(self.seen) {
+                    Ok(()) => Outcome::Success,
+                    Err(error) => Outcome::Failure(error),
+                }
+            }
+        }
+    }
+
+    /// It failed, and where it was to be durable by then the failure is kept.
+    fn settle_failure(&self, error: Error, books: &mut OpenRecord)
+        ensures { books.new ≡ after_failure self.now.file (is_syncing self.now.state) error (write_kind self.now.state) books.old }
+    {
+        match self.state {
+            WriteAtState::Writing => {}
+            WriteAtState::WritingBeforeSync => books.write(),
+            WriteAtState::WritingSync | WriteAtState::Syncing => {
+                books.write();
+                books.poison(kept_as(self.file, error));
+            }
+        }
     }
 
     /// Counts the bytes of one more result, or begins the trailing sync.
