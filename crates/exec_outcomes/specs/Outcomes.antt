@@ -12,8 +12,8 @@ use Rattle.exec_outcomes.specs.declared.outcome.Judged.{Judged}
 use Rattle.exec_outcomes.specs.declared.outcome.Outcome.{Outcome}
 use Rattle.exec_outcomes.specs.declared.outcome.Outcome.TheVariants.{Success, Failure}
 
--- What a request asks for, as far as its results go: how many bytes it moves (none for a connect, a poll or a
--- sync), and how many lie before them in the aligned range of a direct read (none for all others).
+-- What a request asks for, as far as its results go: how many bytes it moves (a connect, a poll and a sync move
+-- none, and count as 1), and how many lie before them in the aligned range of a direct read (none for all others).
 pub record Asked : Type 0 where
   pub kind : Kind
   pub length : ℕ

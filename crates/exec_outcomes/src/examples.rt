@@ -48,30 +48,30 @@ pub fn receives_of_eight_bytes()
 
 /// Connects. What is connected already is a success, also of a cancelled one.
 pub fn connects()
-    ensures done { outcome_of (record { kind = Connect; length = 0; skip = 0 }) (plainly (Count 0) ∷ []) ≡ Some Success }
-    ensures done_all_the_same { outcome_of (record { kind = Connect; length = 0; skip = 0 }) (once_cancelled (Count 0) ∷ []) ≡ Some Success }
-    ensures connected { outcome_of (record { kind = Connect; length = 0; skip = 0 }) (plainly (Errno 106) ∷ []) ≡ Some Success }
-    ensures connected_all_the_same { outcome_of (record { kind = Connect; length = 0; skip = 0 }) (once_cancelled (Errno 106) ∷ []) ≡ Some Success }
-    ensures odd { outcome_of (record { kind = Connect; length = 0; skip = 0 }) (plainly (Count 1) ∷ []) ≡ Some (Failure ConnectionFailed) }
-    ensures odd_and_cancelled { outcome_of (record { kind = Connect; length = 0; skip = 0 }) (once_cancelled (Count 1) ∷ []) ≡ Some (Failure ConnectionFailed) }
-    ensures pending { outcome_of (record { kind = Connect; length = 0; skip = 0 }) (plainly (Errno 114) ∷ plainly (Errno 11) ∷ plainly (Errno 4) ∷ []) ≡ None }
-    ensures given_up { outcome_of (record { kind = Connect; length = 0; skip = 0 }) (once_cancelled (Errno 114) ∷ []) ≡ Some (Failure Timeout) }
-    ensures canceled_as_asked { outcome_of (record { kind = Connect; length = 0; skip = 0 }) (once_cancelled (Errno 125) ∷ []) ≡ Some (Failure Timeout) }
-    ensures canceled_unasked { outcome_of (record { kind = Connect; length = 0; skip = 0 }) (plainly (Errno 125) ∷ []) ≡ Some (Failure (Io (Code 125))) }
-    ensures refused { outcome_of (record { kind = Connect; length = 0; skip = 0 }) (plainly (Errno 114) ∷ plainly (Errno 111) ∷ []) ≡ Some (Failure (Io (Code 111))) }
-    ensures no_failure { outcome_of (record { kind = Connect; length = 0; skip = 0 }) (plainly (Errno 106) ∷ []) ≢ Some (Failure (Io (Code 106))) }
+    ensures done { outcome_of (record { kind = Connect; length = 1; skip = 0 }) (plainly (Count 0) ∷ []) ≡ Some Success }
+    ensures done_all_the_same { outcome_of (record { kind = Connect; length = 1; skip = 0 }) (once_cancelled (Count 0) ∷ []) ≡ Some Success }
+    ensures connected { outcome_of (record { kind = Connect; length = 1; skip = 0 }) (plainly (Errno 106) ∷ []) ≡ Some Success }
+    ensures connected_all_the_same { outcome_of (record { kind = Connect; length = 1; skip = 0 }) (once_cancelled (Errno 106) ∷ []) ≡ Some Success }
+    ensures odd { outcome_of (record { kind = Connect; length = 1; skip = 0 }) (plainly (Count 1) ∷ []) ≡ Some (Failure ConnectionFailed) }
+    ensures odd_and_cancelled { outcome_of (record { kind = Connect; length = 1; skip = 0 }) (once_cancelled (Count 1) ∷ []) ≡ Some (Failure ConnectionFailed) }
+    ensures pending { outcome_of (record { kind = Connect; length = 1; skip = 0 }) (plainly (Errno 114) ∷ plainly (Errno 11) ∷ plainly (Errno 4) ∷ []) ≡ None }
+    ensures given_up { outcome_of (record { kind = Connect; length = 1; skip = 0 }) (once_cancelled (Errno 114) ∷ []) ≡ Some (Failure Timeout) }
+    ensures canceled_as_asked { outcome_of (record { kind = Connect; length = 1; skip = 0 }) (once_cancelled (Errno 125) ∷ []) ≡ Some (Failure Timeout) }
+    ensures canceled_unasked { outcome_of (record { kind = Connect; length = 1; skip = 0 }) (plainly (Errno 125) ∷ []) ≡ Some (Failure (Io (Code 125))) }
+    ensures refused { outcome_of (record { kind = Connect; length = 1; skip = 0 }) (plainly (Errno 114) ∷ plainly (Errno 111) ∷ []) ≡ Some (Failure (Io (Code 111))) }
+    ensures no_failure { outcome_of (record { kind = Connect; length = 1; skip = 0 }) (plainly (Errno 106) ∷ []) ≢ Some (Failure (Io (Code 106))) }
 {}
 
 /// Polls.
 pub fn polls()
-    ensures an_event { outcome_of (record { kind = Poll; length = 0; skip = 0 }) (plainly (Count 3) ∷ []) ≡ Some Success }
-    ensures no_event { outcome_of (record { kind = Poll; length = 0; skip = 0 }) (plainly (Count 0) ∷ []) ≡ Some Success }
-    ensures again { outcome_of (record { kind = Poll; length = 0; skip = 0 }) (plainly (Errno 4) ∷ plainly (Errno 11) ∷ []) ≡ None }
-    ensures canceled_as_asked { outcome_of (record { kind = Poll; length = 0; skip = 0 }) (once_cancelled (Errno 125) ∷ []) ≡ Some (Failure Timeout) }
-    ensures canceled_unasked { outcome_of (record { kind = Poll; length = 0; skip = 0 }) (plainly (Errno 125) ∷ []) ≡ Some (Failure (Io (Code 125))) }
-    ensures handed_on { outcome_of (record { kind = Poll; length = 0; skip = 0 }) (plainly (Errno 4) ∷ plainly (Errno 9) ∷ []) ≡ Some (Failure (Io (Code 9))) }
-    ensures given_up { outcome_of (record { kind = Poll; length = 0; skip = 0 }) (once_cancelled (Errno 11) ∷ []) ≡ Some (Failure Timeout) }
-    ensures no_timeout { outcome_of (record { kind = Poll; length = 0; skip = 0 }) (once_cancelled (Errno 9) ∷ []) ≢ Some (Failure Timeout) }
+    ensures an_event { outcome_of (record { kind = Poll; length = 1; skip = 0 }) (plainly (Count 3) ∷ []) ≡ Some Success }
+    ensures no_event { outcome_of (record { kind = Poll; length = 1; skip = 0 }) (plainly (Count 0) ∷ []) ≡ Some Success }
+    ensures again { outcome_of (record { kind = Poll; length = 1; skip = 0 }) (plainly (Errno 4) ∷ plainly (Errno 11) ∷ []) ≡ None }
+    ensures canceled_as_asked { outcome_of (record { kind = Poll; length = 1; skip = 0 }) (once_cancelled (Errno 125) ∷ []) ≡ Some (Failure Timeout) }
+    ensures canceled_unasked { outcome_of (record { kind = Poll; length = 1; skip = 0 }) (plainly (Errno 125) ∷ []) ≡ Some (Failure (Io (Code 125))) }
+    ensures handed_on { outcome_of (record { kind = Poll; length = 1; skip = 0 }) (plainly (Errno 4) ∷ plainly (Errno 9) ∷ []) ≡ Some (Failure (Io (Code 9))) }
+    ensures given_up { outcome_of (record { kind = Poll; length = 1; skip = 0 }) (once_cancelled (Errno 11) ∷ []) ≡ Some (Failure Timeout) }
+    ensures no_timeout { outcome_of (record { kind = Poll; length = 1; skip = 0 }) (once_cancelled (Errno 9) ∷ []) ≢ Some (Failure Timeout) }
 {}
 
 /// Buffered reads of 100 bytes, without the hint and with it.
@@ -148,12 +148,12 @@ pub fn writes_with_a_trailing_sync()
 
 /// Syncs.
 pub fn syncs()
-    ensures done { outcome_of (record { kind = Sync; length = 0; skip = 0 }) (plainly (Count 0) ∷ []) ≡ Some Success }
-    ensures any_count { outcome_of (record { kind = Sync; length = 0; skip = 0 }) (plainly (Count 1) ∷ []) ≡ Some Success }
-    ensures again { outcome_of (record { kind = Sync; length = 0; skip = 0 }) (plainly (Errno 4) ∷ plainly (Errno 11) ∷ []) ≡ None }
-    ensures refused { outcome_of (record { kind = Sync; length = 0; skip = 0 }) (plainly (Errno 5) ∷ []) ≡ Some (Failure (Io (Code 5))) }
-    ensures canceled { outcome_of (record { kind = Sync; length = 0; skip = 0 }) (plainly (Errno 125) ∷ []) ≡ Some (Failure (Io (Code 125))) }
-    ensures unsupported { outcome_of (record { kind = Sync; length = 0; skip = 0 }) (plainly (Errno 95) ∷ []) ≡ Some (Failure (Io (Code 95))) }
+    ensures done { outcome_of (record { kind = Sync; length = 1; skip = 0 }) (plainly (Count 0) ∷ []) ≡ Some Success }
+    ensures any_count { outcome_of (record { kind = Sync; length = 1; skip = 0 }) (plainly (Count 1) ∷ []) ≡ Some Success }
+    ensures again { outcome_of (record { kind = Sync; length = 1; skip = 0 }) (plainly (Errno 4) ∷ plainly (Errno 11) ∷ []) ≡ None }
+    ensures refused { outcome_of (record { kind = Sync; length = 1; skip = 0 }) (plainly (Errno 5) ∷ []) ≡ Some (Failure (Io (Code 5))) }
+    ensures canceled { outcome_of (record { kind = Sync; length = 1; skip = 0 }) (plainly (Errno 125) ∷ []) ≡ Some (Failure (Io (Code 125))) }
+    ensures unsupported { outcome_of (record { kind = Sync; length = 1; skip = 0 }) (plainly (Errno 95) ∷ []) ≡ Some (Failure (Io (Code 95))) }
 {}
 
 /// Results that a kernel may give where 10 bytes are asked for, and others that it may not give.
@@ -175,7 +175,7 @@ pub fn windows()
     ensures longest_direct { window_of (record { kind = Direct; length = 5000000000; skip = 0 }) at_the_start ≡ 2147479552 }
     ensures buffered_again { window_of (record { kind = Direct; length = 3000; skip = 904 }) (record at_the_start { switched = true }) ≡ 3000 }
     ensures trailing_sync { window_of (record { kind = Many; length = 10; skip = 0 }) (record at_the_start { switched = true }) ≡ 2147483647 }
-    ensures event { window_of (record { kind = Poll; length = 0; skip = 0 }) at_the_start ≡ 2147483647 }
+    ensures event { window_of (record { kind = Poll; length = 1; skip = 0 }) at_the_start ≡ 2147483647 }
 {}
 
 /// The record of open 3 by its requests.

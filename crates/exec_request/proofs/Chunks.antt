@@ -44,10 +44,10 @@ pub batch-first : (bufs : List (List ℕ)) (chunk : ℕ) → length (get_or bufs
 batch-first bufs chunk =
     elim (cases_lt chunk (length bufs)) [
       | inl there ↦
-        let some : 0 < length (drop chunk bufs) = omega (arith, length-drop chunk bufs) in
-        let at : get_or (drop chunk bufs) 0 [] ≡ get_or bufs chunk [] = get_or-drop chunk bufs 0 [] ∙ ap (λ i. get_or bufs i []) (add-zero chunk) in
-        let first = sum_by_more_le length (take 1024 (drop chunk bufs)) 0 [] (omega (arith, length-take 1024 (drop chunk bufs), some)) in
-        let same : get_or (take 1024 (drop chunk bufs)) 0 [] ≡ get_or (drop chunk bufs) 0 [] = get_or-take 1024 (drop chunk bufs) 0 [] (lit< tt) in
-        omega (arith, first, ap length same, ap length at)
+          let some : 0 < length (drop chunk bufs) = omega (arith, length-drop chunk bufs) in
+          let at : get_or (drop chunk bufs) 0 [] ≡ get_or bufs chunk [] = get_or-drop chunk bufs 0 [] ∙ ap (λ i. get_or bufs i []) (add-zero chunk) in
+          let first = sum_by_more_le length (take 1024 (drop chunk bufs)) 0 [] (omega (arith, length-take 1024 (drop chunk bufs), some)) in
+          let same : get_or (take 1024 (drop chunk bufs)) 0 [] ≡ get_or (drop chunk bufs) 0 [] = get_or-take 1024 (drop chunk bufs) 0 [] (lit< tt) in
+          omega (arith, first, ap length same, ap length at)
       | inr past ↦ omega (arith, ap length (get_or_past bufs chunk [] past))
     ]

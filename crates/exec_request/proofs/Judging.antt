@@ -1,9 +1,9 @@
 -- What a request promises that judges one result by its cursor.
-use Rattle.std.proofs.Common.{◌≡◌, ℕ, ◌+◌, Bool, true, false, not, ◌&&◌, List, [], ◌∷◌, Option, refl, sym, ap, ◌∙◌, if◌then◌else◌}
+use Rattle.std.proofs.Common.{◌≡◌, ℕ, ◌+◌, Bool, true, false, not, ◌&&◌, List, [], ◌∷◌, Option, refl, sym, ◌∙◌, if◌then◌else◌}
 use Rattle.std.specs.List.{list_any}
 use Rattle.exec_outcomes.specs.declared.outcome.Judged.{Judged}
 use Rattle.exec_outcomes.specs.declared.outcome.Outcome.{Outcome}
-use Rattle.exec_outcomes.specs.Outcomes.{Asked, Cursor, Part, outcome_next, cursor_next, moves_on, passes_on, first_part, with_totals, lasting, part_now, counted_for, refuses_hint}
+use Rattle.exec_outcomes.specs.Outcomes.{Asked, Cursor, outcome_next, cursor_next, passes_on, first_part, with_totals, lasting, part_now, counted_for, refuses_hint}
 use Rattle.exec_outcomes.proofs.Runs.{next, goes_on}
 use Rattle.exec_request.specs.Judging.{Judges}
 use Rattle.exec_request.specs.Hints.{asks_hint}

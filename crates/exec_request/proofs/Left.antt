@@ -1,6 +1,6 @@
 -- What one more result means depends on what is left alone.
-use Rattle.std.proofs.Common.{◌≡◌, ℕ, ◌+◌, ◌-◌, ◌≤◌, ◌<◌, Bool, true, false, cond, not, ◌||◌, ◌&&◌, List, [], ◌∷◌, Option, Some, None, find, refl, sym, ap, ◌∙◌, inl, inr, arith, if◌then◌else◌, leb, le-leb, leb-false, subst}
-use Rattle.std.specs.List.{list_any, after_first}
+use Rattle.std.proofs.Common.{◌≡◌, ℕ, ◌+◌, ◌-◌, ◌≤◌, ◌<◌, Bool, true, false, not, ◌||◌, ◌&&◌, List, [], ◌∷◌, Option, Some, None, find, refl, sym, ap, ◌∙◌, inl, inr, arith, if◌then◌else◌, leb, le-leb, leb-false}
+use Rattle.std.specs.List.{after_first}
 use Rattle.std.proofs.lemmas.Bool.{cases_Bool, leb-true, lt-leb}
 use Rattle.exec_outcomes.specs.declared.outcome.Kind.{Kind}
 use Rattle.exec_outcomes.specs.declared.outcome.Kind.TheVariants.{Poll, Send, Recv, Fill, Connect, Read, Hint, Direct, Write, Dsync, Many, Sync}
@@ -8,7 +8,7 @@ use Rattle.exec_outcomes.specs.declared.outcome.OpResult.{OpResult}
 use Rattle.exec_outcomes.specs.declared.outcome.OpResult.TheVariants.{Count, Errno}
 use Rattle.exec_outcomes.specs.declared.outcome.Judged.{Judged}
 use Rattle.exec_outcomes.specs.declared.outcome.Outcome.{Outcome}
-use Rattle.exec_outcomes.specs.Outcomes.{Asked, Cursor, Part, first_length, first_part, second_part, bytes_of, is_positive, takes_any, suits_direct, is_transient, is_unsupported, lasting, with_totals, results_in, completes, decides, passes_on, stops, verdict, verdict_of, outcome_by, outcome_of_part, outcome_by_stop, outcome_next, moves_on}
+use Rattle.exec_outcomes.specs.Outcomes.{Asked, Part, first_length, first_part, bytes_of, is_positive, takes_any, suits_direct, is_transient, is_unsupported, lasting, with_totals, results_in, completes, decides, passes_on, stops, verdict, verdict_of, outcome_by, outcome_of_part, outcome_by_stop, outcome_next, moves_on}
 use Rattle.exec_outcomes.proofs.Runs.{one_lasts, after_only}
 use Rattle.exec_request.specs.Ways.{asked_by, is_direct, is_switched, size_for}
 use Rattle.exec_request.specs.declared.way.Way.{Way}
@@ -66,33 +66,33 @@ module _ (kind : Kind) (n s left : ℕ) (m : ℕ) (h g : Bool) (e : first_length
   pub outcome-left : (r : Judged) → outcome_next (record { kind = kind; length = n; skip = s }) (record { moved = m; switched = false; hinted = h }) r ≡ outcome_next (record { kind = kind; length = left; skip = 0 }) (record { moved = 0; switched = false; hinted = g }) r
   unfolding one_form
   outcome-left r =
-    let a : Asked = record { kind = kind; length = n; skip = s } in
-    let b : Asked = record { kind = kind; length = left; skip = 0 } in
-    let x : Judged × ℕ = (r, m + bytes_of r.result) in
-    let y : Judged × ℕ = (r, 0 + bytes_of r.result) in
-    let done : completes (first_part a) x ≡ completes (first_part b) y = completes-left kind (first_length kind n s) m (first_length kind left 0) r e in
-    let pass : passes_on kind (first_part a) x ≡ passes_on kind (first_part b) y = passes-left kind (first_part a) (first_part b) x y refl done in
-    let stop : stops a x ≡ stops b y = ap (λ t. (not (is_positive r.result) || t) || passes_on kind (first_part a) x) done ∙ ap (λ t. decides (first_part b) y || t) pass in
-    elim (one_lasts kind r.result r.hinted r.cancelled) [
-      | inl nothing ↦ nothing-form a m h r nothing.0 ∙ sym (nothing-form b 0 g r nothing.0)
-      | inr itself ↦ one-form a m h r itself ∙ (ap (λ t. one_form kind r.cancelled r t (passes_on kind (first_part a) x)) stop ∙ (ap (λ t. one_form kind r.cancelled r (stops b y) t) pass ∙ sym (one-form b 0 g r itself)))
-    ]
+      let a : Asked = record { kind = kind; length = n; skip = s } in
+      let b : Asked = record { kind = kind; length = left; skip = 0 } in
+      let x : Judged × ℕ = (r, m + bytes_of r.result) in
+      let y : Judged × ℕ = (r, 0 + bytes_of r.result) in
+      let done : completes (first_part a) x ≡ completes (first_part b) y = completes-left kind (first_length kind n s) m (first_length kind left 0) r e in
+      let pass : passes_on kind (first_part a) x ≡ passes_on kind (first_part b) y = passes-left kind (first_part a) (first_part b) x y refl done in
+      let stop : stops a x ≡ stops b y = ap (λ t. (not (is_positive r.result) || t) || passes_on kind (first_part a) x) done ∙ ap (λ t. decides (first_part b) y || t) pass in
+      elim (one_lasts kind r.result r.hinted r.cancelled) [
+        | inl nothing ↦ nothing-form a m h r nothing.0 ∙ sym (nothing-form b 0 g r nothing.0)
+        | inr itself ↦ one-form a m h r itself ∙ (ap (λ t. one_form kind r.cancelled r t (passes_on kind (first_part a) x)) stop ∙ (ap (λ t. one_form kind r.cancelled r (stops b y) t) pass ∙ sym (one-form b 0 g r itself)))
+      ]
 
   pub moves-left : (r : OpResult) (hinted c d : Bool) → moves_on (record { kind = kind; length = n; skip = s }) (record { moved = m; switched = false; hinted = h }) (record { result = r; hinted = hinted; cancelled = c }) ≡ moves_on (record { kind = kind; length = left; skip = 0 }) (record { moved = 0; switched = false; hinted = g }) (record { result = r; hinted = hinted; cancelled = d })
   moves-left r hinted c d =
-    let a : Asked = record { kind = kind; length = n; skip = s } in
-    let b : Asked = record { kind = kind; length = left; skip = 0 } in
-    let x : Judged × ℕ = (record { result = r; hinted = hinted; cancelled = c }, m + bytes_of r) in
-    let y : Judged × ℕ = (record { result = r; hinted = hinted; cancelled = d }, 0 + bytes_of r) in
-    let done : completes (first_part a) x ≡ completes (first_part b) y = completes-left kind (first_length kind n s) m (first_length kind left 0) x.0 e in
-    let pass : passes_on kind (first_part a) x ≡ passes_on kind (first_part b) y = passes-left kind (first_part a) (first_part b) x y refl done in
-    elim (cases_Bool (is_transient kind r)) [
-      | inl transient ↦ rw transient refl
-      | inr lasts ↦ elim (cases_Bool (hinted && is_unsupported r)) [
+      let a : Asked = record { kind = kind; length = n; skip = s } in
+      let b : Asked = record { kind = kind; length = left; skip = 0 } in
+      let x : Judged × ℕ = (record { result = r; hinted = hinted; cancelled = c }, m + bytes_of r) in
+      let y : Judged × ℕ = (record { result = r; hinted = hinted; cancelled = d }, 0 + bytes_of r) in
+      let done : completes (first_part a) x ≡ completes (first_part b) y = completes-left kind (first_length kind n s) m (first_length kind left 0) x.0 e in
+      let pass : passes_on kind (first_part a) x ≡ passes_on kind (first_part b) y = passes-left kind (first_part a) (first_part b) x y refl done in
+      elim (cases_Bool (is_transient kind r)) [
+        | inl transient ↦ rw transient refl
+        | inr lasts ↦ elim (cases_Bool (hinted && is_unsupported r)) [
           | inl refused ↦ rw (lasts, refused) refl
           | inr taken ↦ rw (lasts, taken) (ap (λ t. t || false) pass)
         ]
-    ]
+      ]
 
 -- a request of one part is judged by that part
 pub single-form : (kind : Kind) (n m : ℕ) (h : Bool) (r : Judged) → ((x : Judged × ℕ) → passes_on kind (record { kind = kind; length = first_length kind n 0 }) x ≡ false)
@@ -106,10 +106,10 @@ single-form kind n m h r never =
     elim (one_lasts kind r.result r.hinted r.cancelled) [
       | inl nothing ↦ nothing-form a m h r nothing.0 ∙ ap by (sym nothing.0)
       | inr itself ↦
-        one-form a m h r itself
-        ∙ (ap (λ q. one_form kind r.cancelled r (decides part x || q) q) (never x)
-        ∙ (elim (decides part x) as (λ d. one_form kind r.cancelled r (d || false) false ≡ outcome_by kind r.cancelled (if d then Some x else None)) [ true ↦ refl | false ↦ refl ]
-        ∙ ap by (sym itself)))
+          one-form a m h r itself
+          ∙ (ap (λ q. one_form kind r.cancelled r (decides part x || q) q) (never x)
+          ∙ (elim (decides part x) as (λ d. one_form kind r.cancelled r (d || false) false ≡ outcome_by kind r.cancelled (if d then Some x else None)) [ true ↦ refl | false ↦ refl ]
+          ∙ ap by (sym itself)))
     ]
 
 -- the results of some kinds say the same
@@ -149,12 +149,12 @@ buffered (Switched skip len) n read h c given other sized =
 -- a sync that trails a write
 pub trailing : (n : ℕ) (h c : Bool) (given : OpResult) →
     let r : Judged = record { result = given; hinted = false; cancelled = c } in
-    outcome_next (record { kind = Many; length = n; skip = 0 }) (record { moved = 0; switched = true; hinted = h }) r ≡ outcome_next (record { kind = Sync; length = 0; skip = 0 }) (record { moved = 0; switched = false; hinted = false }) r
+    outcome_next (record { kind = Many; length = n; skip = 0 }) (record { moved = 0; switched = true; hinted = h }) r ≡ outcome_next (record { kind = Sync; length = 1; skip = 0 }) (record { moved = 0; switched = false; hinted = false }) r
 trailing n h c given =
     let r : Judged = record { result = given; hinted = false; cancelled = c } in
     let alike = lasting-alike given false c in
     ap (λ l. outcome_of_part (record { kind = Sync; length = n }) c (with_totals 0 l)) alike.2
-    ∙ sym (single-form Sync 0 0 false r (λ x. refl))
+    ∙ sym (single-form Sync 1 0 false r (λ x. refl))
 
 -- what isn't direct isn't
 pub not_direct : (w : Way) → ((skip len : ℕ) → w ≡ way.Direct skip len → ⊥) → is_direct w ≡ false

@@ -1,5 +1,5 @@
 -- The buffers of a send or a write, and how much of them has gone.
-use Rattle.std.specs.Prelude.{ℕ, Bool, ◌+◌, ◌-◌, ◌^◌, ◌==◌, ◌&&◌, List, [], length, take, drop, min, nat_le, slice_index_or}
+use Rattle.std.specs.Prelude.{ℕ, Bool, ◌+◌, ◌-◌, ◌^◌, ◌==◌, ◌&&◌, [], length, take, drop, min, nat_le, slice_index_or}
 use Rattle.exec_bufs.specs.Buffers.{total}
 use Rattle.exec_request.specs.declared.buffers.WriteBuffers.{WriteBuffers}
 use Rattle.exec_request.specs.declared.buffers.WriteBuffers.TheVariants.{Single, Vectored}

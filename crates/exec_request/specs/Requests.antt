@@ -10,7 +10,7 @@ use Rattle.exec_request.specs.Ways.{narrowed}
 use Rattle.exec_request.specs.Views.{send_asked, send_cursor, send_window, recv_asked, recv_cursor, recv_window, read_asked, read_cursor, read_hinted, read_window, write_asked, write_cursor, write_hinted, write_window, sync_asked, sync_cursor, sync_window, connect_asked, connect_cursor, connect_window, poll_asked, poll_cursor, poll_window}
 use Rattle.exec_request.specs.declared.window.Window.{Window}
 use Rattle.exec_request.specs.declared.write_at.WriteAtState.{WriteAtState}
-use Rattle.exec_request.specs.declared.write_at.WriteAtState.TheVariants.{Writing, WritingSync, WritingBeforeSync, Syncing}
+use Rattle.exec_request.specs.declared.write_at.WriteAtState.TheVariants.{Writing}
 use Rattle.exec_request.specs.declared.output.RequestOutput.{RequestOutput}
 use Rattle.exec_request.specs.declared.output.RequestOutput.TheVariants as output
 use Rattle.exec_request.specs.declared.output.RetiredResources.{RetiredResources}

@@ -20,4 +20,3 @@ is_syncing _ = false
 abbrev pub is_dsync : WriteAtState → Bool
 is_dsync WritingSync = true
 is_dsync _ = false
-

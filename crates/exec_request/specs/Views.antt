@@ -1,5 +1,5 @@
 -- What requests ask for, how far they have come, and the windows of their next operations.
-use Rattle.std.specs.Prelude.{◌≡◌, ℕ, Bool, true, false, not, ◌+◌, ◌-◌, ◌%◌, ◌^◌, ◌&&◌, Option, Some, None, length, replicate, min, if◌then◌else◌}
+use Rattle.std.specs.Prelude.{◌≡◌, ℕ, Bool, false, not, ◌+◌, ◌-◌, ◌%◌, ◌^◌, ◌&&◌, length, replicate, min, if◌then◌else◌}
 use Rattle.exec_outcomes.specs.declared.outcome.Kind.TheVariants as kind
 use Rattle.exec_bufs.specs.Buffers.{Buffer}
 use Rattle.exec_outcomes.specs.Lawful.{aligned}
@@ -106,7 +106,7 @@ write_window hinted w =
     }
 
 abbrev pub poll_asked : PollRequest → Asked
-poll_asked p = record { kind = kind.Poll; length = 0; skip = 0 }
+poll_asked p = record { kind = kind.Poll; length = 1; skip = 0 }
 
 abbrev pub poll_cursor : PollRequest → Cursor
 poll_cursor p = no_bytes
@@ -115,7 +115,7 @@ abbrev pub poll_window : PollRequest → Window
 poll_window p = plain_window opcode.Poll p.fd 0
 
 abbrev pub sync_asked : SyncRequest → Asked
-sync_asked s = record { kind = kind.Sync; length = 0; skip = 0 }
+sync_asked s = record { kind = kind.Sync; length = 1; skip = 0 }
 
 abbrev pub sync_cursor : SyncRequest → Cursor
 sync_cursor s = no_bytes
@@ -124,7 +124,7 @@ abbrev pub sync_window : SyncRequest → Window
 sync_window s = plain_window opcode.Sync s.file 0
 
 abbrev pub connect_asked : ConnectRequest → Asked
-connect_asked c = record { kind = kind.Connect; length = 0; skip = 0 }
+connect_asked c = record { kind = kind.Connect; length = 1; skip = 0 }
 
 abbrev pub connect_cursor : ConnectRequest → Cursor
 connect_cursor c = no_bytes

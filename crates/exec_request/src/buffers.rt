@@ -164,7 +164,9 @@ fn next_chunks_len(bufs: &IoBufs, chunk: usize) -> usize
 {
     let _all = bufs.len();
     let mut sum = 0usize;
-    let end = bufs.chunk_count().min(chunk.saturating_add(IOVEC_BATCH_SIZE));
+    let end = bufs
+        .chunk_count()
+        .min(chunk.saturating_add(IOVEC_BATCH_SIZE));
     for index in chunk..end {
         sum += chunk_len(bufs, index);
     }

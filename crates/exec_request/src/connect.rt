@@ -83,7 +83,7 @@ impl ConnectRequest {
 /// What one more result of a connect means.
 fn judge(cancelled: bool, given: OpResult) -> Option<Outcome>
     requires { IsTrue (is_lawful 2147483647 given) }
-    ensures { result ≡ outcome_next (record { kind = Connect; length = 0; skip = 0 }) (record { moved = 0; switched = false; hinted = false }) (record { result = given; hinted = false; cancelled = cancelled }) }
+    ensures { result ≡ outcome_next (record { kind = Connect; length = 1; skip = 0 }) (record { moved = 0; switched = false; hinted = false }) (record { result = given; hinted = false; cancelled = cancelled }) }
 {
     match given {
         OpResult::Count(0) | OpResult::Errno(CONNECTED) => Some(Outcome::Success),

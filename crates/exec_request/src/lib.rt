@@ -13,6 +13,8 @@ pub mod request;
 pub mod results;
 pub mod send;
 pub mod sync;
+#[cfg(test)]
+mod tests;
 pub mod way;
 pub mod window;
 pub mod write_at;

@@ -61,7 +61,7 @@ impl PollRequest {
 /// What one more result of a poll means.
 fn judge(cancelled: bool, given: OpResult) -> Option<Outcome>
     requires { IsTrue (is_lawful 2147483647 given) }
-    ensures { result ≡ outcome_next (record { kind = Poll; length = 0; skip = 0 }) (record { moved = 0; switched = false; hinted = false }) (record { result = given; hinted = false; cancelled = cancelled }) }
+    ensures { result ≡ outcome_next (record { kind = Poll; length = 1; skip = 0 }) (record { moved = 0; switched = false; hinted = false }) (record { result = given; hinted = false; cancelled = cancelled }) }
 {
     match given {
         OpResult::Count(_) => Some(Outcome::Success),

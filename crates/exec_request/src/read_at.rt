@@ -14,7 +14,8 @@ use crate::cache::Cache;
 use crate::open_record::OpenRecord;
 use crate::output::{RequestOutput, RetiredResources};
 use crate::results::{
-    CANCELED, INTERRUPTED, LARGEST_WINDOW, UNSUPPORTED, WOULD_BLOCK, WaiterState, another, counted_by,
+    CANCELED, INTERRUPTED, LARGEST_WINDOW, UNSUPPORTED, WOULD_BLOCK, WaiterState, another,
+    counted_by,
 };
 use crate::way::Way;
 use crate::window::{Opcode, Window};
@@ -87,7 +88,12 @@ impl ReadAtRequest {
 
     /// A direct read of `len` bytes from `offset` on, into a buffer of its own. None where the range is empty, or
     /// where its whole pages end past the largest offset of a file. An `Err` comes only for want of memory.
-    pub fn direct(alloc: Global, file: u32, offset: u64, len: usize) -> Result<Option<Self>, AllocError>
+    pub fn direct(
+        alloc: Global,
+        file: u32,
+        offset: u64,
+        len: usize,
+    ) -> Result<Option<Self>, AllocError>
         ensures none { result ≡ Ok None ↔ ((len ≡ 0) ⊎ (2 ^ 63 ≤ (offset - offset % 4096) + aligned (offset % 4096 + len))) }
         ensures made { IfOk result (λ made. IfSome made (λ r. IsDirectRead r file offset len)) }
     {
@@ -192,7 +198,12 @@ impl ReadAtRequest {
 
     /// Judges the next result. Answers the outcome that all results so far give, or None where another
     /// operation is needed. A refused hint is given up, also by the open.
-    pub fn on_cqe(&mut self, state: WaiterState, given: OpResult, open_: &mut Option<OpenRecord>) -> Option<Outcome>
+    pub fn on_cqe(
+        &mut self,
+        state: WaiterState,
+        given: OpResult,
+        open_: &mut Option<OpenRecord>,
+    ) -> Option<Outcome>
         requires lawful { IsTrue (is_lawful (window_of (read_asked self.old) (read_cursor self.old)) given) }
         ensures judges { Judges (read_asked self.old) (read_cursor self.old) (read_cursor self.new) (judged_as (read_hinted self.old) state given) result }
         ensures asked { read_asked self.new ≡ read_asked self.old }

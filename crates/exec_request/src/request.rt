@@ -143,7 +143,12 @@ impl Request {
 
     /// Judges the next result. Answers the outcome that all results so far give, or None where another operation is
     /// needed. A refused hint is given up, also by the open. Ports `on_cqe`.
-    pub fn on_cqe(&mut self, state: WaiterState, given: OpResult, open_: &mut Option<OpenRecord>) -> Option<Outcome>
+    pub fn on_cqe(
+        &mut self,
+        state: WaiterState,
+        given: OpResult,
+        open_: &mut Option<OpenRecord>,
+    ) -> Option<Outcome>
         requires lawful { IsTrue (is_lawful (window_of (asked_of self.old) (cursor_of self.old)) given) }
         ensures judges { Judges (asked_of self.old) (cursor_of self.old) (cursor_of self.new) (judged_as (hinted_of self.old) state given) result }
         ensures asked { asked_of self.new ≡ asked_of self.old }
@@ -164,7 +169,11 @@ impl Request {
 
     /// Ends the request with this outcome: answers what is told of it, and all that it owned. None of its operations
     /// may be under way. The record of its open takes the end of a write or a sync in. Ports `complete`.
-    pub fn complete(self, ended: Outcome, open_: &mut Option<OpenRecord>) -> (RequestOutput, RetiredResources)
+    pub fn complete(
+        self,
+        ended: Outcome,
+        open_: &mut Option<OpenRecord>,
+    ) -> (RequestOutput, RetiredResources)
         ensures told { result.0 ≡ output_of self ended open_.old }
         ensures retired { result.1 ≡ retired_of self }
         ensures open { open_.new ≡ record_after self ended open_.old }

@@ -52,7 +52,11 @@ impl SyncRequest {
     }
 
     /// Ends the request: what is told of it, and all that it owned. The record of its open takes its end in.
-    pub fn complete(self, ended: Outcome, open_: &mut Option<OpenRecord>) -> (RequestOutput, RetiredResources)
+    pub fn complete(
+        self,
+        ended: Outcome,
+        open_: &mut Option<OpenRecord>,
+    ) -> (RequestOutput, RetiredResources)
         ensures told { result.0 ≡ RequestOutput.Sync (result_of (told_by Sync ended open_.old)) }
         ensures retired { result.1 ≡ RetiredResources.File self.file None }
         ensures open { open_.new ≡ account_by self.file false self.seen Sync ended open_.old }
@@ -90,7 +94,7 @@ impl SyncRequest {
 /// What one more result of a sync means, also of one that trails a write.
 pub(crate) fn judge_sync(cancelled: bool, given: OpResult) -> Option<Outcome>
     requires { IsTrue (is_lawful 2147483647 given) }
-    ensures { result ≡ outcome_next (record { kind = Sync; length = 0; skip = 0 }) (record { moved = 0; switched = false; hinted = false }) (record { result = given; hinted = false; cancelled = cancelled }) }
+    ensures { result ≡ outcome_next (record { kind = Sync; length = 1; skip = 0 }) (record { moved = 0; switched = false; hinted = false }) (record { result = given; hinted = false; cancelled = cancelled }) }
 {
     match given {
         OpResult::Count(_) => Some(Outcome::Success),

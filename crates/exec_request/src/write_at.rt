@@ -14,7 +14,8 @@ use crate::cache::Cache;
 use crate::open_record::{OpenRecord, kept_as};
 use crate::output::{RequestOutput, RetiredResources, to_result};
 use crate::results::{
-    INTERRUPTED, LARGEST_COUNT, LARGEST_WINDOW, UNSUPPORTED, WOULD_BLOCK, WaiterState, another, counted_by, handed_on,
+    INTERRUPTED, LARGEST_COUNT, LARGEST_WINDOW, UNSUPPORTED, WOULD_BLOCK, WaiterState, another,
+    counted_by, handed_on,
 };
 use crate::sync::judge_sync;
 use crate::window::{Opcode, Window};
@@ -139,7 +140,12 @@ impl WriteAtRequest {
 
     /// Judges the next result. Answers the outcome that all results so far give, or None where another
     /// operation is needed. A refused hint is given up, also by the open.
-    pub fn on_cqe(&mut self, state: WaiterState, given: OpResult, open_: &mut Option<OpenRecord>) -> Option<Outcome>
+    pub fn on_cqe(
+        &mut self,
+        state: WaiterState,
+        given: OpResult,
+        open_: &mut Option<OpenRecord>,
+    ) -> Option<Outcome>
         requires lawful { IsTrue (is_lawful (window_of (write_asked self.old) (write_cursor self.old)) given) }
         ensures judges { Judges (write_asked self.old) (write_cursor self.old) (write_cursor self.new) (judged_as (write_hinted self.old) state given) result }
         ensures asked { write_asked self.new ≡ write_asked self.old }
@@ -166,7 +172,11 @@ impl WriteAtRequest {
     }
 
     /// Ends the request: what is told of it, and all that it owned. The record of its open takes its end in.
-    pub fn complete(self, ended: Outcome, open_: &mut Option<OpenRecord>) -> (RequestOutput, RetiredResources)
+    pub fn complete(
+        self,
+        ended: Outcome,
+        open_: &mut Option<OpenRecord>,
+    ) -> (RequestOutput, RetiredResources)
         ensures told { result.0 ≡ RequestOutput.WriteAt (result_of (told_by (write_kind self.state) ended open_.old)) }
         ensures retired { result.1 ≡ RetiredResources.File self.file (Some self.write) }
         ensures open { open_.new ≡ account_by self.file (is_syncing self.state) self.seen (write_kind self.state) ended open_.old }

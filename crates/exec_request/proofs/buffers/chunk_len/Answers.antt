@@ -1,4 +1,4 @@
-use Rattle.std.proofs.Common.{[], length, ap, sym, ◌∙◌, unwrap_or}
+use Rattle.std.proofs.Common.{[], length, ap, ◌∙◌, unwrap_or}
 use Rattle.std.proofs.lemmas.Option.{unwrap_or-slice_get}
 use Rattle.exec_request.proofs.buffers.chunk_len.Goals as goal
 

@@ -1,4 +1,4 @@
-use Rattle.std.proofs.Common.{arith, ℕ, List, ◌<◌, ◌≤◌, ◌+◌, ◌-◌, ◌≡◌, ◌∙◌, length, ap, sym, inl, inr, take, drop}
+use Rattle.std.proofs.Common.{arith, ℕ, List, ◌<◌, ◌≤◌, ◌+◌, ◌-◌, ◌≡◌, ◌∙◌, length, ap, inl, inr, take, drop}
 use Rattle.std.proofs.lemmas.Bool.{cases_lt}
 use Rattle.exec_bufs.specs.Buffers.{total}
 use Rattle.exec_request.proofs.Chunks.{batch-next, batch-within, batch-end}
@@ -23,9 +23,9 @@ returns c =
     let D : List (List ℕ) = drop c.args.chunk bufs in
     elim (cases_lt (c.args.chunk + 1024) (length bufs)) [
       | inl more ↦
-        let whole : n ≡ 1024 = omega (arith, c.chunk_count.ensures, c.chunk_count.type_inv, c.saturating_add.ensures, c.min-end.ensures, c.loop-index-test.false, c.loop-index.auto.index-end, c.loop-index.auto.index) in
-        c.loop-index.invariant ∙ ap (λ k. total (take k D)) whole
+          let whole : n ≡ 1024 = omega (arith, c.chunk_count.ensures, c.chunk_count.type_inv, c.saturating_add.ensures, c.min-end.ensures, c.loop-index-test.false, c.loop-index.auto.index-end, c.loop-index.auto.index) in
+          c.loop-index.invariant ∙ ap (λ k. total (take k D)) whole
       | inr less ↦
-        let end : length bufs ≤ c.args.chunk + n = omega (arith, c.chunk_count.ensures, c.ranges.chunk.fits, c.saturating_add.ensures, c.min-end.ensures, c.loop-index-test.false, c.loop-index.auto.index) in
-        c.loop-index.invariant ∙ batch-end bufs c.args.chunk n 1024 end less
+          let end : length bufs ≤ c.args.chunk + n = omega (arith, c.chunk_count.ensures, c.ranges.chunk.fits, c.saturating_add.ensures, c.min-end.ensures, c.loop-index-test.false, c.loop-index.auto.index) in
+          c.loop-index.invariant ∙ batch-end bufs c.args.chunk n 1024 end less
     ]

@@ -2,7 +2,7 @@ use Rattle.std.proofs.Common.{arith, ◌+◌, ◌==◌, ◌≤◌, ◌≡◌, tr
 use Rattle.std.proofs.lemmas.Bool.{and_parts, leb-true}
 use borrow.Author.Tests.{eqb-true}
 use Rattle.exec_bufs.specs.Buffers.{total}
-use Rattle.exec_request.specs.Buffers.{length_of, moved_of, is_sound}
+use Rattle.exec_request.specs.Buffers.{is_sound}
 use Rattle.exec_request.specs.declared.buffers.WriteBuffers.{WriteBuffers}
 use Rattle.exec_request.proofs.Chunks.{batch-left, batch-first}
 use Rattle.exec_request.proofs.buffers.WriteBuffers.batch_len.Goals as goal
@@ -13,14 +13,14 @@ returns-clause-left c =
     let sound : WriteBuffers → Type 0 = λ v. is_sound v ≡ true in
     elim c.match-self.branch [
       | in-Single w ↦
-        let one = w.in-Single in
-        let within : one.offset ≤ length one.buf = leb-true one.offset (length one.buf) (subst sound one.is c.requires) in
-        rw one.is (omega (arith, c.min.ensures, w.left-is, w.len.ensures))
+          let one = w.in-Single in
+          let within : one.offset ≤ length one.buf = leb-true one.offset (length one.buf) (subst sound one.is c.requires) in
+          rw one.is (omega (arith, c.min.ensures, w.left-is, w.len.ensures))
       | in-Vectored w ↦
-        let all = w.in-Vectored in
-        let bufs = all.bufs in
-        let parts = and_parts ((total (take all.chunk bufs) + all.offset) + all.remaining == total bufs) _ (subst sound all.is c.requires) in
-        let sum : (total (take all.chunk bufs) + all.offset) + all.remaining ≡ total bufs = eqb-true _ _ parts.0 in
-        let begun : all.offset ≤ length (get_or bufs all.chunk []) = leb-true _ _ parts.1 in
-        rw all.is (omega (arith, c.min.ensures, w.left-is, w.next_chunks_len.ensures, sum, begun, batch-left bufs all.chunk 1024, batch-first bufs all.chunk))
+          let all = w.in-Vectored in
+          let bufs = all.bufs in
+          let parts = and_parts ((total (take all.chunk bufs) + all.offset) + all.remaining == total bufs) _ (subst sound all.is c.requires) in
+          let sum : (total (take all.chunk bufs) + all.offset) + all.remaining ≡ total bufs = eqb-true _ _ parts.0 in
+          let begun : all.offset ≤ length (get_or bufs all.chunk []) = leb-true _ _ parts.1 in
+          rw all.is (omega (arith, c.min.ensures, w.left-is, w.next_chunks_len.ensures, sum, begun, batch-left bufs all.chunk 1024, batch-first bufs all.chunk))
     ]

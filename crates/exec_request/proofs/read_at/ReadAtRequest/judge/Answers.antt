@@ -1,4 +1,4 @@
-use Rattle.std.proofs.Common.{◌≡◌, ℕ, Bool, true, false, not, ◌-◌, ◌&&◌, ap, sym, ◌∙◌, length, arith}
+use Rattle.std.proofs.Common.{◌≡◌, ℕ, Bool, false, not, ◌-◌, ◌&&◌, ap, sym, ◌∙◌, length}
 use Rattle.exec_outcomes.specs.declared.outcome.Kind.TheVariants.{Read}
 use Rattle.exec_outcomes.specs.Outcomes.{outcome_next}
 use Rattle.exec_request.specs.Hints.{asks_hint}

@@ -1,4 +1,4 @@
-use Rattle.std.proofs.Common.{◌≡◌, ℕ, Bool, false, not, ◌-◌, ◌&&◌, Option, refl, sym, ap, ◌∙◌, if◌then◌else◌}
+use Rattle.std.proofs.Common.{ℕ, Bool, false, not, ◌-◌, ◌&&◌, Option, refl, sym, ap, ◌∙◌, if◌then◌else◌}
 use Rattle.exec_outcomes.specs.declared.outcome.Outcome.{Outcome}
 use Rattle.exec_outcomes.specs.declared.outcome.Kind.TheVariants.{Many}
 use Rattle.exec_outcomes.specs.Outcomes.{outcome_next}

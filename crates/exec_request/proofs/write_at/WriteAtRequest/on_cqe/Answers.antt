@@ -1,7 +1,6 @@
-use Rattle.std.proofs.Common.{◌≡◌, ℕ, Bool, true, false, not, ◌&&◌, refl, sym, ap, ◌∙◌, if◌then◌else◌}
+use Rattle.std.proofs.Common.{◌≡◌, ℕ, Bool, not, ◌&&◌, ap, ◌∙◌, if◌then◌else◌}
 use Rattle.std.proofs.lemmas.Bool.{and_parts}
 use Rattle.exec_outcomes.specs.Outcomes.{Cursor, outcome_next, cursor_next, is_unsupported}
-use Rattle.exec_request.specs.declared.cache.Cache.{Cache}
 use Rattle.exec_request.specs.States.{asks_cancel}
 use Rattle.exec_request.specs.Hints.{asks_hint}
 use Rattle.exec_request.specs.Buffers.{moved_of}

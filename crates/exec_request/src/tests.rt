@@ -1,0 +1,516 @@
+//! Requests from their making to their end, with the windows and answers that the original gave.
+
+use crate::buffers::WriteBuffers;
+use crate::cache::Cache;
+use crate::connect::{ConnectRequest, SockAddr};
+use crate::open_record::OpenRecord;
+use crate::output::{RequestOutput, RetiredResources};
+use crate::poll::PollRequest;
+use crate::read_at::ReadAtRequest;
+use crate::recv::RecvRequest;
+use crate::request::Request;
+use crate::results::WaiterState;
+use crate::send::SendRequest;
+use crate::sync::SyncRequest;
+use crate::window::{Opcode, Window};
+use crate::write_at::{WriteAtRequest, WriteAtState};
+use exec_base::error::{Cause, Error};
+use exec_bufs::buf::{IoBuf, IoBufMut};
+use exec_bufs::bufs::IoBufs;
+use exec_outcomes::outcome::OpResult::{self, Count, Errno};
+use exec_outcomes::outcome::Outcome::{self, Failure, Success};
+use std::alloc::Global;
+use std::process::Abort;
+use std::test::Fail;
+
+/// How an operation goes: with the hint, directly, durably.
+type Flags = (bool, bool, bool);
+
+const PLAIN: Flags = (false, false, false);
+
+const HINT: Flags = (true, false, false);
+
+const DIRECT: Flags = (false, true, false);
+
+const DSYNC: Flags = (false, false, true);
+
+/// An operation that is asked for, with its offset, its length and how it goes; its result; whether cancellation had
+/// been asked for by then; and what the request answered, None where it needs another operation.
+type Turn = (Opcode, u64, u32, Flags, OpResult, bool, Option<Outcome>);
+
+/// Takes the turns in order.
+fn play(rt: &impl Abort, request: &mut Request, open_: &mut Option<OpenRecord>, turns: &[Turn]) {
+    for &(kind, offset, length, flags, given, cancelled, answer) in turns {
+        let window: Window = request.build_sqe(open_);
+        assert_eq!(rt;
+            (window.kind, window.offset, window.length),
+            (kind, offset, length)
+        );
+        assert_eq!(rt; (window.hint, window.direct, window.dsync), flags);
+        assert!(rt; request.may_give(given));
+        let state = if cancelled {
+            WaiterState::CancelRequested
+        } else {
+            WaiterState::Active { target_tick: None }
+        };
+        assert_eq!(rt; request.on_cqe(state, given, open_), answer);
+    }
+}
+
+/// The record of the open says this.
+fn shows(
+    rt: &impl Abort,
+    open_: &Option<OpenRecord>,
+    mutations: u64,
+    dirty: bool,
+    hinted: bool,
+    failure: Option<Error>,
+) {
+    assert!(rt; open_.is_some());
+    if let Some(record) = open_ {
+        assert_eq!(rt; record.begin_sync(), mutations);
+        assert_eq!(rt; (record.is_dirty(), record.hinted()), (dirty, hinted));
+        assert_eq!(rt; record.failure(), failure);
+    }
+}
+
+/// Chunks of so many bytes each.
+fn chunks(alloc: Global, count: usize, length: usize) -> Result<IoBufs, Fail> {
+    let mut bufs = IoBufs::new(alloc);
+    for _ in 0..count {
+        let bytes = vec![in alloc; 7u8; length]?;
+        if bufs.len() <= 1 << 40 && length <= 1 << 40 {
+            bufs.push(alloc, IoBuf::from(bytes))?;
+        }
+    }
+    Ok(bufs)
+}
+
+/// A send of one chunk.
+fn send(alloc: Global, length: usize) -> Result<Request, Fail> {
+    let write = WriteBuffers::from(chunks(alloc, 1, length)?);
+    Ok(Request::Send(SendRequest::new(3, write, Some(1_000))))
+}
+
+#[test]
+fn sends_of_ten_bytes(rt: HostRuntime) -> Result<(), Fail> {
+    let mut none = None;
+    let mut request = send(rt.alloc(), 10)?;
+    play(
+        &rt,
+        &mut request,
+        &mut none,
+        &[
+            (Opcode::Send, 0, 10, PLAIN, Errno(11), false, None),
+            (Opcode::Send, 0, 10, PLAIN, Count(4), false, None),
+            (Opcode::Send, 0, 6, PLAIN, Errno(4), false, None),
+            (Opcode::Send, 0, 6, PLAIN, Count(6), false, Some(Success)),
+        ],
+    );
+    assert_eq!(rt;
+        (
+            request.deadline(),
+            request.retains_on_orphan(),
+            request.durability()
+        ),
+        (Some(1_000), false, None)
+    );
+    let (told, retired) = request.complete(Success, &mut none);
+    assert!(rt; matches!(told, RequestOutput::Send(Ok(()))));
+    assert!(rt;
+        matches!(
+            retired,
+            RetiredResources::Send {
+                fd: 3,
+                write: WriteBuffers::Single { offset: 10, .. }
+            }
+        )
+    );
+    let mut request = send(rt.alloc(), 10)?;
+    play(
+        &rt,
+        &mut request,
+        &mut none,
+        &[
+            (Opcode::Send, 0, 10, PLAIN, Count(4), false, None),
+            (
+                Opcode::Send,
+                0,
+                6,
+                PLAIN,
+                Count(0),
+                false,
+                Some(Failure(Error::SendFailed)),
+            ),
+        ],
+    );
+    Ok(())
+}
+
+/// An exact receive of 8 bytes.
+fn fill(alloc: Global) -> Result<Request, Fail> {
+    let buf = IoBufMut::with_capacity(alloc, 8)?;
+    let mut request = RecvRequest::new(3, buf, 0, 8, true, Some(1_000));
+    request.fd = 4;
+    Ok(Request::Recv(request))
+}
+
+#[test]
+fn exact_receives_whose_deadline_passes(rt: HostRuntime) -> Result<(), Fail> {
+    let mut none = None;
+    let mut request = fill(rt.alloc())?;
+    play(
+        &rt,
+        &mut request,
+        &mut none,
+        &[
+            (Opcode::Recv, 0, 8, PLAIN, Count(3), false, None),
+            (
+                Opcode::Recv,
+                0,
+                5,
+                PLAIN,
+                Count(2),
+                true,
+                Some(Failure(Error::Timeout)),
+            ),
+        ],
+    );
+    let (told, retired) = request.complete(Failure(Error::Timeout), &mut none);
+    assert!(rt; matches!(told, RequestOutput::Recv(Err((_, Error::Timeout)))));
+    assert!(rt; matches!(retired, RetiredResources::Socket { fd: 4 }));
+    let mut request = fill(rt.alloc())?;
+    play(
+        &rt,
+        &mut request,
+        &mut none,
+        &[
+            (Opcode::Recv, 0, 8, PLAIN, Count(3), false, None),
+            (Opcode::Recv, 0, 5, PLAIN, Count(5), true, Some(Success)),
+        ],
+    );
+    let (told, _) = request.complete(Success, &mut none);
+    assert!(rt; matches!(told, RequestOutput::Recv(Ok((_, 8)))));
+    Ok(())
+}
+
+#[test]
+fn cancelled_connects_and_polls(rt: HostRuntime) {
+    let mut none = None;
+    let address = SockAddr::V4([127, 0, 0, 1], 80);
+    let answers = [
+        (Count(0), Success),
+        (Errno(106), Success),
+        (Count(1), Failure(Error::ConnectionFailed)),
+        (Errno(114), Failure(Error::Timeout)),
+        (Errno(125), Failure(Error::Timeout)),
+        (Errno(111), Failure(Error::Io(Cause::Code(111)))),
+    ];
+    for (given, outcome) in answers {
+        let mut request = Request::Connect(ConnectRequest::new(5, address, None));
+        play(
+            &rt,
+            &mut request,
+            &mut none,
+            &[(Opcode::Connect, 0, 0, PLAIN, given, true, Some(outcome))],
+        );
+        let (_, retired) = request.complete(outcome, &mut none);
+        assert!(rt; matches!(retired, RetiredResources::Connect { fd: 5, .. }));
+    }
+    let mut request = Request::Poll(PollRequest::new(6, Some(9)));
+    play(
+        &rt,
+        &mut request,
+        &mut none,
+        &[
+            (Opcode::Poll, 0, 0, PLAIN, Errno(11), false, None),
+            (Opcode::Poll, 0, 0, PLAIN, Count(1), true, Some(Success)),
+        ],
+    );
+    let (told, retired) = request.complete(Success, &mut none);
+    assert!(rt; matches!(told, RequestOutput::Poll(Ok(()))));
+    assert!(rt; matches!(retired, RetiredResources::Listener { fd: 6 }));
+}
+
+/// A direct read of 3000 bytes at 5000.
+fn direct(rt: &impl Abort, alloc: Global) -> Result<Request, Fail> {
+    let made = ReadAtRequest::direct(alloc, 1, 5_000, 3_000)?;
+    Ok(Request::ReadAt(made.expect(rt, "a direct read")))
+}
+
+#[test]
+fn direct_reads(rt: HostRuntime) -> Result<(), Fail> {
+    let mut open_ = Some(OpenRecord::new());
+    let mut request = direct(&rt, rt.alloc())?;
+    play(
+        &rt,
+        &mut request,
+        &mut open_,
+        &[(
+            Opcode::Read,
+            4096,
+            4096,
+            DIRECT,
+            Count(3904),
+            false,
+            Some(Success),
+        )],
+    );
+    let (told, retired) = request.complete(Success, &mut open_);
+    assert!(rt;
+        matches!(
+            retired,
+            RetiredResources::File {
+                file: 1,
+                write: None
+            }
+        )
+    );
+    let RequestOutput::ReadAt(Ok(buf)) = told else {
+        panic!(rt; "no bytes");
+    };
+    assert_eq!(rt; buf.len(), 3_000);
+    let mut request = direct(&rt, rt.alloc())?;
+    play(
+        &rt,
+        &mut request,
+        &mut open_,
+        &[
+            (Opcode::Read, 4096, 4096, DIRECT, Count(2000), false, None),
+            (
+                Opcode::Read,
+                5000,
+                3000,
+                HINT,
+                Count(3000),
+                false,
+                Some(Success),
+            ),
+        ],
+    );
+    let mut request = direct(&rt, rt.alloc())?;
+    play(
+        &rt,
+        &mut request,
+        &mut open_,
+        &[
+            (Opcode::Read, 4096, 4096, DIRECT, Count(0), false, None),
+            (
+                Opcode::Read,
+                5000,
+                3000,
+                HINT,
+                Count(0),
+                false,
+                Some(Failure(Error::BlobInsufficientLength)),
+            ),
+        ],
+    );
+    shows(&rt, &open_, 0, false, true, None);
+    for (offset, length, is_made) in [
+        (0, 0, false),
+        (9_223_372_036_854_771_712, 4_095, false),
+        (9_223_372_036_854_767_617, 4_096, false),
+        (18_446_744_073_709_551_615, 1, false),
+        (9_223_372_036_854_767_616, 4_095, true),
+    ] {
+        let made = ReadAtRequest::direct(rt.alloc(), 1, offset, length)?;
+        assert_eq!(rt; made.is_some(), is_made, "at {offset}");
+    }
+    Ok(())
+}
+
+/// A read of 100 bytes with the hint.
+fn hinted_read(alloc: Global) -> Result<Request, Fail> {
+    let bytes = vec![in alloc; 0u8; 100]?;
+    let buf = IoBufMut::from(bytes);
+    if buf.len() > 100 {
+        return Err(Fail::from(Error::Full));
+    }
+    Ok(Request::ReadAt(ReadAtRequest::new(1, 0, buf, Cache::Disabled)))
+}
+
+#[test]
+fn reads_with_the_hint(rt: HostRuntime) -> Result<(), Fail> {
+    let mut open_ = Some(OpenRecord::new());
+    let mut request = hinted_read(rt.alloc())?;
+    play(
+        &rt,
+        &mut request,
+        &mut open_,
+        &[
+            (Opcode::Read, 0, 100, HINT, Errno(95), false, None),
+            (
+                Opcode::Read,
+                0,
+                100,
+                PLAIN,
+                Count(100),
+                false,
+                Some(Success),
+            ),
+        ],
+    );
+    shows(&rt, &open_, 0, false, false, None);
+    let mut request = hinted_read(rt.alloc())?;
+    play(
+        &rt,
+        &mut request,
+        &mut open_,
+        &[(
+            Opcode::Read,
+            0,
+            100,
+            PLAIN,
+            Count(100),
+            false,
+            Some(Success),
+        )],
+    );
+    let mut open_ = Some(OpenRecord::new());
+    let mut request = hinted_read(rt.alloc())?;
+    play(
+        &rt,
+        &mut request,
+        &mut open_,
+        &[
+            (Opcode::Read, 0, 100, HINT, Errno(95), false, None),
+            (
+                Opcode::Read,
+                0,
+                100,
+                PLAIN,
+                Errno(95),
+                false,
+                Some(Failure(Error::ReadFailed)),
+            ),
+        ],
+    );
+    let (told, _) = request.complete(Failure(Error::ReadFailed), &mut open_);
+    let RequestOutput::ReadAt(Err((buf, error))) = told else {
+        panic!(rt; "no error");
+    };
+    assert_eq!(rt; (buf.len(), error), (0, Error::ReadFailed));
+    Ok(())
+}
+
+/// A write of one chunk at the file's start.
+fn write(
+    alloc: Global,
+    length: usize,
+    state: WriteAtState,
+    open_: &Option<OpenRecord>,
+) -> Result<Request, Fail> {
+    let seen = match open_ {
+        Some(record) => record.begin_sync(),
+        None => 0,
+    };
+    let write = WriteBuffers::from(chunks(alloc, 1, length)?);
+    if write.remaining_len() > 1 << 50 {
+        return Err(Fail::from(Error::Full));
+    }
+    Ok(Request::WriteAt(WriteAtRequest::new(2, 0, write, state, Cache::Enabled, seen)))
+}
+
+#[test]
+fn writes_with_a_trailing_sync(rt: HostRuntime) -> Result<(), Fail> {
+    let io = Failure(Error::Io(Cause::Code(5)));
+    let kept = Error::BlobSyncFailed(2, Cause::Code(5));
+    for (last, outcome) in [(Count(0), Success), (Errno(5), io)] {
+        let mut open_ = Some(OpenRecord::new());
+        let mut request = write(rt.alloc(), 10, WriteAtState::WritingBeforeSync, &open_)?;
+        assert_eq!(rt;
+            (request.durability(), request.retains_on_orphan()),
+            (Some(2), true)
+        );
+        play(
+            &rt,
+            &mut request,
+            &mut open_,
+            &[
+                (Opcode::Write, 0, 10, PLAIN, Count(10), false, None),
+                (Opcode::Sync, 0, 0, PLAIN, Errno(11), false, None),
+                (Opcode::Sync, 0, 0, PLAIN, last, false, Some(outcome)),
+            ],
+        );
+        let (told, _) = request.complete(outcome, &mut open_);
+        if outcome == Success {
+            assert!(rt; matches!(told, RequestOutput::WriteAt(Ok(()))));
+            shows(&rt, &open_, 0, false, true, None);
+        } else {
+            assert!(rt; matches!(told, RequestOutput::WriteAt(Err(Error::Io(Cause::Code(5))))));
+            shows(&rt, &open_, 1, true, true, Some(kept));
+        }
+    }
+    Ok(())
+}
+
+#[test]
+fn durable_requests_after_a_failure(rt: HostRuntime) -> Result<(), Fail> {
+    let io = Failure(Error::Io(Cause::Code(5)));
+    let kept = Error::BlobSyncFailed(2, Cause::Code(5));
+    let mut open_ = Some(OpenRecord::new());
+    let mut first = write(rt.alloc(), 8, WriteAtState::WritingSync, &open_)?;
+    let second = write(rt.alloc(), 8, WriteAtState::WritingSync, &open_)?;
+    play(
+        &rt,
+        &mut first,
+        &mut open_,
+        &[(Opcode::Write, 0, 8, DSYNC, Errno(5), false, Some(io))],
+    );
+    let (told, retired) = first.complete(io, &mut open_);
+    assert!(rt; matches!(told, RequestOutput::WriteAt(Err(Error::Io(Cause::Code(5))))));
+    assert!(rt;
+        matches!(
+            retired,
+            RetiredResources::File {
+                file: 2,
+                write: Some(_)
+            }
+        )
+    );
+    shows(&rt, &open_, 1, true, true, Some(kept));
+    if let Request::WriteAt(write) = &second {
+        assert!(rt; write.state == WriteAtState::WritingSync);
+    }
+    let (told, _) = second.complete(Failure(kept), &mut open_);
+    assert!(rt;
+        matches!(
+            told,
+            RequestOutput::WriteAt(Err(Error::BlobSyncFailed(2, _)))
+        )
+    );
+    shows(&rt, &open_, 2, true, true, Some(kept));
+    let mut sync = SyncRequest::new(2, 2);
+    assert_eq!(rt;
+        Request::Sync(sync).prepare_durability(&open_),
+        Some(Failure(kept))
+    );
+    let clean = Some(OpenRecord::new());
+    assert_eq!(rt;
+        Request::Sync(sync).prepare_durability(&clean),
+        Some(Success)
+    );
+    sync.seen = 1;
+    let (told, _) = Request::Sync(sync).complete(Success, &mut open_);
+    assert!(rt; matches!(told, RequestOutput::Sync(Err(Error::BlobSyncFailed(2, _)))));
+    Ok(())
+}
+
+#[test]
+fn many_chunks(rt: HostRuntime) -> Result<(), Fail> {
+    let mut none = None;
+    let write = WriteBuffers::from(chunks(rt.alloc(), 1_025, 5)?);
+    let mut request = Request::Send(SendRequest::new(3, write, None));
+    play(
+        &rt,
+        &mut request,
+        &mut none,
+        &[
+            (Opcode::Send, 0, 5_120, PLAIN, Count(3), false, None),
+            (Opcode::Send, 0, 5_117, PLAIN, Count(5_117), false, None),
+            (Opcode::Send, 0, 5, PLAIN, Count(5), false, Some(Success)),
+        ],
+    );
+    Ok(())
+}
