@@ -1,5 +1,5 @@
 -- What a request has moved stands for the results that the log shows of it: each event keeps that.
-use Rattle.std.proofs.Common.{◌≡◌, ℕ, zero, suc, ◌+◌, ◌<◌, ◌≤◌, true, false, ◌==◌, if◌then◌else◌, List, [], ◌∷◌, ◌++◌, Option, Some, None, length, map, refl, sym, ◌∙◌, ap, subst, arith, inl, inr, get_or, set, unwrap_or}
+use Rattle.std.proofs.Common.{◌≡◌, ℕ, zero, suc, ◌+◌, ◌<◌, ◌≤◌, true, false, not, ◌&&◌, ◌==◌, if◌then◌else◌, List, [], ◌∷◌, ◌++◌, Option, Some, None, length, map, refl, sym, ◌∙◌, ap, subst, arith, inl, inr, get_or, set, unwrap_or}
 use Rattle.std.proofs.lemmas.Bool.{true≢false, cases_eq, cases_lt, cases_Bool, eq-eqb, ne_eqb, and_parts}
 use Rattle.std.proofs.lemmas.Grind.{get_or-set_at}
 use Rattle.std.proofs.lemmas.List.{append-nil, append_assoc, length-set, length-map, length_push, get_or-set_other, get_or_append_left, get_or_push, get_or_past}
@@ -7,7 +7,7 @@ use Rattle.exec_outcomes.specs.declared.outcome.Judged.{Judged}
 use Rattle.exec_outcomes.specs.declared.outcome.OpResult.{OpResult}
 use Rattle.exec_outcomes.specs.declared.outcome.Outcome.{Outcome}
 use Rattle.exec_outcomes.specs.Lawful.{window_of, is_lawful}
-use Rattle.exec_outcomes.specs.Outcomes.{HasCome, bytes_of, outcome_next, outcome_of}
+use Rattle.exec_outcomes.specs.Outcomes.{HasCome, outcome_next, outcome_of, refuses_hint}
 use Rattle.exec_outcomes.proofs.Runs.{uncancelled, next, goes_on}
 use Rattle.exec_machine.specs.declared.config.Configuration.{Configuration}
 use Rattle.exec_machine.specs.declared.config.Word.{Word}
@@ -23,9 +23,9 @@ use Rattle.exec_machine.specs.declared.state.Phase.TheVariants as phase
 use Rattle.exec_machine.specs.declared.state.Request.{Request}
 use Rattle.exec_machine.specs.Choice.{Choice}
 use Rattle.exec_machine.specs.Choice.Choice.{Plain, Passes, ClosesQueue, Samples, ByTask, PaidByRequest, PaidBySleeper, ByItself}
-use Rattle.exec_machine.specs.World.{World, Operation, worker_of, task_of, operation_of, request_of, no_operation, no_request}
+use Rattle.exec_machine.specs.World.{World, Operation, worker_of, task_of, operation_of, request_of, asked_of, cursor_of, judged_of, no_operation, no_request}
 use Rattle.exec_machine.specs.Allowed.{Allowed, is_queued, is_staged, is_flying, is_resolved, of_worker, next_word, deadline_of, fires_at}
-use Rattle.exec_machine.specs.After.{after, after_turn, after_serve, after_wake, after_reap, after_landing, acting_task, drop_all, dropped, dropped_phase, expired, flown, enrolled, admitted, reaped, new_request, new_operation, target_asked, length_asked, resolved}
+use Rattle.exec_machine.specs.After.{after, went_on, after_turn, after_serve, after_wake, after_reap, after_landing, acting_task, drop_all, dropped, dropped_phase, expired, flown, enrolled, admitted, reaped, new_request, new_operation, target_asked, length_asked, resolved}
 use Rattle.exec_machine.specs.Run.{Follows, after_line, RunsBy, world_after, first_world}
 use Rattle.exec_machine.specs.Results.{result_in, results_of, reaps}
 
@@ -38,7 +38,9 @@ pub record Stands (operations : List Operation) (requests : List Request) (r : �
   pub one_each : length operations ≡ length requests
   -- one that is not there yet has none
   pub none_yet : length requests ≤ r → results ≡ []
-  pub come : IsOpen requests r → HasCome (get_or operations r no_operation).kind (get_or operations r no_operation).length (get_or operations r no_operation).moved results
+  -- no operation of these kinds has the hint
+  pub unhinted : (get_or operations r no_operation).hinted ≡ false
+  pub come : IsOpen requests r → HasCome (asked_of (get_or operations r no_operation)) (cursor_of (get_or operations r no_operation)) results
 
 -- as many requests, and request r is open only where it was
 pub record Less (before later : List Request) (r : ℕ) : Type 0 where
@@ -121,19 +123,34 @@ less {operations} {before} {later} {r} {results} l s =
     (record {
       one_each = s.one_each ∙ sym l.same_length;
       none_yet = λ past. s.none_yet (omega (arith, past, l.same_length));
+      unhinted = s.unhinted;
       come = λ unresolved. s.come (l.stays unresolved);
     })
 
 unchanged : {operations : List Operation} {requests : List Request} {r : ℕ} {results : List Judged} → Stands operations requests r results → Stands operations requests r (results ++ [])
 unchanged {operations} {requests} {r} s = less (Less-refl requests r) s
 
+-- an operation of which nothing has come
+record IsNew (o : Operation) : Type 0 where
+  pub begins : o.moved ≡ 0
+  pub first : o.switched ≡ false
+  pub plain : o.hinted ≡ false
+
 -- one more request, which has moved nothing
-one_more : {operations : List Operation} {requests : List Request} {r : ℕ} {results : List Judged} (o : Operation) (x : Request) → o.moved ≡ 0 → Stands operations requests r results → Stands (operations ++ o ∷ []) (requests ++ x ∷ []) r (results ++ [])
+one_more : {operations : List Operation} {requests : List Request} {r : ℕ} {results : List Judged} (o : Operation) (x : Request) → IsNew o → Stands operations requests r results → Stands (operations ++ o ∷ []) (requests ++ x ∷ []) r (results ++ [])
 one_more {operations} {requests} {r} {results} o x nothing s =
     subst (λ results. Stands (operations ++ o ∷ []) (requests ++ x ∷ []) r results) (sym (append-nil results))
     (record {
       one_each = length_push operations o ∙ (ap (λ n. n + 1) s.one_each ∙ sym (length_push requests x));
       none_yet = λ past. s.none_yet (omega (arith, past, length_push requests x));
+      unhinted =
+          elim (cases_lt r (length operations)) [
+            | inl there ↦ rw (get_or_append_left operations (o ∷ []) no_operation r there) s.unhinted
+            | inr past ↦ elim (cases_lt (length operations) r) [
+              | inl beyond ↦ rw (get_or_past (operations ++ o ∷ []) r no_operation (omega (arith, length_push operations o, beyond))) refl
+              | inr not_beyond ↦ rw (get_or_push operations o no_operation r (omega (arith, past, not_beyond))) nothing.plain
+            ]
+          ];
       come = λ unresolved.
           elim (cases_lt r (length requests)) [
             | inl there ↦
@@ -143,7 +160,7 @@ one_more {operations} {requests} {r} {results} o x nothing s =
               | inl beyond ↦ absurd (true≢false (subst (λ (q : Request). is_resolved q.phase ≡ false) (get_or_past (requests ++ x ∷ []) r no_request (omega (arith, length_push requests x, beyond))) unresolved))
               | inr not_beyond ↦
                   rw (get_or_push operations o no_operation r (omega (arith, s.one_each, past, not_beyond)), s.none_yet past)
-                  (record { undecided = refl; amount = nothing })
+                  (record { undecided = refl; part = nothing.first; amount = nothing.begins; unrefused = λ _. refl })
             ]
           ];
     })
@@ -157,11 +174,12 @@ open_there requests r unresolved =
     ]
 
 -- request r itself changes
-at_once : {operations : List Operation} {requests : List Request} {r : ℕ} {results : List Judged} (o : Operation) (x : Request) (more : List Judged) → r < length requests → (is_resolved x.phase ≡ false → HasCome o.kind o.length o.moved more) → Stands operations requests r results → Stands (set operations r o) (set requests r x) r more
-at_once {operations} {requests} {r} {results} o x more there come s =
+at_once : {operations : List Operation} {requests : List Request} {r : ℕ} {results : List Judged} (o : Operation) (x : Request) (more : List Judged) → r < length requests → o.hinted ≡ false → (is_resolved x.phase ≡ false → HasCome (asked_of o) (cursor_of o) more) → Stands operations requests r results → Stands (set operations r o) (set requests r x) r more
+at_once {operations} {requests} {r} {results} o x more there plain come s =
     record {
       one_each = length-set operations r o ∙ (s.one_each ∙ sym (length-set requests r x));
       none_yet = λ past. absurd (omega (arith, there, past, length-set requests r x));
+      unhinted = rw (get_or-set_at operations r r o no_operation refl (omega (arith, there, s.one_each))) plain;
       come = λ unresolved.
           rw (get_or-set_at operations r r o no_operation refl (omega (arith, there, s.one_each)))
           (come (subst (λ (q : Request). is_resolved q.phase ≡ false) (get_or-set_at requests r r x no_request refl there) unresolved));
@@ -173,6 +191,7 @@ elsewhere {operations} {requests} {r} {results} q o x apart s =
     record {
       one_each = length-set operations q o ∙ (s.one_each ∙ sym (length-set requests q x));
       none_yet = λ past. s.none_yet (omega (arith, past, length-set requests q x));
+      unhinted = rw (get_or-set_other operations q r o no_operation (λ e. apart (sym e))) s.unhinted;
       come = λ unresolved.
           rw (get_or-set_other operations q r o no_operation (λ e. apart (sym e)))
           (s.come (subst (λ (q : Request). is_resolved q.phase ≡ false) (get_or-set_other requests q r x no_request (λ e. apart (sym e))) unresolved));
@@ -180,7 +199,7 @@ elsewhere {operations} {requests} {r} {results} q o x apart s =
 
 -- the operation of a request by one more result
 abbrev by_result : Operation → OpResult → Operation
-by_result o n = record o { moved = o.moved + bytes_of n }
+by_result o n = went_on o n
 
 landed_open : (p : Phase) (n : OpResult) → p ≡ phase.Landed n → is_resolved p ≡ false
 landed_open p n landed = ap is_resolved landed
@@ -188,22 +207,24 @@ landed_open p n landed = ap is_resolved landed
 -- the request whose result is judged
 reap_same : (operations : List Operation) (requests : List Request) (q : ℕ) (n : OpResult) (outcome : Option Outcome) (results : List Judged)
     → (get_or requests q no_request).phase ≡ phase.Landed n
-    → outcome ≡ outcome_next (get_or operations q no_operation).kind (get_or operations q no_operation).length (get_or operations q no_operation).moved (record { result = n; cancelled = (get_or requests q no_request).cancelled })
+    → outcome ≡ outcome_next (asked_of (get_or operations q no_operation)) (cursor_of (get_or operations q no_operation)) (judged_of (get_or operations q no_operation) n (get_or requests q no_request).cancelled)
     → Stands operations requests q results
     → Stands (set operations q (by_result (get_or operations q no_operation) n)) (set requests q (reaped outcome (get_or requests q no_request))) q (results ++ result_in q (Did (Reap q n outcome)))
 reap_same operations requests q n None results landed judged s =
     let o : Operation = get_or operations q no_operation in
     let x : Request = get_or requests q no_request in
     let unresolved : IsOpen requests q = landed_open x.phase n landed in
-    let one : Judged = record { result = n; cancelled = false } in
-    let none : outcome_next o.kind o.length o.moved one ≡ None =
-    subst (λ b. outcome_next o.kind o.length o.moved (record { result = n; cancelled = b }) ≡ None) (uncancelled o.kind o.length o.moved n x.cancelled (sym judged)) (sym judged) in
+    let one : Judged = record { result = n; hinted = false; cancelled = false } in
+    let none : outcome_next (asked_of o) (cursor_of o) (judged_of o n false) ≡ None =
+    subst (λ b. outcome_next (asked_of o) (cursor_of o) (judged_of o n b) ≡ None) (uncancelled (asked_of o) (cursor_of o) (judged_of o n x.cancelled) (sym judged)) (sym judged) in
+    let went : HasCome (asked_of o) (cursor_of (by_result o n)) (results ++ one ∷ []) =
+    subst (λ b. HasCome (asked_of o) (cursor_of (by_result o n)) (results ++ record { result = n; hinted = b; cancelled = false } ∷ [])) s.unhinted (goes_on (asked_of o) (cursor_of o) results (judged_of o n false) (s.come unresolved) (λ h. h) none) in
     rw (eq-eqb q q refl)
-    (at_once (by_result o n) (reaped None x) (results ++ one ∷ []) (open_there requests q unresolved) (λ _. goes_on o.kind o.length o.moved results one (s.come unresolved) none) s)
+    (at_once (by_result o n) (reaped None x) (results ++ one ∷ []) (open_there requests q unresolved) (ap (λ b. b && not (refuses_hint (judged_of o n false))) s.unhinted) (λ _. went) s)
 reap_same operations requests q n (Some outcome) results landed judged s =
     let o : Operation = get_or operations q no_operation in
     let x : Request = get_or requests q no_request in
-    at_once (by_result o n) (reaped (Some outcome) x) (results ++ []) (open_there requests q (landed_open x.phase n landed)) (λ unresolved. absurd (true≢false unresolved)) s
+    at_once (by_result o n) (reaped (Some outcome) x) (results ++ []) (open_there requests q (landed_open x.phase n landed)) (ap (λ b. b && not (refuses_hint (judged_of o n false))) s.unhinted) (λ unresolved. absurd (true≢false unresolved)) s
 
 -- a line of another request shows no result of this one
 result_in-other : (q r : ℕ) (n : OpResult) (outcome : Option Outcome) → (q ≡ r → ⊥) → result_in r (Did (Reap q n outcome)) ≡ []
@@ -212,7 +233,7 @@ result_in-other q r n (Some o) apart = refl
 
 reap : (operations : List Operation) (requests : List Request) (q r : ℕ) (n : OpResult) (outcome : Option Outcome) (results : List Judged)
     → (get_or requests q no_request).phase ≡ phase.Landed n
-    → outcome ≡ outcome_next (get_or operations q no_operation).kind (get_or operations q no_operation).length (get_or operations q no_operation).moved (record { result = n; cancelled = (get_or requests q no_request).cancelled })
+    → outcome ≡ outcome_next (asked_of (get_or operations q no_operation)) (cursor_of (get_or operations q no_operation)) (judged_of (get_or operations q no_operation) n (get_or requests q no_request).cancelled)
     → Stands operations requests r results
     → Stands (set operations q (by_result (get_or operations q no_operation) n)) (set requests q (reaped outcome (get_or requests q no_request))) r (results ++ result_in r (Did (Reap q n outcome)))
 reap operations requests q r n outcome results landed judged s =
@@ -287,7 +308,7 @@ by_reap c w i q n outcome ByItself r results a s = absurd a
 
 -- what an allowed reap says of its result
 reap_allowed : (c : Configuration) (w : World) (i q : ℕ) (n : OpResult) (outcome : Option Outcome) (choice : Choice) → Allowed c w i (Reap q n outcome) choice
-    → ((request_of w q).phase ≡ phase.Landed n) × (outcome ≡ outcome_next (operation_of w q).kind (operation_of w q).length (operation_of w q).moved (record { result = n; cancelled = (request_of w q).cancelled }))
+    → ((request_of w q).phase ≡ phase.Landed n) × (outcome ≡ outcome_next (asked_of (operation_of w q)) (cursor_of (operation_of w q)) (judged_of (operation_of w q) n (request_of w q).cancelled))
 reap_allowed c w i q n outcome Plain a = (a.2, a.3)
 reap_allowed c w i q n outcome Passes a = absurd a
 reap_allowed c w i q n outcome ClosesQueue a = absurd a
@@ -306,7 +327,7 @@ by_event c w i (Done t) choice r results a s = less (drop_all_Less (task_of w t)
 by_event c w i (Fault t n) choice r results a s = less (drop_all_Less (task_of w t).held w.requests r) s
 by_event c w i (Admit q kind outcome) choice r results a s =
     let it = task_of w (acting_task choice) in
-    one_more (new_operation kind (target_asked (next_word it)) (length_asked (next_word it)) (deadline_of c kind (worker_of w i).sampled)) (admitted outcome (new_request i)) refl s
+    one_more (new_operation kind (target_asked (next_word it)) (length_asked (next_word it)) (deadline_of c kind (worker_of w i).sampled)) (admitted outcome (new_request i)) (record { begins = refl; first = refl; plain = refl }) s
 by_event c w i (Wait None) choice r results a s = unchanged s
 by_event c w i (Wait (Some q)) choice r results a s = touch w q (record (request_of w q) { waiter = Some (acting_task choice) }) refl s
 by_event c w i (Got q outcome) choice r results a s = touch w q (record (request_of w q) { observed = false }) refl s
@@ -345,7 +366,7 @@ by_line c w (action.Clock d) (Did e) choice r results f s =
     subst (λ e. Stands w.operations w.requests r (results ++ result_in r (Did e))) (sym f.1) (unchanged s)
 by_line c w (action.Land q n) (Did e) choice r results f s =
     subst (λ e. Stands (after_landing w q n).operations (after_landing w q n).requests r (results ++ result_in r (Did e))) (sym f.1)
-    (by_landing w q n r results (and_parts (is_flying (request_of w q).phase) (is_lawful (window_of (operation_of w q).kind (operation_of w q).length (operation_of w q).moved) n) f.0).0 s)
+    (by_landing w q n r results (and_parts (is_flying (request_of w q).phase) (is_lawful (window_of (asked_of (operation_of w q)) (cursor_of (operation_of w q))) n) f.0).0 s)
 by_line c w (action.Stir i) (Did e) choice r results f s =
     subst (λ e. Stands w.operations w.requests r (results ++ result_in r (Did e))) (sym f.1) (unchanged s)
 
@@ -359,34 +380,34 @@ by_lines c w (l ∷ ls) (choice ∷ choices) r results f s =
     (by_lines c next ls choices r (results ++ result_in r l.said) f.1 (by_line c w l.action l.said choice r results f.0 s))
 
 first_stands : (script : List Word) (r : ℕ) → Stands (first_world script).operations (first_world script).requests r []
-first_stands script r = record { one_each = refl; none_yet = λ _. refl; come = λ unresolved. absurd (true≢false unresolved) }
+first_stands script r = record { one_each = refl; none_yet = λ _. refl; unhinted = refl; come = λ unresolved. absurd (true≢false unresolved) }
 
-pub come : (c : Configuration) (script : List Word) (lines : List Line) (choices : List Choice) (r : ℕ) → RunsBy c (first_world script) lines choices → is_resolved (request_of (world_after c (first_world script) lines choices) r).phase ≡ false → HasCome (operation_of (world_after c (first_world script) lines choices) r).kind (operation_of (world_after c (first_world script) lines choices) r).length (operation_of (world_after c (first_world script) lines choices) r).moved (results_of r lines)
+pub come : (c : Configuration) (script : List Word) (lines : List Line) (choices : List Choice) (r : ℕ) → RunsBy c (first_world script) lines choices → is_resolved (request_of (world_after c (first_world script) lines choices) r).phase ≡ false → HasCome (asked_of (operation_of (world_after c (first_world script) lines choices) r)) (cursor_of (operation_of (world_after c (first_world script) lines choices) r)) (results_of r lines)
 come c script lines choices r runs unresolved = (by_lines c (first_world script) lines choices r [] runs (first_stands script r)).come unresolved
 
 -- from any state: the result that is judged joins those before it
 judged_from : (c : Configuration) (w : World) (lines later : List Line) (choices : List Choice) (i r : ℕ) (n : OpResult) (outcome : Option Outcome) (results : List Judged)
     → RunsBy c w (lines ++ reaps i r n outcome ∷ later) choices
     → Stands w.operations w.requests r results
-    → outcome ≡ outcome_of (operation_of (world_after c w lines choices) r).kind (operation_of (world_after c w lines choices) r).length (results ++ results_of r lines ++ record { result = n; cancelled = (request_of (world_after c w lines choices) r).cancelled } ∷ [])
+    → outcome ≡ outcome_of (asked_of (operation_of (world_after c w lines choices) r)) (results ++ results_of r lines ++ judged_of (operation_of (world_after c w lines choices) r) n (request_of (world_after c w lines choices) r).cancelled ∷ [])
 judged_from c w [] later [] i r n outcome results f s = absurd f
 judged_from c w [] later (choice ∷ choices) i r n outcome results f s =
     let o : Operation = operation_of w r in
     let x : Request = request_of w r in
     let here : Stands w.operations w.requests r (results ++ []) = unchanged s in
     let said = reap_allowed c w i r n outcome choice f.0.1 in
-    said.1 ∙ sym (next o.kind o.length o.moved (results ++ []) (record { result = n; cancelled = x.cancelled }) (here.come (landed_open x.phase n said.0)))
+    said.1 ∙ sym (next (asked_of o) (cursor_of o) (results ++ []) (judged_of o n x.cancelled) (here.come (landed_open x.phase n said.0)) (λ h. h))
 judged_from c w (l ∷ ls) later [] i r n outcome results f s = absurd f
 judged_from c w (l ∷ ls) later (choice ∷ choices) i r n outcome results f s =
     let next : World = after_line c w l.action l.said choice in
     let before : World = world_after c next ls choices in
-    let one : Judged = record { result = n; cancelled = (request_of before r).cancelled } in
-    subst (λ (results : List Judged). outcome ≡ outcome_of (operation_of before r).kind (operation_of before r).length (results ++ one ∷ [])) (append_assoc results (result_in r l.said) (results_of r ls))
+    let one : Judged = judged_of (operation_of before r) n (request_of before r).cancelled in
+    subst (λ (results : List Judged). outcome ≡ outcome_of (asked_of (operation_of before r)) (results ++ one ∷ [])) (append_assoc results (result_in r l.said) (results_of r ls))
     (judged_from c next ls later choices i r n outcome (results ++ result_in r l.said) f.1 (by_line c w l.action l.said choice r results f.0 s))
 
 pub judged : (c : Configuration) (script : List Word) (lines later : List Line) (choices : List Choice) (i r : ℕ) (n : OpResult) (outcome : Option Outcome)
     → RunsBy c (first_world script) (lines ++ reaps i r n outcome ∷ later) choices
-    → outcome ≡ outcome_of (operation_of (world_after c (first_world script) lines choices) r).kind (operation_of (world_after c (first_world script) lines choices) r).length (results_of r lines ++ record { result = n; cancelled = (request_of (world_after c (first_world script) lines choices) r).cancelled } ∷ [])
+    → outcome ≡ outcome_of (asked_of (operation_of (world_after c (first_world script) lines choices) r)) (results_of r lines ++ judged_of (operation_of (world_after c (first_world script) lines choices) r) n (request_of (world_after c (first_world script) lines choices) r).cancelled ∷ [])
 judged c script lines later choices i r n outcome runs = judged_from c (first_world script) lines later choices i r n outcome [] runs (first_stands script r)
 
 -- from any state: where another operation is needed, no cancellation was asked for
@@ -395,7 +416,7 @@ uncancelled_from : (c : Configuration) (w : World) (lines later : List Line) (ch
     → (request_of (world_after c w lines choices) r).cancelled ≡ false
 uncancelled_from c w [] later [] i r n f = absurd f
 uncancelled_from c w [] later (choice ∷ choices) i r n f =
-    uncancelled (operation_of w r).kind (operation_of w r).length (operation_of w r).moved n (request_of w r).cancelled (sym (reap_allowed c w i r n None choice f.0.1).1)
+    uncancelled (asked_of (operation_of w r)) (cursor_of (operation_of w r)) (judged_of (operation_of w r) n (request_of w r).cancelled) (sym (reap_allowed c w i r n None choice f.0.1).1)
 uncancelled_from c w (l ∷ ls) later [] i r n f = absurd f
 uncancelled_from c w (l ∷ ls) later (choice ∷ choices) i r n f = uncancelled_from c (after_line c w l.action l.said choice) ls later choices i r n f.1
 

@@ -5,7 +5,7 @@ use Rattle.exec_outcomes.specs.declared.outcome.Kind.{Kind}
 use Rattle.exec_outcomes.specs.declared.outcome.OpResult.{OpResult}
 use Rattle.exec_outcomes.specs.declared.outcome.Outcome.{Outcome}
 use Rattle.exec_outcomes.specs.declared.outcome.Outcome.TheVariants.{Failure}
-use Rattle.exec_outcomes.specs.Outcomes.{bytes_of}
+use Rattle.exec_outcomes.specs.Outcomes.{cursor_next}
 use Rattle.exec_machine.specs.declared.config.Configuration.{Configuration}
 use Rattle.exec_machine.specs.declared.config.Word.{Word}
 use Rattle.exec_machine.specs.declared.config.Word.TheVariants as word
@@ -25,7 +25,7 @@ use Rattle.exec_machine.specs.declared.state.Request.{Request}
 use Rattle.exec_machine.specs.declared.state.Sleeper.{Sleeper}
 use Rattle.exec_machine.specs.Choice.{Choice}
 use Rattle.exec_machine.specs.Choice.Choice.{Passes, ClosesQueue, Samples, ByTask, PaidByRequest, PaidBySleeper}
-use Rattle.exec_machine.specs.World.{World, Worker, Task, Operation, worker_of, task_of, operation_of, request_of, sleeper_of, no_request}
+use Rattle.exec_machine.specs.World.{World, Worker, Task, Operation, worker_of, task_of, operation_of, request_of, sleeper_of, no_request, asked_of, cursor_of, judged_of}
 use Rattle.exec_machine.specs.Allowed.{is_queued, is_staged, is_in_flight, of_worker, next_place, next_word, deadline_of, fires_at}
 
 abbrev pub set_worker : World → ℕ → Worker → World
@@ -209,13 +209,19 @@ after_done w t =
       requests = drop_all it.held w.requests;
     }
 
+-- the operation of a request by one more result
+abbrev pub went_on : Operation → OpResult → Operation
+went_on o n =
+    let next = cursor_next (asked_of o) (cursor_of o) (judged_of o n false) in
+    record o { moved = next.moved; switched = next.switched; hinted = next.hinted }
+
 abbrev pub after_reap : World → ℕ → ℕ → OpResult → Option Outcome → World
 after_reap w i r n outcome =
     let me = worker_of w i in
     let asked = operation_of w r in
     record w {
       workers = slice_set w.workers i (record me { ready = joined me.ready r outcome; landed = drop 1 me.landed });
-      operations = slice_set w.operations r (record asked { moved = asked.moved + bytes_of n });
+      operations = slice_set w.operations r (went_on asked n);
       requests = slice_set w.requests r (reaped outcome (request_of w r));
     }
 

@@ -33,7 +33,7 @@ use Rattle.exec_machine.specs.declared.state.Sleeper.{Sleeper}
 use Rattle.exec_machine.specs.Choice.{Choice}
 use Rattle.exec_machine.specs.Choice.Choice.{Plain, Passes, ClosesQueue, Samples, ByTask, PaidByRequest, PaidBySleeper, ByItself}
 use Rattle.exec_machine.specs.Ranges.{ring_size, wheel_slots, longest_timeout}
-use Rattle.exec_machine.specs.World.{World, Worker, Task, worker_of, task_of, operation_of, request_of, sleeper_of, no_request}
+use Rattle.exec_machine.specs.World.{World, Worker, Task, worker_of, task_of, operation_of, request_of, sleeper_of, no_request, asked_of, cursor_of, judged_of}
 
 -- tests
 
@@ -183,6 +183,7 @@ Goes t next = (t.waiting ≡ waiting.Nothing) × (next_word t ≡ next)
 abbrev pub deadline_of : Configuration → Kind → ℕ → ℕ
 deadline_of c kind.Send sampled = sampled + c.rw
 deadline_of c kind.Poll sampled = sampled + c.rw
+deadline_of c _ sampled = sampled + c.rw
 
 -- a deadline at or before the sampled moment has passed
 abbrev pub outcome_if_late : ℕ → Option ℕ → Option Outcome
@@ -343,7 +344,7 @@ Allowed c w i (Stage r) Plain =
 Allowed c w i Enter Plain = Unit {0}
 Allowed c w i (Reap r n outcome) Plain =
     (slice_get (worker_of w i).landed 0 ≡ Some r) × ((request_of w r).worker ≡ i) × ((request_of w r).phase ≡ phase.Landed n)
-    × (outcome ≡ outcome_next (operation_of w r).kind (operation_of w r).length (operation_of w r).moved (record { result = n; cancelled = (request_of w r).cancelled }))
+    × (outcome ≡ outcome_next (asked_of (operation_of w r)) (cursor_of (operation_of w r)) (judged_of (operation_of w r) n (request_of w r).cancelled))
 Allowed c w i (Expire r outcome) Plain =
     (is_first_due (round_from c (worker_of w i)) (worker_of w i).sampled i w.requests r ≡ true) × (outcome ≡ (if is_queued (request_of w r).phase then Some (Failure Timeout) else None))
 Allowed c w i (Cancel r) Plain =
@@ -369,5 +370,5 @@ abbrev pub is_enabled : World → Action → Bool
 is_enabled w (action.Work i) = is_awake (worker_of w i).rest && not (has_ended (worker_of w i).phase)
 is_enabled w (action.Clock d) = nat_le (w.clock + d) last_moment
 is_enabled w (action.Land r n) =
-    is_flying (request_of w r).phase && is_lawful (window_of (operation_of w r).kind (operation_of w r).length (operation_of w r).moved) n
+    is_flying (request_of w r).phase && is_lawful (window_of (asked_of (operation_of w r)) (cursor_of (operation_of w r))) n
 is_enabled w (action.Stir i) = not (is_awake (worker_of w i).rest)

@@ -16,7 +16,7 @@ use Rattle.exec_machine.specs.Examples.{does}
 
 -- the result of request r after which it needed another operation, where this says one: it came uncancelled
 abbrev pub result_in : ℕ → Said → List Judged
-result_in r (Did (Reap q n None)) = if q == r then record { result = n; cancelled = false } ∷ [] else []
+result_in r (Did (Reap q n None)) = if q == r then record { result = n; hinted = false; cancelled = false } ∷ [] else []
 result_in r _ = []
 
 -- all of them, in order

@@ -4,7 +4,10 @@ use Rattle.exec_base.specs.declared.error.Error.{Error}
 use Rattle.exec_base.specs.declared.error.Error.TheVariants.{Timeout}
 use Rattle.exec_outcomes.specs.declared.outcome.Kind.{Kind}
 use Rattle.exec_outcomes.specs.declared.outcome.Kind.TheVariants.{Send}
+use Rattle.exec_outcomes.specs.declared.outcome.OpResult.{OpResult}
+use Rattle.exec_outcomes.specs.declared.outcome.Judged.{Judged}
 use Rattle.exec_outcomes.specs.declared.outcome.Outcome.TheVariants.{Failure}
+use Rattle.exec_outcomes.specs.Outcomes.{Asked, Cursor}
 use Rattle.exec_machine.specs.declared.config.Word.{Word}
 use Rattle.exec_machine.specs.declared.state.Message.{Message}
 use Rattle.exec_machine.specs.declared.state.Call.{Call}
@@ -108,6 +111,16 @@ nobody = record { phase = Ended; left = true; rest = Awake; start = 0; sampled =
 -- a task that is over
 abbrev pub no_task : Task
 no_task = record { script = []; place = 0; adapters = []; held = []; phase = Done; cleared = false; home = None; waiting = Nothing; fresh = false }
+
+-- what it asks for as far as its results go, how far it has come, and one more result of it
+abbrev pub asked_of : Operation → Asked
+asked_of o = record { kind = o.kind; length = o.length; skip = o.skip }
+
+abbrev pub cursor_of : Operation → Cursor
+cursor_of o = record { moved = o.moved; switched = o.switched; hinted = o.hinted }
+
+abbrev pub judged_of : Operation → OpResult → Bool → Judged
+judged_of o n cancelled = record { result = n; hinted = o.hinted; cancelled = cancelled }
 
 -- an operation of nothing
 abbrev pub no_operation : Operation
