@@ -7,7 +7,7 @@ use Rattle.std.proofs.lemmas.List.Sums.{sum_by_push}
 use Rattle.exec_machine.specs.World.{Operation, no_request, no_operation}
 use Rattle.exec_machine.specs.declared.state.Request.{Request}
 use Rattle.exec_driver.specs.Books.{request_at, operation_at, one_if, Tracks, TracksGoing, Covers, AreNumbers, AreTimers, Buffers, IsOwned, IsSound, is_ready}
-use Rattle.exec_request.specs.declared.request.Request.{Request as Asked}
+use Rattle.exec_driver.specs.declared.asked.Asked.{Asked}
 use Rattle.exec_driver.specs.declared.wheel.Deadline.{Deadline}
 use Rattle.exec_machine.specs.Allowed.{is_resolved, is_some_number}
 use Rattle.std.specs.BTreeSet.{BTreeSet}

@@ -6,7 +6,7 @@ use Rattle.std.proofs.lemmas.List.{set-set, get_or_read, length-set, get_or_past
 use Rattle.std.proofs.lemmas.List.Sums.{sum_by-cons, sum_by_push, sum_by-set, count_by-le-length}
 use Rattle.exec_machine.specs.World.{Operation, no_request}
 use Rattle.exec_machine.specs.declared.state.Request.{Request}
-use Rattle.exec_request.specs.declared.request.Request.{Request as Asked}
+use Rattle.exec_driver.specs.declared.asked.Asked.{Asked}
 use Rattle.exec_driver.specs.Operations.{operation_view, operations_view}
 use Rattle.exec_driver.specs.Books.{request_at, operation_at, one_if, Tracks, TracksGoing, Covers, AreNumbers, AreTimers, Buffers, IsOwned, IsSound, is_unenrolled}
 use Rattle.exec_machine.specs.Allowed.{is_resolved, is_some_number, is_queued, is_none}

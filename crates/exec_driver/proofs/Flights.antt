@@ -8,7 +8,7 @@ use Rattle.exec_machine.specs.declared.state.Phase.TheVariants.{Staged, Flying}
 use Rattle.exec_machine.specs.Allowed.{of_worker, is_staged, is_resolved, is_in_flight, is_some_number, is_queued}
 use Rattle.exec_machine.specs.After.{flown}
 use Rattle.exec_driver.specs.Books.{request_at, one_if, IsSound, Tracks, TracksGoing, Covers, AreNumbers, AreTimers, Buffers, IsOwned, is_on_ring, is_ready}
-use Rattle.exec_request.specs.declared.request.Request.{Request as Asked}
+use Rattle.exec_driver.specs.declared.asked.Asked.{Asked}
 use Rattle.exec_driver.specs.declared.wheel.Deadline.{Deadline}
 use Rattle.std.specs.BTreeSet.{BTreeSet}
 use Rattle.std.proofs.lemmas.List.{length-map}

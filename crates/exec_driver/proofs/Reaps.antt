@@ -5,8 +5,8 @@ use Rattle.std.proofs.lemmas.Bool.{true≢false, false≢true, cases_eq}
 use Rattle.std.proofs.lemmas.List.{get_or_default, length-map, get_or-map, get_or-set_same, get_or-set_other}
 use Rattle.exec_outcomes.specs.declared.outcome.OpResult.{OpResult}
 use Rattle.exec_outcomes.specs.declared.outcome.Outcome.{Outcome}
-use Rattle.exec_request.specs.declared.request.Request.{Request as Asked}
-use Rattle.exec_request.specs.Views.{kind_of, target_of, length_of, deadline_of, moved_of}
+use Rattle.exec_driver.specs.declared.asked.Asked.{Asked}
+use Rattle.exec_driver.specs.Operations.{kind_of, target_of, length_of, deadline_of, moved_of}
 use Rattle.exec_outcomes.specs.declared.outcome.Kind.{Kind}
 use Rattle.exec_machine.specs.World.{Operation, no_operation}
 use Rattle.exec_machine.specs.declared.state.Phase.{Phase}
@@ -35,19 +35,6 @@ pub view_at : (ss : List Asked) (r : ℕ) (s : Asked) → s ≡ slice_index_or s
 view_at ss r s read there =
     get_or_default (map operation_view ss) r no_operation (operation_view s) (subst (λ (n : ℕ). r < n) (sym (length-map ss operation_view)) there)
     ∙ get_or-map operation_view ss r s (operation_view s) there ∙ ap operation_view (sym read)
-
-abbrev built : Asked → Kind → ℕ → ℕ → ℕ → ℕ → Operation
-built a kind target length deadline moved = record (operation_view a) { kind = kind; target = target; length = length; deadline = Some deadline; moved = moved }
-
--- a request that asks for the same, and of which this much is done
-pub view_moved : (a b : Asked) (m : ℕ) → kind_of b ≡ kind_of a → target_of b ≡ target_of a → length_of b ≡ length_of a → deadline_of b ≡ deadline_of a → moved_of b ≡ m
-    → operation_view b ≡ record (operation_view a) { moved = m }
-view_moved a b m k t l e f =
-    ap (λ (z : Kind). built a z (target_of b) (length_of b) (deadline_of b) (moved_of b)) k
-    ∙ ap (λ (z : ℕ). built a (kind_of a) z (length_of b) (deadline_of b) (moved_of b)) t
-    ∙ ap (λ (z : ℕ). built a (kind_of a) (target_of a) z (deadline_of b) (moved_of b)) l
-    ∙ ap (λ (z : ℕ). built a (kind_of a) (target_of a) (length_of a) z (moved_of b)) e
-    ∙ ap (λ (z : ℕ). built a (kind_of a) (target_of a) (length_of a) (deadline_of a) z) f
 
 -- a request that ends, and has no deadline on the wheel
 pub sound_over : (o : Operation) (x : Request) (t : Outcome) → x.timer ≡ None → IsSound o x → IsSound o (record x { phase = Resolved t })

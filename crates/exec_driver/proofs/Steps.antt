@@ -4,7 +4,7 @@ use Rattle.std.specs.Prelude.{slice_set}
 use Rattle.exec_machine.specs.declared.state.Request.{Request}
 use Rattle.exec_machine.specs.World.{Operation}
 use Rattle.exec_machine.specs.Allowed.{is_resolved}
-use Rattle.exec_request.specs.declared.request.Request.{Request as Asked}
+use Rattle.exec_driver.specs.declared.asked.Asked.{Asked}
 use Rattle.exec_driver.specs.declared.driver.Driver.{Driver}
 use Rattle.exec_driver.specs.Operations.{operations_view}
 use Rattle.exec_driver.specs.Books.{Books, Listed, Becomes, Shows, IsSound, TracksGoing, AreNumbers, Buffers, is_ready, request_at, operation_at}

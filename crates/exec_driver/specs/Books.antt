@@ -4,14 +4,14 @@ use Rattle.std.specs.List.{list_any, list_all}
 use Rattle.std.specs.declared.cmp.Ordering.{Ordering}
 use Rattle.std.specs.Ordering.{nat_cmp, ordering_then}
 use Rattle.std.specs.BTreeSet.{BTreeSet, contains}
-use Rattle.exec_request.specs.declared.request.Request.{Request as Asked}
-use Rattle.exec_request.specs.Views.{has_buffer, owns_nothing}
+use Rattle.exec_driver.specs.declared.asked.Asked.{Asked}
+use Rattle.exec_driver.specs.Operations.{has_buffer, owns_nothing}
 use Rattle.exec_driver.specs.declared.wheel.Deadline.{Deadline}
 use Rattle.exec_outcomes.specs.declared.outcome.OpResult.{OpResult}
 use Rattle.exec_outcomes.specs.Lawful.{window_of, is_lawful}
 use Rattle.exec_machine.specs.declared.state.Phase.TheVariants.{Gated, Landed}
 use Rattle.exec_machine.specs.declared.state.Request.{Request}
-use Rattle.exec_machine.specs.World.{Operation, no_request, no_operation}
+use Rattle.exec_machine.specs.World.{Operation, no_request, no_operation, asked_of, cursor_of, judged_of}
 use Rattle.exec_machine.specs.Allowed.{is_queued, is_staged, is_landed, is_resolved, is_in_flight, is_none, is_some_number, is_timed, is_timed_at, is_not_before, of_worker}
 use Rattle.exec_driver.specs.declared.driver.Driver.{Driver}
 use Rattle.exec_driver.specs.declared.driver.Judgement.{Judgement}
@@ -91,7 +91,7 @@ Buffers asked rs = (r : ℕ) (a : Asked) → slice_get asked r ≡ Some a → Is
 -- the kernel has and that isn't cancelled has a timer.
 pub record IsSound (o : Operation) (r : Request) : Type 0 where
   pub owner : r.worker ≡ 0
-  pub lawful : (given : OpResult) → r.phase ≡ Landed given → IsTrue (is_lawful (window_of o.kind o.length o.moved) given)
+  pub lawful : (given : OpResult) → r.phase ≡ Landed given → IsTrue (is_lawful (window_of (asked_of o) (cursor_of o)) given)
   pub unfinished : is_resolved r.phase ≡ false → o.moved < o.length
   pub kept : is_queued r.phase ≡ true → r.cancelled ≡ false
   pub timely : (moment : ℕ) → o.deadline ≡ Some moment → moment < 2 ^ 63
@@ -138,8 +138,8 @@ pub record IsJudged (os : List Operation) (rs : List Request) (back : List ℕ) 
   pub first : slice_get back 0 ≡ Some j.request
   pub there : j.request < length rs
   pub was : (request_at rs j.request).phase ≡ Landed j.given
-  pub judged : j.outcome ≡ outcome_next (operation_at os j.request).kind (operation_at os j.request).length (operation_at os j.request).moved
-      (record { result = j.given; cancelled = (request_at rs j.request).cancelled })
+  pub judged : j.outcome ≡ outcome_next (asked_of (operation_at os j.request)) (cursor_of (operation_at os j.request))
+      (judged_of (operation_at os j.request) j.given (request_at rs j.request).cancelled)
 
 -- What the lists and numbers say, but for the list of the Queued and the buffers.
 pub record Listed (d : Driver) : Type 0 where

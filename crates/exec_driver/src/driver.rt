@@ -8,21 +8,20 @@
 
 ghost use Rattle.std.specs.Prelude.{◌≡◌, ℕ, not, unwrap_or, if◌then◌else◌, ◌&&◌, ◌==◌, ◌-◌, true, false, ◌+◌, ◌^◌, ◌<◌, ◌≤◌, [], ◌∷◌, ◌++◌, length, length as len, map, drop, IsTrue, IfOk, OnOk, IfSome, OnSome, slice_get, slice_set, slice_index};
 ghost use Rattle.std.specs.List.{find};
-ghost use Rattle.exec_request.specs.Views.{length_of, deadline_of, moved_of, has_buffer};
+ghost use Rattle.exec_machine.specs.World.{asked_of, cursor_of};
 ghost use Rattle.exec_machine.specs.declared.state.Phase.TheVariants.{Gated as gated, Resolved as resolved_with, Queued as queued, Staged as staged, Landed as landed_with};
 ghost use Rattle.exec_outcomes.specs.Lawful.{window_of, is_lawful};
-ghost use Rattle.exec_outcomes.specs.Outcomes.{bytes_of, outcome_next};
 ghost use Rattle.exec_machine.specs.Allowed.{is_none, is_resolved, owes_wake, is_flying, is_queued, is_in_flight};
-ghost use Rattle.exec_machine.specs.After.{flown, dropped, drop_all, after_first_queued, reaped, joined, new_request as machine_request};
-ghost use Rattle.exec_driver.specs.Operations.{operation_view, operations_view};
+ghost use Rattle.exec_machine.specs.After.{flown, went_on, dropped, drop_all, after_first_queued, reaped, joined, new_request as machine_request};
+ghost use Rattle.exec_driver.specs.Operations.{operation_view, operations_view, length_of, deadline_of, moved_of, has_buffer};
 ghost use Rattle.exec_driver.specs.declared.driver.Judgement.{Judgement};
 ghost use Rattle.exec_driver.specs.Books.{Books, Covers, is_unenrolled as needs_enrolling, is_to_cancel as needs_cancelling, IsJudged, Shows, ShowsSame, SameToDo, SameOwed, SameStaged, SameCounts, Tracks, is_on_ring, Listed, Becomes, request_at, operation_at, owes, is_unreleased};
 
+use crate::asked::Asked;
 use crate::wheel::Deadline;
 use exec_base::error::Error;
 use exec_machine::state::{Forwarding, Phase, Request};
 use exec_outcomes::outcome::{OpResult, Outcome};
-use exec_request::request::Request as Asked;
 use std::alloc::{AllocError, Global};
 use std::collections::{BTreeSet, VecDeque};
 
@@ -402,7 +401,7 @@ impl Driver {
         requires books { Books self.old }
         requires flying { is_flying (request_at self.old.requests.items request).phase ≡ true }
         requires lawful { let asked = operation_at (operations_view self.old.asked.items) request in
-            IsTrue (is_lawful (window_of asked.kind asked.length asked.moved) given) }
+            IsTrue (is_lawful (window_of (asked_of asked) (cursor_of asked)) given) }
         ensures books { OnOk result (Books self.new) }
         ensures shows { OnOk result (Shows self.new (operations_view self.old.asked.items)
             (slice_set self.old.requests.items request (record (request_at self.old.requests.items request) { phase = landed_with given }))
@@ -428,7 +427,7 @@ impl Driver {
         ensures shows { (j : Judgement) → result ≡ Ok (Some j) →
             let asked = operation_at (operations_view self.old.asked.items) j.request in
             Shows self.new
-            (slice_set (operations_view self.old.asked.items) j.request (record asked { moved = asked.moved + bytes_of j.given }))
+            (slice_set (operations_view self.old.asked.items) j.request (went_on asked j.given))
             (slice_set self.old.requests.items j.request (reaped j.outcome (request_at self.old.requests.items j.request)))
             (joined self.old.ready.items j.request j.outcome) (drop 1 self.old.landed.items) }
         ensures to_do { OnOk result (SameToDo self.old self.new) }

@@ -62,6 +62,16 @@ impl From<IoBufs> for WriteBuffers {
 }
 
 impl WriteBuffers {
+    /// How many bytes there are, those that have gone too.
+    pub fn total_len(&self) -> usize
+        ensures { result ≡ length_of self.now }
+    {
+        match self {
+            WriteBuffers::Single { buf, .. } => buf.len(),
+            WriteBuffers::Vectored { bufs, .. } => bufs.len(),
+        }
+    }
+
     /// How many bytes are left.
     pub fn remaining_len(&self) -> usize
         requires { is_sound self.now ≡ true }

@@ -12,8 +12,8 @@ use Rattle.exec_driver.specs.Books.{Tracks, IsSound}
 use Rattle.exec_driver.proofs.Appends.{each_more, tracks_more, count_more, count_more_no, going_more, numbers_more, covers_more, covers_new, timers_more, buffers_more}
 use Rattle.exec_machine.specs.After.{new_request}
 use Rattle.std.proofs.lemmas.Bool.{false≢true}
-use Rattle.exec_request.specs.Views.{moved_of, length_of, deadline_of}
-use Rattle.exec_request.specs.declared.request.Request.{Request as Asked}
+use Rattle.exec_driver.specs.Operations.{moved_of, length_of, deadline_of}
+use Rattle.exec_driver.specs.declared.asked.Asked.{Asked}
 use Rattle.exec_driver.proofs.driver.Driver.admit.Goals as goal
 
 sound_new : (a : Asked) → moved_of a ≡ 0 → 0 < length_of a → deadline_of a < 2 ^ 63 → IsSound (operation_view a) (new_request 0)

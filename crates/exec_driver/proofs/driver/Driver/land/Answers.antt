@@ -6,6 +6,7 @@ use Rattle.exec_machine.specs.Allowed.{of_worker, is_queued, is_staged, is_lande
 use Rattle.exec_machine.specs.declared.state.Phase.{Phase}
 use Rattle.exec_machine.specs.declared.state.Phase.TheVariants.{Landed}
 use Rattle.exec_machine.specs.declared.state.Request.{Request}
+use Rattle.exec_machine.specs.World.{asked_of, cursor_of}
 use Rattle.exec_driver.specs.Operations.{operations_view}
 use Rattle.exec_driver.specs.Books.{is_ready, is_on_ring, is_back, owes, is_unreleased, is_unresolved, operation_at, is_unenrolled, is_to_cancel}
 use Rattle.exec_driver.proofs.Change.{changed, keep, join, count_keep, each_keep, was_sound, there_from_test, timers_keep, length_keep, covers_keep, buffers_keep, numbers_keep, going_keep}
@@ -30,7 +31,7 @@ returns-clause-books c =
       same_length = length_keep _ ch b.same_length;
       each = each_keep os ch b.each (record {
         owner = old.owner;
-        lawful = λ g h. subst (λ (n : OpResult). IsTrue (is_lawful (window_of o.kind o.length o.moved) n)) (same_result c.args.given g h) c.requires.lawful;
+        lawful = λ g h. subst (λ (n : OpResult). IsTrue (is_lawful (window_of (asked_of o) (cursor_of o)) n)) (same_result c.args.given g h) c.requires.lawful;
         unfinished = λ _. old.unfinished going;
         kept = λ h. absurd (false≢true h);
         timely = old.timely;

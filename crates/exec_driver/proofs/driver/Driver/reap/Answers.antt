@@ -11,20 +11,20 @@ use Rattle.std.proofs.Common.{◌+◌, drop, slice_get}
 use Rattle.std.specs.Prelude.{slice_set}
 use Rattle.std.proofs.lemmas.List.{length-map, map-set, length-set}
 use Rattle.exec_outcomes.specs.declared.outcome.Judged.{Judged}
-use Rattle.exec_outcomes.specs.Outcomes.{outcome_next, bytes_of}
-use Rattle.exec_machine.specs.World.{Operation}
+use Rattle.exec_outcomes.specs.Outcomes.{outcome_next}
+use Rattle.exec_machine.specs.World.{Operation, asked_of, cursor_of, judged_of}
 use Rattle.exec_machine.specs.declared.state.Phase.TheVariants.{Gated}
-use Rattle.exec_machine.specs.After.{reaped, joined}
+use Rattle.exec_machine.specs.After.{reaped, joined, went_on}
 use Rattle.exec_driver.specs.Operations.{operation_view}
 use Rattle.exec_driver.specs.declared.driver.Judgement.{Judgement}
 use Rattle.exec_driver.specs.Books.{IsSound, IsJudged, Shows}
 use Rattle.exec_driver.proofs.Change.{at_r, twice}
-use Rattle.exec_driver.proofs.Reaps.{landed_with, reaped_gated, view_at, sound_reaped, each_both, view_moved, going_joined, numbers_joined, released_reaped}
+use Rattle.exec_driver.proofs.Reaps.{landed_with, reaped_gated, view_at, sound_reaped, each_both, going_joined, numbers_joined, released_reaped}
 use Rattle.exec_outcomes.proofs.Runs.{uncancelled}
 use Rattle.std.proofs.lemmas.Option.{slice_get_read}
 use Rattle.std.proofs.lemmas.Bool.{false≢true}
-use Rattle.exec_request.specs.Views.{moved_of}
-use Rattle.exec_request.specs.declared.request.Request.{Request as Asked}
+use Rattle.exec_driver.specs.Operations.{moved_of}
+use Rattle.exec_driver.specs.declared.asked.Asked.{Asked}
 use Rattle.exec_driver.proofs.driver.Driver.reap.Goals as goal
 
 pub index_mut-entry-requires : goal.index_mut-entry-requires
@@ -105,6 +105,29 @@ on_cqe-outcome-requires-clause-unfinished c =
     let same : o ≡ operation_view s = view_at d.asked.items r s c.index_mut-asked.ensures.value send_there in
     subst (λ (p : Operation). p.moved < p.length) same (old.unfinished (ap is_resolved was))
 
+pub on_cqe-outcome-requires-clause-held : goal.on_cqe-outcome-requires-clause-held
+on_cqe-outcome-requires-clause-held c =
+    let d = c.args.self.now in
+    let b = c.requires in
+    let os = operations_view d.asked.items in
+    let r = c.in-Some.request in
+    let rs = d.requests.items in
+    let rest = c.pop_front.new.self.items in
+    let there = front_there is_back rs d.landed.items rest r refl b.landed c.in-Some.ensures.items in
+    let x = c.index_mut-entry.result.now in
+    let q = record x { phase = Gated } in
+    let ch = changed rs r x q c.index_mut-entry.ensures.value there in
+    let passes = read_passes is_back ch (front_passes is_back rs d.landed.items rest r b.landed c.in-Some.ensures.items) in
+    let old = was_sound os ch b.each in
+    let was : x.phase ≡ Landed c.in-Landed.given = c.in-Landed.is in
+    let given = c.in-Landed.given in
+    let s = c.index_mut-asked.result.now in
+    let o = operation_at os r in
+    let send_there : r < length d.asked.items = omega (arith, b.same_length) in
+    let same : o ≡ operation_view s = view_at d.asked.items r s c.index_mut-asked.ensures.value send_there in
+    let free = (old.fresh (ap is_resolved was)).0 in
+    (b.buffers r s (slice_get_read d.asked.items (length d.asked.items) r s refl send_there c.index_mut-asked.ensures.value)).0 (ap (λ (z : Request). z.released) (sym ch.read) ∙ free)
+
 pub on_cqe-outcome-requires-clause-lawful : goal.on_cqe-outcome-requires-clause-lawful
 on_cqe-outcome-requires-clause-lawful c =
     let d = c.args.self.now in
@@ -125,7 +148,7 @@ on_cqe-outcome-requires-clause-lawful c =
     let o = operation_at os r in
     let send_there : r < length d.asked.items = omega (arith, b.same_length) in
     let same : o ≡ operation_view s = view_at d.asked.items r s c.index_mut-asked.ensures.value send_there in
-    subst (λ (p : Operation). IsTrue (is_lawful (window_of p.kind p.length p.moved) given)) same (old.lawful given was)
+    subst (λ (p : Operation). IsTrue (is_lawful (window_of (asked_of p) (cursor_of p)) given)) same (old.lawful given was)
 
 pub settle-requires-clause-listed : goal.settle-requires-clause-listed
 settle-requires-clause-listed c =
@@ -193,9 +216,9 @@ settle-requires-clause-watched c = λ none.
     let o = operation_at os r in
     let send_there : r < length d.asked.items = omega (arith, b.same_length) in
     let same : o ≡ operation_view s = view_at d.asked.items r s c.index_mut-asked.ensures.value send_there in
-    let judged : Judged = record { result = given; cancelled = x.cancelled } in
-    let next : c.on_cqe-outcome.result ≡ outcome_next o.kind o.length o.moved judged = c.on_cqe-outcome.ensures.next ∙ ap (λ (p : Operation). outcome_next p.kind p.length p.moved judged) (sym same) in
-    ap (λ (z : Request). is_none z.timer) (at_r ch) ∙ old.watched (ap is_in_flight was) (uncancelled o.kind o.length o.moved given x.cancelled (sym next ∙ none))
+    let judged : Judged = judged_of o given x.cancelled in
+    let next : c.on_cqe-outcome.result ≡ outcome_next (asked_of o) (cursor_of o) judged = c.on_cqe-outcome.ensures.next ∙ ap (λ (p : Operation). outcome_next (asked_of p) (cursor_of p) (judged_of p given x.cancelled)) (sym same) in
+    ap (λ (z : Request). is_none z.timer) (at_r ch) ∙ old.watched (ap is_in_flight was) (uncancelled (asked_of o) (cursor_of o) judged (sym next ∙ none))
 
 pub settle-requires-clause-gated : goal.settle-requires-clause-gated
 settle-requires-clause-gated c =
@@ -253,24 +276,22 @@ returns-clause-books c =
     let outcome = c.on_cqe-outcome.result in
     let t = c.on_cqe-outcome.new.self in
     let settled = c.in_ok-settle.ensures in
-    let judged : Judged = record { result = given; cancelled = x.cancelled } in
+    let judged : Judged = judged_of o given x.cancelled in
     let new = c.settle.new.self.requests.items in
     let e : new ≡ slice_set rs r (reaped outcome x) =
     twice rs (slice_set rs r q) new r q _ refl settled.requests
     ∙ ap (λ (z : Request). slice_set rs r (reaped outcome z)) (at_r ch)
     ∙ ap (slice_set rs r) (reaped_gated outcome x) in
-    let more = record o { moved = o.moved + bytes_of given } in
-    let kept = c.on_cqe-outcome.ensures.same in
-    let view : operation_view t ≡ more = view_moved s t (moved_of s + bytes_of given) kept.0 kept.1 kept.2 kept.3 c.on_cqe-outcome.ensures.moved ∙ ap (λ (p : Operation). record p { moved = p.moved + bytes_of given }) (sym same) in
+    let more = went_on o given in
+    let view : operation_view t ≡ more = c.on_cqe-outcome.ensures.view ∙ ap (λ (p : Operation). went_on p given) (sym same) in
     let eos : operations_view c.settle.new.self.asked.items ≡ slice_set os r more = ap operations_view settled.asked ∙ map-set operation_view d.asked.items r t ∙ ap (slice_set os r) view in
-    let next : outcome ≡ outcome_next o.kind o.length o.moved judged = c.on_cqe-outcome.ensures.next ∙ ap (λ (p : Operation). outcome_next p.kind p.length p.moved judged) (sym same) in
+    let next : outcome ≡ outcome_next (asked_of o) (cursor_of o) judged = c.on_cqe-outcome.ensures.next ∙ ap (λ (p : Operation). outcome_next (asked_of p) (cursor_of p) (judged_of p given x.cancelled)) (sym same) in
     let listed = settled.listed in
     let ch2 = changed rs r x (reaped outcome x) c.index_mut-entry.ensures.value there in
     let views = operations_view c.settle.new.self.asked.items in
     let going = ap is_resolved was in
     let free = (old.fresh going).0 in
-    let had = (b.buffers r s (slice_get_read d.asked.items (length d.asked.items) r s refl send_there c.index_mut-asked.ensures.value)).0 (ap (λ (z : Request). z.released) (sym ch.read) ∙ free) in
-    let owned : IsOwned (reaped outcome x).released t = ((λ _. kept.4 ∙ had), (λ h. absurd (false≢true (sym (released_reaped outcome x ∙ free) ∙ h)))) in
+    let owned : IsOwned (reaped outcome x).released t = ((λ _. c.on_cqe-outcome.ensures.held), (λ h. absurd (false≢true (sym (released_reaped outcome x ∙ free) ∙ h)))) in
     let os_there : r < length os = omega (arith, length-map d.asked.items operation_view) in
     record {
       same_length = ap length settled.asked ∙ length-set d.asked.items r t ∙ length_keep _ ch2 b.same_length ∙ ap length (sym e);
@@ -279,7 +300,7 @@ returns-clause-books c =
           (each_both os more ch2 os_there b.each
           (sound_reaped outcome more x old.owner
           (λ h. subst (λ (p : Operation). p.moved < p.length) view (c.on_cqe-outcome.ensures.unfinished h))
-          (λ h. uncancelled o.kind o.length o.moved given x.cancelled (sym next ∙ h)) old.timely (old.fresh (ap is_resolved was)))));
+          (λ h. uncancelled (asked_of o) (cursor_of o) judged (sym next ∙ h)) old.timely (old.fresh (ap is_resolved was)))));
       buffers = along (λ (ss : List Asked). Buffers ss new) (slice_set d.asked.items r t) c.settle.new.self.asked.items settled.asked
           (along (λ (zs : List Request). Buffers (slice_set d.asked.items r t) zs) (slice_set rs r (reaped outcome x)) new e
           (buffers_set d.asked.items t ch2 send_there owned b.buffers));
@@ -320,8 +341,8 @@ returns-clause-judged c =
     let send_there : r < length d.asked.items = omega (arith, b.same_length) in
     let same : o ≡ operation_view s = view_at d.asked.items r s c.index_mut-asked.ensures.value send_there in
     let outcome = c.on_cqe-outcome.result in
-    let judged : Judged = record { result = given; cancelled = x.cancelled } in
-    let next : outcome ≡ outcome_next o.kind o.length o.moved judged = c.on_cqe-outcome.ensures.next ∙ ap (λ (p : Operation). outcome_next p.kind p.length p.moved judged) (sym same) in
+    let judged : Judged = judged_of o given x.cancelled in
+    let next : outcome ≡ outcome_next (asked_of o) (cursor_of o) judged = c.on_cqe-outcome.ensures.next ∙ ap (λ (p : Operation). outcome_next (asked_of p) (cursor_of p) (judged_of p given x.cancelled)) (sym same) in
     λ j h.
     let i : Judgement = record { request = r; given = given; outcome = outcome } in
     let same_j : i ≡ j = cc in
@@ -330,7 +351,7 @@ returns-clause-judged c =
       first = ap (λ (xs : List ℕ). slice_get xs 0) c.in-Some.ensures.items;
       there = there;
       was = ap (λ (z : Request). z.phase) (sym ch.read) ∙ was;
-      judged = next ∙ ap (λ (z : Request). outcome_next o.kind o.length o.moved (record { result = given; cancelled = z.cancelled })) ch.read;
+      judged = next ∙ ap (λ (z : Request). outcome_next (asked_of o) (cursor_of o) (judged_of o given z.cancelled)) ch.read;
     })
 
 pub returns-clause-shows : goal.returns-clause-shows
@@ -356,23 +377,22 @@ returns-clause-shows c =
     let outcome = c.on_cqe-outcome.result in
     let t = c.on_cqe-outcome.new.self in
     let settled = c.in_ok-settle.ensures in
-    let judged : Judged = record { result = given; cancelled = x.cancelled } in
+    let judged : Judged = judged_of o given x.cancelled in
     let new = c.settle.new.self.requests.items in
     let e : new ≡ slice_set rs r (reaped outcome x) =
     twice rs (slice_set rs r q) new r q _ refl settled.requests
     ∙ ap (λ (z : Request). slice_set rs r (reaped outcome z)) (at_r ch)
     ∙ ap (slice_set rs r) (reaped_gated outcome x) in
-    let more = record o { moved = o.moved + bytes_of given } in
-    let kept = c.on_cqe-outcome.ensures.same in
-    let view : operation_view t ≡ more = view_moved s t (moved_of s + bytes_of given) kept.0 kept.1 kept.2 kept.3 c.on_cqe-outcome.ensures.moved ∙ ap (λ (p : Operation). record p { moved = p.moved + bytes_of given }) (sym same) in
+    let more = went_on o given in
+    let view : operation_view t ≡ more = c.on_cqe-outcome.ensures.view ∙ ap (λ (p : Operation). went_on p given) (sym same) in
     let eos : operations_view c.settle.new.self.asked.items ≡ slice_set os r more = ap operations_view settled.asked ∙ map-set operation_view d.asked.items r t ∙ ap (slice_set os r) view in
-    let next : outcome ≡ outcome_next o.kind o.length o.moved judged = c.on_cqe-outcome.ensures.next ∙ ap (λ (p : Operation). outcome_next p.kind p.length p.moved judged) (sym same) in
+    let next : outcome ≡ outcome_next (asked_of o) (cursor_of o) judged = c.on_cqe-outcome.ensures.next ∙ ap (λ (p : Operation). outcome_next (asked_of p) (cursor_of p) (judged_of p given x.cancelled)) (sym same) in
     λ j h.
     let i : Judgement = record { request = r; given = given; outcome = outcome } in
     let same_j : i ≡ j = cc in
     subst (λ (z : Judgement).
     let asked = operation_at os z.request in
-    Shows c.settle.new.self (slice_set os z.request (record asked { moved = asked.moved + bytes_of z.given })) (slice_set rs z.request (reaped z.outcome (request_at rs z.request))) (joined d.ready.items z.request z.outcome) (drop 1 d.landed.items)) same_j
+    Shows c.settle.new.self (slice_set os z.request (went_on asked z.given)) (slice_set rs z.request (reaped z.outcome (request_at rs z.request))) (joined d.ready.items z.request z.outcome) (drop 1 d.landed.items)) same_j
     (record {
       operations = eos;
       requests = e ∙ ap (λ (z : Request). slice_set rs r (reaped outcome z)) ch.read;

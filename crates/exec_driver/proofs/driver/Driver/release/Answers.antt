@@ -10,7 +10,6 @@ use Rattle.std.proofs.lemmas.List.{length-set}
 use Rattle.std.specs.Prelude.{slice_set}
 use Rattle.exec_machine.specs.World.{Operation}
 use Rattle.exec_driver.specs.Books.{IsSound}
-use Rattle.exec_driver.proofs.Reaps.{view_moved}
 use Rattle.exec_driver.proofs.driver.Driver.release.Goals as goal
 
 pub index_mut-requires : goal.index_mut-requires
@@ -39,7 +38,7 @@ returns-clause-books c =
     let passes = read_passes is_unreleased ch (front_passes is_unreleased d.requests.items d.resources.items rest r b.resources c.in-Some.ensures.items) in
     let old = was_sound os ch b.each in
     let there_asked : r < length d.asked.items = omega (arith, b.same_length) in
-    let same = view_keep d.asked.items r c.index_mut.result.now c.release.new.self c.index_mut.ensures.value there_asked (let s = c.release.ensures.same in view_moved c.index_mut.result.now c.release.new.self _ s.0 s.1 s.2 s.3 s.4) in
+    let same = view_keep d.asked.items r c.index_mut.result.now c.release.new.self c.index_mut.ensures.value there_asked c.release.ensures.view in
     record {
       same_length = length-set _ _ _ ∙ length_keep _ ch b.same_length;
       each = subst (λ (ops : List Operation). (k : ℕ) → IsSound (operation_at ops k) (request_at (slice_set d.requests.items r q) k)) (sym same) (each_keep os ch b.each (record { owner = old.owner; lawful = old.lawful; unfinished = old.unfinished; kept = old.kept; timely = old.timely; fresh = λ h. absurd (true≢false (sym (and_parts (is_resolved x.phase) _ passes).0 ∙ h)); ungated = old.ungated; timed = old.timed; watched = old.watched }));
@@ -72,5 +71,5 @@ returns-clause-shows c =
     let passes = read_passes is_unreleased ch (front_passes is_unreleased d.requests.items d.resources.items rest r b.resources c.in-Some.ensures.items) in
     let old = was_sound os ch b.each in
     let there_asked : r < length d.asked.items = omega (arith, b.same_length) in
-    let same = view_keep d.asked.items r c.index_mut.result.now c.release.new.self c.index_mut.ensures.value there_asked (let s = c.release.ensures.same in view_moved c.index_mut.result.now c.release.new.self _ s.0 s.1 s.2 s.3 s.4) in
+    let same = view_keep d.asked.items r c.index_mut.result.now c.release.new.self c.index_mut.ensures.value there_asked c.release.ensures.view in
     record { operations = same; requests = ap (λ (z : Request). slice_set d.requests.items r (record z { released = true })) ch.read; ready = refl; landed = refl }
