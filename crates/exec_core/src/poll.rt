@@ -19,10 +19,8 @@ use crate::place::{Place, Then};
 use crate::root::Act;
 use exec_machine::event::Event;
 use exec_machine::state::{Phase, TaskPhase, Waiting};
+use exec_driver::asked::Asked;
 use exec_outcomes::outcome::{Kind, Outcome};
-use exec_request::poll::PollRequest;
-use exec_request::request::Request;
-use exec_request::send::SendRequest;
 use std::alloc::{AllocError, Global};
 use std::mem;
 
@@ -108,7 +106,7 @@ impl Core {
         let bytes = vec![in alloc; 0u8; length as usize]?;
         let request = self
             .driver
-            .admit(Request::Send(SendRequest::new(socket, bytes, deadline)))?;
+            .admit(Asked::send(socket, bytes, deadline))?;
         self.root.place = self.root.next_place() + 1;
         self.root.held.push(request)?;
         self.place = Place::Act;
@@ -128,7 +126,7 @@ impl Core {
         let deadline = self.sampled + self.config.rw;
         let request = self
             .driver
-            .admit(Request::Poll(PollRequest::new(listener, deadline)))?;
+            .admit(Asked::poll(listener, deadline))?;
         self.root.place = self.root.next_place() + 1;
         self.root.held.push(request)?;
         self.place = Place::Act;

@@ -45,6 +45,9 @@ impl Asked {
     /// A send of these bytes.
     pub fn send(fd: usize, bytes: Vec<u8>, deadline: u64) -> Asked
         ensures view { operation_view result ≡ new_operation kind.Send fd (vec_len bytes) deadline }
+        ensures begins { moved_of result ≡ 0 }
+        ensures length { length_of result ≡ vec_len bytes }
+        ensures deadline { deadline_of result ≡ deadline }
         ensures owns { has_buffer result ≡ true }
     {
         let write = WriteBuffers::Single {
@@ -57,6 +60,9 @@ impl Asked {
     /// A poll of this listener.
     pub fn poll(fd: usize, deadline: u64) -> Asked
         ensures view { operation_view result ≡ new_operation kind.Poll fd 1 deadline }
+        ensures begins { moved_of result ≡ 0 }
+        ensures length { length_of result ≡ 1 }
+        ensures deadline { deadline_of result ≡ deadline }
         ensures owns { has_buffer result ≡ true }
     {
         Asked::Poll(PollRequest::new(fd, Some(deadline)))

@@ -5,9 +5,6 @@ use Rattle.exec_machine.specs.Allowed.{kind_asked, next_word}
 use Rattle.exec_core.specs.View.{task_view}
 use Rattle.exec_core.proofs.Doings.{admits, poll_asked}
 use Rattle.exec_core.specs.declared.root.Root.{Root}
-use Rattle.exec_request.specs.declared.poll.PollRequest.{PollRequest}
-use Rattle.exec_request.specs.declared.request.Request.TheVariants as asked
-use Rattle.exec_driver.specs.Operations.{operation_view}
 use Rattle.exec_core.proofs.executor.Core.admit_poll.Goals as goal
 
 pub returns : goal.returns
@@ -17,5 +14,5 @@ returns c =
     let later : k.sampled < k.sampled + k.config.rw = omega (arith, c.requires.sound.config.some_time) in
     admits k c.admit.new.self r c.in_ok-request.request kind.Poll _ c.requires.sound c.in_ok-request.ensures.books c.in_ok-request.ensures.shows
     c.in_ok-request.ensures.number c.requires.next.0 (ap kind_asked c.requires.next.1)
-    (ap (λ (x : PollRequest). operation_view (asked.Poll x)) c.new.ensures ∙ poll_asked (next_word (task_view k.root)) c.args.listener (k.sampled + k.config.rw) c.requires.next.1)
+    (c.poll.ensures.view ∙ poll_asked (next_word (task_view k.root)) c.args.listener (k.sampled + k.config.rw) c.requires.next.1)
     (lt-leb (k.sampled + k.config.rw) k.sampled later) (ap (λ n. n + 1) c.next_place.ensures) c.in_ok-push.ensures.items
