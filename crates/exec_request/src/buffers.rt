@@ -5,9 +5,8 @@
 //! may belong to a caller. No operation takes more than 1,024 chunks, nor more bytes than its length can say.
 
 ghost use Rattle.std.specs.Prelude.{◌≡◌, true, IsTrue, ℕ, ◌+◌, ◌-◌, ◌<◌, ◌≤◌, ◌^◌, ◌↔◌, [], List, length, take, drop, min, slice_index_or};
-ghost use Rattle.std.specs.List.{concat};
 ghost use Rattle.exec_bufs.specs.Buffers.{total};
-ghost use Rattle.exec_request.specs.Buffers.{length_of, moved_of, is_sound, batch_of};
+ghost use Rattle.exec_request.specs.Buffers.{length_of, moved_of, owners_of, is_sound, batch_of};
 
 use crate::results::LARGEST_WINDOW;
 use exec_bufs::buf::IoBuf;
@@ -42,9 +41,10 @@ pub enum WriteBuffers {
 impl From<IoBufs> for WriteBuffers {
     ghost use Rattle.std.specs.Prelude.{◌≡◌, true};
     ghost use Rattle.exec_bufs.specs.Buffers.{total};
-    ghost use Rattle.exec_request.specs.Buffers.{length_of, moved_of, is_sound};
+    ghost use Rattle.std.specs.List.{concat};
+    ghost use Rattle.exec_request.specs.Buffers.{length_of, moved_of, owners_of, is_sound};
 
-    ghost from_gives = { λ bufs w. (length_of w ≡ total bufs) × (moved_of w ≡ 0) × (is_sound w ≡ true) };
+    ghost from_gives = { λ bufs w. (length_of w ≡ total bufs) × (moved_of w ≡ 0) × (is_sound w ≡ true) × (concat (owners_of w) ≡ concat bufs) };
 
     /// All of these bytes. One chunk is kept as it is.
     fn from(bufs: IoBufs) -> WriteBuffers {
@@ -98,6 +98,7 @@ impl WriteBuffers {
         ensures sound { is_sound self.new ≡ true }
         ensures moved { moved_of self.new ≡ moved_of self.old + count }
         ensures same { length_of self.new ≡ length_of self.old }
+        ensures owners { owners_of self.new ≡ owners_of self.old }
     {
         match self {
             WriteBuffers::Single { buf, offset } => {

@@ -11,7 +11,7 @@ ghost use Rattle.exec_outcomes.specs.Outcomes.{HasCome, is_unsupported};
 ghost use Rattle.exec_outcomes.specs.declared.outcome.Judged.{Judged};
 ghost use Rattle.exec_request.specs.Hints.{has_hint, without_hint};
 ghost use Rattle.exec_request.specs.Judging.{Judges, judged_as};
-ghost use Rattle.exec_request.specs.Requests.{asked_of, cursor_of, hinted_of, target_of, deadline_of, goes_on_alone, gate_of, outcome_if_granted, window_by, record_after, output_of, retired_of};
+ghost use Rattle.exec_request.specs.Requests.{asked_of, owned_bytes, cursor_of, hinted_of, target_of, deadline_of, goes_on_alone, gate_of, outcome_if_granted, window_by, record_after, output_of, retired_of};
 
 use crate::connect::ConnectRequest;
 use crate::open_record::OpenRecord;
@@ -107,6 +107,7 @@ impl Request {
         ensures hint { hinted_of self.new ≡ result.hint }
         ensures asked { asked_of self.new ≡ asked_of self.old }
         ensures goes_on { (results : List Judged) → HasCome (asked_of self.old) (cursor_of self.old) results → HasCome (asked_of self.new) (cursor_of self.new) results }
+        ensures bytes { owned_bytes self.new ≡ owned_bytes self.old }
         ensures target { target_of self.new ≡ target_of self.old }
         ensures deadline { deadline_of self.new ≡ deadline_of self.old }
     {
@@ -152,6 +153,7 @@ impl Request {
         requires lawful { IsTrue (is_lawful (window_of (asked_of self.old) (cursor_of self.old)) given) }
         ensures judges { Judges (asked_of self.old) (cursor_of self.old) (cursor_of self.new) (judged_as (hinted_of self.old) state given) result }
         ensures asked { asked_of self.new ≡ asked_of self.old }
+        ensures bytes { owned_bytes self.new ≡ owned_bytes self.old }
         ensures target { target_of self.new ≡ target_of self.old }
         ensures deadline { deadline_of self.new ≡ deadline_of self.old }
         ensures open { open_.new ≡ (if hinted_of self.old && is_unsupported given then without_hint open_.old else open_.old) }

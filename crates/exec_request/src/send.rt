@@ -31,6 +31,7 @@ impl SendRequest {
     ghost use Rattle.std.specs.Prelude.{◌≤◌, IsTrue, false};
     ghost use Rattle.exec_outcomes.specs.Lawful.{is_lawful, window_of};
     ghost use Rattle.exec_outcomes.specs.Outcomes.{outcome_next};
+    ghost use Rattle.exec_request.specs.Buffers.{owners_of};
     ghost use Rattle.exec_request.specs.States.{result_of};
     ghost use Rattle.exec_request.specs.Judging.{Judges, judged_as};
     ghost use Rattle.exec_request.specs.Views.{send_asked, send_cursor, send_window};
@@ -71,6 +72,7 @@ impl SendRequest {
         requires lawful { IsTrue (is_lawful (window_of (send_asked self.old) (send_cursor self.old)) given) }
         ensures judges { Judges (send_asked self.old) (send_cursor self.old) (send_cursor self.new) (judged_as false state given) result }
         ensures asked { send_asked self.new ≡ send_asked self.old }
+        ensures owners { owners_of self.new.write ≡ owners_of self.old.write }
         ensures fd { self.new.fd ≡ self.old.fd }
         ensures deadline { self.new.deadline ≡ self.old.deadline }
     {

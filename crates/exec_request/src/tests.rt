@@ -23,36 +23,70 @@ use std::alloc::Global;
 use std::process::Abort;
 use std::test::Fail;
 
-/// How an operation goes: with the hint, directly, durably.
-type Flags = (bool, bool, bool);
+/// An operation that is asked for: its kind, offset and length, and whether it has the hint, is direct, is durable.
+type Wanted = (Opcode, u64, u32, bool, bool, bool);
 
-const PLAIN: Flags = (false, false, false);
+/// An operation that is asked for, its result, and what the request answered.
+type Turn = (Wanted, OpResult, Option<Outcome>);
 
-const HINT: Flags = (true, false, false);
+const ACTIVE: WaiterState = WaiterState::Active { target_tick: None };
 
-const DIRECT: Flags = (false, true, false);
+const CANCELLED: WaiterState = WaiterState::CancelRequested;
 
-const DSYNC: Flags = (false, false, true);
+const MORE: Option<Outcome> = None;
 
-/// An operation that is asked for, with its offset, its length and how it goes; its result; whether cancellation had
-/// been asked for by then; and what the request answered, None where it needs another operation.
-type Turn = (Opcode, u64, u32, Flags, OpResult, bool, Option<Outcome>);
+const OK: Option<Outcome> = Some(Success);
 
-/// Takes the turns in order.
-fn play(rt: &impl Abort, request: &mut Request, open_: &mut Option<OpenRecord>, turns: &[Turn]) {
-    for &(kind, offset, length, flags, given, cancelled, answer) in turns {
-        let window: Window = request.build_sqe(open_);
-        assert_eq!(rt;
-            (window.kind, window.offset, window.length),
-            (kind, offset, length)
-        );
-        assert_eq!(rt; (window.hint, window.direct, window.dsync), flags);
+const SYNCS: Wanted = (Opcode::Sync, 0, 0, false, false, false);
+
+const CONNECTS: Wanted = (Opcode::Connect, 0, 0, false, false, false);
+
+const POLLS: Wanted = (Opcode::Poll, 0, 0, false, false, false);
+
+fn fails(error: Error) -> Option<Outcome> {
+    Some(Failure(error))
+}
+
+fn sends(length: u32) -> Wanted {
+    (Opcode::Send, 0, length, false, false, false)
+}
+
+fn receives(length: u32) -> Wanted {
+    (Opcode::Recv, 0, length, false, false, false)
+}
+
+fn reads(offset: u64, length: u32, hint: bool) -> Wanted {
+    (Opcode::Read, offset, length, hint, false, false)
+}
+
+fn reads_directly(offset: u64, length: u32) -> Wanted {
+    (Opcode::Read, offset, length, false, true, false)
+}
+
+fn writes(length: u32, dsync: bool) -> Wanted {
+    (Opcode::Write, 0, length, false, false, dsync)
+}
+
+/// Takes the turns in order. `state` says whether cancellation had been asked for.
+fn play(
+    rt: &impl Abort,
+    request: &mut Request,
+    open_: &mut Option<OpenRecord>,
+    state: WaiterState,
+    turns: &[Turn],
+) {
+    for &(wanted, given, answer) in turns {
+        let Window {
+            kind,
+            target: _,
+            offset,
+            length,
+            hint,
+            direct,
+            dsync,
+        } = request.build_sqe(open_);
+        assert_eq!(rt; (kind, offset, length, hint, direct, dsync), wanted);
         assert!(rt; request.may_give(given));
-        let state = if cancelled {
-            WaiterState::CancelRequested
-        } else {
-            WaiterState::Active { target_tick: None }
-        };
         assert_eq!(rt; request.on_cqe(state, given, open_), answer);
     }
 }
@@ -100,11 +134,12 @@ fn sends_of_ten_bytes(rt: HostRuntime) -> Result<(), Fail> {
         &rt,
         &mut request,
         &mut none,
+        ACTIVE,
         &[
-            (Opcode::Send, 0, 10, PLAIN, Errno(11), false, None),
-            (Opcode::Send, 0, 10, PLAIN, Count(4), false, None),
-            (Opcode::Send, 0, 6, PLAIN, Errno(4), false, None),
-            (Opcode::Send, 0, 6, PLAIN, Count(6), false, Some(Success)),
+            (sends(10), Errno(11), MORE),
+            (sends(10), Count(4), MORE),
+            (sends(6), Errno(4), MORE),
+            (sends(6), Count(6), OK),
         ],
     );
     assert_eq!(rt;
@@ -131,17 +166,10 @@ fn sends_of_ten_bytes(rt: HostRuntime) -> Result<(), Fail> {
         &rt,
         &mut request,
         &mut none,
+        ACTIVE,
         &[
-            (Opcode::Send, 0, 10, PLAIN, Count(4), false, None),
-            (
-                Opcode::Send,
-                0,
-                6,
-                PLAIN,
-                Count(0),
-                false,
-                Some(Failure(Error::SendFailed)),
-            ),
+            (sends(10), Count(4), MORE),
+            (sends(6), Count(0), fails(Error::SendFailed)),
         ],
     );
     Ok(())
@@ -163,18 +191,15 @@ fn exact_receives_whose_deadline_passes(rt: HostRuntime) -> Result<(), Fail> {
         &rt,
         &mut request,
         &mut none,
-        &[
-            (Opcode::Recv, 0, 8, PLAIN, Count(3), false, None),
-            (
-                Opcode::Recv,
-                0,
-                5,
-                PLAIN,
-                Count(2),
-                true,
-                Some(Failure(Error::Timeout)),
-            ),
-        ],
+        ACTIVE,
+        &[(receives(8), Count(3), MORE)],
+    );
+    play(
+        &rt,
+        &mut request,
+        &mut none,
+        CANCELLED,
+        &[(receives(5), Count(2), fails(Error::Timeout))],
     );
     let (told, retired) = request.complete(Failure(Error::Timeout), &mut none);
     assert!(rt; matches!(told, RequestOutput::Recv(Err((_, Error::Timeout)))));
@@ -184,10 +209,15 @@ fn exact_receives_whose_deadline_passes(rt: HostRuntime) -> Result<(), Fail> {
         &rt,
         &mut request,
         &mut none,
-        &[
-            (Opcode::Recv, 0, 8, PLAIN, Count(3), false, None),
-            (Opcode::Recv, 0, 5, PLAIN, Count(5), true, Some(Success)),
-        ],
+        ACTIVE,
+        &[(receives(8), Count(3), MORE)],
+    );
+    play(
+        &rt,
+        &mut request,
+        &mut none,
+        CANCELLED,
+        &[(receives(5), Count(5), OK)],
     );
     let (told, _) = request.complete(Success, &mut none);
     assert!(rt; matches!(told, RequestOutput::Recv(Ok((_, 8)))));
@@ -212,7 +242,8 @@ fn cancelled_connects_and_polls(rt: HostRuntime) {
             &rt,
             &mut request,
             &mut none,
-            &[(Opcode::Connect, 0, 0, PLAIN, given, true, Some(outcome))],
+            CANCELLED,
+            &[(CONNECTS, given, Some(outcome))],
         );
         let (_, retired) = request.complete(outcome, &mut none);
         assert!(rt; matches!(retired, RetiredResources::Connect { fd: 5, .. }));
@@ -222,10 +253,15 @@ fn cancelled_connects_and_polls(rt: HostRuntime) {
         &rt,
         &mut request,
         &mut none,
-        &[
-            (Opcode::Poll, 0, 0, PLAIN, Errno(11), false, None),
-            (Opcode::Poll, 0, 0, PLAIN, Count(1), true, Some(Success)),
-        ],
+        ACTIVE,
+        &[(POLLS, Errno(11), MORE)],
+    );
+    play(
+        &rt,
+        &mut request,
+        &mut none,
+        CANCELLED,
+        &[(POLLS, Count(1), OK)],
     );
     let (told, retired) = request.complete(Success, &mut none);
     assert!(rt; matches!(told, RequestOutput::Poll(Ok(()))));
@@ -246,15 +282,8 @@ fn direct_reads(rt: HostRuntime) -> Result<(), Fail> {
         &rt,
         &mut request,
         &mut open_,
-        &[(
-            Opcode::Read,
-            4096,
-            4096,
-            DIRECT,
-            Count(3904),
-            false,
-            Some(Success),
-        )],
+        ACTIVE,
+        &[(reads_directly(4096, 4096), Count(3904), OK)],
     );
     let (told, retired) = request.complete(Success, &mut open_);
     assert!(rt;
@@ -275,17 +304,10 @@ fn direct_reads(rt: HostRuntime) -> Result<(), Fail> {
         &rt,
         &mut request,
         &mut open_,
+        ACTIVE,
         &[
-            (Opcode::Read, 4096, 4096, DIRECT, Count(2000), false, None),
-            (
-                Opcode::Read,
-                5000,
-                3000,
-                HINT,
-                Count(3000),
-                false,
-                Some(Success),
-            ),
+            (reads_directly(4096, 4096), Count(2000), MORE),
+            (reads(5000, 3000, true), Count(3000), OK),
         ],
     );
     let mut request = direct(&rt, rt.alloc())?;
@@ -293,16 +315,13 @@ fn direct_reads(rt: HostRuntime) -> Result<(), Fail> {
         &rt,
         &mut request,
         &mut open_,
+        ACTIVE,
         &[
-            (Opcode::Read, 4096, 4096, DIRECT, Count(0), false, None),
+            (reads_directly(4096, 4096), Count(0), MORE),
             (
-                Opcode::Read,
-                5000,
-                3000,
-                HINT,
+                reads(5000, 3000, true),
                 Count(0),
-                false,
-                Some(Failure(Error::BlobInsufficientLength)),
+                fails(Error::BlobInsufficientLength),
             ),
         ],
     );
@@ -338,17 +357,10 @@ fn reads_with_the_hint(rt: HostRuntime) -> Result<(), Fail> {
         &rt,
         &mut request,
         &mut open_,
+        ACTIVE,
         &[
-            (Opcode::Read, 0, 100, HINT, Errno(95), false, None),
-            (
-                Opcode::Read,
-                0,
-                100,
-                PLAIN,
-                Count(100),
-                false,
-                Some(Success),
-            ),
+            (reads(0, 100, true), Errno(95), MORE),
+            (reads(0, 100, false), Count(100), OK),
         ],
     );
     shows(&rt, &open_, 0, false, false, None);
@@ -357,15 +369,8 @@ fn reads_with_the_hint(rt: HostRuntime) -> Result<(), Fail> {
         &rt,
         &mut request,
         &mut open_,
-        &[(
-            Opcode::Read,
-            0,
-            100,
-            PLAIN,
-            Count(100),
-            false,
-            Some(Success),
-        )],
+        ACTIVE,
+        &[(reads(0, 100, false), Count(100), OK)],
     );
     let mut open_ = Some(OpenRecord::new());
     let mut request = hinted_read(rt.alloc())?;
@@ -373,17 +378,10 @@ fn reads_with_the_hint(rt: HostRuntime) -> Result<(), Fail> {
         &rt,
         &mut request,
         &mut open_,
+        ACTIVE,
         &[
-            (Opcode::Read, 0, 100, HINT, Errno(95), false, None),
-            (
-                Opcode::Read,
-                0,
-                100,
-                PLAIN,
-                Errno(95),
-                false,
-                Some(Failure(Error::ReadFailed)),
-            ),
+            (reads(0, 100, true), Errno(95), MORE),
+            (reads(0, 100, false), Errno(95), fails(Error::ReadFailed)),
         ],
     );
     let (told, _) = request.complete(Failure(Error::ReadFailed), &mut open_);
@@ -427,10 +425,11 @@ fn writes_with_a_trailing_sync(rt: HostRuntime) -> Result<(), Fail> {
             &rt,
             &mut request,
             &mut open_,
+            ACTIVE,
             &[
-                (Opcode::Write, 0, 10, PLAIN, Count(10), false, None),
-                (Opcode::Sync, 0, 0, PLAIN, Errno(11), false, None),
-                (Opcode::Sync, 0, 0, PLAIN, last, false, Some(outcome)),
+                (writes(10, false), Count(10), MORE),
+                (SYNCS, Errno(11), MORE),
+                (SYNCS, last, Some(outcome)),
             ],
         );
         let (told, _) = request.complete(outcome, &mut open_);
@@ -456,7 +455,8 @@ fn durable_requests_after_a_failure(rt: HostRuntime) -> Result<(), Fail> {
         &rt,
         &mut first,
         &mut open_,
-        &[(Opcode::Write, 0, 8, DSYNC, Errno(5), false, Some(io))],
+        ACTIVE,
+        &[(writes(8, true), Errno(5), Some(io))],
     );
     let (told, retired) = first.complete(io, &mut open_);
     assert!(rt; matches!(told, RequestOutput::WriteAt(Err(Error::Io(Cause::Code(5))))));
@@ -506,10 +506,11 @@ fn many_chunks(rt: HostRuntime) -> Result<(), Fail> {
         &rt,
         &mut request,
         &mut none,
+        ACTIVE,
         &[
-            (Opcode::Send, 0, 5_120, PLAIN, Count(3), false, None),
-            (Opcode::Send, 0, 5_117, PLAIN, Count(5_117), false, None),
-            (Opcode::Send, 0, 5, PLAIN, Count(5), false, Some(Success)),
+            (sends(5120), Count(3), MORE),
+            (sends(5117), Count(5_117), MORE),
+            (sends(5), Count(5), OK),
         ],
     );
     Ok(())

@@ -7,7 +7,7 @@ ghost use Rattle.std.specs.Prelude.{◌≡◌, ℕ, ◌+◌, ◌-◌, ◌<◌, �
 ghost use Rattle.exec_outcomes.specs.Lawful.{is_lawful};
 ghost use Rattle.exec_outcomes.specs.Outcomes.{outcome_next};
 ghost use Rattle.exec_outcomes.specs.declared.outcome.Kind.TheVariants.{Write, Dsync, Many};
-ghost use Rattle.exec_request.specs.Buffers.{length_of, moved_of, is_sound};
+ghost use Rattle.exec_request.specs.Buffers.{length_of, moved_of, owners_of, is_sound};
 
 use crate::buffers::WriteBuffers;
 use crate::cache::Cache;
@@ -149,6 +149,7 @@ impl WriteAtRequest {
         requires lawful { IsTrue (is_lawful (window_of (write_asked self.old) (write_cursor self.old)) given) }
         ensures judges { Judges (write_asked self.old) (write_cursor self.old) (write_cursor self.new) (judged_as (write_hinted self.old) state given) result }
         ensures asked { write_asked self.new ≡ write_asked self.old }
+        ensures owners { owners_of self.new.write ≡ owners_of self.old.write }
         ensures range { self.new.offset + moved_of self.old.write ≡ self.old.offset + moved_of self.new.write }
         ensures open { open_.new ≡ (if write_hinted self.old && is_unsupported given then without_hint open_.old else open_.old) }
         ensures file { self.new.file ≡ self.old.file }
@@ -251,6 +252,7 @@ impl WriteAtRequest {
         ensures cursor { (cancelled : Bool) → let next = cursor_next (write_asked self.old) (write_cursor self.old) (record { result = given; hinted = write_hinted self.old; cancelled = cancelled }) in
             ((if is_syncing self.new.state then 0 else moved_of self.new.write) ≡ next.moved) × (is_syncing self.new.state ≡ next.switched) }
         ensures asked { write_asked self.new ≡ write_asked self.old }
+        ensures owners { owners_of self.new.write ≡ owners_of self.old.write }
         ensures range { self.new.offset + moved_of self.old.write ≡ self.old.offset + moved_of self.new.write }
         ensures file { self.new.file ≡ self.old.file }
         ensures seen { self.new.seen ≡ self.old.seen }
