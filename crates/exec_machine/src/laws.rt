@@ -17,7 +17,7 @@ ghost use Rattle.exec_machine.specs.Run.{RunsBy, first_world, world_after};
 ghost use Rattle.exec_machine.specs.Examples.{the_config, one_send, flying_choices, refused, until_asleep, until_ended};
 ghost use Rattle.exec_machine.specs.Results.{results_of, reaps, sent_in_two};
 
-/// The machine keeps of a request's results only how many bytes they moved. In each run that stands for all
+/// The machine keeps of a request's results only how far they brought it. In each run that stands for all
 /// results that the log shows of it, as long as the request isn't over; so wherever a result is judged, the
 /// outcome is that of all its results, and another operation is needed only if no cancellation was asked for.
 pub fn outcomes_are_of_all_results()
