@@ -1,6 +1,12 @@
 pub mod Calls
+pub mod Credits
 pub mod Doings
+pub mod Dues
+pub mod Goings
+pub mod Keeping
 pub mod Lines
+pub mod Looks
+pub mod Lulls
 pub mod Moments
 pub mod Naps
 pub mod Polls

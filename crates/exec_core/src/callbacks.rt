@@ -5,6 +5,10 @@ ghost use Rattle.exec_core.specs.Places.{class_then, Holds};
 ghost use Rattle.exec_machine.specs.Choice.{Choice};
 ghost use Rattle.exec_machine.specs.Choice.Choice.{Plain};
 ghost use Rattle.exec_core.specs.Sound.{SoundAt, StepsTo, Suits};
+ghost use Rattle.std.specs.Prelude.{◌≢◌, ◌⊎◌, ◌<◌, nat_lt};
+ghost use Rattle.exec_machine.specs.Progress.{is_closing};
+ghost use Rattle.exec_core.specs.Credit.{callbacks_of, height, signs, weigh};
+ghost use Rattle.exec_core.specs.Minds.{Minds, Proceeds};
 
 use crate::executor::Core;
 use crate::place::{Back, Place, Round, Service, Stay, Then};
@@ -13,8 +17,10 @@ use exec_machine::event::Event;
 impl Core {
     /// Takes the batch of callbacks.
     pub fn take_callbacks(&mut self, then: Then) -> Event
-        requires { SoundAt (Place.Callbacks then) self.old }
-        ensures { StepsTo self.old result Plain self.new }
+        requires sound { SoundAt (Place.Callbacks then) self.old }
+        requires minds { Minds (Place.Callbacks then) self.old }
+        ensures steps { StepsTo self.old result Plain self.new }
+        ensures proceeds { Proceeds (Place.Callbacks then) self.old result self.new }
     {
         self.place = self.next_callback(then);
         Event::Turn
@@ -22,8 +28,10 @@ impl Core {
 
     /// Makes the next callback: wakes come first, and what requests owned comes last.
     pub fn call_back(&mut self, then: Then) -> Event
-        requires { SoundAt (Place.Item then) self.old }
-        ensures { (choice : Choice) × StepsTo self.old result choice self.new }
+        requires sound { SoundAt (Place.Item then) self.old }
+        requires minds { Minds (Place.Item then) self.old }
+        ensures steps { (choice : Choice) × StepsTo self.old result choice self.new }
+        ensures proceeds { Proceeds (Place.Item then) self.old result self.new }
     {
         if !self.driver.wakes.is_empty() {
             self.call_wake(then)
@@ -38,8 +46,11 @@ impl Core {
 
     /// Wakes the task that waited for a resolved request.
     fn call_wake(&mut self, then: Then) -> Event
-        requires { SoundAt (Place.Item then) self.old }
-        ensures { (choice : Choice) × StepsTo self.old result choice self.new }
+        requires sound { SoundAt (Place.Item then) self.old }
+        requires minds { Minds (Place.Item then) self.old }
+        requires some { self.old.driver.wakes.items ≢ [] }
+        ensures steps { (choice : Choice) × StepsTo self.old result choice self.new }
+        ensures proceeds { Proceeds (Place.Item then) self.old result self.new }
     {
         match self.driver.pay_wake() {
             Some(paid) => {
@@ -56,8 +67,11 @@ impl Core {
 
     /// Wakes the task of a sleeper whose moment has come.
     fn call_sleeper(&mut self, then: Then) -> Event
-        requires { SoundAt (Place.Item then) self.old }
-        ensures { (choice : Choice) × StepsTo self.old result choice self.new }
+        requires sound { SoundAt (Place.Item then) self.old }
+        requires minds { Minds (Place.Item then) self.old }
+        requires some { self.old.timers.wakes.items ≢ [] }
+        ensures steps { (choice : Choice) × StepsTo self.old result choice self.new }
+        ensures proceeds { Proceeds (Place.Item then) self.old result self.new }
     {
         match self.timers.pay_wake() {
             Some(paid) => {
@@ -74,8 +88,11 @@ impl Core {
 
     /// Drops an output that nobody takes.
     fn drop_output(&mut self, then: Then) -> Event
-        requires { SoundAt (Place.Item then) self.old }
-        ensures { (choice : Choice) × StepsTo self.old result choice self.new }
+        requires sound { SoundAt (Place.Item then) self.old }
+        requires minds { Minds (Place.Item then) self.old }
+        requires some { self.old.driver.outputs.items ≢ [] }
+        ensures steps { (choice : Choice) × StepsTo self.old result choice self.new }
+        ensures proceeds { Proceeds (Place.Item then) self.old result self.new }
     {
         self.driver.outputs.pop_front();
         self.place = self.next_callback(then);
@@ -84,8 +101,11 @@ impl Core {
 
     /// Lets go of what a resolved request owned.
     fn release(&mut self, then: Then) -> Event
-        requires { SoundAt (Place.Item then) self.old }
-        ensures { (choice : Choice) × StepsTo self.old result choice self.new }
+        requires sound { SoundAt (Place.Item then) self.old }
+        requires minds { Minds (Place.Item then) self.old }
+        requires no_others { (self.old.driver.wakes.items ≡ []) × (self.old.driver.outputs.items ≡ []) × (self.old.timers.wakes.items ≡ []) }
+        ensures steps { (choice : Choice) × StepsTo self.old result choice self.new }
+        ensures proceeds { Proceeds (Place.Item then) self.old result self.new }
     {
         match self.driver.release() {
             Some(request) => {
@@ -102,7 +122,9 @@ impl Core {
     /// The next callback of the batch, or where they lead.
     fn next_callback(&self, then: Then) -> Place
         requires { Holds (class_then then) self.now.phase self.now.left self.now.queue_closed self.now.stopped self.now.root.phase }
-        ensures { Suits result self.now }
+        ensures suits { Suits result self.now }
+        ensures minds { Minds (Place.Item then) self.now → Minds result self.now }
+        ensures falls { is_closing self.now.phase ≡ false → ((result ≡ Place.Item then) × (0 < callbacks_of self.now)) ⊎ (weigh (height result) (signs self.now) < weigh (height (Place.Item then)) (signs self.now)) }
     {
         if self.has_callbacks() {
             Place::Item { then }
@@ -113,6 +135,7 @@ impl Core {
 
     /// Whether something waits for the callbacks.
     pub fn has_callbacks(&self) -> bool
+        ensures some { result ≡ nat_lt 0 (callbacks_of self.now) }
         ensures none { result ≡ false → (self.now.driver.wakes.items ≡ []) × (self.now.driver.outputs.items ≡ []) × (self.now.driver.resources.items ≡ []) × (self.now.timers.wakes.items ≡ []) }
     {
         self.driver.has_callbacks() || !self.timers.wakes.is_empty()
@@ -122,7 +145,10 @@ impl Core {
     fn after_callbacks(&self, then: Then) -> Place
         requires holds { Holds (class_then then) self.now.phase self.now.left self.now.queue_closed self.now.stopped self.now.root.phase }
         requires empty { self.now.driver.resources.items ≡ [] }
-        ensures { Suits result self.now }
+        requires none { callbacks_of self.now ≡ 0 }
+        ensures suits { Suits result self.now }
+        ensures minds { Minds (Place.Item then) self.now → Minds result self.now }
+        ensures falls { is_closing self.now.phase ≡ false → weigh (height result) (signs self.now) < weigh (height (Place.Item then)) (signs self.now) }
     {
         match then {
             Then::Look => Place::LoadHead {

@@ -12,21 +12,32 @@ use exec_machine::step::Action;
 use exec_outcomes::outcome::OpResult;
 use std::alloc::{AllocError, Global};
 
-/// In the wake word: the worker sleeps on it.
-pub const SLEEPING: u64 = 1;
-/// In the wake word: the worker waits on its ring.
-pub const ON_RING: u64 = 2;
-/// In the wake word: the worker was signalled.
-pub const SIGNALLED: u64 = 4;
-
 /// The clock never passes this moment, in nanoseconds.
 pub const LAST_MOMENT: u64 = 0x4000_0000_0000_0000;
 
-/// The words that other parties look at, as plain numbers.
+/// The wake word of a worker: in which of its two waits it is, and whether it was signalled.
+#[derive(Clone, Copy, Debug, PartialEq, Eq)]
+pub struct WakeWord {
+    /// It sleeps on this word.
+    pub sleeping: bool,
+    /// It waits on its ring.
+    pub on_ring: bool,
+    /// It was signalled: the latch.
+    pub signalled: bool,
+}
+
+/// A wake word of a worker that is in no wait and was not signalled.
+pub const NO_WAKE: WakeWord = WakeWord {
+    sleeping: false,
+    on_ring: false,
+    signalled: false,
+};
+
+/// The words that other parties look at.
 #[derive(Clone, Copy, Debug, PartialEq, Eq)]
 pub struct Words {
-    /// Bit 0: sleeping, bit 1: it waits on its ring, bit 2: it was signalled.
-    pub wake: u64,
+    /// The wake word.
+    pub wake: WakeWord,
     /// The set of idle workers, a bit for each.
     pub idle: u64,
     /// How many search counts are held or reserved.
@@ -91,6 +102,10 @@ impl Core {
     ghost use Rattle.exec_machine.specs.Ranges.{first_out_of_range};
     ghost use Rattle.exec_core.specs.View.{world};
     ghost use Rattle.exec_core.specs.Sound.{SendsBytes, Sound, Applies, Lands, Moves, Stirs};
+    ghost use Rattle.exec_machine.specs.Progress.{quiet_bound};
+    ghost use Rattle.exec_core.specs.Credit.{credit};
+    ghost use Rattle.exec_core.specs.Minds.{Minds, IsAtRest, Stands, Goes};
+    ghost use Rattle.std.specs.Prelude.{◌<◌};
 
     /// An executor whose root has this script, and is queued.
     pub fn new(alloc: Global, config: Configuration, script: Vec<Word>) -> Result<Self, AllocError>
@@ -98,7 +113,8 @@ impl Core {
         requires script { SendsBytes script.items }
         ensures config { IfOk result (λ core. core.config ≡ config) }
         ensures begins { IfOk result (λ core. world core ≡ first_world script.items) }
-        ensures sound { IfOk result Sound }
+        ensures stands { IfOk result Stands }
+        ensures bounded { IfOk result (λ core. credit core < quiet_bound config (world core)) }
     {
         Ok(Core {
             config,
@@ -127,7 +143,7 @@ impl Core {
             driver: Driver::new(alloc),
             timers: Timers::new(alloc),
             words: Words {
-                wake: 0,
+                wake: NO_WAKE,
                 idle: 0,
                 searching: 0,
                 mirror: 0,
@@ -182,8 +198,9 @@ impl Core {
     /// Takes the step if it may be taken, and answers its line. After an `Err` the executor is spent: no step
     /// may follow.
     pub fn apply(&mut self, alloc: Global, action: Action) -> Result<Line, AllocError>
-        requires { Sound self.old }
-        ensures { IfOk result (λ line. Applies self.old action line self.new) }
+        requires { Stands self.old }
+        ensures applies { IfOk result (λ line. Applies self.old action line self.new) }
+        ensures goes { IfOk result (λ line. Goes self.old line self.new) }
     {
         if !self.enabled(action) {
             return Ok(Line {
@@ -205,10 +222,12 @@ impl Core {
 
     /// The operation of the request lands with this result, and rouses the worker.
     fn land(&mut self, request: usize, given: OpResult) -> Result<Event, AllocError>
-        requires sound { Sound self.old }
+        requires stands { Stands self.old }
         requires enabled { is_enabled (world self.old) (landing request given) ≡ true }
         ensures land { IfOk result (λ event. event ≡ landed) }
         ensures steps { OnOk result (Lands self.old request given self.new) }
+        ensures minds { OnOk result (Minds self.new.place self.new) }
+        ensures rest { OnOk result (IsAtRest self.new) }
     {
         self.driver.land(request, given)?;
         self.rest = Rest::Awake;
@@ -217,10 +236,12 @@ impl Core {
 
     /// The clock moves, and rouses the worker where it slept until then.
     fn move_clock(&mut self, by: u64) -> Event
-        requires sound { Sound self.old }
+        requires stands { Stands self.old }
         requires enabled { is_enabled (world self.old) (moving by) ≡ true }
         ensures moved { result ≡ Event.Clock }
         ensures steps { Moves self.old by self.new }
+        ensures minds { Minds self.new.place self.new }
+        ensures rest { IsAtRest self.new }
     {
         self.clock += by;
         if let Rest::Until(moment) = self.rest {
@@ -233,9 +254,11 @@ impl Core {
 
     /// The wait of the worker returns for nothing.
     fn stir(&mut self) -> Event
-        requires { Sound self.old }
+        requires { Stands self.old }
         ensures stirred { result ≡ Event.Stir }
         ensures steps { Stirs self.old self.new }
+        ensures minds { Minds self.new.place self.new }
+        ensures rest { IsAtRest self.new }
     {
         self.rest = Rest::Awake;
         Event::Stir

@@ -13,13 +13,14 @@ ghost use Rattle.exec_machine.specs.Choice.{Choice};
 ghost use Rattle.exec_machine.specs.Choice.Choice.{Plain, ByTask, ByItself};
 ghost use Rattle.exec_driver.specs.Sleeps.{sleeper_at};
 ghost use Rattle.exec_core.specs.Sound.{SoundAt, StepsTo};
+ghost use Rattle.exec_core.specs.Minds.{Minds, Proceeds};
 
 use crate::executor::Core;
 use crate::place::{Place, Then};
 use crate::root::Act;
+use exec_driver::asked::Asked;
 use exec_machine::event::Event;
 use exec_machine::state::{Phase, TaskPhase, Waiting};
-use exec_driver::asked::Asked;
 use exec_outcomes::outcome::{Kind, Outcome};
 use std::alloc::{AllocError, Global};
 use std::mem;
@@ -30,8 +31,10 @@ const LONGEST_TIMEOUT: u64 = 946_080_000_000_000_000;
 impl Core {
     /// The poll of the root begins.
     pub fn begin_poll(&mut self) -> Event
-        requires { SoundAt Place.Poll self.old }
-        ensures { StepsTo self.old result Plain self.new }
+        requires sound { SoundAt Place.Poll self.old }
+        requires minds { Minds Place.Poll self.old }
+        ensures steps { StepsTo self.old result Plain self.new }
+        ensures proceeds { Proceeds Place.Poll self.old result self.new }
     {
         self.root.begin();
         self.place = Place::Act;
@@ -40,8 +43,10 @@ impl Core {
 
     /// The root does its next act.
     pub fn act(&mut self, alloc: Global) -> Result<Event, AllocError>
-        requires { SoundAt Place.Act self.old }
-        ensures { IfOk result (λ event. (choice : Choice) × StepsTo self.old event choice self.new) }
+        requires sound { SoundAt Place.Act self.old }
+        requires minds { Minds Place.Act self.old }
+        ensures steps { IfOk result (λ event. (choice : Choice) × StepsTo self.old event choice self.new) }
+        ensures proceeds { IfOk result (λ event. Proceeds Place.Act self.old event self.new) }
     {
         match self.root.next_act() {
             Act::Done => self.finish_root(alloc),
@@ -73,8 +78,10 @@ impl Core {
     /// The root is over, and lets go of what it holds.
     fn finish_root(&mut self, alloc: Global) -> Result<Event, AllocError>
         requires sound { SoundAt Place.Act self.old }
+        requires minds { Minds Place.Act self.old }
         requires next { IsNextAct self.old.root act.Done }
-        ensures { IfOk result (λ event. StepsTo self.old event Plain self.new) }
+        ensures steps { IfOk result (λ event. StepsTo self.old event Plain self.new) }
+        ensures proceeds { IfOk result (λ event. Proceeds Place.Act self.old event self.new) }
     {
         let held = mem::replace(&mut self.root.held, Vec::new(alloc));
         self.driver.let_go_all(held.as_slice())?;
@@ -86,8 +93,10 @@ impl Core {
     /// The root is over by a fault, and lets go of what it holds.
     fn fault_root(&mut self, alloc: Global, code: u64) -> Result<Event, AllocError>
         requires sound { SoundAt Place.Act self.old }
+        requires minds { Minds Place.Act self.old }
         requires next { IsNextAct self.old.root (act.Fault code) }
-        ensures { IfOk result (λ event. StepsTo self.old event Plain self.new) }
+        ensures steps { IfOk result (λ event. StepsTo self.old event Plain self.new) }
+        ensures proceeds { IfOk result (λ event. Proceeds Place.Act self.old event self.new) }
     {
         let held = mem::replace(&mut self.root.held, Vec::new(alloc));
         self.driver.let_go_all(held.as_slice())?;
@@ -99,14 +108,14 @@ impl Core {
     /// The root makes a send.
     fn admit_send(&mut self, alloc: Global, socket: usize, length: u64) -> Result<Event, AllocError>
         requires sound { SoundAt Place.Act self.old }
+        requires minds { Minds Place.Act self.old }
         requires next { IsNextAct self.old.root (act.Send socket length) }
-        ensures { IfOk result (λ event. StepsTo self.old event (ByTask 0) self.new) }
+        ensures steps { IfOk result (λ event. StepsTo self.old event (ByTask 0) self.new) }
+        ensures proceeds { IfOk result (λ event. Proceeds Place.Act self.old event self.new) }
     {
         let deadline = self.sampled + self.config.rw;
         let bytes = vec![in alloc; 0u8; length as usize]?;
-        let request = self
-            .driver
-            .admit(Asked::send(socket, bytes, deadline))?;
+        let request = self.driver.admit(Asked::send(socket, bytes, deadline))?;
         self.root.place = self.root.next_place() + 1;
         self.root.held.push(request)?;
         self.place = Place::Act;
@@ -120,13 +129,13 @@ impl Core {
     /// The root makes a poll.
     fn admit_poll(&mut self, listener: usize) -> Result<Event, AllocError>
         requires sound { SoundAt Place.Act self.old }
+        requires minds { Minds Place.Act self.old }
         requires next { IsNextAct self.old.root (act.Poll listener) }
-        ensures { IfOk result (λ event. StepsTo self.old event (ByTask 0) self.new) }
+        ensures steps { IfOk result (λ event. StepsTo self.old event (ByTask 0) self.new) }
+        ensures proceeds { IfOk result (λ event. Proceeds Place.Act self.old event self.new) }
     {
         let deadline = self.sampled + self.config.rw;
-        let request = self
-            .driver
-            .admit(Asked::poll(listener, deadline))?;
+        let request = self.driver.admit(Asked::poll(listener, deadline))?;
         self.root.place = self.root.next_place() + 1;
         self.root.held.push(request)?;
         self.place = Place::Act;
@@ -140,8 +149,10 @@ impl Core {
     /// The root lets go of the newest request that it holds.
     fn drop_newest(&mut self, request: usize) -> Result<Event, AllocError>
         requires sound { SoundAt Place.Act self.old }
+        requires minds { Minds Place.Act self.old }
         requires next { IsNextAct self.old.root (act.Drop request) }
-        ensures { IfOk result (λ event. StepsTo self.old event (ByTask 0) self.new) }
+        ensures steps { IfOk result (λ event. StepsTo self.old event (ByTask 0) self.new) }
+        ensures proceeds { IfOk result (λ event. Proceeds Place.Act self.old event self.new) }
     {
         self.driver.drop_request(request)?;
         self.root.place = self.root.next_place() + 1;
@@ -153,8 +164,10 @@ impl Core {
     /// The root sleeps for some time, of which the longest is that of a timeout.
     fn sleep_for(&mut self, time: u64) -> Result<Event, AllocError>
         requires sound { SoundAt Place.Act self.old }
+        requires minds { Minds Place.Act self.old }
         requires next { IsNextAct self.old.root (act.Sleep time) }
-        ensures { IfOk result (λ event. StepsTo self.old event (ByTask 0) self.new) }
+        ensures steps { IfOk result (λ event. StepsTo self.old event (ByTask 0) self.new) }
+        ensures proceeds { IfOk result (λ event. Proceeds Place.Act self.old event self.new) }
     {
         let until = self.sampled + time.min(LONGEST_TIMEOUT);
         let timer = self.timers.insert(until, 0)?;
@@ -167,9 +180,11 @@ impl Core {
     /// The root takes its sleeper, whose moment has come.
     fn take_timer(&mut self, timer: usize) -> Event
         requires sound { SoundAt Place.Act self.old }
+        requires minds { Minds Place.Act self.old }
         requires next { IsNextAct self.old.root (act.Sleeps timer) }
         requires fired { (sleeper_at self.old.timers.sleepers.items timer).fired ≡ true }
-        ensures { StepsTo self.old result (ByTask 0) self.new }
+        ensures steps { StepsTo self.old result (ByTask 0) self.new }
+        ensures proceeds { Proceeds Place.Act self.old result self.new }
     {
         self.root.waiting = Waiting::Nothing;
         self.place = Place::Act;
@@ -179,8 +194,10 @@ impl Core {
     /// The root wakes itself, and lets others go first.
     fn yield_root(&mut self) -> Event
         requires sound { SoundAt Place.Act self.old }
+        requires minds { Minds Place.Act self.old }
         requires next { IsNextAct self.old.root act.Yield }
-        ensures { StepsTo self.old result ByItself self.new }
+        ensures steps { StepsTo self.old result ByItself self.new }
+        ensures proceeds { Proceeds Place.Act self.old result self.new }
     {
         self.root.place = self.root.next_place() + 1;
         self.root.waiting = Waiting::Yielded;
@@ -192,9 +209,11 @@ impl Core {
     /// The root waits for the request.
     fn wait_for(&mut self, request: usize) -> Event
         requires sound { SoundAt Place.Act self.old }
+        requires minds { Minds Place.Act self.old }
         requires next { IsNextAct self.old.root (act.Await request) }
         requires unresolved { is_resolved (request_at self.old.driver.requests.items request).phase ≡ false }
-        ensures { StepsTo self.old result (ByTask 0) self.new }
+        ensures steps { StepsTo self.old result (ByTask 0) self.new }
+        ensures proceeds { Proceeds Place.Act self.old result self.new }
     {
         self.driver.wait_for(request, 0);
         self.root.place = self.root.next_place() + 1;
@@ -208,8 +227,10 @@ impl Core {
     /// The root waits for a wake alone.
     fn wait_for_wake(&mut self) -> Event
         requires sound { SoundAt Place.Act self.old }
+        requires minds { Minds Place.Act self.old }
         requires next { IsNextAct self.old.root act.AwaitWake }
-        ensures { StepsTo self.old result (ByTask 0) self.new }
+        ensures steps { StepsTo self.old result (ByTask 0) self.new }
+        ensures proceeds { Proceeds Place.Act self.old result self.new }
     {
         self.root.place = self.root.next_place() + 1;
         self.root.waiting = Waiting::Wake;
@@ -220,9 +241,11 @@ impl Core {
     /// The root takes the newest request that it holds.
     fn take(&mut self, request: usize, outcome: Outcome) -> Event
         requires sound { SoundAt Place.Act self.old }
+        requires minds { Minds Place.Act self.old }
         requires next { IsNextAct self.old.root (act.Await request) ⊎ IsNextAct self.old.root (act.Waits request) }
         requires resolved { (request_at self.old.driver.requests.items request).phase ≡ phase.Resolved outcome }
-        ensures { StepsTo self.old result (ByTask 0) self.new }
+        ensures steps { StepsTo self.old result (ByTask 0) self.new }
+        ensures proceeds { Proceeds Place.Act self.old result self.new }
     {
         self.driver.take(request);
         self.root.take();
@@ -233,8 +256,10 @@ impl Core {
     /// The root takes a wake.
     fn pass(&mut self) -> Event
         requires sound { SoundAt Place.Act self.old }
+        requires minds { Minds Place.Act self.old }
         requires next { IsNextAct self.old.root act.Pass }
-        ensures { StepsTo self.old result (ByTask 0) self.new }
+        ensures steps { StepsTo self.old result (ByTask 0) self.new }
+        ensures proceeds { Proceeds Place.Act self.old result self.new }
     {
         self.root.place = self.root.place_after_pass();
         self.root.waiting = Waiting::Nothing;
@@ -245,8 +270,10 @@ impl Core {
     /// The poll of the root ends pending.
     fn pend(&mut self) -> Event
         requires sound { SoundAt Place.Act self.old }
+        requires minds { Minds Place.Act self.old }
         requires may { MayPend (world self.old) self.old.root.waiting }
-        ensures { StepsTo self.old result Plain self.new }
+        ensures steps { StepsTo self.old result Plain self.new }
+        ensures proceeds { Proceeds Place.Act self.old result self.new }
     {
         self.root.pend();
         self.place = Place::Callbacks { then: Then::Look };

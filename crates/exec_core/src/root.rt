@@ -1,7 +1,7 @@
 //! The root task of the worker: its script, how far it has come, and what it holds.
 
 ghost use Rattle.std.specs.Prelude.{◌≡◌, true, false, ◌<◌, length};
-ghost use Rattle.exec_machine.specs.declared.state.TaskPhase.TheVariants.{Running as running, Queued as queued};
+ghost use Rattle.exec_machine.specs.declared.state.TaskPhase.TheVariants.{Running as running, Queued as queued, Idle as idle};
 ghost use Rattle.exec_machine.specs.declared.state.Waiting.TheVariants.{Nothing as nothing};
 ghost use Rattle.exec_machine.specs.After.{begun_waiting, pended_phase, woken_phase, place_after_got, place_after_pass as place_passed, without_newest};
 
@@ -63,6 +63,7 @@ impl Root {
     ghost use Rattle.exec_core.specs.Sound.{IsRoot};
     ghost use Rattle.exec_machine.specs.Allowed.{next_place as place_of_next, next_word as word_of_next};
     ghost use Rattle.exec_core.specs.View.{task_view};
+    ghost use Rattle.exec_core.specs.Order.{is_in_order};
     ghost use Rattle.exec_machine.specs.World.{no_task};
     ghost use Rattle.exec_machine.specs.After.{woken};
     ghost use Rattle.std.specs.Prelude.{ℕ, [], ◌∷◌, ◌⊎◌, slice_set, slice_index_or};
@@ -169,6 +170,7 @@ impl Root {
         requires { self.old.flag ≡ true → self.old.phase ≡ queued }
         ensures same { self.new ≡ record self.old { phase = pended_phase self.old.phase; flag = self.new.flag } }
         ensures flagged { self.new.flag ≡ true → self.new.phase ≡ queued }
+        ensures order { is_in_order false self.old.phase self.old.flag self.old.fresh ≡ true → is_in_order false self.new.phase self.new.flag self.new.fresh ≡ true }
     {
         match self.phase {
             TaskPhase::Running(_) => self.phase = TaskPhase::Idle,
@@ -185,6 +187,8 @@ impl Root {
         requires { self.old.flag ≡ true → self.old.phase ≡ queued }
         ensures same { self.new ≡ record self.old { phase = woken_phase self.old.phase; fresh = false; flag = self.new.flag } }
         ensures flagged { self.new.flag ≡ true → self.new.phase ≡ queued }
+        ensures order { is_in_order false self.old.phase self.old.flag self.old.fresh ≡ true → is_in_order false self.new.phase self.new.flag self.new.fresh ≡ true }
+        ensures stirred { self.new.phase ≡ idle → ⊥ }
     {
         self.fresh = false;
         match self.phase {
@@ -204,6 +208,10 @@ impl Root {
         ensures sound { (n : ℕ) → IsRoot self.old n → IsRoot self.new n }
         ensures waiting { self.new.waiting ≡ self.old.waiting }
         ensures phase { (self.new.phase ≡ self.old.phase) ⊎ (self.new.phase ≡ woken_phase self.old.phase) }
+        ensures order { is_in_order false self.old.phase self.old.flag self.old.fresh ≡ true → is_in_order false self.new.phase self.new.flag self.new.fresh ≡ true }
+        ensures mine { task ≡ 0 → self.new.phase ≡ idle → ⊥ }
+        ensures others { (task ≡ 0 → ⊥) → self.new ≡ self.old }
+        ensures held { self.new.held ≡ self.old.held }
     {
         if task == 0 {
             self.wake();

@@ -7,8 +7,13 @@ ghost use Rattle.exec_driver.specs.Found.{IsUnenrolled, NeedsCancel};
 ghost use Rattle.exec_machine.specs.Choice.Choice.{Plain, Samples};
 ghost use Rattle.exec_core.specs.View.{worker_view};
 ghost use Rattle.exec_core.specs.Sound.{SoundAt, StepsTo, Suits, IsConfig, IsSized, IsInTime};
+ghost use Rattle.std.specs.Prelude.{◌≤◌, nat_le};
+ghost use Rattle.std.specs.List.{list_any};
+ghost use Rattle.exec_machine.specs.Allowed.{is_due};
+ghost use Rattle.exec_core.specs.Credit.{may_stage_now};
+ghost use Rattle.exec_core.specs.Minds.{Minds, Proceeds, IsTold, place_after_reap};
 
-use crate::executor::{Core, SIGNALLED};
+use crate::executor::Core;
 use crate::place::{Back, Place, Service, Then};
 use exec_machine::event::Event;
 use std::alloc::AllocError;
@@ -16,12 +21,14 @@ use std::alloc::AllocError;
 impl Core {
     /// Samples the clock, and clears the latch that a granted permit left.
     pub fn sample(&mut self, service: Service) -> Event
-        requires { SoundAt (Place.Sample service) self.old }
-        ensures { StepsTo self.old result Samples self.new }
+        requires sound { SoundAt (Place.Sample service) self.old }
+        requires minds { Minds (Place.Sample service) self.old }
+        ensures steps { StepsTo self.old result Samples self.new }
+        ensures proceeds { Proceeds (Place.Sample service) self.old result self.new }
     {
         self.sampled_before = self.sampled;
         self.sampled = self.clock;
-        self.words.wake &= !SIGNALLED;
+        self.words.wake.signalled = false;
         self.place = Place::Reap {
             service,
             last: false,
@@ -31,8 +38,10 @@ impl Core {
 
     /// Judges the next landed result. Acknowledgements of cancels are dropped.
     pub fn reap(&mut self, service: Service, last: bool) -> Result<Event, AllocError>
-        requires { SoundAt (Place.Reap service last) self.old }
-        ensures { IfOk result (λ event. StepsTo self.old event Plain self.new) }
+        requires sound { SoundAt (Place.Reap service last) self.old }
+        requires minds { Minds (Place.Reap service last) self.old }
+        ensures steps { IfOk result (λ event. StepsTo self.old event Plain self.new) }
+        ensures proceeds { IfOk result (λ event. Proceeds (Place.Reap service last) self.old event self.new) }
     {
         self.driver.acknowledged = false;
         let judged = self.driver.reap()?;
@@ -50,7 +59,8 @@ impl Core {
     /// More to reap, or what comes after.
     fn after_reap(&self, service: Service, last: bool) -> Place
         requires { Suits (Place.Reap service last) self.now }
-        ensures { Suits result self.now }
+        ensures suits { Suits result self.now }
+        ensures after { result ≡ place_after_reap service last self.now.driver.landed.items }
     {
         if !self.driver.landed.is_empty() {
             Place::Reap { service, last }
@@ -63,8 +73,10 @@ impl Core {
 
     /// Advances the timeout wheel. The deadlines that it finds due are told one a step.
     pub fn advance_wheel(&mut self, service: Service) -> Event
-        requires { SoundAt (Place.Wheel service) self.old }
-        ensures { StepsTo self.old result Plain self.new }
+        requires sound { SoundAt (Place.Wheel service) self.old }
+        requires minds { Minds (Place.Wheel service) self.old }
+        ensures steps { StepsTo self.old result Plain self.new }
+        ensures proceeds { Proceeds (Place.Wheel service) self.old result self.new }
     {
         self.place = Place::Submit { service };
         Event::Serve
@@ -73,8 +85,10 @@ impl Core {
     /// Tells the next deadline that has come; where none is left, puts the next new one on the wheel; then
     /// stages the next cancel or operation; and where none of these is left, ends the staging.
     pub fn submit(&mut self, service: Service) -> Result<Event, AllocError>
-        requires { SoundAt (Place.Submit service) self.old }
-        ensures { IfOk result (λ event. StepsTo self.old event Plain self.new) }
+        requires sound { SoundAt (Place.Submit service) self.old }
+        requires minds { Minds (Place.Submit service) self.old }
+        ensures steps { IfOk result (λ event. StepsTo self.old event Plain self.new) }
+        ensures proceeds { IfOk result (λ event. Proceeds (Place.Submit service) self.old event self.new) }
     {
         if let Some(request) = self.driver.next_due(self.round(), self.sampled) {
             return self.expire(service, request);
@@ -112,8 +126,10 @@ impl Core {
     /// Tells that the deadline of the request has come.
     fn expire(&mut self, service: Service, request: usize) -> Result<Event, AllocError>
         requires sound { SoundAt (Place.Submit service) self.old }
+        requires minds { Minds (Place.Submit service) self.old }
         requires first { is_first_due (round_from self.old.config (worker_view self.old)) self.old.sampled 0 self.old.driver.requests.items request ≡ true }
-        ensures { IfOk result (λ event. StepsTo self.old event Plain self.new) }
+        ensures steps { IfOk result (λ event. StepsTo self.old event Plain self.new) }
+        ensures proceeds { IfOk result (λ event. Proceeds (Place.Submit service) self.old event self.new) }
     {
         let outcome = self.driver.expire(request)?;
         self.place = Place::Submit { service };
@@ -123,8 +139,10 @@ impl Core {
     /// Puts the deadline of the request on the wheel.
     fn enrol(&mut self, service: Service, request: usize) -> Result<Event, AllocError>
         requires sound { SoundAt (Place.Submit service) self.old }
+        requires minds { Minds (Place.Submit service) self.old }
         requires found { IsUnenrolled self.old.driver.requests.items request }
-        ensures { IfOk result (λ event. StepsTo self.old event Plain self.new) }
+        ensures steps { IfOk result (λ event. StepsTo self.old event Plain self.new) }
+        ensures proceeds { IfOk result (λ event. Proceeds (Place.Submit service) self.old event self.new) }
     {
         let moment = self.fires_at(self.driver.deadline_of(request));
         let outcome = self.driver.enrol(request, moment, self.sampled)?;
@@ -146,8 +164,10 @@ impl Core {
     /// Stages the cancel of the request, or enters a full submission queue.
     fn stage_cancel(&mut self, service: Service, request: usize) -> Event
         requires sound { SoundAt (Place.Submit service) self.old }
+        requires minds { Minds (Place.Submit service) self.old }
         requires found { NeedsCancel self.old.driver.requests.items request }
-        ensures { StepsTo self.old result Plain self.new }
+        ensures steps { StepsTo self.old result Plain self.new }
+        ensures proceeds { Proceeds (Place.Submit service) self.old result self.new }
     {
         if self.is_full() {
             return self.flush(service);
@@ -159,14 +179,16 @@ impl Core {
 
     /// Whether a request is Queued and has a place in the ring.
     pub fn may_stage(&self) -> bool
-        ensures { IsTrue result ↔ ((0 < self.now.driver.queued) × (self.now.driver.in_flight < self.now.ring)) }
+        ensures value { result ≡ may_stage_now self.now }
+        ensures both { IsTrue result ↔ ((0 < self.now.driver.queued) × (self.now.driver.in_flight < self.now.ring)) }
     {
         self.driver.queued > 0 && self.driver.in_flight < self.ring
     }
 
     /// Whether the submission queue is full.
     pub fn is_full(&self) -> bool
-        ensures { result ≡ false ↔ (self.now.driver.entries < self.now.ring) }
+        ensures value { result ≡ nat_le self.now.ring self.now.driver.entries }
+        ensures room { result ≡ false ↔ (self.now.driver.entries < self.now.ring) }
     {
         self.driver.entries >= self.ring
     }
@@ -174,10 +196,12 @@ impl Core {
     /// Stages the first Queued request, or enters a full submission queue.
     fn stage(&mut self, service: Service) -> Result<Event, AllocError>
         requires sound { SoundAt (Place.Submit service) self.old }
+        requires minds { Minds (Place.Submit service) self.old }
         requires some { 0 < self.old.driver.queued }
         requires enrolled { self.old.driver.unenrolled.items ≡ [] }
         requires room { self.old.driver.in_flight < self.old.ring }
-        ensures { IfOk result (λ event. StepsTo self.old event Plain self.new) }
+        ensures steps { IfOk result (λ event. StepsTo self.old event Plain self.new) }
+        ensures proceeds { IfOk result (λ event. Proceeds (Place.Submit service) self.old event self.new) }
     {
         if self.is_full() {
             return Ok(self.flush(service));
@@ -191,8 +215,11 @@ impl Core {
 
     /// The kernel takes all that is staged, since the submission queue is full.
     fn flush(&mut self, service: Service) -> Event
-        requires { SoundAt (Place.Submit service) self.old }
-        ensures { StepsTo self.old result Plain self.new }
+        requires sound { SoundAt (Place.Submit service) self.old }
+        requires minds { Minds (Place.Submit service) self.old }
+        requires full { self.old.ring ≤ self.old.driver.entries }
+        ensures steps { StepsTo self.old result Plain self.new }
+        ensures proceeds { Proceeds (Place.Submit service) self.old result self.new }
     {
         self.driver.enter();
         self.place = Place::Submit { service };
@@ -201,8 +228,13 @@ impl Core {
 
     /// Ends the staging with the wake poll, which must be armed from the first service on.
     fn end_staging(&mut self, service: Service) -> Event
-        requires { SoundAt (Place.Submit service) self.old }
-        ensures { StepsTo self.old result Plain self.new }
+        requires sound { SoundAt (Place.Submit service) self.old }
+        requires minds { Minds (Place.Submit service) self.old }
+        requires told { IsTold self.old.driver }
+        requires staged { may_stage_now self.old ≡ false }
+        requires due { list_any (is_due 0 self.old.sampled) self.old.driver.requests.items ≡ false }
+        ensures steps { StepsTo self.old result Plain self.new }
+        ensures proceeds { Proceeds (Place.Submit service) self.old result self.new }
     {
         if !self.driver.poll_armed && self.is_full() {
             return self.flush(service);
@@ -225,15 +257,18 @@ impl Core {
 
     /// Whether something is to be enrolled or staged.
     pub fn has_submissions(&self) -> bool
-        ensures { IsTrue result ↔ ((0 < self.now.driver.queued) × (self.now.driver.in_flight < self.now.ring)) }
+        ensures value { result ≡ may_stage_now self.now }
+        ensures both { IsTrue result ↔ ((0 < self.now.driver.queued) × (self.now.driver.in_flight < self.now.ring)) }
     {
         self.may_stage()
     }
 
     /// The last enter of a service.
     pub fn enter_last(&mut self, service: Service) -> Event
-        requires { SoundAt (Place.Enter service) self.old }
-        ensures { StepsTo self.old result Plain self.new }
+        requires sound { SoundAt (Place.Enter service) self.old }
+        requires minds { Minds (Place.Enter service) self.old }
+        ensures steps { StepsTo self.old result Plain self.new }
+        ensures proceeds { Proceeds (Place.Enter service) self.old result self.new }
     {
         self.place = Place::Reap {
             service,
@@ -245,8 +280,10 @@ impl Core {
 
     /// Tells the next sleeper whose moment has come, and where there is none ends the service.
     pub fn end_service(&mut self, service: Service) -> Result<Event, AllocError>
-        requires { SoundAt (Place.Last service) self.old }
-        ensures { IfOk result (λ event. StepsTo self.old event Plain self.new) }
+        requires sound { SoundAt (Place.Last service) self.old }
+        requires minds { Minds (Place.Last service) self.old }
+        ensures steps { IfOk result (λ event. StepsTo self.old event Plain self.new) }
+        ensures proceeds { IfOk result (λ event. Proceeds (Place.Last service) self.old event self.new) }
     {
         if let Some(timer) = self.timers.fire(self.sampled)? {
             self.place = Place::Last { service };

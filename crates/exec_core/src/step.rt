@@ -1,9 +1,10 @@
 //! One step of the worker: its place says which.
 
-ghost use Rattle.std.specs.Prelude.{◌≡◌, ℕ, false, IfOk};
-ghost use Rattle.exec_machine.specs.Allowed.{has_ended};
+ghost use Rattle.std.specs.Prelude.{◌≡◌, ℕ, true, false, IfOk};
+ghost use Rattle.exec_machine.specs.Allowed.{has_ended, is_awake};
 ghost use Rattle.exec_machine.specs.Choice.{Choice};
 ghost use Rattle.exec_core.specs.Sound.{Sound, StepsTo};
+ghost use Rattle.exec_core.specs.Minds.{Minds, Proceeds};
 
 use crate::executor::Core;
 use crate::place::Place;
@@ -12,11 +13,14 @@ use std::alloc::{AllocError, Global};
 
 impl Core {
     /// Takes the next step of the worker, and answers what happens.
-    #[tactic(auto, using(crate::proofs::Steps::sound_at))]
+    #[tactic(auto, using(crate::proofs::Steps::sound_at, crate::proofs::Goings::minds_at, crate::proofs::Goings::proceeds_at))]
     pub fn step(&mut self, alloc: Global) -> Result<Event, AllocError>
         requires sound { Sound self.old }
+        requires minds { Minds self.old.place self.old }
         requires running { has_ended self.old.phase ≡ false }
-        ensures { IfOk result (λ event. (choice : Choice) × StepsTo self.old event choice self.new) }
+        requires awake { is_awake self.old.rest ≡ true }
+        ensures steps { IfOk result (λ event. (choice : Choice) × StepsTo self.old event choice self.new) }
+        ensures proceeds { IfOk result (λ event. Proceeds self.old.place self.old event self.new) }
     {
         match self.place {
             Place::Begin => Ok(self.begin_turn()),

@@ -4,6 +4,7 @@
 
 ghost use Rattle.exec_machine.specs.Choice.Choice.{Plain};
 ghost use Rattle.exec_core.specs.Sound.{SoundAt, StepsTo};
+ghost use Rattle.exec_core.specs.Minds.{Minds, Proceeds};
 
 use crate::executor::Core;
 use crate::place::{Place, Then};
@@ -12,8 +13,10 @@ use exec_machine::event::Event;
 impl Core {
     /// A turn begins.
     pub fn begin_turn(&mut self) -> Event
-        requires { SoundAt Place.Begin self.old }
-        ensures { StepsTo self.old result Plain self.new }
+        requires sound { SoundAt Place.Begin self.old }
+        requires minds { Minds Place.Begin self.old }
+        ensures steps { StepsTo self.old result Plain self.new }
+        ensures proceeds { Proceeds Place.Begin self.old result self.new }
     {
         self.place = Place::CountDown;
         Event::Turn
@@ -21,8 +24,10 @@ impl Core {
 
     /// Counts down to the global look, which then comes first.
     pub fn count_down(&mut self) -> Event
-        requires { SoundAt Place.CountDown self.old }
-        ensures { StepsTo self.old result Plain self.new }
+        requires sound { SoundAt Place.CountDown self.old }
+        requires minds { Minds Place.CountDown self.old }
+        ensures steps { StepsTo self.old result Plain self.new }
+        ensures proceeds { Proceeds Place.CountDown self.old result self.new }
     {
         if self.countdown <= 1 {
             self.countdown = self.config.interval;
@@ -38,8 +43,10 @@ impl Core {
 
     /// Pops the own queue, which is empty.
     pub fn pop(&mut self, global_first: bool) -> Event
-        requires { SoundAt (Place.Pop global_first) self.old }
-        ensures { StepsTo self.old result Plain self.new }
+        requires sound { SoundAt (Place.Pop global_first) self.old }
+        requires minds { Minds (Place.Pop global_first) self.old }
+        ensures steps { StepsTo self.old result Plain self.new }
+        ensures proceeds { Proceeds (Place.Pop global_first) self.old result self.new }
     {
         self.place = if global_first {
             Place::RootFlag
@@ -53,8 +60,10 @@ impl Core {
 
     /// Loads the length of the global queue, which is empty.
     pub fn load_mirror(&mut self, global_first: bool) -> Event
-        requires { SoundAt (Place.Mirror global_first) self.old }
-        ensures { StepsTo self.old result Plain self.new }
+        requires sound { SoundAt (Place.Mirror global_first) self.old }
+        requires minds { Minds (Place.Mirror global_first) self.old }
+        ensures steps { StepsTo self.old result Plain self.new }
+        ensures proceeds { Proceeds (Place.Mirror global_first) self.old result self.new }
     {
         self.place = if global_first {
             Place::Pop { global_first: true }
@@ -66,8 +75,10 @@ impl Core {
 
     /// Takes the root flag, and where it was set goes on to the poll of the root.
     pub fn take_root_flag(&mut self) -> Event
-        requires { SoundAt Place.RootFlag self.old }
-        ensures { StepsTo self.old result Plain self.new }
+        requires sound { SoundAt Place.RootFlag self.old }
+        requires minds { Minds Place.RootFlag self.old }
+        ensures steps { StepsTo self.old result Plain self.new }
+        ensures proceeds { Proceeds Place.RootFlag self.old result self.new }
     {
         self.place = if self.root.flag {
             Place::Poll

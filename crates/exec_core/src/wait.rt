@@ -1,13 +1,18 @@
 //! The two waits of a worker: on its ring while it has requests, else on its wake word.
 
 ghost use Rattle.std.specs.Prelude.{◌≡◌, false};
-ghost use Rattle.exec_machine.specs.Allowed.{is_polled_by};
+ghost use Rattle.exec_machine.specs.Allowed.{is_polled_by, has_ended};
 ghost use Rattle.exec_machine.specs.Choice.Choice.{Plain};
 ghost use Rattle.exec_driver.specs.Books.{Books};
 ghost use Rattle.exec_driver.specs.Sleeps.{Sleeps};
 ghost use Rattle.exec_core.specs.Sound.{Sound, SoundAt, StepsTo, Suits, IsNextMoment};
+ghost use Rattle.std.specs.Prelude.{◌⊎◌, ◌<◌, ◌||◌, ◌&&◌, not, true, nat_le};
+ghost use Rattle.exec_machine.specs.Text.{is_quiet};
+ghost use Rattle.exec_machine.specs.Progress.{is_closing};
+ghost use Rattle.exec_core.specs.Credit.{height, may_stage_now};
+ghost use Rattle.exec_core.specs.Minds.{Minds, Proceeds, IsDoneUntilDue, IsAtRest, is_due_now, is_top};
 
-use crate::executor::{Core, ON_RING, SIGNALLED, SLEEPING};
+use crate::executor::{Core, NO_WAKE};
 use crate::place::{Back, Next, Place, Service, Stay};
 use exec_machine::event::Event;
 use exec_machine::state::Rest;
@@ -16,7 +21,8 @@ impl Core {
     /// The first step of the wait on the ring: a full submission queue is entered first.
     pub fn ring_wait(&self, stay: Stay) -> Place
         requires { Suits (Place.RingTest stay) self.now }
-        ensures { Suits result self.now }
+        ensures suits { Suits result self.now }
+        ensures waits { (result ≡ Place.RingFull stay) ⊎ (result ≡ Place.RingTest stay) }
     {
         if self.is_full() {
             Place::RingFull { stay }
@@ -27,8 +33,10 @@ impl Core {
 
     /// Enters a full submission queue.
     pub fn enter_full_ring(&mut self, stay: Stay) -> Event
-        requires { SoundAt (Place.RingFull stay) self.old }
-        ensures { StepsTo self.old result Plain self.new }
+        requires sound { SoundAt (Place.RingFull stay) self.old }
+        requires minds { Minds (Place.RingFull stay) self.old }
+        ensures steps { StepsTo self.old result Plain self.new }
+        ensures proceeds { Proceeds (Place.RingFull stay) self.old result self.new }
     {
         self.driver.enter();
         self.place = Place::RingTest { stay };
@@ -37,11 +45,12 @@ impl Core {
 
     /// Tests for submissions, and stages the wake poll where it must be armed.
     pub fn test_ring(&mut self, stay: Stay) -> Event
-        requires { SoundAt (Place.RingTest stay) self.old }
-        ensures { StepsTo self.old result Plain self.new }
+        requires sound { SoundAt (Place.RingTest stay) self.old }
+        requires minds { Minds (Place.RingTest stay) self.old }
+        ensures steps { StepsTo self.old result Plain self.new }
+        ensures proceeds { Proceeds (Place.RingTest stay) self.old result self.new }
     {
-        let poll_waits = !self.driver.poll_armed && self.is_full();
-        if self.has_submissions() || poll_waits {
+        if self.must_serve() {
             self.place = self.after_wait(stay, Next::Service);
         } else {
             self.driver.arm_poll();
@@ -50,14 +59,23 @@ impl Core {
         Event::Turn
     }
 
+    /// Whether a service comes before the wait: something may be staged, or the wake poll finds no place.
+    fn must_serve(&self) -> bool
+        ensures { result ≡ (may_stage_now self.now || (not self.now.driver.poll_armed && nat_le self.now.ring self.now.driver.entries)) }
+    {
+        self.has_submissions() || (!self.driver.poll_armed && self.is_full())
+    }
+
     /// Puts the ring bit into the wake word.
     pub fn arm_ring(&mut self, stay: Stay) -> Event
-        requires { SoundAt (Place.RingArm stay) self.old }
-        ensures { StepsTo self.old result Plain self.new }
+        requires sound { SoundAt (Place.RingArm stay) self.old }
+        requires minds { Minds (Place.RingArm stay) self.old }
+        ensures steps { StepsTo self.old result Plain self.new }
+        ensures proceeds { Proceeds (Place.RingArm stay) self.old result self.new }
     {
         let found = self.words.wake;
-        self.words.wake |= ON_RING;
-        self.place = if found & SIGNALLED != 0 {
+        self.words.wake.on_ring = true;
+        self.place = if found.signalled {
             Place::RingBits {
                 stay,
                 served: false,
@@ -70,8 +88,10 @@ impl Core {
 
     /// Enters, and where nothing has landed goes on to sleep.
     pub fn enter_ring(&mut self, stay: Stay) -> Event
-        requires { SoundAt (Place.RingEnter stay) self.old }
-        ensures { StepsTo self.old result Plain self.new }
+        requires sound { SoundAt (Place.RingEnter stay) self.old }
+        requires minds { Minds (Place.RingEnter stay) self.old }
+        ensures steps { StepsTo self.old result Plain self.new }
+        ensures proceeds { Proceeds (Place.RingEnter stay) self.old result self.new }
     {
         self.driver.enter();
         self.place = if self.driver.is_quiet() {
@@ -84,8 +104,10 @@ impl Core {
 
     /// Sleeps where still nothing has landed and no deadline is due.
     pub fn sleep_on_ring(&mut self, stay: Stay) -> Event
-        requires { SoundAt (Place.RingSleep stay) self.old }
-        ensures { StepsTo self.old result Plain self.new }
+        requires sound { SoundAt (Place.RingSleep stay) self.old }
+        requires minds { Minds (Place.RingSleep stay) self.old }
+        ensures steps { StepsTo self.old result Plain self.new }
+        ensures proceeds { Proceeds (Place.RingSleep stay) self.old result self.new }
     {
         self.place = Place::RingBits { stay, served: true };
         if self.driver.is_quiet() {
@@ -97,23 +119,27 @@ impl Core {
 
     /// Takes the wait bits out of the wake word.
     pub fn disarm_ring(&mut self, stay: Stay, served: bool) -> Event
-        requires { SoundAt (Place.RingBits stay served) self.old }
-        ensures { StepsTo self.old result Plain self.new }
+        requires sound { SoundAt (Place.RingBits stay served) self.old }
+        requires minds { Minds (Place.RingBits stay served) self.old }
+        ensures steps { StepsTo self.old result Plain self.new }
+        ensures proceeds { Proceeds (Place.RingBits stay served) self.old result self.new }
     {
         let next = if served { Next::Begin } else { Next::Service };
-        self.words.wake = 0;
+        self.words.wake = NO_WAKE;
         self.place = self.after_wait(stay, next);
         Event::Turn
     }
 
     /// Puts the sleeping bit into the wake word.
     pub fn arm_word(&mut self) -> Event
-        requires { SoundAt Place.WordArm self.old }
-        ensures { StepsTo self.old result Plain self.new }
+        requires sound { SoundAt Place.WordArm self.old }
+        requires minds { Minds Place.WordArm self.old }
+        ensures steps { StepsTo self.old result Plain self.new }
+        ensures proceeds { Proceeds Place.WordArm self.old result self.new }
     {
         let found = self.words.wake;
-        self.words.wake |= SLEEPING;
-        self.place = if found & SIGNALLED != 0 {
+        self.words.wake.sleeping = true;
+        self.place = if found.signalled {
             Place::WordBits
         } else {
             Place::WordSleep
@@ -123,11 +149,13 @@ impl Core {
 
     /// Sleeps where the word is as it was left and no deadline is due.
     pub fn sleep_on_word(&mut self) -> Event
-        requires { SoundAt Place.WordSleep self.old }
-        ensures { StepsTo self.old result Plain self.new }
+        requires sound { SoundAt Place.WordSleep self.old }
+        requires minds { Minds Place.WordSleep self.old }
+        ensures steps { StepsTo self.old result Plain self.new }
+        ensures proceeds { Proceeds Place.WordSleep self.old result self.new }
     {
         self.place = Place::WordBits;
-        if self.words.wake & SIGNALLED != 0 {
+        if self.words.wake.signalled {
             Event::Turn
         } else {
             self.sleep()
@@ -138,7 +166,12 @@ impl Core {
     fn sleep(&mut self) -> Event
         requires sound { Sound self.old }
         requires idle { is_polled_by 0 self.old.root.phase ≡ false }
-        ensures { StepsTo self.old result Plain self.new }
+        requires running { has_ended self.old.phase ≡ false }
+        requires settled { is_closing self.old.phase ≡ false → IsDoneUntilDue self.old }
+        ensures steps { StepsTo self.old result Plain self.new }
+        ensures same { self.new ≡ record self.old { rest = self.new.rest } }
+        ensures due { is_quiet result ≡ true → (self.new.rest ≡ self.old.rest) × (is_due_now self.old ≡ true) }
+        ensures rests { is_quiet result ≡ false → IsAtRest self.new }
     {
         let until = self.next_moment();
         match until {
@@ -168,18 +201,22 @@ impl Core {
 
     /// Takes the wait bits out of the wake word.
     pub fn disarm_word(&mut self) -> Event
-        requires { SoundAt Place.WordBits self.old }
-        ensures { StepsTo self.old result Plain self.new }
+        requires sound { SoundAt Place.WordBits self.old }
+        requires minds { Minds Place.WordBits self.old }
+        ensures steps { StepsTo self.old result Plain self.new }
+        ensures proceeds { Proceeds Place.WordBits self.old result self.new }
     {
-        self.words.wake = 0;
+        self.words.wake = NO_WAKE;
         self.place = Place::Withdraw { next: Next::Begin };
         Event::Turn
     }
 
     /// Takes the own bit out of the idle set.
     pub fn withdraw(&mut self, next: Next) -> Event
-        requires { SoundAt (Place.Withdraw next) self.old }
-        ensures { StepsTo self.old result Plain self.new }
+        requires sound { SoundAt (Place.Withdraw next) self.old }
+        requires minds { Minds (Place.Withdraw next) self.old }
+        ensures steps { StepsTo self.old result Plain self.new }
+        ensures proceeds { Proceeds (Place.Withdraw next) self.old result self.new }
     {
         self.words.idle &= !1;
         self.place = match next {
@@ -197,7 +234,9 @@ impl Core {
     /// What follows a wait on the ring. A closing worker has no bit to withdraw, and serves again.
     fn after_wait(&self, stay: Stay, next: Next) -> Place
         requires { Suits (Place.RingTest stay) self.now }
-        ensures { Suits result self.now }
+        ensures suits { Suits result self.now }
+        ensures top { is_top result ≡ true }
+        ensures below { height result < 50 }
     {
         match stay {
             Stay::Turn => Place::Withdraw { next },

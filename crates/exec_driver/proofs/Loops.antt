@@ -1,11 +1,11 @@
 -- What holds while a loop runs.
-use Rattle.std.proofs.Common.{◌≡◌, ℕ, List, length, map}
+use Rattle.std.proofs.Common.{◌≡◌, ◌≤◌, ◌+◌, ℕ, List, length, map}
 use Rattle.std.specs.Prelude.{drop}
 use Rattle.exec_machine.specs.declared.state.Request.{Request}
 use Rattle.exec_machine.specs.After.{flown, drop_all}
 use Rattle.exec_driver.specs.declared.driver.Driver.{Driver}
 use Rattle.exec_driver.specs.Operations.{operations_view}
-use Rattle.exec_driver.specs.Books.{request_at, Tracks, is_on_ring, Books, Shows, SameStaged}
+use Rattle.exec_driver.specs.Books.{request_at, Tracks, is_on_ring, Books, Shows, SameStaged, outputs_due}
 
 -- Some of the Staged have gone to fly, and the list has the others.
 pub record IsFlying (rs before : List Request) (xs : List ℕ) : Type 0 where
@@ -22,3 +22,4 @@ pub record LettingGo (held : List ℕ) (i : ℕ) (before d : Driver) : Type 0 wh
   pub staged : SameStaged before d
   pub unenrolled : d.unenrolled.items ≡ before.unenrolled.items
   pub flights : d.in_flight ≡ before.in_flight
+  pub outputs : outputs_due d ≤ outputs_due before + i

@@ -3,7 +3,7 @@
 use Rattle.std.proofs.Common.{◌≡◌, ℕ, suc, ◌+◌, ◌<◌, ◌≤◌, Bool, true, false, not, cond, ◌==◌, ◌&&◌, ◌||◌, List, [], ◌∷◌, ◌++◌, length, refl, sym, ap, subst, ◌∙◌, arith, ⊎_elim, get_or-set_same, get_or-set_other}
 use Rattle.std.specs.Prelude.{Some, slice_index, slice_index_or, slice_set, count_by, nat_le}
 use Rattle.std.specs.List.{list_any, list_all, swap_remove}
-use Rattle.std.proofs.lemmas.Bool.{cases_eq, cases_lt, cases_Bool, eq-eqb, eqb-true, ne_eqb, true≢false, le-leb, and_from, and_left, and_right, and_parts, not-true, or_cases, or_from, or_left, or_right, not_from_false}
+use Rattle.std.proofs.lemmas.Bool.{cases_eq, cases_lt, cases_Bool, eq-eqb, eqb-true, ne_eqb, true≢false, le-leb, lt-leb, leb-true, and_from, and_left, and_right, and_parts, not-true, or_cases, or_from, or_left, or_right, not_from_false}
 use Rattle.std.proofs.lemmas.List.{get_or_read, get_or_past, get_or_append_left, get_or_push, length_push}
 use Rattle.std.proofs.lemmas.List.Folds.{list_any_at}
 use Rattle.std.proofs.lemmas.List.Sums.{sum_by-cons, sum_by_push, sum_by-swap_remove, get_or-le-sum_by}
@@ -11,7 +11,7 @@ use Rattle.exec_machine.specs.declared.state.Sleeper.{Sleeper}
 use Rattle.exec_machine.specs.World.{no_sleeper}
 use Rattle.exec_machine.specs.Allowed.{is_asleep, is_asleep_until}
 use Rattle.exec_driver.specs.Books.{one_if}
-use Rattle.exec_driver.specs.Sleeps.{TracksSleepers, IsNextSleep, IsFirstToFire, sleeper_at, owes_wake_still}
+use Rattle.exec_driver.specs.Sleeps.{TracksSleepers, IsNextSleep, IsFirstToFire, is_nap_over, sleeper_at, owes_wake_still}
 
 -- how often r stands in xs
 abbrev pub times : ℕ → List ℕ → ℕ
@@ -334,3 +334,24 @@ owes_paid z some = and_right (z.fired || z.removed) _ (ne_eqb _ _ (λ (e : z.wak
 -- one that owes a wake has fired
 pub owes_fired : (z : Sleeper) → (z.fired ≡ false → z.removed ≡ false) → owes_wake_still z ≡ true → z.fired ≡ false → ⊥
 owes_fired z kept h f = true≢false (sym h ∙ owes_not z f (kept f))
+
+-- where none sleeps, or all sleep past the moment, none is due at it
+not_over : (a : Bool) (u t m : ℕ) → m < u → (not a || nat_le u t) ≡ true → (a && nat_le t m) ≡ false
+not_over true u t m b h = lt-leb t m (omega (arith, b, leb-true u t h))
+not_over false u t m b h = refl
+
+pub none_over : (zs : List Sleeper) (u m : ℕ) → m < u → list_all (λ z. not (is_asleep 0 z) || nat_le u z.until) zs ≡ true → list_any (is_nap_over m) zs ≡ false
+none_over [] u m b h = refl
+none_over (z ∷ zs) u m b h =
+    let parts = and_parts (not (is_asleep 0 z) || nat_le u z.until) _ h in
+    or_from _ _ (not_over (is_asleep 0 z) u z.until m b parts.0) (none_over zs u m b parts.1)
+
+or_first : (x y : Bool) → (x || y) ≡ false → (x ≡ false) × (y ≡ false)
+or_first true y h = absurd (true≢false h)
+or_first false y h = (refl, h)
+
+pub none_sleeps : (zs : List Sleeper) (m : ℕ) → list_any (is_asleep 0) zs ≡ false → list_any (is_nap_over m) zs ≡ false
+none_sleeps [] m h = refl
+none_sleeps (z ∷ zs) m h =
+    let parts = or_first (is_asleep 0 z) _ h in
+    or_from _ _ (and_left (is_asleep 0 z) _ parts.0) (none_sleeps zs m parts.1)

@@ -1,5 +1,5 @@
 -- What the lists and numbers of a driver say of its requests.
-use Rattle.std.specs.Prelude.{◌^◌, ◌≡◌, ℕ, Bool, true, false, not, ◌<◌, ◌==◌, ◌&&◌, if◌then◌else◌, List, Option, Some, None, IsTrue, ◌||◌, length, count_by, slice_get, slice_index_or}
+use Rattle.std.specs.Prelude.{◌^◌, ◌≡◌, ◌+◌, ℕ, Bool, true, false, not, ◌<◌, ◌==◌, ◌&&◌, if◌then◌else◌, List, Option, Some, None, IsTrue, ◌||◌, length, count_by, slice_get, slice_index_or}
 use Rattle.std.specs.List.{list_any, list_all}
 use Rattle.std.specs.declared.cmp.Ordering.{Ordering}
 use Rattle.std.specs.Ordering.{nat_cmp, ordering_then}
@@ -176,3 +176,12 @@ SameStaged d e = (e.staged.items ≡ d.staged.items) × (e.entries ≡ d.entries
 -- The counts of the requests are what they were.
 abbrev pub SameCounts : Driver → Driver → Type 0
 SameCounts d e = (e.queued ≡ d.queued) × (e.in_flight ≡ d.in_flight) × (e.unresolved ≡ d.unresolved)
+
+-- What the ring has to tell beside results is what it was: acknowledgements, the cancels in the submission queue, and
+-- whether the wake poll is armed.
+abbrev pub SameRing : Driver → Driver → Type 0
+SameRing d e = (e.acknowledged ≡ d.acknowledged) × (e.entered_cancels ≡ d.entered_cancels) × (e.poll_armed ≡ d.poll_armed)
+
+-- the outputs that nobody takes, with those that there may still be of requests that go on
+abbrev pub outputs_due : Driver → ℕ
+outputs_due d = length d.outputs.items + d.unresolved

@@ -108,7 +108,9 @@ impl Asked {
     {
         let window = match self {
             Asked::Send(send) => (send.write.remaining_len() as u64).min(LARGEST_WINDOW),
-            Asked::Spent(spent) => (spent.length.saturating_sub(spent.sent) as u64).min(LARGEST_WINDOW),
+            Asked::Spent(spent) => (spent.length.saturating_sub(spent.sent) as u64).min(
+                LARGEST_WINDOW,
+            ),
             Asked::Poll(_) => LARGEST_COUNT,
         };
         match given {

@@ -6,7 +6,7 @@
 //!
 //! A request that ends while it's Queued stays in that list, and is passed over when its turn comes.
 
-ghost use Rattle.std.specs.Prelude.{◌≡◌, ℕ, not, unwrap_or, if◌then◌else◌, ◌&&◌, ◌==◌, ◌-◌, true, false, ◌+◌, ◌^◌, ◌<◌, ◌≤◌, [], ◌∷◌, ◌++◌, length, length as len, map, drop, IsTrue, IfOk, OnOk, IfSome, OnSome, slice_get, slice_set, slice_index};
+ghost use Rattle.std.specs.Prelude.{◌≡◌, ℕ, not, nat_lt, ◌||◌, unwrap_or, if◌then◌else◌, ◌&&◌, ◌==◌, ◌-◌, true, false, ◌+◌, ◌^◌, ◌<◌, ◌≤◌, [], ◌∷◌, ◌++◌, length, length as len, map, drop, IsTrue, IfOk, OnOk, IfSome, OnSome, slice_get, slice_set, slice_index};
 ghost use Rattle.std.specs.List.{find};
 ghost use Rattle.exec_machine.specs.World.{asked_of, cursor_of};
 ghost use Rattle.exec_machine.specs.declared.state.Phase.TheVariants.{Gated as gated, Resolved as resolved_with, Queued as queued, Staged as staged, Landed as landed_with};
@@ -15,7 +15,7 @@ ghost use Rattle.exec_machine.specs.Allowed.{is_none, is_resolved, owes_wake, is
 ghost use Rattle.exec_machine.specs.After.{flown, went_on, dropped, drop_all, after_first_queued, reaped, joined, new_request as machine_request};
 ghost use Rattle.exec_driver.specs.Operations.{operation_view, operations_view, length_of, deadline_of, moved_of, has_buffer};
 ghost use Rattle.exec_driver.specs.declared.driver.Judgement.{Judgement};
-ghost use Rattle.exec_driver.specs.Books.{Books, Covers, is_unenrolled as needs_enrolling, is_to_cancel as needs_cancelling, IsJudged, Shows, ShowsSame, SameToDo, SameOwed, SameStaged, SameCounts, Tracks, is_on_ring, Listed, Becomes, request_at, operation_at, owes, is_unreleased};
+ghost use Rattle.exec_driver.specs.Books.{Books, Covers, is_unenrolled as needs_enrolling, is_to_cancel as needs_cancelling, IsJudged, Shows, ShowsSame, SameToDo, SameOwed, SameStaged, SameCounts, SameRing, outputs_due, Tracks, is_on_ring, Listed, Becomes, request_at, operation_at, owes, is_unreleased};
 
 use crate::asked::Asked;
 use crate::wheel::Deadline;
@@ -109,6 +109,7 @@ impl Driver {
     pub fn new(alloc: Global) -> Self
         ensures books { Books result }
         ensures shows { Shows result [] [] [] [] }
+        ensures idle { outputs_due result ≡ 0 }
     {
         Driver {
             asked: Vec::new(alloc),
@@ -148,6 +149,7 @@ impl Driver {
         ensures staged { OnOk result (SameStaged self.old self.new) }
         ensures owed { OnOk result (SameOwed self.old self.new) }
         ensures flights { OnOk result (self.new.in_flight ≡ self.old.in_flight) }
+        ensures outputs { OnOk result (outputs_due self.new ≡ outputs_due self.old + 1) }
     {
         let request = self.requests.len();
         self.asked.push(asked)?;
@@ -171,6 +173,7 @@ impl Driver {
         ensures to_do { OnOk result (SameToDo self.old self.new) }
         ensures staged { OnOk result (SameStaged self.old self.new) }
         ensures flights { OnOk result (self.new.in_flight ≡ self.old.in_flight) }
+        ensures outputs { OnOk result (outputs_due self.new ≤ outputs_due self.old) }
     {
         let entry = self.requests[request];
         self.queued = queued_without(self.queued, &entry);
@@ -193,6 +196,7 @@ impl Driver {
         ensures to_do { OnOk result (SameToDo self.old self.new) }
         ensures staged { OnOk result (SameStaged self.old self.new) }
         ensures flights { OnOk result (self.new.in_flight ≡ self.old.in_flight) }
+        ensures outputs { OnOk result (outputs_due self.new ≡ outputs_due self.old) }
     {
         let entry = &mut self.requests[request];
         let Some(moment) = entry.timer else {
@@ -213,6 +217,7 @@ impl Driver {
         ensures unenrolled { OnOk result (self.new.unenrolled.items ≡ self.old.unenrolled.items) }
         ensures staged { OnOk result (SameStaged self.old self.new) }
         ensures flights { OnOk result (self.new.in_flight ≡ self.old.in_flight) }
+        ensures outputs { OnOk result (outputs_due self.new ≤ outputs_due self.old + 1) }
     {
         let entry = &mut self.requests[request];
         entry.observed = false;
@@ -241,6 +246,7 @@ impl Driver {
         ensures unenrolled { OnOk result (self.new.unenrolled.items ≡ self.old.unenrolled.items) }
         ensures staged { OnOk result (SameStaged self.old self.new) }
         ensures flights { OnOk result (self.new.in_flight ≡ self.old.in_flight) }
+        ensures outputs { OnOk result (outputs_due self.new ≡ outputs_due self.old) }
     {
         self.cancels.push_back(request)?;
         let entry = &mut self.requests[request];
@@ -256,6 +262,7 @@ impl Driver {
         ensures unenrolled { OnOk result (self.new.unenrolled.items ≡ self.old.unenrolled.items) }
         ensures staged { OnOk result (SameStaged self.old self.new) }
         ensures flights { OnOk result (self.new.in_flight ≡ self.old.in_flight) }
+        ensures outputs { OnOk result (outputs_due self.new ≡ outputs_due self.old + 1) }
     {
         self.outputs.push_back(request)?;
         Ok(())
@@ -272,6 +279,7 @@ impl Driver {
         ensures staged { OnOk result (SameStaged self.old self.new) }
         ensures unenrolled { OnOk result (self.new.unenrolled.items ≡ self.old.unenrolled.items) }
         ensures flights { OnOk result (self.new.in_flight ≡ self.old.in_flight) }
+        ensures outputs { OnOk result (outputs_due self.new ≤ outputs_due self.old + 1) }
     {
         self.let_go(request)?;
         Ok(())
@@ -287,6 +295,7 @@ impl Driver {
         ensures staged { OnOk result (SameStaged self.old self.new) }
         ensures unenrolled { OnOk result (self.new.unenrolled.items ≡ self.old.unenrolled.items) }
         ensures flights { OnOk result (self.new.in_flight ≡ self.old.in_flight) }
+        ensures outputs { OnOk result (outputs_due self.new ≤ outputs_due self.old + len held.now) }
     {
         for request in held {
             self.drop_request(*request)?;
@@ -302,6 +311,7 @@ impl Driver {
         ensures owed { SameOwed self.old self.new }
         ensures staged { SameStaged self.old self.new }
         ensures counts { SameCounts self.old self.new }
+        ensures ring { SameRing self.old self.new }
         ensures cancels { self.new.cancels.items ≡ self.old.cancels.items }
         ensures empty { result ≡ None → self.new.unenrolled.items ≡ [] }
         ensures found { IfSome result (λ request. (request < len self.old.requests.items)
@@ -319,6 +329,7 @@ impl Driver {
         ensures owed { SameOwed self.old self.new }
         ensures staged { SameStaged self.old self.new }
         ensures counts { SameCounts self.old self.new }
+        ensures ring { SameRing self.old self.new }
         ensures unenrolled { self.new.unenrolled.items ≡ self.old.unenrolled.items }
         ensures empty { result ≡ None → self.new.cancels.items ≡ [] }
         ensures found { IfSome result (λ request. (request < len self.old.requests.items)
@@ -389,6 +400,8 @@ impl Driver {
         ensures owed { SameOwed self.old self.new }
         ensures counts { SameCounts self.old self.new }
         ensures emptied { (self.new.staged.items ≡ []) × (self.new.entries ≡ 0) }
+        ensures acknowledged { (self.new.acknowledged ≡ (self.old.acknowledged || nat_lt 0 self.old.entered_cancels)) × (self.new.entered_cancels ≡ 0) }
+        ensures armed { self.new.poll_armed ≡ self.old.poll_armed }
     {
         fly(&mut self.staged, &mut self.requests);
         self.acknowledged |= self.entered_cancels > 0;
@@ -434,6 +447,8 @@ impl Driver {
         ensures staged { OnOk result (SameStaged self.old self.new) }
         ensures landed { (j : Judgement) → result ≡ Ok (Some j) → self.new.in_flight + 1 ≡ self.old.in_flight }
         ensures still { result ≡ Ok None → (SameOwed self.old self.new) × (SameCounts self.old self.new) }
+        ensures ring { result ≡ Ok None → SameRing self.old self.new }
+        ensures outputs { OnOk result (outputs_due self.new ≤ outputs_due self.old) }
     {
         let Some(request) = self.landed.pop_front() else {
             return Ok(None);
@@ -470,6 +485,7 @@ impl Driver {
         ensures to_do { OnOk result (SameToDo self.old self.new) }
         ensures staged { OnOk result (SameStaged self.old self.new) }
         ensures flights { OnOk result (self.new.in_flight ≡ self.old.in_flight) }
+        ensures outputs { OnOk result (outputs_due self.new ≤ outputs_due self.old) }
     {
         match outcome {
             Some(outcome) => {
@@ -529,6 +545,7 @@ impl Driver {
         ensures staged { SameStaged self.old self.new }
         ensures counts { SameCounts self.old self.new }
         ensures others { (self.new.wakes.items ≡ self.old.wakes.items) × (self.new.outputs.items ≡ self.old.outputs.items) }
+        ensures ring { result ≡ None → SameRing self.old self.new }
         ensures released { self.new.resources.items ≡ drop 1 self.old.resources.items }
     {
         let Some(request) = self.resources.pop_front() else {
@@ -655,7 +672,8 @@ fn queued_without(queued: u64, entry: &Request) -> u64
 
 /// Puts the number at the end of the list where it's wanted there.
 fn push_if(list: &mut VecDeque<usize>, request: usize, wanted: bool) -> Result<(), AllocError>
-    ensures { OnOk result (list.new.items ≡ (if wanted then list.old.items ++ request ∷ [] else list.old.items)) }
+    ensures put { OnOk result (list.new.items ≡ (if wanted then list.old.items ++ request ∷ [] else list.old.items)) }
+    ensures longer { OnOk result (len list.new.items ≤ len list.old.items + 1) }
 {
     if wanted {
         list.push_back(request)?;

@@ -71,6 +71,7 @@ impl Driver {
         ensures to_do { SameToDo self.old self.new }
         ensures owed { SameOwed self.old self.new }
         ensures counts { SameCounts self.old self.new }
+        ensures acknowledged { (self.new.acknowledged ≡ self.old.acknowledged) × (self.new.entered_cancels ≡ self.old.entered_cancels) }
         ensures staged { self.new.staged.items ≡ self.old.staged.items }
         ensures entries { self.new.entries ≤ self.old.entries + 1 }
     {

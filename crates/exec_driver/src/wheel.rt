@@ -9,7 +9,7 @@ ghost use Rattle.exec_outcomes.specs.declared.outcome.Outcome.TheVariants.{Failu
 ghost use Rattle.exec_machine.specs.Allowed.{is_none, is_queued, is_due, is_first_due, outcome_if_late};
 ghost use Rattle.exec_machine.specs.After.{enrolled, expired};
 ghost use Rattle.exec_driver.specs.Operations.{operations_view};
-ghost use Rattle.exec_driver.specs.Books.{Books, Shows, SameStaged, IsNextTimer, deadline_cmp, request_at, operation_at};
+ghost use Rattle.exec_driver.specs.Books.{Books, Shows, SameStaged, outputs_due, IsNextTimer, deadline_cmp, request_at, operation_at};
 
 use crate::driver::{Driver, is_waiting};
 use exec_base::error::Error;
@@ -60,6 +60,7 @@ impl Driver {
         ensures unenrolled { OnOk result (self.new.unenrolled.items ≡ self.old.unenrolled.items) }
         ensures staged { OnOk result (SameStaged self.old self.new) }
         ensures flights { OnOk result (self.new.in_flight ≡ self.old.in_flight) }
+        ensures outputs { OnOk result (outputs_due self.new ≤ outputs_due self.old) }
     {
         if self.asked[request].deadline() <= sampled {
             let outcome = Outcome::Failure(Error::Timeout);
@@ -132,6 +133,7 @@ impl Driver {
         ensures unenrolled { OnOk result (self.new.unenrolled.items ≡ self.old.unenrolled.items) }
         ensures staged { OnOk result (SameStaged self.old self.new) }
         ensures flights { OnOk result (self.new.in_flight ≡ self.old.in_flight) }
+        ensures outputs { OnOk result (outputs_due self.new ≤ outputs_due self.old) }
     {
         if !is_waiting(&self.requests[request]) {
             self.cancel(request)?;

@@ -1,1 +1,4 @@
+pub mod AtRest
+pub mod Credited
+pub mod NoLogs
 pub mod Results

@@ -4,7 +4,10 @@ pub mod World
 pub mod Allowed
 pub mod After
 pub mod Run
+pub mod Progress
+pub mod Credited
 pub mod Text
 pub mod Grammar
 pub mod Examples
+pub mod ExamplesOfProgress
 pub mod Results

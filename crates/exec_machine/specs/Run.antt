@@ -21,7 +21,6 @@ use Rattle.exec_machine.specs.World.{World, Worker, Task}
 use Rattle.exec_machine.specs.Choice.{Choice}
 use Rattle.exec_machine.specs.Allowed.{Allowed, is_enabled}
 use Rattle.exec_machine.specs.After.{after, after_landing, after_clock, after_stir}
-use Rattle.exec_machine.specs.Grammar.{Plan}
 
 -- One line: a step that is not enabled is refused and changes nothing; a worker's has an event that may
 -- come; the clock's moves it; the kernel's lands a result; a stray wake rouses a worker.
@@ -126,9 +125,3 @@ first_world script =
       queue_closed = false;
       stopped = false;
     }
-
--- The lines are a log of the plan: each of its steps has its lines, and they are a run.
-pub record IsLogOf (p : Plan) (steps : List Step) (lines : List Line) : Type 0 where
-  pub has_lines : after_steps steps lines ≡ Some []
-  pub choices : List Choice
-  pub runs : RunsBy p.config (first_world p.root) lines choices

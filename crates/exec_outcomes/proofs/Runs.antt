@@ -303,14 +303,14 @@ still_first asked given_up m r still none =
     elim (one_lasts asked.kind r.result r.hinted r.cancelled) [
       | inl nothing ↦ nothing.1
       | inr itself ↦
-        let x : Judged × ℕ = (r, m + bytes_of r.result) in
-        let Q : List Judged → Type 0 = λ l. by_totals asked given_up (with_totals m l) ≡ None in
-        let d : decides (first_part asked) x ≡ true = decides-still (first_part asked) x still in
-        let stop : find (stops asked) (x ∷ []) ≡ Some x = found_only (stops asked) x (ap (λ b. b || passes_on asked.kind (first_part asked) x) d) in
-        let later : List Judged = results_in (after_first (stops asked) (x ∷ [])) in
-        let open_still = second_undecided asked given_up x later (ap (λ o. outcome_by_stop asked given_up o later) (sym stop) ∙ subst Q itself none) in
-        let never = passes_on-still asked.kind (first_part asked) x still in
-        cc
+          let x : Judged × ℕ = (r, m + bytes_of r.result) in
+          let Q : List Judged → Type 0 = λ l. by_totals asked given_up (with_totals m l) ≡ None in
+          let d : decides (first_part asked) x ≡ true = decides-still (first_part asked) x still in
+          let stop : find (stops asked) (x ∷ []) ≡ Some x = found_only (stops asked) x (ap (λ b. b || passes_on asked.kind (first_part asked) x) d) in
+          let later : List Judged = results_in (after_first (stops asked) (x ∷ [])) in
+          let open_still = second_undecided asked given_up x later (ap (λ o. outcome_by_stop asked given_up o later) (sym stop) ∙ subst Q itself none) in
+          let never = passes_on-still asked.kind (first_part asked) x still in
+          cc
     ]
 
 still_second : (part : Part) (given_up : Bool) (kind : Kind) (m : ℕ) (r : Judged) → moves_bytes part.kind ≡ false → outcome_of_part part given_up (with_totals m (lasting kind (r ∷ []))) ≡ None → bytes_of r.result ≡ 0
@@ -318,11 +318,11 @@ still_second part given_up kind m r still none =
     elim (one_lasts kind r.result r.hinted r.cancelled) [
       | inl nothing ↦ nothing.1
       | inr itself ↦
-        let x : Judged × ℕ = (r, m + bytes_of r.result) in
-        let Q : List Judged → Type 0 = λ l. outcome_of_part part given_up (with_totals m l) ≡ None in
-        let stop : find (decides part) (x ∷ []) ≡ Some x = found_only (decides part) x (decides-still part x still) in
-        let never = none_decides part.kind given_up (find (decides part) (x ∷ [])) (subst Q itself none) in
-        cc
+          let x : Judged × ℕ = (r, m + bytes_of r.result) in
+          let Q : List Judged → Type 0 = λ l. outcome_of_part part given_up (with_totals m l) ≡ None in
+          let stop : find (decides part) (x ∷ []) ≡ Some x = found_only (decides part) x (decides-still part x still) in
+          let never = none_decides part.kind given_up (find (decides part) (x ∷ [])) (subst Q itself none) in
+          cc
     ]
 
 -- what a part counts is all bytes of a result that doesn't decide it
@@ -354,7 +354,7 @@ module _ (asked : Asked) (cursor : Cursor) (results : List Judged) (r : Judged) 
       let all : with_totals 0 (lasting kind (results ++ r ∷ [])) ≡ before ++ here = totals-push asked cursor results r come allowed ∙ ap (λ n. before ++ with_totals n (lasting kind (r ∷ []))) (sym amount) in
       let open_still : by_totals asked r.cancelled here ≡ None = subst (λ b. (if b then outcome_of_part (second_part asked) r.cancelled here else by_totals asked r.cancelled here) ≡ None) first undecided in
       let once = one_stop asked r.cancelled cursor.moved r open_still in
-    let counted : counted_for (part_now asked cursor) r.result ≡ bytes_of r.result = rw first (counted_by (moves_bytes kind) (bytes_of r.result) (λ still. still_first asked r.cancelled cursor.moved r still open_still)) in
+      let counted : counted_for (part_now asked cursor) r.result ≡ bytes_of r.result = rw first (counted_by (moves_bytes kind) (bytes_of r.result) (λ still. still_first asked r.cancelled cursor.moved r still open_still)) in
       let stop : stop_of asked (results ++ r ∷ []) ≡ find (stops asked) here = ap (find (stops asked)) all ∙ find-after_none (stops asked) before here none in
       let after : results_in (after_first (stops asked) (with_totals 0 (lasting kind (results ++ r ∷ [])))) ≡ [] = ap (λ rs. results_in (after_first (stops asked) rs)) all ∙ (ap results_in (after_first-none (stops asked) before here none) ∙ once.nothing_after) in
       let total : moved_by (lasting kind (results ++ r ∷ [])) ≡ cursor.moved + counted_for (part_now asked cursor) r.result = ap moved_by (lasting-push kind cursor.hinted results r come.unrefused allowed) ∙ (moved_by-append kind (lasting kind results) r ∙ (ap (λ n. n + bytes_of r.result) (sym amount) ∙ ap (λ n. cursor.moved + n) (sym counted))) in
@@ -376,9 +376,9 @@ module _ (asked : Asked) (cursor : Cursor) (results : List Judged) (r : Judged) 
       let stop : stop_of asked (results ++ r ∷ []) ≡ Some s = ap (find (stops asked)) all ∙ find-after_some (stops asked) before (with_totals n (lasting kind (r ∷ []))) s stopped in
       let after : results_in (after_first (stops asked) (with_totals 0 (lasting kind (results ++ r ∷ [])))) ≡ later ++ lasting kind (r ∷ []) = ap (λ rs. results_in (after_first (stops asked) rs)) all ∙ later-push asked before s n (lasting kind (r ∷ [])) stopped in
       let here : List (Judged × ℕ) = with_totals cursor.moved (lasting kind (r ∷ [])) in
-    let open_still : outcome_of_part (second_part asked) r.cancelled here ≡ None = subst (λ b. (if b then outcome_of_part (second_part asked) r.cancelled here else by_totals asked r.cancelled here) ≡ None) second undecided in
-    let counted : counted_for (second_part asked) r.result ≡ bytes_of r.result = (counted_by (moves_bytes (second_kind kind)) (bytes_of r.result) (λ still. still_second (second_part asked) r.cancelled kind cursor.moved r still open_still)) in
-    let total : moved_by (present asked (results ++ r ∷ [])) ≡ cursor.moved + counted_for (second_part asked) r.result =
+      let open_still : outcome_of_part (second_part asked) r.cancelled here ≡ None = subst (λ b. (if b then outcome_of_part (second_part asked) r.cancelled here else by_totals asked r.cancelled here) ≡ None) second undecided in
+      let counted : counted_for (second_part asked) r.result ≡ bytes_of r.result = (counted_by (moves_bytes (second_kind kind)) (bytes_of r.result) (λ still. still_second (second_part asked) r.cancelled kind cursor.moved r still open_still)) in
+      let total : moved_by (present asked (results ++ r ∷ [])) ≡ cursor.moved + counted_for (second_part asked) r.result =
       ap (λ o. moved_by (if is_some o then results_in (after_first (stops asked) (with_totals 0 (lasting kind (results ++ r ∷ [])))) else lasting kind (results ++ r ∷ []))) stop
       ∙ (ap moved_by after ∙ (moved_by-append kind later r ∙ (ap (λ m. m + bytes_of r.result) (sym amount) ∙ ap (λ n. cursor.moved + n) (sym counted)))) in
       record {

@@ -8,11 +8,15 @@ use Rattle.exec_machine.specs.declared.step.Step.{Step}
 use Rattle.exec_machine.specs.declared.config.Configuration.{Configuration}
 use Rattle.exec_machine.specs.Grammar.{Plan}
 use Rattle.exec_machine.specs.World.{World}
-use Rattle.exec_machine.specs.Choice.{Choice}
-use Rattle.exec_machine.specs.Run.{IsLogOf, RunsBy, after_steps, first_world}
+use Rattle.exec_machine.specs.Run.{after_steps, first_world}
+use Rattle.exec_machine.specs.Progress.{quiet_bound, no_stretch, IsLogOf}
+use Rattle.exec_machine.specs.Credited.{Standing, Account, choices_of, GoesBy}
+use Rattle.exec_machine.proofs.AtRest.{awake}
+use Rattle.exec_machine.proofs.Credited.{runs, solo, rests}
 use Rattle.exec_machine.specs.Text.{text_of_log, told_lines}
 use Rattle.exec_core.specs.declared.executor.Core.{Core}
 use Rattle.exec_core.specs.View.{world}
+use Rattle.exec_core.specs.Credit.{credit}
 use Rattle.exec_run.specs.declared.trace_error.TraceError.{TraceError}
 use Rattle.exec_run.specs.declared.trace_error.TraceError.TheVariants.{ReadFault, TooLong, Syntax, Config, WriteFault, NoMemory}
 use Rattle.exec_base.specs.Io.{Rose}
@@ -21,8 +25,8 @@ use Rattle.exec_run.specs.Refusal.{IsTextIn, HasCause}
 use Rattle.exec_run.specs.Reading.{CannotRun}
 use Rattle.exec_run.specs.Explains.{IsCauseOf, Explains, complaint_line}
 use Rattle.exec_run.specs.Log.{Gave, GaveFront, AreTaken, GaveFrontOfLog}
-use Rattle.exec_run.specs.Steps.{Leads, Breaks, Complains}
-use Rattle.exec_run.proofs.StepLemmas.{runs_done, lines_done, none_taken, all_taken, no_front, broke_between}
+use Rattle.exec_run.specs.Steps.{standing, Leads, Breaks, Complains}
+use Rattle.exec_run.proofs.StepLemmas.{goes_done, lines_done, none_taken, all_taken, no_front, broke_between}
 
 -- a slice of one word that is this text
 pub one_word : (words : List (String Global)) (word : String Global) (text : List ℕ) → 1 ≤ length words → length words < 2 → word ≡ get_or words 0 word → bytes_eq (string_bytes word) text ≡ true → map string_bytes words ≡ text ∷ []
@@ -42,41 +46,62 @@ two_words (w ∷ v ∷ []) one two text more some few is_one is_two eq_one eq_tw
     cc
 two_words (w ∷ v ∷ u ∷ words) one two text more some few is_one is_two eq_one eq_two = absurd (omega arith)
 
--- a run from the state of a new executor is one from the first state
-from_first : (p : Plan) (c : Core) (lines : List Line) (choices : List Choice) → c.config ≡ p.config → world c ≡ first_world p.root → RunsBy c.config (world c) lines choices → RunsBy p.config (first_world p.root) lines choices
-from_first p c lines choices config begins runs =
-    subst (λ (x : Configuration). RunsBy x (first_world p.root) lines choices) config (subst (λ (w : World). RunsBy c.config w lines choices) begins runs)
+-- an executor as it is made for a plan
+pub record IsNew (p : Plan) (c : Core) : Type 0 where
+  pub config : c.config ≡ p.config
+  pub begins : world c ≡ first_world p.root
+  pub bounded : credit c < quiet_bound p.config (world c)
 
-pub logged : (quiet : Bool) (p : Plan) (c : Core) (v : World) (steps : List Step) (old mid new : Option (List ℕ)) → c.config ≡ p.config → world c ≡ first_world p.root → steps ≡ p.steps → Leads quiet c.config (world c) steps v old mid → new ≡ mid → (lines : List Line) × IsLogOf p p.steps lines × Gave old new (text_of_log (told_lines quiet lines))
-logged quiet p c v steps old mid new config begins same_steps leads same = (
+-- the standing of such an executor
+abbrev first_standing : Plan → ℕ → Standing
+first_standing p n = record { world = first_world p.root; credit = n }
+
+from_first : (p : Plan) (c : Core) (lines : List Line) (accounts : List Account) → IsNew p c → GoesBy c.config (standing c) lines accounts → GoesBy p.config (first_standing p (credit c)) lines accounts
+from_first p c lines accounts new goes =
+    subst (λ (x : Configuration). GoesBy x (first_standing p (credit c)) lines accounts) new.config
+    (subst (λ (w : World). let s : Standing = record { world = w; credit = credit c } in GoesBy c.config s lines accounts) new.begins goes)
+
+-- what is paid for from the first state on is a log
+is_log : (p : Plan) (c : Core) (steps : List Step) (lines : List Line) (accounts : List Account) → IsNew p c → after_steps steps lines ≡ Some [] → GoesBy c.config (standing c) lines accounts → IsLogOf p steps lines
+is_log p c steps lines accounts new has_lines goes =
+    let from : Standing = first_standing p (credit c) in
+    let first : GoesBy p.config from lines accounts = from_first p c lines accounts new goes in
+    let bounded : credit c < quiet_bound p.config (first_world p.root) = subst (λ (w : World). credit c < quiet_bound p.config w) new.begins new.bounded in
+    record {
+      has_lines = has_lines;
+      choices = choices_of accounts;
+      runs = runs p.config from lines accounts first;
+      solo = solo p.config from no_stretch lines accounts (omega (arith, bounded)) first;
+      rests = rests p.config from lines accounts awake first;
+    }
+
+pub logged : (quiet : Bool) (p : Plan) (c : Core) (v : Standing) (steps : List Step) (old mid new : Option (List ℕ)) → IsNew p c → steps ≡ p.steps → Leads quiet c.config (standing c) steps v old mid → new ≡ mid → (lines : List Line) × IsLogOf p p.steps lines × Gave old new (text_of_log (told_lines quiet lines))
+logged quiet p c v steps old mid new is_new same_steps leads same = (
   leads.lines,
-  record {
-    has_lines = subst (λ (x : List Step). after_steps x leads.lines ≡ Some []) same_steps (lines_done steps leads.lines leads.has_lines);
-    choices = leads.choices;
-    runs = from_first p c leads.lines leads.choices config begins (runs_done c.config (world c) v leads.lines leads.choices leads.runs);
-  },
+  is_log p c p.steps leads.lines leads.accounts is_new (subst (λ (x : List Step). after_steps x leads.lines ≡ Some []) same_steps (lines_done steps leads.lines leads.has_lines))
+      (goes_done c.config (standing c) v leads.lines leads.accounts leads.goes),
   same ∙ leads.gave,
 )
 
-pub front_logged : (quiet : Bool) (p : Plan) (c : Core) (steps : List Step) (old mid new : Option (List ℕ)) → c.config ≡ p.config → world c ≡ first_world p.root → steps ≡ p.steps → Breaks quiet c.config (world c) steps old mid → new ≡ mid → GaveFrontOfLog quiet p old new
-front_logged quiet p c steps old mid new config begins same_steps breaks same =
+pub front_logged : (quiet : Bool) (p : Plan) (c : Core) (steps : List Step) (old mid new : Option (List ℕ)) → IsNew p c → steps ≡ p.steps → Breaks quiet c.config (standing c) steps old mid → new ≡ mid → GaveFrontOfLog quiet p old new
+front_logged quiet p c steps old mid new is_new same_steps breaks same =
     record {
       taken = breaks.taken;
       are_taken = subst (λ (x : List Step). AreTaken breaks.taken x) same_steps breaks.are_taken;
       lines = breaks.lines;
-      log = record { has_lines = breaks.has_lines; choices = breaks.choices; runs = from_first p c breaks.lines breaks.choices config begins breaks.runs };
+      log = is_log p c breaks.taken breaks.lines breaks.accounts is_new breaks.has_lines breaks.goes;
       gave = subst (λ (x : Option (List ℕ)). GaveFront old x (text_of_log (told_lines quiet breaks.lines))) (sym same) breaks.gave;
     }
 
 -- all was logged, and what came then failed
-pub all_logged : (quiet : Bool) (p : Plan) (c : Core) (v : World) (steps : List Step) (old mid new : Option (List ℕ)) → c.config ≡ p.config → world c ≡ first_world p.root → steps ≡ p.steps → Leads quiet c.config (world c) steps v old mid → new ≡ mid → GaveFrontOfLog quiet p old new
-all_logged quiet p c v steps old mid new config begins same_steps leads same =
-    front_logged quiet p c steps old mid new config begins same_steps (broke_between quiet c.config (world c) v steps steps old mid (all_taken steps) leads) same
+pub all_logged : (quiet : Bool) (p : Plan) (c : Core) (v : Standing) (steps : List Step) (old mid new : Option (List ℕ)) → IsNew p c → steps ≡ p.steps → Leads quiet c.config (standing c) steps v old mid → new ≡ mid → GaveFrontOfLog quiet p old new
+all_logged quiet p c v steps old mid new is_new same_steps leads same =
+    front_logged quiet p c steps old mid new is_new same_steps (broke_between quiet c.config (standing c) v steps steps old mid (all_taken steps) leads) same
 
 -- nothing was logged
 pub none_logged : (quiet : Bool) (p : Plan) (old : Option (List ℕ)) → GaveFrontOfLog quiet p old old
 none_logged quiet p old =
-    record { taken = []; are_taken = none_taken p.steps; lines = []; log = record { has_lines = refl; choices = []; runs = tt }; gave = no_front old (text_of_log (told_lines quiet [])) }
+    record { taken = []; are_taken = none_taken p.steps; lines = []; log = record { has_lines = refl; choices = []; runs = tt; solo = refl; rests = awake }; gave = no_front old (text_of_log (told_lines quiet [])) }
 
 -- why a text is not run is why the run ends
 pub cause_of : (e : TraceError) (source : Option (List ℕ)) (text : List ℕ) (read read' written written' : ℕ) → IsTextIn source text → CannotRun e text → IsCauseOf e source read read' written written'

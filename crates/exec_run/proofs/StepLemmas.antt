@@ -16,10 +16,17 @@ use Rattle.exec_machine.specs.declared.step.Action.{Action}
 use Rattle.exec_machine.specs.declared.step.Action.TheVariants as action
 use Rattle.exec_machine.specs.World.{World}
 use Rattle.exec_machine.specs.Choice.{Choice}
-use Rattle.exec_machine.specs.Run.{RunsBy, same_result, is_refused, after_work, after_step, after_steps}
+use Rattle.exec_machine.specs.Run.{Follows, after_line, same_result, is_refused, after_work, after_step, after_steps}
+use Rattle.exec_machine.specs.Progress.{quiet_bound, IsRested}
+use Rattle.exec_machine.specs.Credited.{Standing, Account, IsPaid, GoesBy}
 use Rattle.exec_machine.specs.Text.{text_of_log, is_quiet_line}
+use Rattle.exec_core.specs.declared.executor.Core.{Core}
+use Rattle.exec_core.specs.View.{world}
+use Rattle.exec_core.specs.Sound.{Applies}
+use Rattle.exec_core.specs.Credit.{credit}
+use Rattle.exec_core.specs.Minds.{Goes}
 use Rattle.exec_run.specs.Log.{Gave, GaveFront, AreTaken, IsBegun}
-use Rattle.exec_run.specs.Steps.{whole_line, told_text, RunsTo, TakesLine, BreaksLine, Works, Leads, Breaks}
+use Rattle.exec_run.specs.Steps.{whole_line, told_text, standing, GoesTo, TakesLine, BreaksLine, Works, Leads, Breaks}
 
 -- what holds of each error
 pub on_err : {T E P : Type 0} (r : Result T E) → P → OnErr r P
@@ -70,19 +77,69 @@ told_of_more false ls ms = sym (flat_map-append whole_line ls ms)
 
 -- RUNS
 
-pub runs_on : (c : Configuration) (w v u : World) (ls ms : List Line) (cs ds : List Choice) → RunsTo c w ls cs v → RunsTo c v ms ds u → RunsTo c w (ls ++ ms) (cs ++ ds) u
-runs_on c w v u ls ms cs ds first second ns es runs =
-    let both : RunsBy c w (ls ++ (ms ++ ns)) (cs ++ (ds ++ es)) = first (ms ++ ns) (ds ++ es) (second ns es runs) in
-    let lines_on : RunsBy c w ((ls ++ ms) ++ ns) (cs ++ (ds ++ es)) = subst (λ (x : List Line). RunsBy c w x (cs ++ (ds ++ es))) (sym (append_assoc ls ms ns)) both in
-    subst (λ (x : List Choice). RunsBy c w ((ls ++ ms) ++ ns) x) (sym (append_assoc cs ds es)) lines_on
+pub goes_behind : (c : Configuration) (w v u : Standing) (ls ms : List Line) (cs ds : List Account) → GoesTo c w ls cs v → GoesTo c v ms ds u → GoesTo c w (ls ++ ms) (cs ++ ds) u
+goes_behind c w v u ls ms cs ds first second ns es goes =
+    let both : GoesBy c w (ls ++ (ms ++ ns)) (cs ++ (ds ++ es)) = first (ms ++ ns) (ds ++ es) (second ns es goes) in
+    let lines_on : GoesBy c w ((ls ++ ms) ++ ns) (cs ++ (ds ++ es)) = subst (λ (x : List Line). GoesBy c w x (cs ++ (ds ++ es))) (sym (append_assoc ls ms ns)) both in
+    subst (λ (x : List Account). GoesBy c w ((ls ++ ms) ++ ns) x) (sym (append_assoc cs ds es)) lines_on
 
-pub runs_done : (c : Configuration) (w v : World) (ls : List Line) (cs : List Choice) → RunsTo c w ls cs v → RunsBy c w ls cs
-runs_done c w v ls cs runs =
-    let done : RunsBy c w (ls ++ []) (cs ++ []) = runs [] [] tt in
-    let lines_done : RunsBy c w ls (cs ++ []) = subst (λ (x : List Line). RunsBy c w x (cs ++ [])) (append-nil ls) done in
-    subst (λ (x : List Choice). RunsBy c w ls x) (append-nil cs) lines_done
+pub goes_done : (c : Configuration) (w v : Standing) (ls : List Line) (cs : List Account) → GoesTo c w ls cs v → GoesBy c w ls cs
+goes_done c w v ls cs goes =
+    let done : GoesBy c w (ls ++ []) (cs ++ []) = goes [] [] tt in
+    let lines_done : GoesBy c w ls (cs ++ []) = subst (λ (x : List Line). GoesBy c w x (cs ++ [])) (append-nil ls) done in
+    subst (λ (x : List Account). GoesBy c w ls x) (append-nil cs) lines_done
 
-pub takes_under : (quiet : Bool) (c d : Configuration) (w v : World) (a : Action) (l : Line) (old new : Option (List ℕ)) → d ≡ c → TakesLine quiet d w a l v old new → TakesLine quiet c w a l v old new
+-- A LINE
+
+-- how a step that leads to this executor is accounted for
+abbrev account_of : Choice → Core → Account
+account_of choice d = record { choice = choice; credit = credit d }
+
+abbrev with_credit : ℕ → World → Standing
+with_credit n w = record { world = w; credit = n }
+
+follows : (c d : Core) (a : Action) (l : Line) (applies : Applies c a l d) → Follows c.config (world c) l.action l.said applies.choice
+follows c d a l applies = subst (λ (x : Action). Follows c.config (world c) x l.said applies.choice) (sym applies.action) applies.follows
+
+becomes : (c d : Core) (a : Action) (l : Line) (applies : Applies c a l d) → world d ≡ after_line c.config (world c) l.action l.said applies.choice
+becomes c d a l applies = applies.becomes ∙ ap (λ (x : Action). after_line c.config (world c) x l.said applies.choice) (sym applies.action)
+
+paid : (c d : Core) (a : Action) (l : Line) (applies : Applies c a l d) → Goes c l d → IsPaid c.config (standing c) l (account_of applies.choice d)
+paid c d a l applies step =
+    record {
+      falls = step.falls;
+      same = step.same;
+      bounded = subst (λ (x : Configuration). credit d < quiet_bound x (after_line c.config (world c) l.action l.said applies.choice)) applies.config
+          (subst (λ (w : World). credit d < quiet_bound d.config w) (becomes c d a l applies) step.bounded);
+      rested = subst (λ (x : Configuration). IsRested x (after_line c.config (world c) l.action l.said applies.choice)) applies.config
+          (subst (λ (w : World). IsRested d.config w) (becomes c d a l applies) step.rested);
+    }
+
+-- what an executor's step tells is a line of a run
+pub line_taken : (quiet : Bool) (c d : Core) (a : Action) (l : Line) (old new : Option (List ℕ)) → Applies c a l d → Goes c l d → Gave old new (told_text quiet (l ∷ [])) → TakesLine quiet c.config (standing c) a l (standing d) old new
+line_taken quiet c d a l old new applies step gave =
+    record {
+      action = applies.action;
+      account = account_of applies.choice d;
+      goes = λ ls xs goes. (
+        follows c d a l applies,
+        paid c d a l applies step,
+        subst (λ (s : Standing). GoesBy c.config s ls xs) (ap (with_credit (credit d)) (becomes c d a l applies)) goes,
+      );
+      gave = gave;
+    }
+
+pub line_broken : (quiet : Bool) (c d : Core) (a : Action) (l : Line) (old new : Option (List ℕ)) → Applies c a l d → Goes c l d → GaveFront old new (told_text quiet (l ∷ [])) → BreaksLine quiet c.config (standing c) a old new
+line_broken quiet c d a l old new applies step gave =
+    record {
+      line = l;
+      action = applies.action;
+      account = account_of applies.choice d;
+      goes = (follows c d a l applies, paid c d a l applies step, tt);
+      gave = gave;
+    }
+
+pub takes_under : (quiet : Bool) (c d : Configuration) (w v : Standing) (a : Action) (l : Line) (old new : Option (List ℕ)) → d ≡ c → TakesLine quiet d w a l v old new → TakesLine quiet c w a l v old new
 takes_under quiet c d w v a l old new config takes = subst (λ (x : Configuration). TakesLine quiet x w a l v old new) config takes
 
 -- THE LINES OF A WORKER
@@ -104,26 +161,26 @@ last_line i l ls is = rw (is, eq-eqb i i refl) (either_way (is_refused l.said) l
 behind : (i m n : ℕ) (lines ls : List Line) (l : Line) → ((n : ℕ) (ls : List Line) → after_work i (m + n) (lines ++ ls) ≡ after_work i n ls) → after_work i (m + n) ((lines ++ l ∷ []) ++ ls) ≡ after_work i n (l ∷ ls)
 behind i m n lines ls l accepted = ap (after_work i (m + n)) (append_assoc lines (l ∷ []) ls) ∙ accepted n (l ∷ ls)
 
-pub works_none : (quiet : Bool) (c : Configuration) (w : World) (i : ℕ) (old : Option (List ℕ)) → Works quiet c w i 0 w old old
+pub works_none : (quiet : Bool) (c : Configuration) (w : Standing) (i : ℕ) (old : Option (List ℕ)) → Works quiet c w i 0 w old old
 works_none quiet c w i old =
     record {
       lines = [];
-      choices = [];
+      accounts = [];
       accepted = λ n ls. ap (λ k. after_work i k ls) (zero-add n);
-      runs = λ ls cs runs. runs;
+      goes = λ ls xs goes. goes;
       gave = gave_untold quiet old;
     }
 
-pub works_more : (quiet : Bool) (c : Configuration) (w v u : World) (i m : ℕ) (l : Line) (e : Event) (old mid new : Option (List ℕ)) → Works quiet c w i m v old mid → TakesLine quiet c v (action.Work i) l u mid new → l.said ≡ Did e → Works quiet c w i (m + 1) u old new
+pub works_more : (quiet : Bool) (c : Configuration) (w v u : Standing) (i m : ℕ) (l : Line) (e : Event) (old mid new : Option (List ℕ)) → Works quiet c w i m v old mid → TakesLine quiet c v (action.Work i) l u mid new → l.said ≡ Did e → Works quiet c w i (m + 1) u old new
 works_more quiet c w v u i m l e old mid new works takes did =
     record {
       lines = works.lines ++ l ∷ [];
-      choices = works.choices ++ takes.choice ∷ [];
+      accounts = works.accounts ++ takes.account ∷ [];
       accepted = λ n ls.
           let next : m + 1 + n ≡ m + suc n = omega arith in
           ap (λ k. after_work i k ((works.lines ++ l ∷ []) ++ ls)) next
           ∙ behind i m (suc n) works.lines ls l works.accepted ∙ accepted_line i n l e ls takes.action did;
-      runs = runs_on c w v u works.lines (l ∷ []) works.choices (takes.choice ∷ []) works.runs takes.runs;
+      goes = goes_behind c w v u works.lines (l ∷ []) works.accounts (takes.account ∷ []) works.goes takes.goes;
       gave = subst (λ (xs : List ℕ). Gave old new xs) (told_of_more quiet works.lines (l ∷ [])) (gave_on old mid new (told_text quiet works.lines) (told_text quiet (l ∷ [])) works.gave takes.gave);
     }
 
@@ -133,29 +190,29 @@ works_more quiet c w v u i m l e old mid new works takes did =
 step_done : (s : Step) (lines : List Line) → ((ls : List Line) → after_step s (lines ++ ls) ≡ Some ls) → (ss : List Step) (ls : List Line) → after_steps (s ∷ ss) (lines ++ ls) ≡ after_steps ss ls
 step_done s lines closes ss ls = ap (option_and_then (after_steps ss)) (closes ls)
 
-pub works_lead : (quiet : Bool) (c : Configuration) (w v : World) (i n : ℕ) (old new : Option (List ℕ)) → Works quiet c w i n v old new → Leads quiet c w (step.Work i n ∷ []) v old new
+pub works_lead : (quiet : Bool) (c : Configuration) (w v : Standing) (i n : ℕ) (old new : Option (List ℕ)) → Works quiet c w i n v old new → Leads quiet c w (step.Work i n ∷ []) v old new
 works_lead quiet c w v i n old new works =
     record {
       lines = works.lines;
-      choices = works.choices;
+      accounts = works.accounts;
       has_lines = step_done (step.Work i n) works.lines (λ ls. ap (λ k. after_work i k (works.lines ++ ls)) (sym (add-zero n)) ∙ works.accepted 0 ls);
-      runs = works.runs;
+      goes = works.goes;
       gave = works.gave;
     }
 
-pub works_all : (quiet : Bool) (c : Configuration) (w v : World) (i m n : ℕ) (old new : Option (List ℕ)) → m ≡ n → Works quiet c w i m v old new → Leads quiet c w (step.Work i n ∷ []) v old new
+pub works_all : (quiet : Bool) (c : Configuration) (w v : Standing) (i m n : ℕ) (old new : Option (List ℕ)) → m ≡ n → Works quiet c w i m v old new → Leads quiet c w (step.Work i n ∷ []) v old new
 works_all quiet c w v i m n old new all works = subst (λ (k : ℕ). Leads quiet c w (step.Work i k ∷ []) v old new) all (works_lead quiet c w v i m old new works)
 
-pub works_refused : (quiet : Bool) (c : Configuration) (w v u : World) (i m n : ℕ) (l : Line) (old mid new : Option (List ℕ)) → Works quiet c w i m v old mid → TakesLine quiet c v (action.Work i) l u mid new → l.said ≡ Refused → m < n → Leads quiet c w (step.Work i n ∷ []) u old new
+pub works_refused : (quiet : Bool) (c : Configuration) (w v u : Standing) (i m n : ℕ) (l : Line) (old mid new : Option (List ℕ)) → Works quiet c w i m v old mid → TakesLine quiet c v (action.Work i) l u mid new → l.said ≡ Refused → m < n → Leads quiet c w (step.Work i n ∷ []) u old new
 works_refused quiet c w v u i m n l old mid new works takes refused more =
     record {
       lines = works.lines ++ l ∷ [];
-      choices = works.choices ++ takes.choice ∷ [];
+      accounts = works.accounts ++ takes.account ∷ [];
       has_lines = step_done (step.Work i n) (works.lines ++ l ∷ []) (λ ls.
           let split : n ≡ m + suc (n - (m + 1)) = omega arith in
           ap (λ k. after_work i k ((works.lines ++ l ∷ []) ++ ls)) split
           ∙ behind i m (suc (n - (m + 1))) works.lines ls l works.accepted ∙ refused_line i (n - (m + 1)) l ls takes.action refused);
-      runs = runs_on c w v u works.lines (l ∷ []) works.choices (takes.choice ∷ []) works.runs takes.runs;
+      goes = goes_behind c w v u works.lines (l ∷ []) works.accounts (takes.account ∷ []) works.goes takes.goes;
       gave = subst (λ (xs : List ℕ). Gave old new xs) (told_of_more quiet works.lines (l ∷ [])) (gave_on old mid new (told_text quiet works.lines) (told_text quiet (l ∷ [])) works.gave takes.gave);
     }
 
@@ -184,39 +241,39 @@ lines_done steps lines has_lines =
     ∙ ap (λ (ss : List Step). after_steps ss (lines ++ [])) (sym (append-nil steps)) ∙ has_lines [] []
 
 -- where all lines of what was taken were given
-pub broke_between : (quiet : Bool) (c : Configuration) (w v : World) (taken steps : List Step) (old new : Option (List ℕ)) → AreTaken taken steps → Leads quiet c w taken v old new → Breaks quiet c w steps old new
+pub broke_between : (quiet : Bool) (c : Configuration) (w v : Standing) (taken steps : List Step) (old new : Option (List ℕ)) → AreTaken taken steps → Leads quiet c w taken v old new → Breaks quiet c w steps old new
 broke_between quiet c w v taken steps old new are_taken leads =
     record {
       taken = taken;
       are_taken = are_taken;
       lines = leads.lines;
-      choices = leads.choices;
+      accounts = leads.accounts;
       has_lines = lines_done taken leads.lines leads.has_lines;
-      runs = runs_done c w v leads.lines leads.choices leads.runs;
+      goes = goes_done c w v leads.lines leads.accounts leads.goes;
       gave = whole_front old new (told_text quiet leads.lines) leads.gave;
     }
 
-pub works_broke : (quiet : Bool) (c : Configuration) (w v : World) (i m n : ℕ) (old mid new : Option (List ℕ)) → Works quiet c w i m v old mid → m ≤ n → new ≡ mid → Breaks quiet c w (step.Work i n ∷ []) old new
+pub works_broke : (quiet : Bool) (c : Configuration) (w v : Standing) (i m n : ℕ) (old mid new : Option (List ℕ)) → Works quiet c w i m v old mid → m ≤ n → new ≡ mid → Breaks quiet c w (step.Work i n ∷ []) old new
 works_broke quiet c w v i m n old mid new works fewer same =
     subst (λ (x : Option (List ℕ)). Breaks quiet c w (step.Work i n ∷ []) old x) (sym same)
     (broke_between quiet c w v (step.Work i m ∷ []) (step.Work i n ∷ []) old mid (part_taken i m n fewer) (works_lead quiet c w v i m old mid works))
 
-pub works_broke_line : (quiet : Bool) (c : Configuration) (w v : World) (i m n : ℕ) (old mid new : Option (List ℕ)) → Works quiet c w i m v old mid → m < n → BreaksLine quiet c v (action.Work i) mid new → Breaks quiet c w (step.Work i n ∷ []) old new
+pub works_broke_line : (quiet : Bool) (c : Configuration) (w v : Standing) (i m n : ℕ) (old mid new : Option (List ℕ)) → Works quiet c w i m v old mid → m < n → BreaksLine quiet c v (action.Work i) mid new → Breaks quiet c w (step.Work i n ∷ []) old new
 works_broke_line quiet c w v i m n old mid new works more breaks =
     let l = breaks.line in
     record {
       taken = step.Work i (m + 1) ∷ [];
       are_taken = part_taken i (m + 1) n (omega arith);
       lines = works.lines ++ l ∷ [];
-      choices = works.choices ++ breaks.choice ∷ [];
+      accounts = works.accounts ++ breaks.account ∷ [];
       has_lines = ap (option_and_then (after_steps []))
           (ap (after_work i (m + 1)) (sym (append-nil (works.lines ++ l ∷ []))) ∙ behind i m 1 works.lines [] l works.accepted ∙ last_line i l [] breaks.action);
-      runs = works.runs (l ∷ []) (breaks.choice ∷ []) breaks.runs;
+      goes = works.goes (l ∷ []) (breaks.account ∷ []) breaks.goes;
       gave = subst (λ (xs : List ℕ). GaveFront old new xs) (told_of_more quiet works.lines (l ∷ [])) (front_on old mid new (told_text quiet works.lines) (told_text quiet (l ∷ [])) works.gave breaks.gave);
     }
 
 -- where the next line was not taken, or not given as a whole
-pub works_stopped : (quiet : Bool) (c d : Configuration) (w v : World) (i m n : ℕ) (old mid new : Option (List ℕ)) → d ≡ c → Works quiet c w i m v old mid → m < n → (new ≡ mid) ⊎ BreaksLine quiet d v (action.Work i) mid new → Breaks quiet c w (step.Work i n ∷ []) old new
+pub works_stopped : (quiet : Bool) (c d : Configuration) (w v : Standing) (i m n : ℕ) (old mid new : Option (List ℕ)) → d ≡ c → Works quiet c w i m v old mid → m < n → (new ≡ mid) ⊎ BreaksLine quiet d v (action.Work i) mid new → Breaks quiet c w (step.Work i n ∷ []) old new
 works_stopped quiet c d w v i m n old mid new config works more (inl same) = works_broke quiet c w v i m n old mid new works (omega arith) same
 works_stopped quiet c d w v i m n old mid new config works more (inr breaks) =
     works_broke_line quiet c w v i m n old mid new works more (subst (λ (x : Configuration). BreaksLine quiet x v (action.Work i) mid new) config breaks)
@@ -240,28 +297,28 @@ landing_once r n l is ls = rw (is, eq-eqb r r refl, same_as_itself n) refl
 pub stir_once : (i : ℕ) → IsOneAction (step.Stir i) (action.Stir i)
 stir_once i l is ls = rw (is, eq-eqb i i refl) refl
 
-one_leads : (quiet : Bool) (c : Configuration) (w v : World) (s : Step) (a : Action) (l : Line) (old new : Option (List ℕ)) → IsOneAction s a → TakesLine quiet c w a l v old new → Leads quiet c w (s ∷ []) v old new
+one_leads : (quiet : Bool) (c : Configuration) (w v : Standing) (s : Step) (a : Action) (l : Line) (old new : Option (List ℕ)) → IsOneAction s a → TakesLine quiet c w a l v old new → Leads quiet c w (s ∷ []) v old new
 one_leads quiet c w v s a l old new once takes =
     record {
       lines = l ∷ [];
-      choices = takes.choice ∷ [];
+      accounts = takes.account ∷ [];
       has_lines = step_done s (l ∷ []) (once l takes.action);
-      runs = takes.runs;
+      goes = takes.goes;
       gave = takes.gave;
     }
 
-pub one_leads_on : {T E : Type 0} (r : Result T E) (quiet : Bool) (c : Configuration) (w v : World) (t s : Step) (a : Action) (old new : Option (List ℕ)) → t ≡ s → IsOneAction s a → OnOk r ((l : Line) × TakesLine quiet c w a l v old new) → OnOk r (Leads quiet c w (t ∷ []) v old new)
+pub one_leads_on : {T E : Type 0} (r : Result T E) (quiet : Bool) (c : Configuration) (w v : Standing) (t s : Step) (a : Action) (old new : Option (List ℕ)) → t ≡ s → IsOneAction s a → OnOk r ((l : Line) × TakesLine quiet c w a l v old new) → OnOk r (Leads quiet c w (t ∷ []) v old new)
 one_leads_on (Ok x) quiet c w v t s a old new is once takes =
     subst (λ (y : Step). Leads quiet c w (y ∷ []) v old new) (sym is) (one_leads quiet c w v s a takes.0 old new once takes.1)
 one_leads_on (Err e) quiet c w v t s a old new is once takes = tt
 
 -- nothing was taken, and nothing given
-pub broke_before : (quiet : Bool) (c : Configuration) (w : World) (steps : List Step) (old new : Option (List ℕ)) → new ≡ old → Breaks quiet c w steps old new
+pub broke_before : (quiet : Bool) (c : Configuration) (w : Standing) (steps : List Step) (old new : Option (List ℕ)) → new ≡ old → Breaks quiet c w steps old new
 broke_before quiet c w steps old new same =
     subst (λ (x : Option (List ℕ)). Breaks quiet c w steps old x) (sym same)
-    (record { taken = []; are_taken = none_taken steps; lines = []; choices = []; has_lines = refl; runs = tt; gave = no_front old (told_text quiet []) })
+    (record { taken = []; are_taken = none_taken steps; lines = []; accounts = []; has_lines = refl; goes = tt; gave = no_front old (told_text quiet []) })
 
-one_broke : (quiet : Bool) (c : Configuration) (w : World) (s : Step) (a : Action) (old new : Option (List ℕ)) → IsOneAction s a → (new ≡ old) ⊎ BreaksLine quiet c w a old new → Breaks quiet c w (s ∷ []) old new
+one_broke : (quiet : Bool) (c : Configuration) (w : Standing) (s : Step) (a : Action) (old new : Option (List ℕ)) → IsOneAction s a → (new ≡ old) ⊎ BreaksLine quiet c w a old new → Breaks quiet c w (s ∷ []) old new
 one_broke quiet c w s a old new once (inl same) = broke_before quiet c w (s ∷ []) old new same
 one_broke quiet c w s a old new once (inr breaks) =
     let l = breaks.line in
@@ -269,32 +326,32 @@ one_broke quiet c w s a old new once (inr breaks) =
       taken = s ∷ [];
       are_taken = all_taken (s ∷ []);
       lines = l ∷ [];
-      choices = breaks.choice ∷ [];
+      accounts = breaks.account ∷ [];
       has_lines = ap (option_and_then (after_steps [])) (once l breaks.action []);
-      runs = breaks.runs;
+      goes = breaks.goes;
       gave = breaks.gave;
     }
 
-pub one_broke_on : {T E : Type 0} (r : Result T E) (quiet : Bool) (c : Configuration) (w : World) (t s : Step) (a : Action) (old new : Option (List ℕ)) → t ≡ s → IsOneAction s a → OnErr r ((new ≡ old) ⊎ BreaksLine quiet c w a old new) → OnErr r (Breaks quiet c w (t ∷ []) old new)
+pub one_broke_on : {T E : Type 0} (r : Result T E) (quiet : Bool) (c : Configuration) (w : Standing) (t s : Step) (a : Action) (old new : Option (List ℕ)) → t ≡ s → IsOneAction s a → OnErr r ((new ≡ old) ⊎ BreaksLine quiet c w a old new) → OnErr r (Breaks quiet c w (t ∷ []) old new)
 one_broke_on (Ok x) quiet c w t s a old new is once broke = tt
 one_broke_on (Err e) quiet c w t s a old new is once broke =
     subst (λ (y : Step). Breaks quiet c w (y ∷ []) old new) (sym is) (one_broke quiet c w s a old new once broke)
 
 -- ALL STEPS
 
-pub leads_none : (quiet : Bool) (c : Configuration) (w : World) (old : Option (List ℕ)) → Leads quiet c w [] w old old
-leads_none quiet c w old = record { lines = []; choices = []; has_lines = λ ss ls. refl; runs = λ ls cs runs. runs; gave = gave_untold quiet old }
+pub leads_none : (quiet : Bool) (c : Configuration) (w : Standing) (old : Option (List ℕ)) → Leads quiet c w [] w old old
+leads_none quiet c w old = record { lines = []; accounts = []; has_lines = λ ss ls. refl; goes = λ ls xs goes. goes; gave = gave_untold quiet old }
 
-pub leads_on : (quiet : Bool) (c : Configuration) (w v u : World) (ss ts : List Step) (old mid new : Option (List ℕ)) → Leads quiet c w ss v old mid → Leads quiet c v ts u mid new → Leads quiet c w (ss ++ ts) u old new
+pub leads_on : (quiet : Bool) (c : Configuration) (w v u : Standing) (ss ts : List Step) (old mid new : Option (List ℕ)) → Leads quiet c w ss v old mid → Leads quiet c v ts u mid new → Leads quiet c w (ss ++ ts) u old new
 leads_on quiet c w v u ss ts old mid new first second =
     record {
       lines = first.lines ++ second.lines;
-      choices = first.choices ++ second.choices;
+      accounts = first.accounts ++ second.accounts;
       has_lines = λ rs ls.
           ap (λ (x : List Step). after_steps x ((first.lines ++ second.lines) ++ ls)) (append_assoc ss ts rs)
           ∙ ap (after_steps (ss ++ (ts ++ rs))) (append_assoc first.lines second.lines ls)
           ∙ first.has_lines (ts ++ rs) (second.lines ++ ls) ∙ second.has_lines rs ls;
-      runs = runs_on c w v u first.lines second.lines first.choices second.choices first.runs second.runs;
+      goes = goes_behind c w v u first.lines second.lines first.accounts second.accounts first.goes second.goes;
       gave = subst (λ (xs : List ℕ). Gave old new xs) (told_of_more quiet first.lines second.lines)
           (gave_on old mid new (told_text quiet first.lines) (told_text quiet second.lines) first.gave second.gave);
     }
@@ -325,15 +382,15 @@ taken_on taken steps front more are_taken =
       next = more_begun are_taken.some are_taken.rest more are_taken.next;
     }
 
-pub broke_on : (quiet : Bool) (c : Configuration) (w v : World) (front ss more : List Step) (old mid new : Option (List ℕ)) → Leads quiet c w front v old mid → Breaks quiet c v ss mid new → Breaks quiet c w (front ++ (ss ++ more)) old new
+pub broke_on : (quiet : Bool) (c : Configuration) (w v : Standing) (front ss more : List Step) (old mid new : Option (List ℕ)) → Leads quiet c w front v old mid → Breaks quiet c v ss mid new → Breaks quiet c w (front ++ (ss ++ more)) old new
 broke_on quiet c w v front ss more old mid new leads breaks =
     record {
       taken = front ++ breaks.taken;
       are_taken = taken_on breaks.taken ss front more breaks.are_taken;
       lines = leads.lines ++ breaks.lines;
-      choices = leads.choices ++ breaks.choices;
+      accounts = leads.accounts ++ breaks.accounts;
       has_lines = leads.has_lines breaks.taken breaks.lines ∙ breaks.has_lines;
-      runs = leads.runs breaks.lines breaks.choices breaks.runs;
+      goes = leads.goes breaks.lines breaks.accounts breaks.goes;
       gave = subst (λ (xs : List ℕ). GaveFront old new xs) (told_of_more quiet leads.lines breaks.lines)
           (front_on old mid new (told_text quiet leads.lines) (told_text quiet breaks.lines) leads.gave breaks.gave);
     }
@@ -345,13 +402,13 @@ split_at_step steps i d within =
     ∙ ap (λ (x : List Step). x ++ drop (i + 1) steps) (sym (take_more steps i d within))
     ∙ take-append-drop (i + 1) steps
 
-pub leads_to_next : (quiet : Bool) (c e : Configuration) (w v u : World) (steps : List Step) (i : ℕ) (d : Step) (old mid new : Option (List ℕ)) → e ≡ c → i < length steps → Leads quiet c w (take i steps) v old mid → Leads quiet e v (get_or steps i d ∷ []) u mid new → Leads quiet c w (take (i + 1) steps) u old new
+pub leads_to_next : (quiet : Bool) (c e : Configuration) (w v u : Standing) (steps : List Step) (i : ℕ) (d : Step) (old mid new : Option (List ℕ)) → e ≡ c → i < length steps → Leads quiet c w (take i steps) v old mid → Leads quiet e v (get_or steps i d ∷ []) u mid new → Leads quiet c w (take (i + 1) steps) u old new
 leads_to_next quiet c e w v u steps i d old mid new config within first second =
     let under : Leads quiet c v (get_or steps i d ∷ []) u mid new = subst (λ (x : Configuration). Leads quiet x v (get_or steps i d ∷ []) u mid new) config second in
     subst (λ (x : List Step). Leads quiet c w x u old new) (sym (take_more steps i d within))
     (leads_on quiet c w v u (take i steps) (get_or steps i d ∷ []) old mid new first under)
 
-pub broke_at : (quiet : Bool) (c e : Configuration) (w v : World) (steps : List Step) (i : ℕ) (d : Step) (old mid new : Option (List ℕ)) → e ≡ c → i < length steps → Leads quiet c w (take i steps) v old mid → Breaks quiet e v (get_or steps i d ∷ []) mid new → Breaks quiet c w steps old new
+pub broke_at : (quiet : Bool) (c e : Configuration) (w v : Standing) (steps : List Step) (i : ℕ) (d : Step) (old mid new : Option (List ℕ)) → e ≡ c → i < length steps → Leads quiet c w (take i steps) v old mid → Breaks quiet e v (get_or steps i d ∷ []) mid new → Breaks quiet c w steps old new
 broke_at quiet c e w v steps i d old mid new config within leads breaks =
     let under : Breaks quiet c v (get_or steps i d ∷ []) mid new = subst (λ (x : Configuration). Breaks quiet x v (get_or steps i d ∷ []) mid new) config breaks in
     subst (λ (x : List Step). Breaks quiet c w x old new) (split_at_step steps i d within)

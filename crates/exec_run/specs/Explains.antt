@@ -1,12 +1,13 @@
 -- What an error of a run, or the status of the program, says.
-use Rattle.std.specs.Prelude.{◌≡◌, ℕ, Bool, ◌⊎◌, List, [], ◌∷◌, ◌++◌, Option, String}
+use Rattle.std.specs.Prelude.{◌≡◌, ℕ, Bool, ◌⊎◌, List, [], ◌∷◌, ◌++◌, Option, IsSome, String}
 use Rattle.std.specs.declared.alloc.Global.{Global}
 use Rattle.exec_base.specs.Io.{Rose}
+use Rattle.exec_machine.specs.Grammar.{Plan}
 use Rattle.exec_run.specs.declared.complaint.Complaint.{Complaint}
 use Rattle.exec_run.specs.declared.trace_error.TraceError.{TraceError}
 use Rattle.exec_run.specs.declared.trace_error.TraceError.TheVariants.{ReadFault, TooLong, Syntax, Config, WriteFault, NoMemory}
 use Rattle.exec_run.specs.Refusal.{IsTooLong, HasFault, HasOutOfRange, HasCause, AskForTrace, status_of, text_of_complaint}
-use Rattle.exec_run.specs.Log.{Gave, GaveFront, GaveLog, BrokeOff}
+use Rattle.exec_run.specs.Log.{HasPlan, Gave, GaveFront, GaveLog, BrokeOff}
 
 -- what is the case where a run ends with an error, by what the source held and the counts of faults
 abbrev pub IsCauseOf : TraceError → Option (List ℕ) → ℕ → ℕ → ℕ → ℕ → Type 0
@@ -50,3 +51,9 @@ Explains status words source read read' old new written written' =
     ⊎ ((x : Complaint) × (status ≡ status_of x) × Complained x words source read read' old new)
     ⊎ ((status ≡ 6) × Rose written written' × WroteFront words source read read' old new)
     ⊎ ((status ≡ 7) × ((new ≡ old) ⊎ WroteFront words source read read' old new))
+
+-- Where the words ask for a trace, and the source is known to hold one that may be run: unless a fault of the source or
+-- the sink rose, its whole log was given with status 0, or there was no memory, by status 7. There is no other answer.
+pub record Completes (status : ℕ) (words : List (String Global)) (source : Option (List ℕ)) (read read' : ℕ) (old new : Option (List ℕ)) (written written' : ℕ) : Type 0 where
+  pub no_other : (quiet : Bool) (p : Plan) → AskForTrace quiet words → IsSome source → HasPlan source p → (Rose read read' → ⊥) → (Rose written written' → ⊥)
+      → ((status ≡ 0) × (log : GaveLog quiet source old new) × (log.plan ≡ p)) ⊎ (status ≡ 7)

@@ -6,7 +6,7 @@ use Rattle.exec_machine.specs.declared.step.Step.{Step}
 use Rattle.exec_machine.specs.declared.step.Step.TheVariants.{Work}
 use Rattle.exec_machine.specs.Grammar.{Plan, IsTraceOf, count_of}
 use Rattle.exec_machine.specs.Ranges.{first_out_of_range}
-use Rattle.exec_machine.specs.Run.{IsLogOf}
+use Rattle.exec_machine.specs.Progress.{IsLogOf}
 use Rattle.exec_machine.specs.Text.{text_of_log, told_lines}
 use Rattle.exec_run.specs.Refusal.{IsTextIn, most_steps}
 

@@ -3,7 +3,7 @@
 ghost use Rattle.std.specs.Prelude.{◌≡◌, Bool, ◌≤◌, [], Some, IfErr, IfSome, IfNone, OnOk};
 ghost use Rattle.exec_run.specs.Refusal.{AskForTrace, AskForSomeTrace};
 ghost use Rattle.exec_run.specs.Log.{GaveLog};
-ghost use Rattle.exec_run.specs.Explains.{IsCauseOf, IsGivenAt, Explains};
+ghost use Rattle.exec_run.specs.Explains.{IsCauseOf, IsGivenAt, Explains, Completes};
 ghost use Rattle.exec_run.specs.Steps.{Complains};
 
 use crate::complaint::Complaint;
@@ -81,6 +81,10 @@ fn complain<O: Output>(alloc: Global, sink: &mut O, complaint: Complaint) -> u8
 pub fn run<I: Input, O: Output>(alloc: Global, words: &[String], source: &mut I, sink: &mut O) -> u8
     // The status says what happened.
     ensures explains { Explains result words.now (I.left source.old)
+        (I.faults source.old) (I.faults source.new) (O.given sink.old) (O.given sink.new)
+        (O.faults sink.old) (O.faults sink.new) }
+    // A trace that may be run has its whole log, unless there was no memory.
+    ensures completes { Completes result words.now (I.left source.old)
         (I.faults source.old) (I.faults source.new) (O.given sink.old) (O.given sink.new)
         (O.faults sink.old) (O.faults sink.new) }
     // The source was read to its end.

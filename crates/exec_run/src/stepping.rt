@@ -6,12 +6,11 @@ ghost use Rattle.exec_machine.specs.declared.step.Step.TheVariants as step;
 ghost use Rattle.exec_machine.specs.declared.step.Action.TheVariants as action;
 ghost use Rattle.exec_machine.specs.Grammar.{Plan, IsPlan, plan_of};
 ghost use Rattle.exec_machine.specs.Ranges.{first_out_of_range};
-ghost use Rattle.exec_machine.specs.Run.{IsLogOf};
+ghost use Rattle.exec_machine.specs.Progress.{IsLogOf};
 ghost use Rattle.exec_machine.specs.Text.{text_of_log, told_lines};
-ghost use Rattle.exec_core.specs.View.{world};
-ghost use Rattle.exec_core.specs.Sound.{Sound};
+ghost use Rattle.exec_core.specs.Minds.{Stands};
 ghost use Rattle.exec_run.specs.Log.{Gave, GaveFrontOfLog};
-ghost use Rattle.exec_run.specs.Steps.{BrokeBy, TakesLine, BreaksLine, Leads, Breaks, GoesOn};
+ghost use Rattle.exec_run.specs.Steps.{BrokeBy, TakesLine, BreaksLine, Leads, Breaks, GoesOn, standing};
 
 use crate::trace_error::TraceError;
 use crate::writing::{flush_all, tell_line};
@@ -23,6 +22,7 @@ use exec_machine::step::{Action, Step};
 use std::alloc::Global;
 
 /// Takes one step of one party, and tells its line.
+#[tactic(auto, using(crate::proofs::StepLemmas::line_taken, crate::proofs::StepLemmas::line_broken))]
 fn take_line<O: Output>(
     alloc: Global,
     core: &mut Core,
@@ -30,14 +30,14 @@ fn take_line<O: Output>(
     quiet: bool,
     action: Action,
 ) -> Result<Line, TraceError>
-    requires { Sound core.old }
+    requires { Stands core.old }
     ensures count { O.faults sink.old ≤ O.faults sink.new }
     ensures goes_on { OnOk result (GoesOn core.old core.new) }
-    ensures takes { IfOk result (λ line. TakesLine quiet core.old.config (world core.old) action line
-        (world core.new) (O.given sink.old) (O.given sink.new)) }
+    ensures takes { IfOk result (λ line. TakesLine quiet core.old.config (standing core.old) action line
+        (standing core.new) (O.given sink.old) (O.given sink.new)) }
     ensures why { IfErr result (λ e. BrokeBy e (O.faults sink.old) (O.faults sink.new)) }
     ensures breaks { OnErr result ((O.given sink.new ≡ O.given sink.old)
-        ⊎ BreaksLine quiet core.old.config (world core.old) action (O.given sink.old) (O.given sink.new)) }
+        ⊎ BreaksLine quiet core.old.config (standing core.old) action (O.given sink.old) (O.given sink.new)) }
 {
     let line = core.apply(alloc, action)?;
     tell_line(alloc, sink, quiet, line)?;
@@ -52,14 +52,14 @@ fn take_one<O: Output>(
     quiet: bool,
     action: Action,
 ) -> Result<(), TraceError>
-    requires { Sound core.old }
+    requires { Stands core.old }
     ensures count { O.faults sink.old ≤ O.faults sink.new }
     ensures goes_on { OnOk result (GoesOn core.old core.new) }
-    ensures takes { OnOk result ((l : Line) × TakesLine quiet core.old.config (world core.old) action l
-        (world core.new) (O.given sink.old) (O.given sink.new)) }
+    ensures takes { OnOk result ((l : Line) × TakesLine quiet core.old.config (standing core.old) action l
+        (standing core.new) (O.given sink.old) (O.given sink.new)) }
     ensures why { IfErr result (λ e. BrokeBy e (O.faults sink.old) (O.faults sink.new)) }
     ensures breaks { OnErr result ((O.given sink.new ≡ O.given sink.old)
-        ⊎ BreaksLine quiet core.old.config (world core.old) action (O.given sink.old) (O.given sink.new)) }
+        ⊎ BreaksLine quiet core.old.config (standing core.old) action (O.given sink.old) (O.given sink.new)) }
 {
     take_line(alloc, core, sink, quiet, action)?;
     Ok(())
@@ -74,13 +74,13 @@ fn take_work<O: Output>(
     worker: usize,
     count: u64,
 ) -> Result<(), TraceError>
-    requires { Sound core.old }
+    requires { Stands core.old }
     ensures count { O.faults sink.old ≤ O.faults sink.new }
     ensures goes_on { OnOk result (GoesOn core.old core.new) }
-    ensures leads { OnOk result (Leads quiet core.old.config (world core.old) (step.Work worker count ∷ [])
-        (world core.new) (O.given sink.old) (O.given sink.new)) }
+    ensures leads { OnOk result (Leads quiet core.old.config (standing core.old) (step.Work worker count ∷ [])
+        (standing core.new) (O.given sink.old) (O.given sink.new)) }
     ensures why { IfErr result (λ e. BrokeBy e (O.faults sink.old) (O.faults sink.new)) }
-    ensures breaks { OnErr result (Breaks quiet core.old.config (world core.old)
+    ensures breaks { OnErr result (Breaks quiet core.old.config (standing core.old)
         (step.Work worker count ∷ []) (O.given sink.old) (O.given sink.new)) }
 {
     for _ in 0..count {
@@ -101,13 +101,13 @@ fn take_step<O: Output>(
     quiet: bool,
     step: Step,
 ) -> Result<(), TraceError>
-    requires { Sound core.old }
+    requires { Stands core.old }
     ensures count { O.faults sink.old ≤ O.faults sink.new }
     ensures goes_on { OnOk result (GoesOn core.old core.new) }
-    ensures leads { OnOk result (Leads quiet core.old.config (world core.old) (step ∷ [])
-        (world core.new) (O.given sink.old) (O.given sink.new)) }
+    ensures leads { OnOk result (Leads quiet core.old.config (standing core.old) (step ∷ [])
+        (standing core.new) (O.given sink.old) (O.given sink.new)) }
     ensures why { IfErr result (λ e. BrokeBy e (O.faults sink.old) (O.faults sink.new)) }
-    ensures breaks { OnErr result (Breaks quiet core.old.config (world core.old) (step ∷ [])
+    ensures breaks { OnErr result (Breaks quiet core.old.config (standing core.old) (step ∷ [])
         (O.given sink.old) (O.given sink.new)) }
 {
     match step {
@@ -135,12 +135,12 @@ fn take_steps<O: Output>(
     quiet: bool,
     steps: &[Step],
 ) -> Result<(), TraceError>
-    requires { Sound core.old }
+    requires { Stands core.old }
     ensures count { O.faults sink.old ≤ O.faults sink.new }
-    ensures leads { OnOk result (Leads quiet core.old.config (world core.old) steps.now
-        (world core.new) (O.given sink.old) (O.given sink.new)) }
+    ensures leads { OnOk result (Leads quiet core.old.config (standing core.old) steps.now
+        (standing core.new) (O.given sink.old) (O.given sink.new)) }
     ensures why { IfErr result (λ e. BrokeBy e (O.faults sink.old) (O.faults sink.new)) }
-    ensures breaks { OnErr result (Breaks quiet core.old.config (world core.old) steps.now
+    ensures breaks { OnErr result (Breaks quiet core.old.config (standing core.old) steps.now
         (O.given sink.old) (O.given sink.new)) }
 {
     for step in steps {

@@ -1,4 +1,6 @@
+use Rattle.std.proofs.Common.{refl, inl}
 use Rattle.exec_run.specs.declared.complaint.Complaint.TheVariants.{TooLong, Syntax, Config}
+use Rattle.exec_run.proofs.Completeness.{completed}
 use Rattle.exec_run.proofs.RunLemmas.{explained}
 use Rattle.exec_run.proofs.running.run.Goals as goal
 
@@ -16,3 +18,16 @@ pub returns-in-Err-Config-clause-explains : goal.returns-in-Err-Config-clause-ex
 returns-in-Err-Config-clause-explains g c =
     let now = rw c.in-Err-Config.field-0-is at c.in-Err-Config.ensures in
     explained (Config c.in-Err-Config.part) _ _ _ _ _ _ _ _ _ _ _ ((c.in-Some.quiet, c.in-Some.ensures.some), now.err) now.given now.count c.complain-in-Err-Config.ensures
+
+pub returns-in-Ok-clause-completes : goal.returns-in-Ok-clause-completes
+returns-in-Ok-clause-completes g c =
+    completed _ _ _ _ _ _ _ _ _ (inl (refl, (c.in-Some.quiet, c.in-Some.ensures.some, c.in-Ok.ensures.ok)))
+
+pub returns-in-Err-TooLong-clause-completes : goal.returns-in-Err-TooLong-clause-completes
+returns-in-Err-TooLong-clause-completes g c = completed _ _ _ _ _ _ _ _ _ (returns-in-Err-TooLong-clause-explains g c)
+
+pub returns-in-Err-Syntax-clause-completes : goal.returns-in-Err-Syntax-clause-completes
+returns-in-Err-Syntax-clause-completes g c = completed _ _ _ _ _ _ _ _ _ (returns-in-Err-Syntax-clause-explains g c)
+
+pub returns-in-Err-Config-clause-completes : goal.returns-in-Err-Config-clause-completes
+returns-in-Err-Config-clause-completes g c = completed _ _ _ _ _ _ _ _ _ (returns-in-Err-Config-clause-explains g c)

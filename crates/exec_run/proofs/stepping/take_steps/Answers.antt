@@ -1,6 +1,6 @@
 use Rattle.std.proofs.Common.{◌∙◌, refl, arith}
 use Rattle.exec_machine.specs.declared.step.Step.TheVariants.{Work}
-use Rattle.exec_core.specs.View.{world}
+use Rattle.exec_run.specs.Steps.{standing}
 use Rattle.exec_run.proofs.StepLemmas.{on_err, leads_none, leads_to_next, broke_at}
 use Rattle.exec_run.proofs.stepping.take_steps.Goals as goal
 
@@ -8,21 +8,21 @@ pub loop-step-init : goal.loop-step-init
 loop-step-init g c =
     record {
       count = omega arith;
-      goes_on = record { config = refl; sound = c.requires };
-      leads = leads_none c.args.quiet c.args.core.now.config (world c.args.core.now) (g.O.Output.given c.args.sink.now);
+      goes_on = record { config = refl; stands = c.requires };
+      leads = leads_none c.args.quiet c.args.core.now.config (standing c.args.core.now) (g.O.Output.given c.args.sink.now);
     }
 
 pub returns-in_err-take_step-clause-breaks : goal.returns-in_err-take_step-clause-breaks
 returns-in_err-take_step-clause-breaks g c =
     on_err c.from_residual.result
-    (broke_at c.args.quiet c.args.core.now.config c.loop-step.core.config (world c.args.core.now) (world c.loop-step.core) c.args.steps.now c.loop-step.step-index (Work 0 0) _ _ _
+    (broke_at c.args.quiet c.args.core.now.config c.loop-step.core.config (standing c.args.core.now) (standing c.loop-step.core) c.args.steps.now c.loop-step.step-index (Work 0 0) _ _ _
     c.loop-step.invariant.goes_on.config c.loop-step-test.true c.loop-step.invariant.leads c.in_err-take_step.ensures.breaks)
 
 pub loop-step-preserved : goal.loop-step-preserved
 loop-step-preserved g c =
     record {
       count = omega (arith, c.in_ok-take_step.ensures.count, c.loop-step.invariant.count);
-      goes_on = record { config = c.in_ok-take_step.ensures.goes_on.config ∙ c.loop-step.invariant.goes_on.config; sound = c.in_ok-take_step.ensures.goes_on.sound };
-      leads = leads_to_next c.args.quiet c.args.core.now.config c.loop-step.core.config (world c.args.core.now) (world c.loop-step.core) (world c.take_step.new.core) c.args.steps.now c.loop-step.step-index (Work 0 0) _ _ _
+      goes_on = record { config = c.in_ok-take_step.ensures.goes_on.config ∙ c.loop-step.invariant.goes_on.config; stands = c.in_ok-take_step.ensures.goes_on.stands };
+      leads = leads_to_next c.args.quiet c.args.core.now.config c.loop-step.core.config (standing c.args.core.now) (standing c.loop-step.core) (standing c.take_step.new.core) c.args.steps.now c.loop-step.step-index (Work 0 0) _ _ _
           c.loop-step.invariant.goes_on.config c.loop-step-test.true c.loop-step.invariant.leads c.in_ok-take_step.ensures.leads;
     }

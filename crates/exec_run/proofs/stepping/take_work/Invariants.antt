@@ -1,6 +1,5 @@
 use Rattle.std.proofs.Common.{◌≤◌}
-use Rattle.exec_core.specs.View.{world}
-use Rattle.exec_run.specs.Steps.{Works, GoesOn}
+use Rattle.exec_run.specs.Steps.{Works, GoesOn, standing}
 use Rattle.exec_run.proofs.stepping.take_work.Given as goal
 
 -- so many lines of the worker were taken and given
@@ -8,5 +7,5 @@ abbrev pub invariant-loop : goal.invariant-loop
 invariant-loop g l = record {
   count : g.O.Output.faults l.initial.sink ≤ g.O.Output.faults l.sink;
   goes_on : GoesOn l.initial.core l.core;
-  works : Works l.quiet l.initial.core.config (world l.initial.core) l.worker l.counter (world l.core) (g.O.Output.given l.initial.sink) (g.O.Output.given l.sink);
+  works : Works l.quiet l.initial.core.config (standing l.initial.core) l.worker l.counter (standing l.core) (g.O.Output.given l.initial.sink) (g.O.Output.given l.sink);
 }

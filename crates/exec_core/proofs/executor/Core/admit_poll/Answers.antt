@@ -7,8 +7,8 @@ use Rattle.exec_core.proofs.Doings.{admits, poll_asked}
 use Rattle.exec_core.specs.declared.root.Root.{Root}
 use Rattle.exec_core.proofs.executor.Core.admit_poll.Goals as goal
 
-pub returns : goal.returns
-returns c =
+pub returns-clause-steps : goal.returns-clause-steps
+returns-clause-steps c =
     let k = c.args.self.now in
     let r : Root = record k.root { place = c.next_place.result + 1; held = c.push.new.self } in
     let later : k.sampled < k.sampled + k.config.rw = omega (arith, c.requires.sound.config.some_time) in

@@ -1,4 +1,4 @@
-use Rattle.std.proofs.Common.{◌+◌, ◌<◌, ◌≡◌, ◌∙◌, ap, arith, ℕ}
+use Rattle.std.proofs.Common.{◌+◌, ◌<◌, ◌∙◌, ap, arith, ℕ}
 use Rattle.std.proofs.lemmas.Bool.{lt-leb}
 use Rattle.exec_outcomes.specs.declared.outcome.Kind.TheVariants as kind
 use Rattle.exec_machine.specs.Allowed.{kind_asked, next_word, next_place}
@@ -19,8 +19,8 @@ overflow_add-self c =
     let r = c.args.self.now.root in
     omega (arith, word_there r _ c.requires.next.1, c.next_place.ensures, r.script.ok, r.script.small)
 
-pub returns : goal.returns
-returns c =
+pub returns-clause-steps : goal.returns-clause-steps
+returns-clause-steps c =
     let k = c.args.self.now in
     let r : Root = record k.root { place = c.next_place.result + 1; held = c.push.new.self } in
     let later : k.sampled < k.sampled + k.config.rw = omega (arith, c.requires.sound.config.some_time) in

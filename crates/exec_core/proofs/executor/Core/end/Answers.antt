@@ -2,10 +2,16 @@ use Rattle.std.proofs.Common.{refl, sym, ap, true, ◌&&◌, ◌∙◌}
 use Rattle.exec_core.proofs.Settled.{settled_all, none_tracked}
 use Rattle.exec_driver.specs.Books.{is_unreleased}
 use Rattle.exec_core.proofs.Naps.{none_asleep}
+use Rattle.std.proofs.lemmas.Bool.{false≢true, true≢false}
+use Rattle.exec_machine.specs.declared.state.WorkerPhase.TheVariants.{Ended}
+use Rattle.exec_core.specs.declared.place.Place.TheVariants as place
+use Rattle.exec_core.specs.declared.executor.Core.{Core}
+use Rattle.exec_core.specs.Minds.Rests.{Lies}
+use Rattle.exec_core.proofs.Lulls.{ended}
 use Rattle.exec_core.proofs.executor.Core.end.Goals as goal
 
-pub returns : goal.returns
-returns c =
+pub returns-clause-steps : goal.returns-clause-steps
+returns-clause-steps c =
     let books = c.requires.sound.books in
     let at_end = c.requires.sound.place in
     let rs = c.args.self.now.driver.requests.items in
@@ -28,4 +34,20 @@ returns c =
         class = (λ h. cc, done, at_left);
         place = at_end;
       };
+    }
+
+pub returns-clause-proceeds : goal.returns-clause-proceeds
+returns-clause-proceeds c =
+    let k = c.args.self.now in
+    let m = c.requires.minds in
+    let s = c.requires.sound in
+    let d : Core = record k { place = place.End; phase = Ended } in
+    record {
+      minds = record { order = m.order; followed = m.followed; unpaid = m.unpaid; outputs = m.outputs; known = tt };
+      falls = λ q o. absurd (false≢true q);
+      rests = Lies (record {
+        early = λ a. absurd (true≢false (sym c.requires.awake ∙ a));
+        over = λ h. s.place.0;
+        rested = λ m x h. ended (record d { rest = x }) s.books s.sleeps s.class.1 s.place.0 s.place.1 (none_asleep k s.class.1 s) m;
+      });
     }

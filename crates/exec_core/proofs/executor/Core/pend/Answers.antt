@@ -1,4 +1,4 @@
-use Rattle.std.proofs.Common.{refl, ap, sym, subst, ◌∙◌, ◌≡◌, false}
+use Rattle.std.proofs.Common.{refl, ap, sym, subst, ◌∙◌, ◌≡◌, false, arith, length}
 use Rattle.exec_machine.specs.declared.event.Event.TheVariants.{Pend}
 use Rattle.exec_machine.specs.declared.state.TaskPhase.{TaskPhase}
 use Rattle.exec_machine.specs.declared.state.TaskPhase.TheVariants as task
@@ -9,6 +9,10 @@ use Rattle.exec_core.specs.declared.place.Place.TheVariants as place
 use Rattle.exec_core.specs.declared.place.Then.TheVariants as then
 use Rattle.exec_core.specs.declared.root.Root.{Root}
 use Rattle.exec_core.specs.Sound.{StepsTo}
+use Rattle.std.proofs.lemmas.Bool.{false≢true}
+use Rattle.exec_core.specs.Minds.{IsFollowed, IsUnpaid}
+use Rattle.exec_core.specs.Minds.Rests.{Stays}
+use Rattle.exec_core.proofs.Keeping.{unpaid_may}
 use Rattle.exec_core.proofs.executor.Core.pend.Goals as goal
 
 -- only a root that was over is over after it pends
@@ -27,8 +31,8 @@ unpolled (task.Running i) = refl
 unpolled (task.Noted i) = refl
 unpolled task.Done = refl
 
-pub returns : goal.returns
-returns c =
+pub returns-clause-steps : goal.returns-clause-steps
+returns-clause-steps c =
     let k = c.args.self.now in
     let s = c.requires.sound in
     let r = c.pend.new.self in
@@ -56,3 +60,24 @@ returns c =
         place = tt;
       };
     })
+
+pub returns-clause-proceeds : goal.returns-clause-proceeds
+returns-clause-proceeds c =
+    let k = c.args.self.now in
+    let m = c.requires.minds in
+    let s = c.pend.ensures in
+    let rs = k.driver.requests.items in
+    let zs = k.timers.sleepers.items in
+    let F : Root → Type 0 = λ x. IsFollowed x.waiting rs zs in
+    let U : Root → Type 0 = λ x. IsUnpaid x.waiting rs zs in
+    record {
+      minds = record {
+        order = s.order m.order;
+        followed = subst F (sym s.same) m.followed;
+        unpaid = λ idle. subst U (sym s.same) (unpaid_may k k.root.waiting c.requires.may);
+        outputs = omega (arith, m.outputs, ap (λ (x : Root). length x.held.items) s.same);
+        known = tt;
+      };
+      falls = λ q o. absurd (false≢true q);
+      rests = Stays refl refl;
+    }

@@ -4,8 +4,8 @@ use Rattle.exec_machine.specs.Allowed.{next_word}
 use Rattle.exec_core.specs.View.{task_view}
 use Rattle.exec_core.proofs.executor.Core.sleep_for.Goals as goal
 
-pub returns : goal.returns
-returns c =
+pub returns-clause-steps : goal.returns-clause-steps
+returns-clause-steps c =
     let k = c.args.self.now in
     sleeps_until k c.insert.new.self c.next_place.result c.in_ok-timer.timer (k.sampled + c.min.result) c.requires.sound c.insert.ensures.sleeps
     c.in_ok-timer.ensures.number c.in_ok-timer.ensures.made c.requires.next.0.0

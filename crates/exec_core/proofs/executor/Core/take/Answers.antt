@@ -10,7 +10,7 @@ take-requires-clause-there c =
 pub take-requires-2 : goal.take-requires-2
 take-requires-2 c = taken_place c.args.self.now.root c.args.request c.requires.next
 
-pub returns : goal.returns
-returns c =
+pub returns-clause-steps : goal.returns-clause-steps
+returns-clause-steps c =
     takes c.args.self.now c.take.new.self c.take-2.new.self c.args.request c.args.outcome c.requires.sound c.requires.next c.requires.resolved
     c.take.ensures.books c.take.ensures.shows c.take-2.ensures.place c.take-2.ensures.waiting c.take-2.ensures.held c.take-2.ensures.same

@@ -7,8 +7,8 @@ use Rattle.exec_core.specs.declared.root.Root.{Root}
 use Rattle.exec_core.specs.Sound.{StepsTo}
 use Rattle.exec_core.proofs.executor.Core.yield_root.Goals as goal
 
-pub returns : goal.returns
-returns c =
+pub returns-clause-steps : goal.returns-clause-steps
+returns-clause-steps c =
     let k = c.args.self.now in
     let r = c.wake.new.self in
     let P : Root → Type 0 = λ x. StepsTo k (Wake 0) ByItself (record k { place = place.Act; root = x }) in

@@ -1,7 +1,7 @@
 use Rattle.exec_driver.proofs.Drops.{drop_next}
 use Rattle.std.specs.Prelude.{slice_index}
 use Rattle.std.proofs.lemmas.List.{length-set}
-use Rattle.std.proofs.Common.{refl, ap, length, ◌∙◌}
+use Rattle.std.proofs.Common.{refl, ap, length, ◌∙◌, arith}
 use Rattle.exec_driver.proofs.driver.Driver.let_go_all.Goals as goal
 
 pub loop-request-preserved : goal.loop-request-preserved
@@ -22,4 +22,5 @@ loop-request-preserved c =
       staged = (done.staged.0 ∙ i.staged.0, done.staged.1 ∙ i.staged.1);
       unenrolled = done.unenrolled ∙ i.unenrolled;
       flights = done.flights ∙ i.flights;
+      outputs = omega (arith, done.outputs, i.outputs);
     }

@@ -33,7 +33,7 @@ returns-clause-listed c =
     record {
       staged = keep is_on_ring d.staged.items ch (sym (aside_staged x.phase aside)) b.staged;
       landed = keep is_back d.landed.items ch (sym (aside_landed x.phase aside)) b.landed;
-      wakes = join_if owes d.wakes.items c.push_if.new.list.items c.is_some.result ch (owes_not x going) (owes_fresh x.waiter x.wakes_paid fresh.1 ∙ ap (λ (z : Request). is_some z.waiter) same ∙ sym c.is_some.ensures) c.in_ok-push_if.ensures b.wakes;
+      wakes = join_if owes d.wakes.items c.push_if.new.list.items c.is_some.result ch (owes_not x going) (owes_fresh x.waiter x.wakes_paid fresh.1 ∙ ap (λ (z : Request). is_some z.waiter) same ∙ sym c.is_some.ensures) c.in_ok-push_if.ensures.put b.wakes;
       resources = join is_unreleased d.resources.items c.push_back.new.self.items ch (unreleased_not x going) (ap not fresh.0) c.in_ok-push_back.ensures.items b.resources;
       in_flight = b.in_flight ∙ sym (count_keep (of_worker 0 is_in_flight) ch (sym (ap (λ (t : Bool). (x.worker == 0) && t) aside)));
       unresolved = omega (arith, b.unresolved);

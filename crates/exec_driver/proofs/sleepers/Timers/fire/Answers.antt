@@ -6,7 +6,7 @@ use Rattle.exec_machine.specs.World.{no_sleeper}
 use Rattle.exec_machine.specs.Allowed.{is_asleep}
 use Rattle.exec_machine.specs.declared.state.Sleeper.{Sleeper}
 use Rattle.exec_driver.specs.Sleeps.{IsFirstToFire, sleeper_at, owes_wake_still}
-use Rattle.exec_driver.proofs.Sleeping.{IsBest, changed, each_keep, join, leave_place, place_passes, there_from_test, first_to_fire, next_not_before, no_next, asleep_parts, not_asleep, owes_not, owes_now}
+use Rattle.exec_driver.proofs.Sleeping.{IsBest, changed, each_keep, join, leave_place, place_passes, there_from_test, first_to_fire, next_not_before, no_next, asleep_parts, not_asleep, owes_not, owes_now, next_sleep, none_asleep, none_over, none_sleeps}
 use Rattle.exec_driver.proofs.sleepers.Timers.fire.Goals as goal
 
 pub returns-in_default-clause-early : goal.returns-in_default-clause-early
@@ -66,3 +66,18 @@ returns-clause-fired c =
     λ timer is.
     let same : z ≡ timer = cc in
     subst (λ (y : ℕ). IsFirstToFire zs c.args.sampled y) (sym e ∙ same) first
+
+pub returns-in_default-clause-none_due : goal.returns-in_default-clause-none_due
+returns-in_default-clause-none_due c =
+    let t = c.args.self.now in
+    λ e. none_sleeps t.sleepers.items c.args.sampled (none_asleep t.sleepers.items t.asleep.items c.requires.asleep (c.earliest.ensures.none c.in_default.is))
+
+pub returns-then-until_at-sampled-clause-none_due : goal.returns-then-until_at-sampled-clause-none_due
+returns-then-until_at-sampled-clause-none_due c =
+    let t = c.args.self.now in
+    let zs = t.sleepers.items in
+    let xs = t.asleep.items in
+    let p = c.in-Some.place in
+    let best : IsBest zs xs (length xs) p = record { within = c.in-Some.ensures.place; least = c.in-Some.ensures.least } in
+    let next = next_sleep zs xs c.requires.asleep p best in
+    λ e. none_over zs (sleeper_at zs (slice_index xs p)).until c.args.sampled (omega (arith, c.until_at.ensures, c.if-until_at-sampled.true)) next.1

@@ -1,0 +1,71 @@
+-- Where a trace may be run, what a status says leaves no answer but its log, or no memory.
+use Rattle.std.proofs.Common.{◌≡◌, ℕ, ◌⊎◌, inl, inr, Bool, true, false, List, length, Option, Some, None, IsSome, refl, sym, ap, subst, ◌∙◌, arith, String, sum_by}
+use Rattle.std.specs.declared.alloc.Global.{Global}
+use Rattle.std.proofs.lemmas.Bool.{true≢false}
+use Rattle.std.proofs.lemmas.Option.{none-some}
+use Rattle.exec_machine.specs.Grammar.{Plan, IsTraceOf, IsFirstFault, count_of}
+use Rattle.exec_machine.specs.Ranges.{first_out_of_range}
+use Rattle.exec_base.specs.Io.{Rose}
+use Rattle.exec_text.proofs.Faults.{no_fault}
+use Rattle.exec_text.proofs.Plans.{plan_is_one}
+use Rattle.exec_run.specs.declared.complaint.Complaint.{Complaint}
+use Rattle.exec_run.specs.declared.complaint.Complaint.TheVariants.{Usage, ReadFault, TooLong, Syntax, Config}
+use Rattle.exec_run.specs.Refusal.{IsTextIn, IsTooLong, HasCause, AskForTrace}
+use Rattle.exec_run.specs.Explains.{Explains, Completes}
+use Rattle.exec_run.specs.Log.{HasPlan, GaveLog}
+
+-- the words ask for one of the two alone
+one_quiet : (quiet other : Bool) (words : List (String Global)) → AskForTrace quiet words → AskForTrace other words → other ≡ quiet
+one_quiet true true words one two = refl
+one_quiet false false words one two = refl
+one_quiet true false words one two =
+    let lengths : 2 ≡ 1 = ap (λ (x : List (List ℕ)). length x) (sym one ∙ two) in absurd (omega (arith, lengths))
+one_quiet false true words one two =
+    let lengths : 1 ≡ 2 = ap (λ (x : List (List ℕ)). length x) (sym one ∙ two) in absurd (omega (arith, lengths))
+
+-- what is known of a source is one text
+one_text : (source : Option (List ℕ)) (text other : List ℕ) → IsSome source → IsTextIn source text → IsTextIn source other → other ≡ text
+one_text None text other known one two = absurd (true≢false (sym known))
+one_text (Some bytes) text other known one two = sym two.whole ∙ one.whole
+
+-- and that is a trace of one plan
+one_plan : (source : Option (List ℕ)) (p : Plan) (held : HasPlan source p) (q : Plan) (text : List ℕ) → IsSome source → IsTextIn source text → IsTraceOf text q → q ≡ p
+one_plan source p held q text known is_text spelled =
+    plan_is_one held.text q p (subst (λ (x : List ℕ). IsTraceOf x q) (one_text source held.text text known held.read is_text) spelled) held.spelled
+
+too_long : (source : Option (List ℕ)) (p : Plan) (count : ℕ) → IsSome source → HasPlan source p → IsTooLong source count → ⊥
+too_long None p count known held long = absurd (true≢false (sym known))
+too_long (Some bytes) p count known held (inl many) =
+    let same : length bytes ≡ length held.text = ap (λ (x : List ℕ). length x) held.read.whole in omega (arith, many.longer, held.read.short)
+too_long (Some bytes) p count known held (inr many) =
+    let same : sum_by count_of many.plan.steps ≡ sum_by count_of p.steps = ap (λ (x : Plan). sum_by count_of x.steps) (one_plan (Some bytes) p held many.plan many.text known many.read many.spelled) in
+    omega (arith, many.more, many.counted, held.few)
+
+no_cause : (x : Complaint) (quiet : Bool) (p : Plan) (words : List (String Global)) (source : Option (List ℕ)) (read read' : ℕ) → AskForTrace quiet words → IsSome source → HasPlan source p → (Rose read read' → ⊥) → HasCause x words source read read' → ⊥
+no_cause Usage quiet p words source read read' ask known held read_well cause = cause (quiet, ask)
+no_cause ReadFault quiet p words source read read' ask known held read_well cause = read_well cause.1
+no_cause (TooLong count) quiet p words source read read' ask known held read_well cause = too_long source p count known held cause.1
+no_cause (Syntax line) quiet p words source read read' ask known held read_well cause =
+    no_fault held.text line (p, held.spelled) (subst (λ (x : List ℕ). IsFirstFault x line) (one_text source held.text cause.1.text known held.read cause.1.read) cause.1.fault)
+no_cause (Config it) quiet p words source read read' ask known held read_well cause =
+    let out = cause.1.out in
+    none-some _ (sym held.in_range ∙ ap (λ (x : Plan). first_out_of_range x.config) (sym (one_plan source p held out.plan cause.1.text known cause.1.read out.spelled)) ∙ out.first)
+
+gave_log : (quiet other : Bool) (p : Plan) (words : List (String Global)) (source old new : Option (List ℕ)) → IsSome source → HasPlan source p → AskForTrace quiet words → AskForTrace other words → GaveLog other source old new → (log : GaveLog quiet source old new) × (log.plan ≡ p)
+gave_log quiet other p words source old new known held one two log =
+    let same : GaveLog quiet source old new = subst (λ (x : Bool). GaveLog x source old new) (one_quiet quiet other words one two) log in
+    (same, one_plan source p held same.plan same.held.text known same.held.read same.held.spelled)
+
+only : (status : ℕ) (words : List (String Global)) (source : Option (List ℕ)) (read read' : ℕ) (old new : Option (List ℕ)) (written written' : ℕ) (quiet : Bool) (p : Plan) → AskForTrace quiet words → IsSome source → HasPlan source p → (Rose read read' → ⊥) → (Rose written written' → ⊥)
+    → Explains status words source read read' old new written written' → ((status ≡ 0) × (log : GaveLog quiet source old new) × (log.plan ≡ p)) ⊎ (status ≡ 7)
+only status words source read read' old new written written' quiet p ask known held read_well wrote_well (inl done) =
+    let log = gave_log quiet done.1.0 p words source old new known held ask done.1.1 done.1.2 in inl (done.0, log.0, log.1)
+only status words source read read' old new written written' quiet p ask known held read_well wrote_well (inr (inl complaint)) =
+    absurd (no_cause complaint.0 quiet p words source read read' ask known held read_well complaint.2.cause)
+only status words source read read' old new written written' quiet p ask known held read_well wrote_well (inr (inr (inl fault))) = absurd (wrote_well fault.1)
+only status words source read read' old new written written' quiet p ask known held read_well wrote_well (inr (inr (inr memory))) = inr memory.0
+
+-- what a status says leaves no other answer
+pub completed : (status : ℕ) (words : List (String Global)) (source : Option (List ℕ)) (read read' : ℕ) (old new : Option (List ℕ)) (written written' : ℕ) → Explains status words source read read' old new written written' → Completes status words source read read' old new written written'
+completed status words source read read' old new written written' explains =
+    record { no_other = λ quiet p ask known held read_well wrote_well. only status words source read read' old new written written' quiet p ask known held read_well wrote_well explains }
