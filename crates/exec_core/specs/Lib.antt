@@ -4,4 +4,5 @@ pub mod Places
 pub mod Sound
 pub mod Order
 pub mod Credit
+pub mod Turns
 pub mod Minds

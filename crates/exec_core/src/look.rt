@@ -7,6 +7,7 @@ ghost use Rattle.exec_driver.specs.Books.{Books};
 ghost use Rattle.exec_driver.specs.Sleeps.{Sleeps};
 ghost use Rattle.exec_core.specs.Credit.{callbacks_of, may_stage_now};
 ghost use Rattle.exec_core.specs.Minds.{Minds, Proceeds, is_top, is_due_now};
+ghost use Rattle.exec_core.specs.Turns.{place_of_next_turn};
 
 use crate::executor::Core;
 use crate::place::{Back, Place, Round, Service, Stay, Then};
@@ -126,6 +127,7 @@ impl Core {
         requires { Suits Place.Begin self.now }
         ensures suits { Suits result self.now }
         ensures top { is_top result ≡ true }
+        ensures made_up { result ≡ place_of_next_turn self.now }
     {
         let put_off = self.deferred && self.driver.unresolved > 0;
         if put_off || (self.defer && self.has_submissions()) {

@@ -12,6 +12,7 @@ ghost use Rattle.std.specs.List.{list_any};
 ghost use Rattle.exec_machine.specs.Allowed.{is_due};
 ghost use Rattle.exec_core.specs.Credit.{may_stage_now};
 ghost use Rattle.exec_core.specs.Minds.{Minds, Proceeds, IsTold, place_after_reap};
+ghost use Rattle.exec_core.specs.Turns.{leaves_enter_out, place_after_staging};
 
 use crate::executor::Core;
 use crate::place::{Back, Place, Service, Then};
@@ -218,6 +219,7 @@ impl Core {
         requires sound { SoundAt (Place.Submit service) self.old }
         requires minds { Minds (Place.Submit service) self.old }
         requires full { self.old.ring ≤ self.old.driver.entries }
+        ensures entered { result ≡ Event.Enter }
         ensures steps { StepsTo self.old result Plain self.new }
         ensures proceeds { Proceeds (Place.Submit service) self.old result self.new }
     {
@@ -235,6 +237,8 @@ impl Core {
         requires due { list_any (is_due 0 self.old.sampled) self.old.driver.requests.items ≡ false }
         ensures steps { StepsTo self.old result Plain self.new }
         ensures proceeds { Proceeds (Place.Submit service) self.old result self.new }
+        ensures put_off { result ≡ Event.Serve → self.new.deferred ≡ leaves_enter_out service.defer self.old }
+        ensures enters { result ≡ Event.Serve → self.new.place ≡ place_after_staging service self.old }
     {
         if !self.driver.poll_armed && self.is_full() {
             return self.flush(service);

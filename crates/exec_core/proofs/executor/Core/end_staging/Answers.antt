@@ -1,4 +1,5 @@
-use Rattle.std.proofs.Common.{inl, inr, ◌∙◌, refl, ap, sym, subst, arith, length, Bool}
+use Rattle.exec_core.specs.declared.executor.Core.{Core}
+use Rattle.std.proofs.Common.{true, inl, inr, ◌∙◌, refl, ap, sym, subst, arith, length, Bool, ◌≡◌}
 use Rattle.exec_core.specs.declared.place.Place.{Place}
 use Rattle.exec_core.specs.declared.place.Place.TheVariants as place
 use Rattle.exec_core.specs.Credit.{signs}
@@ -11,6 +12,9 @@ use Rattle.exec_core.specs.Minds.Knowledge.{Told}
 use Rattle.exec_core.proofs.Credits.{AfterArm, signs_arm, from_submit, due_if_stale}
 use Rattle.exec_core.proofs.Keeping.{driven_keeps, same_requests}
 use Rattle.exec_core.proofs.executor.Core.end_staging.Goals.{then-due-2+then-urgent, else-due-2}
+use Rattle.exec_machine.specs.Choice.Choice.{Plain}
+use Rattle.exec_core.specs.Sound.{SoundAt, StepsTo}
+use Rattle.exec_core.proofs.Steps.{driven}
 use Rattle.exec_core.proofs.executor.Core.end_staging.Goals as goal
 
 pub returns-clause-proceeds : goal.returns-clause-proceeds
@@ -32,3 +36,31 @@ returns-clause-proceeds c =
       | else-due-2 w ↦
           subst P (sym w.self-is) (record { minds = kept; falls = λ q o. from_submit c.args.service.back (signs k) t 2 arms due (inl refl); rests = Stays refl refl })
     ]
+
+pub returns-clause-steps : goal.returns-clause-steps
+returns-clause-steps c =
+    let k = c.args.self.now in
+    let e = c.arm_poll.new.self in
+    let s = c.arm_poll.ensures in
+    let t = c.args.service in
+    let later : Core = record k { defer = t.defer; deferred = c.if-due.self } in
+    let q = c.requires.sound in
+    let sound : SoundAt (place.Submit t) later =
+    record { config = q.config; sized = q.sized; time = q.time; root = q.root; books = q.books; sleeps = q.sleeps; sleeping = q.sleeping; class = q.class; place = q.place } in
+    let Q : Place → Type 0 = λ x. StepsTo k Serve Plain (record later { place = x; driver = e }) in
+    elim c.if-due-2.branch [
+      | then-due-2+then-urgent w ↦
+          subst Q (sym w.self-is)
+          (let h = driven later e (place.Submit t) (place.Enter t) Serve Plain _ _ _ _ sound s.books s.shows refl (q.class, tt) tt refl in
+          record { config = h.config; allowed = h.allowed; becomes = h.becomes; kept = h.kept })
+      | else-due-2 w ↦
+          subst Q (sym w.self-is)
+          (let h = driven later e (place.Submit t) (place.Reap t true) Serve Plain _ _ _ _ sound s.books s.shows refl (q.class, tt) tt refl in
+          record { config = h.config; allowed = h.allowed; becomes = h.becomes; kept = h.kept })
+    ]
+
+pub returns-then-is_full-clause-put_off : goal.returns-then-is_full-clause-put_off
+returns-then-is_full-clause-put_off c = λ h. let entered = c.flush.ensures.entered in cc
+
+pub returns-then-is_full-clause-enters : goal.returns-then-is_full-clause-enters
+returns-then-is_full-clause-enters c = λ h. let entered = c.flush.ensures.entered in cc
