@@ -9,5 +9,6 @@ pub mod one_shot;
 pub mod post;
 pub mod slab;
 pub mod spinner;
+pub mod task_no;
 #[cfg(test)]
 mod tests;
