@@ -12,13 +12,13 @@ use Rattle.exec_driver.specs.Operations.{operations_view}
 use Rattle.exec_driver.specs.Books.{one_if, Shows, ShowsSame, SameOwed, SameCounts, SameRing, SameStaged}
 use Rattle.exec_driver.proofs.Flights.{flown_same}
 use Rattle.exec_core.specs.declared.executor.Core.{Core}
-use Rattle.exec_core.specs.declared.place.Then.{Then}
-use Rattle.exec_core.specs.declared.place.Then.TheVariants as then
-use Rattle.exec_core.specs.declared.place.Back.{Back}
-use Rattle.exec_core.specs.declared.place.Back.TheVariants as back
+use Rattle.exec_core.specs.declared.place.AfterCallbacks.{AfterCallbacks}
+use Rattle.exec_core.specs.declared.place.AfterCallbacks.TheVariants as then
+use Rattle.exec_core.specs.declared.place.AfterService.{AfterService}
+use Rattle.exec_core.specs.declared.place.AfterService.TheVariants as back
 use Rattle.exec_core.specs.declared.place.Service.{Service}
-use Rattle.exec_core.specs.declared.place.Round.{Round}
-use Rattle.exec_core.specs.declared.place.Round.TheVariants as round
+use Rattle.exec_core.specs.declared.place.OwnLook.{OwnLook}
+use Rattle.exec_core.specs.declared.place.OwnLook.TheVariants as round
 use Rattle.exec_core.specs.declared.place.Place.{Place}
 use Rattle.exec_core.specs.declared.place.Place.TheVariants as place
 use Rattle.exec_core.specs.Minds.{is_top, place_after_reap}
@@ -26,11 +26,11 @@ use Rattle.exec_core.specs.Credit.{Signs, signs, may_stage_now, height, height_b
 
 -- down, past no sign
 
-pub from_head : (r : Round) (s : Signs) → weigh (height (place.LoadMirror r)) s < weigh (height (place.LoadHead r)) s
+pub from_head : (r : OwnLook) (s : Signs) → weigh (height (place.LookAtMirror r)) s < weigh (height (place.LookAtHead r)) s
 from_head round.First s = omega arith
 from_head round.Second s = omega arith
 
-pub from_mirror : (r : Round) (s : Signs) → weigh (height (place.LoadWord r)) s < weigh (height (place.LoadMirror r)) s
+pub from_mirror : (r : OwnLook) (s : Signs) → weigh (height (place.LookAtWord r)) s < weigh (height (place.LookAtMirror r)) s
 from_mirror round.First s = omega arith
 from_mirror round.Second s = omega arith
 
@@ -38,13 +38,13 @@ pub one_if-le : (b : Bool) → one_if b ≤ 1
 one_if-le true = omega arith
 one_if-le false = omega arith
 
-pub from_wheel : (b : Back) (s : Signs) → weigh (height_back b + 5) s < weigh (height_back b + 7) s
+pub from_wheel : (b : AfterService) (s : Signs) → weigh (height_back b + 5) s < weigh (height_back b + 7) s
 from_wheel back.Mail s = omega (arith, one_if-le s.full)
 from_wheel back.Begin s = omega (arith, one_if-le s.full)
 from_wheel back.Finish s = omega (arith, one_if-le s.full)
 
 -- the clock is sampled, and the latch cleared
-pub from_sample : (b : Back) (s : Signs) (m : ℕ) → weigh (height_back b + 8) (record s { stale = nat_lt m m; latched = false }) < weigh (height_back b + 9) s
+pub from_sample : (b : AfterService) (s : Signs) (m : ℕ) → weigh (height_back b + 8) (record s { stale = nat_lt m m; latched = false }) < weigh (height_back b + 9) s
 from_sample back.Mail s m =
     let fresh : one_if (nat_lt m m) ≡ 0 = ap one_if (lt-leb (suc m) m (omega arith)) in
     omega (arith, fresh)
@@ -199,26 +199,26 @@ signs_enter k e p shows owed counts told armed =
       outputs = ap length owed.1;
     }
 
-pub from_enter : (b : Back) (s t : Signs) → AfterEnter s t → weigh (height_back b + 2) t < weigh (height_back b + 3) s
+pub from_enter : (b : AfterService) (s t : Signs) → AfterEnter s t → weigh (height_back b + 2) t < weigh (height_back b + 3) s
 from_enter back.Mail s t a = enter_falls 20 19 s t a (omega arith) (omega arith)
 from_enter back.Begin s t a = enter_falls 42 41 s t a (omega arith) (omega arith)
 from_enter back.Finish s t a = enter_falls 42 41 s t a (omega arith) (omega arith)
 
-pub from_flush : (b : Back) (s t : Signs) → AfterEnter s t → s.full ≡ true → t.full ≡ false → weigh (height_back b + 5) t < weigh (height_back b + 5) s
+pub from_flush : (b : AfterService) (s t : Signs) → AfterEnter s t → s.full ≡ true → t.full ≡ false → weigh (height_back b + 5) t < weigh (height_back b + 5) s
 from_flush back.Mail s t a was is = enter_falls 22 22 s t a (omega (arith, ap one_if was, ap one_if is)) (omega arith)
 from_flush back.Begin s t a was is = enter_falls 44 44 s t a (omega (arith, ap one_if was, ap one_if is)) (omega arith)
 from_flush back.Finish s t a was is = enter_falls 44 44 s t a (omega (arith, ap one_if was, ap one_if is)) (omega arith)
 
 -- callbacks
 
-pub from_callbacks : (t : Then) (s : Signs) → weigh (height_then t) s < weigh (height_then t + 1) s
+pub from_callbacks : (t : AfterCallbacks) (s : Signs) → weigh (height_then t) s < weigh (height_then t + 1) s
 from_callbacks then.Look s = omega arith
 from_callbacks then.Test s = omega arith
 from_callbacks then.Begin s = omega arith
 from_callbacks then.Drain s = omega arith
 from_callbacks then.Finish s = omega arith
 
-pub from_item : (t : Then) (s : Signs) (b : Bool) (n : ℕ) → n < s.outputs → weigh (height_then t) (record s { callbacks = b; outputs = n }) < weigh (height_then t) s
+pub from_item : (t : AfterCallbacks) (s : Signs) (b : Bool) (n : ℕ) → n < s.outputs → weigh (height_then t) (record s { callbacks = b; outputs = n }) < weigh (height_then t) s
 from_item then.Look s b n h = omega (arith, h)
 from_item then.Test s b n h = omega (arith, h)
 from_item then.Begin s b n h = omega (arith, h)
@@ -307,16 +307,16 @@ arm_falls s t stage off a e =
     )
 
 -- The end of staging: nothing may be staged, and a deadline is due only if the clock went on.
-pub from_submit : (b : Back) (s t : Signs) (n : ℕ) → AfterArm s t false → one_if s.deadlines ≤ one_if s.stale → (n ≡ 2) ⊎ (n ≡ 3) → weigh (height_back b + n) t < weigh (height_back b + 5) s
+pub from_submit : (b : AfterService) (s t : Signs) (n : ℕ) → AfterArm s t false → one_if s.deadlines ≤ one_if s.stale → (n ≡ 2) ⊎ (n ≡ 3) → weigh (height_back b + n) t < weigh (height_back b + 5) s
 from_submit b s t n a due less = ⊎_elim (λ (e : n ≡ 2). subst (λ (x : ℕ). weigh (height_back b + x) t < weigh (height_back b + 5) s) (sym e) (to_reap b)) (λ (e : n ≡ 3). subst (λ (x : ℕ). weigh (height_back b + x) t < weigh (height_back b + 5) s) (sym e) (to_enter b)) less
   where
-    to_reap : (b : Back) → weigh (height_back b + 2) t < weigh (height_back b + 5) s
+    to_reap : (b : AfterService) → weigh (height_back b + 2) t < weigh (height_back b + 5) s
     to_reap back.Mail =
         omega (arith, due, ap one_if a.flag, ap one_if a.callbacks, ap one_if a.completions, ap one_if a.submissions, ap one_if a.deadlines, ap one_if a.sleepers, ap one_if a.stale, ap one_if a.latched, ap one_if a.cancels, a.outputs)
     to_reap back.Begin = omega (arith, ap one_if a.cancels, a.outputs)
     to_reap back.Finish = omega (arith, ap one_if a.cancels, a.outputs)
 
-    to_enter : (b : Back) → weigh (height_back b + 3) t < weigh (height_back b + 5) s
+    to_enter : (b : AfterService) → weigh (height_back b + 3) t < weigh (height_back b + 5) s
     to_enter back.Mail =
         omega (arith, due, ap one_if a.flag, ap one_if a.callbacks, ap one_if a.completions, ap one_if a.submissions, ap one_if a.deadlines, ap one_if a.sleepers, ap one_if a.stale, ap one_if a.latched, ap one_if a.cancels, a.outputs)
     to_enter back.Begin = omega (arith, ap one_if a.cancels, a.outputs)
@@ -334,19 +334,19 @@ due_if_stale sampled clock test le none =
 
 -- reaps, and the end of a service
 
-pub from_reap : (b : Back) (s t : Signs) (last : Bool) (n : ℕ) → t ≡ record s { completions = false } → n + 1 ≡ height_reap last → weigh (height_back b + n) t < weigh (height_back b + height_reap last) s
+pub from_reap : (b : AfterService) (s t : Signs) (last : Bool) (n : ℕ) → t ≡ record s { completions = false } → n + 1 ≡ height_reap last → weigh (height_back b + n) t < weigh (height_back b + height_reap last) s
 from_reap b s t last n e less = subst (λ (x : Signs). weigh (height_back b + n) x < weigh (height_back b + height_reap last) s) (sym e) (by b last n less)
   where
-    by : (b : Back) (last : Bool) (n : ℕ) → n + 1 ≡ height_reap last → weigh (height_back b + n) (record s { completions = false }) < weigh (height_back b + height_reap last) s
+    by : (b : AfterService) (last : Bool) (n : ℕ) → n + 1 ≡ height_reap last → weigh (height_back b + n) (record s { completions = false }) < weigh (height_back b + height_reap last) s
     by b true n less = let one : n ≡ 1 = omega (arith, less) in subst (λ (x : ℕ). weigh (height_back b + x) (record s { completions = false }) < weigh (height_back b + 2) s) (sym one) (down b)
       where
-        down : (b : Back) → weigh (height_back b + 1) (record s { completions = false }) < weigh (height_back b + 2) s
+        down : (b : AfterService) → weigh (height_back b + 1) (record s { completions = false }) < weigh (height_back b + 2) s
         down back.Mail = omega arith
         down back.Begin = omega arith
         down back.Finish = omega arith
     by b false n less = let one : n ≡ 7 = omega (arith, less) in subst (λ (x : ℕ). weigh (height_back b + x) (record s { completions = false }) < weigh (height_back b + 8) s) (sym one) (down b)
       where
-        down : (b : Back) → weigh (height_back b + 7) (record s { completions = false }) < weigh (height_back b + 8) s
+        down : (b : AfterService) → weigh (height_back b + 7) (record s { completions = false }) < weigh (height_back b + 8) s
         down back.Mail = omega arith
         down back.Begin = omega arith
         down back.Finish = omega arith

@@ -12,8 +12,8 @@ use Rattle.exec_machine.specs.Allowed.{is_awake, has_ended, is_polled_by, is_not
 use Rattle.exec_machine.specs.Text.{is_quiet}
 use Rattle.exec_driver.specs.Sleeps.{is_nap_over}
 use Rattle.exec_driver.proofs.Sleeping.{none_over, none_sleeps}
-use Rattle.exec_core.specs.declared.place.Stay.{Stay}
-use Rattle.exec_core.specs.declared.place.Stay.TheVariants as stay
+use Rattle.exec_core.specs.declared.place.WaitsIn.{WaitsIn}
+use Rattle.exec_core.specs.declared.place.WaitsIn.TheVariants as stay
 use Rattle.exec_core.specs.declared.place.Place.{Place}
 use Rattle.exec_core.specs.declared.executor.Core.{Core}
 use Rattle.exec_core.specs.Places.{Holds, class_stay}
@@ -117,10 +117,10 @@ slept k d p b e same top low m due lies =
           (cases_Bool (is_quiet e));
     }
 
-pub aside_stay : (s : Stay) (ph : WorkerPhase) (left closed stopped : Bool) (root : TaskPhase) → Holds (class_stay s) ph left closed stopped root → is_polled_by 0 root ≡ false
+pub aside_stay : (s : WaitsIn) (ph : WorkerPhase) (left closed stopped : Bool) (root : TaskPhase) → Holds (class_stay s) ph left closed stopped root → is_polled_by 0 root ≡ false
 aside_stay stay.Turn ph left closed stopped root h = h.1
 aside_stay stay.Closing ph left closed stopped root h = ap (is_polled_by 0) h.1
 
-pub running_stay : (s : Stay) (ph : WorkerPhase) (left closed stopped : Bool) (root : TaskPhase) → Holds (class_stay s) ph left closed stopped root → has_ended ph ≡ false
+pub running_stay : (s : WaitsIn) (ph : WorkerPhase) (left closed stopped : Bool) (root : TaskPhase) → Holds (class_stay s) ph left closed stopped root → has_ended ph ≡ false
 running_stay stay.Turn ph left closed stopped root h = ap has_ended h.0
 running_stay stay.Closing ph left closed stopped root h = ap has_ended h.0

@@ -13,12 +13,12 @@ use Rattle.exec_machine.specs.declared.event.Said.TheVariants.{Did, Refused}
 use Rattle.exec_machine.specs.Allowed.{is_awake, has_ended, is_enabled}
 use Rattle.exec_machine.specs.Text.{is_quiet}
 use Rattle.exec_machine.specs.Progress.{quiet_bound, is_closing, is_quiet_step, is_down, IsRested}
-use Rattle.exec_core.specs.declared.place.Then.{Then}
-use Rattle.exec_core.specs.declared.place.Then.TheVariants as then
-use Rattle.exec_core.specs.declared.place.Back.{Back}
-use Rattle.exec_core.specs.declared.place.Back.TheVariants as back
-use Rattle.exec_core.specs.declared.place.Round.{Round}
-use Rattle.exec_core.specs.declared.place.Round.TheVariants as round
+use Rattle.exec_core.specs.declared.place.AfterCallbacks.{AfterCallbacks}
+use Rattle.exec_core.specs.declared.place.AfterCallbacks.TheVariants as then
+use Rattle.exec_core.specs.declared.place.AfterService.{AfterService}
+use Rattle.exec_core.specs.declared.place.AfterService.TheVariants as back
+use Rattle.exec_core.specs.declared.place.OwnLook.{OwnLook}
+use Rattle.exec_core.specs.declared.place.OwnLook.TheVariants as round
 use Rattle.exec_core.specs.declared.place.Place.{Place}
 use Rattle.exec_core.specs.declared.place.Place.TheVariants as place
 use Rattle.exec_core.specs.declared.executor.Core.{Core}
@@ -31,19 +31,19 @@ use Rattle.exec_core.proofs.Credits.{one_if-le}
 
 -- no place is higher
 
-low_back : (b : Back) → height_back b ≤ 39
+low_back : (b : AfterService) → height_back b ≤ 39
 low_back back.Mail = omega arith
 low_back back.Begin = omega arith
 low_back back.Finish = omega arith
 
-low_then : (t : Then) → height_then t ≤ 52
+low_then : (t : AfterCallbacks) → height_then t ≤ 52
 low_then then.Look = omega arith
 low_then then.Test = omega arith
 low_then then.Begin = omega arith
 low_then then.Drain = omega arith
 low_then then.Finish = omega arith
 
-low_round : (r : Round) → height_round r ≤ 27
+low_round : (r : OwnLook) → height_round r ≤ 27
 low_round round.First = omega arith
 low_round round.Second = omega arith
 
@@ -56,39 +56,39 @@ low_global true = omega arith
 low_global false = omega arith
 
 low : (p : Place) → height p ≤ 60
-low place.Begin = omega arith
+low place.BeginTurn = omega arith
 low place.CountDown = omega arith
 low (place.Pop g) = omega arith
-low (place.Mirror g) = omega (arith, low_global g)
-low place.RootFlag = omega arith
-low place.Poll = omega arith
+low (place.LoadMirror g) = omega (arith, low_global g)
+low place.TakeRootFlag = omega arith
+low place.BeginPoll = omega arith
 low place.Act = omega arith
-low (place.Callbacks t) = omega (arith, low_then t)
-low (place.Item t) = omega (arith, low_then t)
-low (place.LoadHead r) = omega (arith, low_round r)
-low (place.LoadMirror r) = omega (arith, low_round r)
-low (place.LoadWord r) = omega (arith, low_round r)
+low (place.TakeCallbacks t) = omega (arith, low_then t)
+low (place.CallBack t) = omega (arith, low_then t)
+low (place.LookAtHead r) = omega (arith, low_round r)
+low (place.LookAtMirror r) = omega (arith, low_round r)
+low (place.LookAtWord r) = omega (arith, low_round r)
 low (place.Sample s) = omega (arith, low_back s.back)
 low (place.Reap s last) = omega (arith, low_back s.back, low_reap last)
-low (place.Wheel s) = omega (arith, low_back s.back)
+low (place.AdvanceWheel s) = omega (arith, low_back s.back)
 low (place.Submit s) = omega (arith, low_back s.back)
-low (place.Enter s) = omega (arith, low_back s.back)
-low (place.Last s) = omega (arith, low_back s.back)
-low place.Mail = omega arith
-low place.Test = omega arith
-low place.Clock = omega arith
+low (place.EnterLast s) = omega (arith, low_back s.back)
+low (place.EndService s) = omega (arith, low_back s.back)
+low place.LookAtMail = omega arith
+low place.TestForWork = omega arith
+low place.ReadClock = omega arith
 low place.Publish = omega arith
-low place.LookMirror = omega arith
-low place.LookCount = omega arith
-low (place.RingFull s) = omega arith
-low (place.RingTest s) = omega arith
-low (place.RingArm s) = omega arith
-low (place.RingEnter s) = omega arith
-low (place.RingSleep s) = omega arith
-low (place.RingBits s b) = omega arith
-low place.WordArm = omega arith
-low place.WordSleep = omega arith
-low place.WordBits = omega arith
+low place.LookAfterPublish = omega arith
+low place.LookAtCount = omega arith
+low (place.EnterFullRing s) = omega arith
+low (place.TestRing s) = omega arith
+low (place.ArmRing s) = omega arith
+low (place.EnterRing s) = omega arith
+low (place.SleepOnRing s) = omega arith
+low (place.DisarmRing s b) = omega arith
+low place.ArmWord = omega arith
+low place.SleepOnWord = omega arith
+low place.DisarmWord = omega arith
 low (place.Withdraw n) = omega arith
 low place.Close = omega arith
 low place.CloseQueue = omega arith

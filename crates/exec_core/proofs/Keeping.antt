@@ -18,8 +18,8 @@ use Rattle.exec_driver.specs.Books.{Books, Shows, request_at, outputs_due, SameT
 use Rattle.exec_driver.specs.Operations.{operations_view}
 use Rattle.exec_driver.specs.Sleeps.{Sleeps, sleeper_at}
 use Rattle.exec_driver.proofs.Flights.{map_at, flown_same}
-use Rattle.exec_core.specs.declared.place.Then.{Then}
-use Rattle.exec_core.specs.declared.place.Then.TheVariants as then
+use Rattle.exec_core.specs.declared.place.AfterCallbacks.{AfterCallbacks}
+use Rattle.exec_core.specs.declared.place.AfterCallbacks.TheVariants as then
 use Rattle.exec_core.specs.declared.place.Service.{Service}
 use Rattle.exec_core.specs.declared.place.Place.{Place}
 use Rattle.exec_core.specs.declared.root.Root.{Root}
@@ -193,7 +193,7 @@ unready_by c told h =
 
 -- a worker that knows nothing more in its callbacks, or that it told all
 
-pub known_then : (th : Then) (ph : WorkerPhase) (f g : Bool) (d e : Driver) (t u : Timers) (n : ℕ) → e.unenrolled.items ≡ d.unenrolled.items → e.cancels.items ≡ d.cancels.items →
+pub known_then : (th : AfterCallbacks) (ph : WorkerPhase) (f g : Bool) (d e : Driver) (t u : Timers) (n : ℕ) → e.unenrolled.items ≡ d.unenrolled.items → e.cancels.items ≡ d.cancels.items →
     Known (knows_then th) ph f d t n → Known (knows_then th) ph g e u n
 known_then then.Look ph f g d e t u n a b h = tt
 known_then then.Test ph f g d e t u n a b h = record { enrolled = a ∙ h.enrolled; cancelled = b ∙ h.cancelled }

@@ -43,7 +43,7 @@ begun_request waiting.Wake q h = cc
 begun_request waiting.Woken q h = h
 begun_request waiting.Yielded q h = cc
 
-pub begins : (c : Core) (r : Root) → SoundAt place.Poll c → r ≡ begun_root c.root → StepsTo c (Begin 0) Plain (record c { place = place.Act; root = r })
+pub begins : (c : Core) (r : Root) → SoundAt place.BeginPoll c → r ≡ begun_root c.root → StepsTo c (Begin 0) Plain (record c { place = place.Act; root = r })
 begins c r s e =
     let P : Root → Type 0 = λ x. StepsTo c (Begin 0) Plain (record c { place = place.Act; root = x }) in
     subst P (sym e) (record {

@@ -8,30 +8,30 @@ use Rattle.std.specs.List.{list_any}
 use Rattle.exec_machine.specs.Allowed.{is_due}
 use Rattle.exec_driver.specs.Books.{one_if}
 use Rattle.exec_driver.specs.Sleeps.{is_nap_over}
-use Rattle.exec_core.specs.declared.place.Then.{Then}
-use Rattle.exec_core.specs.declared.place.Then.TheVariants as then
-use Rattle.exec_core.specs.declared.place.Back.{Back}
-use Rattle.exec_core.specs.declared.place.Back.TheVariants as back
-use Rattle.exec_core.specs.declared.place.Round.{Round}
-use Rattle.exec_core.specs.declared.place.Round.TheVariants as round
+use Rattle.exec_core.specs.declared.place.AfterCallbacks.{AfterCallbacks}
+use Rattle.exec_core.specs.declared.place.AfterCallbacks.TheVariants as then
+use Rattle.exec_core.specs.declared.place.AfterService.{AfterService}
+use Rattle.exec_core.specs.declared.place.AfterService.TheVariants as back
+use Rattle.exec_core.specs.declared.place.OwnLook.{OwnLook}
+use Rattle.exec_core.specs.declared.place.OwnLook.TheVariants as round
 use Rattle.exec_core.specs.declared.place.Place.{Place}
-use Rattle.exec_core.specs.declared.place.Place.TheVariants.{Begin, CountDown, Pop, Mirror, RootFlag, Poll, Act, Callbacks, Item, LoadHead, LoadMirror, LoadWord, Sample, Reap, Wheel, Submit, Enter, Last, Mail, Test, Clock, Publish, LookMirror, LookCount, RingFull, RingTest, RingArm, RingEnter, RingSleep, RingBits, WordArm, WordSleep, WordBits, Withdraw, Close, CloseQueue, OpenBarrier, Stop, Discard, Visit, LeaveBarrier, CloseMail, End}
+use Rattle.exec_core.specs.declared.place.Place.TheVariants.{BeginTurn, CountDown, Pop, LoadMirror, TakeRootFlag, BeginPoll, Act, TakeCallbacks, CallBack, LookAtHead, LookAtMirror, LookAtWord, Sample, Reap, AdvanceWheel, Submit, EnterLast, EndService, LookAtMail, TestForWork, ReadClock, Publish, LookAfterPublish, LookAtCount, EnterFullRing, TestRing, ArmRing, EnterRing, SleepOnRing, DisarmRing, ArmWord, SleepOnWord, DisarmWord, Withdraw, Close, CloseQueue, OpenBarrier, Stop, Discard, Visit, LeaveBarrier, CloseMail, End}
 use Rattle.exec_core.specs.declared.executor.Core.{Core}
 
 -- the end of a service that leads there
-abbrev pub height_back : Back → ℕ
+abbrev pub height_back : AfterService → ℕ
 height_back back.Mail = 17
 height_back back.Begin = 39
 height_back back.Finish = 39
 
-abbrev pub height_then : Then → ℕ
+abbrev pub height_then : AfterCallbacks → ℕ
 height_then then.Look = 30
 height_then then.Test = 15
 height_then then.Begin = 38
 height_then then.Drain = 52
 height_then then.Finish = 38
 
-abbrev pub height_round : Round → ℕ
+abbrev pub height_round : OwnLook → ℕ
 height_round round.First = 27
 height_round round.Second = 12
 
@@ -45,39 +45,39 @@ height_global false = 0
 
 -- So far it is to the sleep, if nothing comes between.
 abbrev pub height : Place → ℕ
-height Begin = 37
+height BeginTurn = 37
 height CountDown = 36
 height (Pop global_first) = 35 - height_global global_first
-height (Mirror global_first) = 34 + height_global global_first
-height RootFlag = 33
-height Poll = 32
+height (LoadMirror global_first) = 34 + height_global global_first
+height TakeRootFlag = 33
+height BeginPoll = 32
 height Act = 32
-height (Callbacks then) = height_then then + 1
-height (Item then) = height_then then
-height (LoadHead round) = height_round round + 2
-height (LoadMirror round) = height_round round + 1
-height (LoadWord round) = height_round round
+height (TakeCallbacks then) = height_then then + 1
+height (CallBack then) = height_then then
+height (LookAtHead round) = height_round round + 2
+height (LookAtMirror round) = height_round round + 1
+height (LookAtWord round) = height_round round
 height (Sample service) = height_back service.back + 9
 height (Reap service last) = height_back service.back + height_reap last
-height (Wheel service) = height_back service.back + 7
+height (AdvanceWheel service) = height_back service.back + 7
 height (Submit service) = height_back service.back + 5
-height (Enter service) = height_back service.back + 3
-height (Last service) = height_back service.back + 1
-height Mail = 17
-height Test = 11
-height Clock = 10
+height (EnterLast service) = height_back service.back + 3
+height (EndService service) = height_back service.back + 1
+height LookAtMail = 17
+height TestForWork = 11
+height ReadClock = 10
 height Publish = 9
-height LookMirror = 8
-height LookCount = 7
-height (RingFull stay) = 6
-height (RingTest stay) = 5
-height (RingArm stay) = 3
-height (RingEnter stay) = 2
-height (RingSleep stay) = 1
-height (RingBits stay served) = 51
-height WordArm = 2
-height WordSleep = 1
-height WordBits = 51
+height LookAfterPublish = 8
+height LookAtCount = 7
+height (EnterFullRing stay) = 6
+height (TestRing stay) = 5
+height (ArmRing stay) = 3
+height (EnterRing stay) = 2
+height (SleepOnRing stay) = 1
+height (DisarmRing stay served) = 51
+height ArmWord = 2
+height SleepOnWord = 1
+height DisarmWord = 51
 height (Withdraw next) = 49
 height Close = 0
 height CloseQueue = 0

@@ -21,12 +21,12 @@ use Rattle.exec_driver.specs.declared.driver.Driver.{Driver}
 use Rattle.exec_driver.specs.declared.sleepers.Timers.{Timers}
 use Rattle.exec_driver.specs.Books.{request_at, outputs_due}
 use Rattle.exec_driver.specs.Sleeps.{is_nap_over, sleeper_at}
-use Rattle.exec_core.specs.declared.place.Then.{Then}
-use Rattle.exec_core.specs.declared.place.Then.TheVariants as then
-use Rattle.exec_core.specs.declared.place.Round.{Round}
-use Rattle.exec_core.specs.declared.place.Round.TheVariants as round
+use Rattle.exec_core.specs.declared.place.AfterCallbacks.{AfterCallbacks}
+use Rattle.exec_core.specs.declared.place.AfterCallbacks.TheVariants as then
+use Rattle.exec_core.specs.declared.place.OwnLook.{OwnLook}
+use Rattle.exec_core.specs.declared.place.OwnLook.TheVariants as round
 use Rattle.exec_core.specs.declared.place.Place.{Place}
-use Rattle.exec_core.specs.declared.place.Place.TheVariants.{Poll, Callbacks, Item, LoadHead, LoadMirror, LoadWord, Reap, Wheel, Enter, Last, Mail, Test, Clock, Publish, LookMirror, LookCount, RingFull, RingTest, RingArm, RingEnter, RingSleep, WordArm, WordSleep}
+use Rattle.exec_core.specs.declared.place.Place.TheVariants.{BeginPoll, TakeCallbacks, CallBack, LookAtHead, LookAtMirror, LookAtWord, Reap, AdvanceWheel, EnterLast, EndService, LookAtMail, TestForWork, ReadClock, Publish, LookAfterPublish, LookAtCount, EnterFullRing, TestRing, ArmRing, EnterRing, SleepOnRing, ArmWord, SleepOnWord}
 use Rattle.exec_core.specs.declared.root.Root.{Root}
 use Rattle.exec_core.specs.declared.executor.Core.{Core}
 use Rattle.exec_core.specs.View.{world}
@@ -62,14 +62,14 @@ pub data Knowledge : Type 0 where
   -- and there is no request
   Unasked : Knowledge
 
-abbrev pub knows_then : Then → Knowledge
+abbrev pub knows_then : AfterCallbacks → Knowledge
 knows_then then.Look = Nothing
 knows_then then.Test = Told
 knows_then then.Begin = Nothing
 knows_then then.Drain = Nothing
 knows_then then.Finish = Nothing
 
-abbrev pub knows_round : Round → Knowledge
+abbrev pub knows_round : OwnLook → Knowledge
 knows_round round.First = Nothing
 knows_round round.Second = Told
 
@@ -79,26 +79,26 @@ knows_reap false = Nothing
 
 abbrev pub knows : Place → Knowledge
 knows (Reap service last) = knows_reap last
-knows (Enter service) = Told
-knows (Last service) = Told
-knows Mail = Told
-knows (Callbacks then) = knows_then then
-knows (Item then) = knows_then then
-knows (LoadHead round) = knows_round round
-knows (LoadMirror round) = knows_round round
-knows (LoadWord round) = knows_round round
-knows Test = Told
-knows Clock = Unready
+knows (EnterLast service) = Told
+knows (EndService service) = Told
+knows LookAtMail = Told
+knows (TakeCallbacks then) = knows_then then
+knows (CallBack then) = knows_then then
+knows (LookAtHead round) = knows_round round
+knows (LookAtMirror round) = knows_round round
+knows (LookAtWord round) = knows_round round
+knows TestForWork = Told
+knows ReadClock = Unready
 knows Publish = Unready
-knows LookMirror = Unready
-knows LookCount = Unready
-knows (RingFull stay) = Unready
-knows (RingTest stay) = Unready
-knows (RingArm stay) = Unready
-knows (RingEnter stay) = Unready
-knows (RingSleep stay) = Entered
-knows WordArm = Unasked
-knows WordSleep = Unasked
+knows LookAfterPublish = Unready
+knows LookAtCount = Unready
+knows (EnterFullRing stay) = Unready
+knows (TestRing stay) = Unready
+knows (ArmRing stay) = Unready
+knows (EnterRing stay) = Unready
+knows (SleepOnRing stay) = Entered
+knows ArmWord = Unasked
+knows SleepOnWord = Unasked
 knows _ = Nothing
 
 -- No deadline is to be put on the wheel, and no cancel to be staged.
@@ -123,7 +123,7 @@ Known Entered phase flag d t ring = is_closing phase ≡ false → IsUnready fla
 Known Unasked phase flag d t ring = is_closing phase ≡ false → IsUnready flag d t ring × (d.unresolved ≡ 0)
 
 abbrev pub is_called : Place → Bool
-is_called Poll = true
+is_called BeginPoll = true
 is_called _ = false
 
 -- What holds of the root, of what it waits for, and of what the worker knows.
@@ -147,8 +147,8 @@ is_top p = nat_le 33 (height p) && (nat_lt (height p) 61 && (not (is_called p) &
 
 -- what follows the judging of a landed result
 abbrev pub place_after_reap : Service → Bool → List ℕ → Place
-place_after_reap service true [] = Last service
-place_after_reap service false [] = Wheel service
+place_after_reap service true [] = EndService service
+place_after_reap service false [] = AdvanceWheel service
 place_after_reap service last (r ∷ landed) = Reap service last
 
 -- the sleep

@@ -5,14 +5,14 @@ use Rattle.exec_machine.specs.declared.state.WorkerPhase.TheVariants as worker
 use Rattle.exec_machine.specs.declared.state.TaskPhase.{TaskPhase}
 use Rattle.exec_machine.specs.declared.state.TaskPhase.TheVariants as task
 use Rattle.exec_machine.specs.Allowed.{is_polled_by, has_ended}
-use Rattle.exec_core.specs.declared.place.Then.{Then}
-use Rattle.exec_core.specs.declared.place.Then.TheVariants as then
-use Rattle.exec_core.specs.declared.place.Back.{Back}
-use Rattle.exec_core.specs.declared.place.Back.TheVariants as back
-use Rattle.exec_core.specs.declared.place.Stay.{Stay}
-use Rattle.exec_core.specs.declared.place.Stay.TheVariants as stay
+use Rattle.exec_core.specs.declared.place.AfterCallbacks.{AfterCallbacks}
+use Rattle.exec_core.specs.declared.place.AfterCallbacks.TheVariants as then
+use Rattle.exec_core.specs.declared.place.AfterService.{AfterService}
+use Rattle.exec_core.specs.declared.place.AfterService.TheVariants as back
+use Rattle.exec_core.specs.declared.place.WaitsIn.{WaitsIn}
+use Rattle.exec_core.specs.declared.place.WaitsIn.TheVariants as stay
 use Rattle.exec_core.specs.declared.place.Place.{Place}
-use Rattle.exec_core.specs.declared.place.Place.TheVariants.{Poll, Act, Callbacks, Item, Sample, Reap, Wheel, Submit, Enter, Last, RingFull, RingTest, RingArm, RingEnter, RingSleep, RingBits, Close, CloseQueue, OpenBarrier, Stop, Discard, Visit, LeaveBarrier, CloseMail, End}
+use Rattle.exec_core.specs.declared.place.Place.TheVariants.{BeginPoll, Act, TakeCallbacks, CallBack, Sample, Reap, AdvanceWheel, Submit, EnterLast, EndService, EnterFullRing, TestRing, ArmRing, EnterRing, SleepOnRing, DisarmRing, Close, CloseQueue, OpenBarrier, Stop, Discard, Visit, LeaveBarrier, CloseMail, End}
 
 pub data Class : Type 0 where
   -- in a turn, with no poll going on
@@ -32,39 +32,39 @@ pub data Class : Type 0 where
   -- nothing is left to do
   Ending : Class
 
-abbrev pub class_then : Then → Class
+abbrev pub class_then : AfterCallbacks → Class
 class_then then.Look = Working
 class_then then.Test = Working
 class_then then.Begin = Working
 class_then then.Drain = Leaving
 class_then then.Finish = Leaving
 
-abbrev pub class_back : Back → Class
+abbrev pub class_back : AfterService → Class
 class_back back.Mail = Working
 class_back back.Begin = Working
 class_back back.Finish = Leaving
 
-abbrev pub class_stay : Stay → Class
+abbrev pub class_stay : WaitsIn → Class
 class_stay stay.Turn = Working
 class_stay stay.Closing = Leaving
 
 abbrev pub class_of : Place → Class
-class_of Poll = Called
+class_of BeginPoll = Called
 class_of Act = Polling
-class_of (Callbacks then) = class_then then
-class_of (Item then) = class_then then
+class_of (TakeCallbacks then) = class_then then
+class_of (CallBack then) = class_then then
 class_of (Sample service) = class_back service.back
 class_of (Reap service last) = class_back service.back
-class_of (Wheel service) = class_back service.back
+class_of (AdvanceWheel service) = class_back service.back
 class_of (Submit service) = class_back service.back
-class_of (Enter service) = class_back service.back
-class_of (Last service) = class_back service.back
-class_of (RingFull stay) = class_stay stay
-class_of (RingTest stay) = class_stay stay
-class_of (RingArm stay) = class_stay stay
-class_of (RingEnter stay) = class_stay stay
-class_of (RingSleep stay) = class_stay stay
-class_of (RingBits stay served) = class_stay stay
+class_of (EnterLast service) = class_back service.back
+class_of (EndService service) = class_back service.back
+class_of (EnterFullRing stay) = class_stay stay
+class_of (TestRing stay) = class_stay stay
+class_of (ArmRing stay) = class_stay stay
+class_of (EnterRing stay) = class_stay stay
+class_of (SleepOnRing stay) = class_stay stay
+class_of (DisarmRing stay served) = class_stay stay
 class_of Close = Over
 class_of CloseQueue = Shutting
 class_of OpenBarrier = Stopping
@@ -92,6 +92,6 @@ Holds Ending p left queue_closed stopped root = (has_ended p ≡ false → p ≡
 -- what else is known at two places: about to poll, the root's flag is down; at the end nothing is unresolved or
 -- unreleased
 abbrev pub AtPlace : Place → Bool → ℕ → List ℕ → Type 0
-AtPlace Poll flag unresolved resources = flag ≡ false
+AtPlace BeginPoll flag unresolved resources = flag ≡ false
 AtPlace End flag unresolved resources = (unresolved ≡ 0) × (resources ≡ [])
 AtPlace _ flag unresolved resources = Unit {0}

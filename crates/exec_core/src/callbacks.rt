@@ -1,4 +1,9 @@
 //! The callbacks: wakes, outputs that nobody takes, and what resolved requests owned, one a step.
+//!
+//! A batch is taken whole, and what a callback makes due joins the next one. Outputs that nobody
+//! takes are each a quiet step. There are at most as many as requests made, twice, so the count
+//! that falls at each quiet step has them: what is due is counted with the requests that go on
+//! and those that the root holds.
 
 ghost use Rattle.std.specs.Prelude.{◌≡◌, false, []};
 ghost use Rattle.exec_core.specs.Places.{class_then, Holds};
@@ -11,27 +16,27 @@ ghost use Rattle.exec_core.specs.Credit.{callbacks_of, height, signs, weigh};
 ghost use Rattle.exec_core.specs.Minds.{Minds, Proceeds};
 
 use crate::executor::Core;
-use crate::place::{Back, Place, Round, Service, Stay, Then};
+use crate::place::{AfterCallbacks, AfterService, OwnLook, Place, Service, WaitsIn};
 use exec_machine::event::Event;
 
 impl Core {
     /// Takes the batch of callbacks.
-    pub fn take_callbacks(&mut self, then: Then) -> Event
-        requires sound { SoundAt (Place.Callbacks then) self.old }
-        requires minds { Minds (Place.Callbacks then) self.old }
+    pub fn take_callbacks(&mut self, then: AfterCallbacks) -> Event
+        requires sound { SoundAt (Place.TakeCallbacks then) self.old }
+        requires minds { Minds (Place.TakeCallbacks then) self.old }
         ensures steps { StepsTo self.old result Plain self.new }
-        ensures proceeds { Proceeds (Place.Callbacks then) self.old result self.new }
+        ensures proceeds { Proceeds (Place.TakeCallbacks then) self.old result self.new }
     {
         self.place = self.next_callback(then);
         Event::Turn
     }
 
     /// Makes the next callback: wakes come first, and what requests owned comes last.
-    pub fn call_back(&mut self, then: Then) -> Event
-        requires sound { SoundAt (Place.Item then) self.old }
-        requires minds { Minds (Place.Item then) self.old }
+    pub fn call_back(&mut self, then: AfterCallbacks) -> Event
+        requires sound { SoundAt (Place.CallBack then) self.old }
+        requires minds { Minds (Place.CallBack then) self.old }
         ensures steps { (choice : Choice) × StepsTo self.old result choice self.new }
-        ensures proceeds { Proceeds (Place.Item then) self.old result self.new }
+        ensures proceeds { Proceeds (Place.CallBack then) self.old result self.new }
     {
         if !self.driver.wakes.is_empty() {
             self.call_wake(then)
@@ -45,12 +50,12 @@ impl Core {
     }
 
     /// Wakes the task that waited for a resolved request.
-    fn call_wake(&mut self, then: Then) -> Event
-        requires sound { SoundAt (Place.Item then) self.old }
-        requires minds { Minds (Place.Item then) self.old }
+    fn call_wake(&mut self, then: AfterCallbacks) -> Event
+        requires sound { SoundAt (Place.CallBack then) self.old }
+        requires minds { Minds (Place.CallBack then) self.old }
         requires some { self.old.driver.wakes.items ≢ [] }
         ensures steps { (choice : Choice) × StepsTo self.old result choice self.new }
-        ensures proceeds { Proceeds (Place.Item then) self.old result self.new }
+        ensures proceeds { Proceeds (Place.CallBack then) self.old result self.new }
     {
         match self.driver.pay_wake() {
             Some(paid) => {
@@ -66,12 +71,12 @@ impl Core {
     }
 
     /// Wakes the task of a sleeper whose moment has come.
-    fn call_sleeper(&mut self, then: Then) -> Event
-        requires sound { SoundAt (Place.Item then) self.old }
-        requires minds { Minds (Place.Item then) self.old }
+    fn call_sleeper(&mut self, then: AfterCallbacks) -> Event
+        requires sound { SoundAt (Place.CallBack then) self.old }
+        requires minds { Minds (Place.CallBack then) self.old }
         requires some { self.old.timers.wakes.items ≢ [] }
         ensures steps { (choice : Choice) × StepsTo self.old result choice self.new }
-        ensures proceeds { Proceeds (Place.Item then) self.old result self.new }
+        ensures proceeds { Proceeds (Place.CallBack then) self.old result self.new }
     {
         match self.timers.pay_wake() {
             Some(paid) => {
@@ -87,12 +92,12 @@ impl Core {
     }
 
     /// Drops an output that nobody takes.
-    fn drop_output(&mut self, then: Then) -> Event
-        requires sound { SoundAt (Place.Item then) self.old }
-        requires minds { Minds (Place.Item then) self.old }
+    fn drop_output(&mut self, then: AfterCallbacks) -> Event
+        requires sound { SoundAt (Place.CallBack then) self.old }
+        requires minds { Minds (Place.CallBack then) self.old }
         requires some { self.old.driver.outputs.items ≢ [] }
         ensures steps { (choice : Choice) × StepsTo self.old result choice self.new }
-        ensures proceeds { Proceeds (Place.Item then) self.old result self.new }
+        ensures proceeds { Proceeds (Place.CallBack then) self.old result self.new }
     {
         self.driver.outputs.pop_front();
         self.place = self.next_callback(then);
@@ -100,12 +105,12 @@ impl Core {
     }
 
     /// Lets go of what a resolved request owned.
-    fn release(&mut self, then: Then) -> Event
-        requires sound { SoundAt (Place.Item then) self.old }
-        requires minds { Minds (Place.Item then) self.old }
+    fn release(&mut self, then: AfterCallbacks) -> Event
+        requires sound { SoundAt (Place.CallBack then) self.old }
+        requires minds { Minds (Place.CallBack then) self.old }
         requires no_others { (self.old.driver.wakes.items ≡ []) × (self.old.driver.outputs.items ≡ []) × (self.old.timers.wakes.items ≡ []) }
         ensures steps { (choice : Choice) × StepsTo self.old result choice self.new }
-        ensures proceeds { Proceeds (Place.Item then) self.old result self.new }
+        ensures proceeds { Proceeds (Place.CallBack then) self.old result self.new }
     {
         match self.driver.release() {
             Some(request) => {
@@ -120,14 +125,14 @@ impl Core {
     }
 
     /// The next callback of the batch, or where they lead.
-    fn next_callback(&self, then: Then) -> Place
+    fn next_callback(&self, then: AfterCallbacks) -> Place
         requires { Holds (class_then then) self.now.phase self.now.left self.now.queue_closed self.now.stopped self.now.root.phase }
         ensures suits { Suits result self.now }
-        ensures minds { Minds (Place.Item then) self.now → Minds result self.now }
-        ensures falls { is_closing self.now.phase ≡ false → ((result ≡ Place.Item then) × (0 < callbacks_of self.now)) ⊎ (weigh (height result) (signs self.now) < weigh (height (Place.Item then)) (signs self.now)) }
+        ensures minds { Minds (Place.CallBack then) self.now → Minds result self.now }
+        ensures falls { is_closing self.now.phase ≡ false → ((result ≡ Place.CallBack then) × (0 < callbacks_of self.now)) ⊎ (weigh (height result) (signs self.now) < weigh (height (Place.CallBack then)) (signs self.now)) }
     {
         if self.has_callbacks() {
-            Place::Item { then }
+            Place::CallBack { then }
         } else {
             self.after_callbacks(then)
         }
@@ -142,31 +147,31 @@ impl Core {
     }
 
     /// Where the callbacks lead once all are made.
-    fn after_callbacks(&self, then: Then) -> Place
+    fn after_callbacks(&self, then: AfterCallbacks) -> Place
         requires holds { Holds (class_then then) self.now.phase self.now.left self.now.queue_closed self.now.stopped self.now.root.phase }
         requires empty { self.now.driver.resources.items ≡ [] }
         requires none { callbacks_of self.now ≡ 0 }
         ensures suits { Suits result self.now }
-        ensures minds { Minds (Place.Item then) self.now → Minds result self.now }
-        ensures falls { is_closing self.now.phase ≡ false → weigh (height result) (signs self.now) < weigh (height (Place.Item then)) (signs self.now) }
+        ensures minds { Minds (Place.CallBack then) self.now → Minds result self.now }
+        ensures falls { is_closing self.now.phase ≡ false → weigh (height result) (signs self.now) < weigh (height (Place.CallBack then)) (signs self.now) }
     {
         match then {
-            Then::Look => Place::LoadHead {
-                round: Round::First,
+            AfterCallbacks::Look => Place::LookAtHead {
+                round: OwnLook::First,
             },
-            Then::Test => Place::LoadHead {
-                round: Round::Second,
+            AfterCallbacks::Test => Place::LookAtHead {
+                round: OwnLook::Second,
             },
-            Then::Begin => Place::Begin,
-            Then::Drain => Place::Sample {
+            AfterCallbacks::Begin => Place::BeginTurn,
+            AfterCallbacks::Drain => Place::Sample {
                 service: Service {
                     defer: false,
-                    back: Back::Finish,
+                    back: AfterService::Finish,
                 },
             },
-            Then::Finish => {
+            AfterCallbacks::Finish => {
                 if self.driver.unresolved > 0 {
-                    self.ring_wait(Stay::Closing)
+                    self.ring_wait(WaitsIn::Closing)
                 } else {
                     Place::End
                 }

@@ -1,4 +1,9 @@
 //! The closing of the worker, once its root is over.
+//!
+//! The task set and the global queue are closed, the pool is stopped, the own queue and the set
+//! are emptied, the barrier is passed, and the mailbox is closed; then the requests are served
+//! until none is left. With one worker no sleeper is left by then, since only the root sleeps,
+//! and it is over.
 
 ghost use Rattle.std.specs.Prelude.{◌≡◌, true, false};
 ghost use Rattle.exec_machine.specs.Allowed.{has_ended, is_awake};
@@ -7,7 +12,7 @@ ghost use Rattle.exec_core.specs.Sound.{SoundAt, StepsTo};
 ghost use Rattle.exec_core.specs.Minds.{Minds, Proceeds};
 
 use crate::executor::Core;
-use crate::place::{Place, Then};
+use crate::place::{AfterCallbacks, Place};
 use exec_machine::event::Event;
 use exec_machine::state::WorkerPhase;
 
@@ -108,7 +113,9 @@ impl Core {
         ensures steps { StepsTo self.old result Plain self.new }
         ensures proceeds { Proceeds Place.CloseMail self.old result self.new }
     {
-        self.place = Place::Callbacks { then: Then::Drain };
+        self.place = Place::TakeCallbacks {
+            then: AfterCallbacks::Drain,
+        };
         Event::Turn
     }
 

@@ -1,4 +1,8 @@
-//! One executor as one value.
+//! One executor as one value, and what stands around a step: whether it may be taken, and what
+//! became of it.
+//!
+//! After want of memory the executor is spent. The step that was refused memory may have changed
+//! it, so the run ends there, and nothing is claimed of it.
 
 use crate::place::Place;
 use crate::root::Root;
@@ -119,7 +123,7 @@ impl Core {
         Ok(Core {
             config,
             clock: 0,
-            place: Place::Begin,
+            place: Place::BeginTurn,
             phase: WorkerPhase::Open,
             rest: Rest::Awake,
             left: false,

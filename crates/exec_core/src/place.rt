@@ -1,11 +1,52 @@
 //! Where a worker is: which step it takes next.
 //!
-//! A part of a turn that several parts go through, as callbacks and a service, has as its argument where it
-//! leads.
+//! A worker is one party of many, and between two of its steps any other may take some. So all
+//! that it knows of where it stands is its place: a value of `Place`, with what it carries as
+//! arguments. Each place has one step, a function of the same name in the file of its group,
+//! which says the place that comes next. A part that several parts go through, as callbacks or a
+//! service, has as its argument where it leads.
+//!
+//! A turn, from top to bottom; what stands in brackets comes where it is needed:
+//!
+//! ```text
+//! BeginTurn
+//!   CountDown, Pop, LoadMirror                      picks from the queues
+//!   TakeRootFlag   [BeginPoll, Act ..]              the root
+//!   TakeCallbacks  [CallBack ..]
+//!   LookAtHead, LookAtMirror, LookAtWord            may the service put its last enter off?
+//!   SERVICE
+//!   LookAtMail
+//!   TakeCallbacks  [CallBack ..]
+//!   LookAtHead, LookAtMirror, LookAtWord, TestForWork, ReadClock
+//!     is anything ready or due?     [SERVICE, TakeCallbacks]  to BeginTurn
+//!   Publish, LookAfterPublish, LookAtCount          the own bit is in; is anything there?
+//!   WAIT
+//!   Withdraw                                        to BeginTurn
+//! ```
+//!
+//! A service, which stages what the kernel is to do and takes what it has done:
+//!
+//! ```text
+//! Sample, Reap, AdvanceWheel, Submit ..             clock, results, deadlines; enrol, cancel, stage
+//! [EnterLast], Reap, EndService                     hand over, results, sleepers
+//! ```
+//!
+//! A wait, on the ring where there are requests, else on the wake word:
+//!
+//! ```text
+//! [EnterFullRing], TestRing, ArmRing, EnterRing, SleepOnRing, DisarmRing
+//! ArmWord, SleepOnWord, DisarmWord
+//! ```
+//!
+//! In each the bits go in before the last look, and the look before the sleep, so that who comes
+//! later finds the bits and who came earlier is found. A closing goes from `Close` down to `End`,
+//! with callbacks, services and waits between them. That a worker comes down these heights and up
+//! again only for a reason is the clause `proceeds` of each step; that it knows what its place
+//! says, the clause `steps`.
 
 /// What follows the callbacks.
 #[derive(Clone, Copy, Debug, PartialEq, Eq)]
-pub enum Then {
+pub enum AfterCallbacks {
     /// The look that decides whether the service may be deferred.
     Look,
     /// The look that decides whether the worker may park.
@@ -20,7 +61,7 @@ pub enum Then {
 
 /// What follows a service.
 #[derive(Clone, Copy, Debug, PartialEq, Eq)]
-pub enum Back {
+pub enum AfterService {
     /// The mailbox.
     Mail,
     /// Callbacks, and then the next turn.
@@ -35,21 +76,21 @@ pub struct Service {
     /// Whether the last enter may be left out.
     pub defer: bool,
     /// What follows.
-    pub back: Back,
+    pub back: AfterService,
 }
 
 /// Which of the two looks at the own words it is.
 #[derive(Clone, Copy, Debug, PartialEq, Eq)]
-pub enum Round {
+pub enum OwnLook {
     /// Before the service.
     First,
     /// After it.
     Second,
 }
 
-/// In what a worker waits on its ring.
+/// In the midst of what a worker waits on its ring.
 #[derive(Clone, Copy, Debug, PartialEq, Eq)]
-pub enum Stay {
+pub enum WaitsIn {
     /// In a turn.
     Turn,
     /// While it closes.
@@ -58,7 +99,7 @@ pub enum Stay {
 
 /// What follows the withdrawal from the idle set.
 #[derive(Clone, Copy, Debug, PartialEq, Eq)]
-pub enum Next {
+pub enum AfterWithdraw {
     /// The next turn.
     Begin,
     /// A service, and then the next turn.
@@ -69,73 +110,73 @@ pub enum Next {
 #[derive(Clone, Copy, Debug, PartialEq, Eq)]
 pub enum Place {
     /// A turn begins.
-    Begin,
+    BeginTurn,
     /// The count down to the global look.
     CountDown,
     /// The pop of the own queue, after the global look where that came first.
     Pop { global_first: bool },
     /// The load of the global queue's mirror.
-    Mirror { global_first: bool },
+    LoadMirror { global_first: bool },
     /// The taking of the root flag.
-    RootFlag,
+    TakeRootFlag,
     /// The start of a poll.
-    Poll,
+    BeginPoll,
     /// An act of the polled task.
     Act,
     /// The taking of the batch of callbacks.
-    Callbacks { then: Then },
+    TakeCallbacks { then: AfterCallbacks },
     /// A callback of the batch.
-    Item { then: Then },
+    CallBack { then: AfterCallbacks },
     /// The load of the own queue's head.
-    LoadHead { round: Round },
+    LookAtHead { round: OwnLook },
     /// The load of the mirror.
-    LoadMirror { round: Round },
+    LookAtMirror { round: OwnLook },
     /// The load of the wake word.
-    LoadWord { round: Round },
+    LookAtWord { round: OwnLook },
     /// The sampling of the clock.
     Sample { service: Service },
     /// The reaping of what has landed: before the staging, and after it.
     Reap { service: Service, last: bool },
     /// The advance of the timeout wheel.
-    Wheel { service: Service },
+    AdvanceWheel { service: Service },
     /// The enrolling and staging, one at a time, and their end.
     Submit { service: Service },
     /// The last enter of a service.
-    Enter { service: Service },
+    EnterLast { service: Service },
     /// The end of a service.
-    Last { service: Service },
+    EndService { service: Service },
     /// The look at the mailbox.
-    Mail,
+    LookAtMail,
     /// The test whether something is to be done.
-    Test,
+    TestForWork,
     /// The reading of the clock.
-    Clock,
+    ReadClock,
     /// The own bit goes into the idle set.
     Publish,
     /// The load of the mirror after that.
-    LookMirror,
+    LookAfterPublish,
     /// The load of the search count after that.
-    LookCount,
+    LookAtCount,
     /// The enter of a full submission queue before the wait.
-    RingFull { stay: Stay },
+    EnterFullRing { stay: WaitsIn },
     /// The test for submissions before the wait.
-    RingTest { stay: Stay },
+    TestRing { stay: WaitsIn },
     /// The ring bit goes into the wake word.
-    RingArm { stay: Stay },
+    ArmRing { stay: WaitsIn },
     /// The enter of the wait.
-    RingEnter { stay: Stay },
+    EnterRing { stay: WaitsIn },
     /// The sleep on the ring.
-    RingSleep { stay: Stay },
+    SleepOnRing { stay: WaitsIn },
     /// The wait bits go out of the wake word.
-    RingBits { stay: Stay, served: bool },
+    DisarmRing { stay: WaitsIn, served: bool },
     /// The sleeping bit goes into the wake word.
-    WordArm,
+    ArmWord,
     /// The sleep on the wake word.
-    WordSleep,
+    SleepOnWord,
     /// The wait bits go out of the wake word.
-    WordBits,
+    DisarmWord,
     /// The own bit goes out of the idle set.
-    Withdraw { next: Next },
+    Withdraw { next: AfterWithdraw },
     /// The closing begins.
     Close,
     /// The global queue is closed and emptied.

@@ -16,7 +16,7 @@ ghost use Rattle.exec_core.specs.Sound.{SoundAt, StepsTo};
 ghost use Rattle.exec_core.specs.Minds.{Minds, Proceeds};
 
 use crate::executor::Core;
-use crate::place::{Place, Then};
+use crate::place::{AfterCallbacks, Place};
 use crate::root::Act;
 use exec_driver::asked::Asked;
 use exec_machine::event::Event;
@@ -31,10 +31,10 @@ const LONGEST_TIMEOUT: u64 = 946_080_000_000_000_000;
 impl Core {
     /// The poll of the root begins.
     pub fn begin_poll(&mut self) -> Event
-        requires sound { SoundAt Place.Poll self.old }
-        requires minds { Minds Place.Poll self.old }
+        requires sound { SoundAt Place.BeginPoll self.old }
+        requires minds { Minds Place.BeginPoll self.old }
         ensures steps { StepsTo self.old result Plain self.new }
-        ensures proceeds { Proceeds Place.Poll self.old result self.new }
+        ensures proceeds { Proceeds Place.BeginPoll self.old result self.new }
     {
         self.root.begin();
         self.place = Place::Act;
@@ -276,7 +276,9 @@ impl Core {
         ensures proceeds { Proceeds Place.Act self.old result self.new }
     {
         self.root.pend();
-        self.place = Place::Callbacks { then: Then::Look };
+        self.place = Place::TakeCallbacks {
+            then: AfterCallbacks::Look,
+        };
         Event::Pend { task: 0 }
     }
 }

@@ -1,4 +1,8 @@
 //! The root task of the worker: its script, how far it has come, and what it holds.
+//!
+//! A wake goes to the root where its number is 0 and nowhere else, since there is no other task.
+//! Its next act skips the drops that stand there while nothing is held: they are no acts and take
+//! no step.
 
 ghost use Rattle.std.specs.Prelude.{◌≡◌, true, false, ◌<◌, length};
 ghost use Rattle.exec_machine.specs.declared.state.TaskPhase.TheVariants.{Running as running, Queued as queued, Idle as idle};

@@ -1,5 +1,15 @@
-//! A service of the ring: landed results are judged, deadlines go on the wheel, operations are staged and
-//! entered.
+//! A service of the ring: landed results are judged, deadlines go on the wheel, operations are
+//! staged and entered.
+//!
+//! Telling what is due, enrolling and staging share one place, `Submit`: each step there takes
+//! what is next, and the last one ends the staging. A step looks and acts at once; the step
+//! before has said only the place. So a step that finds nothing is the end of what it was to do,
+//! and no place says how much is left.
+//!
+//! A deadline never lies outside the wheel, since no timeout is longer than what the wheel was
+//! laid out for, and none has passed at admission, since a timeout is a nanosecond at least. From
+//! the end of staging on the wheel and the kernel were told all, and at the end of the service no
+//! sleeper is due by what was sampled.
 
 ghost use Rattle.std.specs.Prelude.{◌≡◌, true, false, [], ◌<◌, ◌^◌, ◌↔◌, IsTrue, IfOk};
 ghost use Rattle.exec_machine.specs.Allowed.{fires_at as moment_of, is_first_due, round_from};
@@ -15,7 +25,7 @@ ghost use Rattle.exec_core.specs.Minds.{Minds, Proceeds, IsTold, place_after_rea
 ghost use Rattle.exec_core.specs.Turns.{leaves_enter_out, place_after_staging};
 
 use crate::executor::Core;
-use crate::place::{Back, Place, Service, Then};
+use crate::place::{AfterCallbacks, AfterService, Place, Service};
 use exec_machine::event::Event;
 use std::alloc::AllocError;
 
@@ -66,18 +76,18 @@ impl Core {
         if !self.driver.landed.is_empty() {
             Place::Reap { service, last }
         } else if last {
-            Place::Last { service }
+            Place::EndService { service }
         } else {
-            Place::Wheel { service }
+            Place::AdvanceWheel { service }
         }
     }
 
     /// Advances the timeout wheel. The deadlines that it finds due are told one a step.
     pub fn advance_wheel(&mut self, service: Service) -> Event
-        requires sound { SoundAt (Place.Wheel service) self.old }
-        requires minds { Minds (Place.Wheel service) self.old }
+        requires sound { SoundAt (Place.AdvanceWheel service) self.old }
+        requires minds { Minds (Place.AdvanceWheel service) self.old }
         ensures steps { StepsTo self.old result Plain self.new }
-        ensures proceeds { Proceeds (Place.Wheel service) self.old result self.new }
+        ensures proceeds { Proceeds (Place.AdvanceWheel service) self.old result self.new }
     {
         self.place = Place::Submit { service };
         Event::Serve
@@ -249,7 +259,7 @@ impl Core {
         self.defer = service.defer;
         self.deferred = due && !urgent;
         self.place = if due && urgent {
-            Place::Enter { service }
+            Place::EnterLast { service }
         } else {
             Place::Reap {
                 service,
@@ -269,10 +279,10 @@ impl Core {
 
     /// The last enter of a service.
     pub fn enter_last(&mut self, service: Service) -> Event
-        requires sound { SoundAt (Place.Enter service) self.old }
-        requires minds { Minds (Place.Enter service) self.old }
+        requires sound { SoundAt (Place.EnterLast service) self.old }
+        requires minds { Minds (Place.EnterLast service) self.old }
         ensures steps { StepsTo self.old result Plain self.new }
-        ensures proceeds { Proceeds (Place.Enter service) self.old result self.new }
+        ensures proceeds { Proceeds (Place.EnterLast service) self.old result self.new }
     {
         self.place = Place::Reap {
             service,
@@ -284,19 +294,23 @@ impl Core {
 
     /// Tells the next sleeper whose moment has come, and where there is none ends the service.
     pub fn end_service(&mut self, service: Service) -> Result<Event, AllocError>
-        requires sound { SoundAt (Place.Last service) self.old }
-        requires minds { Minds (Place.Last service) self.old }
+        requires sound { SoundAt (Place.EndService service) self.old }
+        requires minds { Minds (Place.EndService service) self.old }
         ensures steps { IfOk result (λ event. StepsTo self.old event Plain self.new) }
-        ensures proceeds { IfOk result (λ event. Proceeds (Place.Last service) self.old event self.new) }
+        ensures proceeds { IfOk result (λ event. Proceeds (Place.EndService service) self.old event self.new) }
     {
         if let Some(timer) = self.timers.fire(self.sampled)? {
-            self.place = Place::Last { service };
+            self.place = Place::EndService { service };
             return Ok(Event::Fire { timer });
         }
         self.place = match service.back {
-            Back::Mail => Place::Mail,
-            Back::Begin => Place::Callbacks { then: Then::Begin },
-            Back::Finish => Place::Callbacks { then: Then::Finish },
+            AfterService::Mail => Place::LookAtMail,
+            AfterService::Begin => Place::TakeCallbacks {
+                then: AfterCallbacks::Begin,
+            },
+            AfterService::Finish => Place::TakeCallbacks {
+                then: AfterCallbacks::Finish,
+            },
         };
         Ok(Event::Serve)
     }

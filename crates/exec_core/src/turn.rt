@@ -7,16 +7,16 @@ ghost use Rattle.exec_core.specs.Sound.{SoundAt, StepsTo};
 ghost use Rattle.exec_core.specs.Minds.{Minds, Proceeds};
 
 use crate::executor::Core;
-use crate::place::{Place, Then};
+use crate::place::{AfterCallbacks, Place};
 use exec_machine::event::Event;
 
 impl Core {
     /// A turn begins.
     pub fn begin_turn(&mut self) -> Event
-        requires sound { SoundAt Place.Begin self.old }
-        requires minds { Minds Place.Begin self.old }
+        requires sound { SoundAt Place.BeginTurn self.old }
+        requires minds { Minds Place.BeginTurn self.old }
         ensures steps { StepsTo self.old result Plain self.new }
-        ensures proceeds { Proceeds Place.Begin self.old result self.new }
+        ensures proceeds { Proceeds Place.BeginTurn self.old result self.new }
     {
         self.place = Place::CountDown;
         Event::Turn
@@ -31,7 +31,7 @@ impl Core {
     {
         if self.countdown <= 1 {
             self.countdown = self.config.interval;
-            self.place = Place::Mirror { global_first: true };
+            self.place = Place::LoadMirror { global_first: true };
         } else {
             self.countdown -= 1;
             self.place = Place::Pop {
@@ -49,9 +49,9 @@ impl Core {
         ensures proceeds { Proceeds (Place.Pop global_first) self.old result self.new }
     {
         self.place = if global_first {
-            Place::RootFlag
+            Place::TakeRootFlag
         } else {
-            Place::Mirror {
+            Place::LoadMirror {
                 global_first: false,
             }
         };
@@ -60,30 +60,32 @@ impl Core {
 
     /// Loads the length of the global queue, which is empty.
     pub fn load_mirror(&mut self, global_first: bool) -> Event
-        requires sound { SoundAt (Place.Mirror global_first) self.old }
-        requires minds { Minds (Place.Mirror global_first) self.old }
+        requires sound { SoundAt (Place.LoadMirror global_first) self.old }
+        requires minds { Minds (Place.LoadMirror global_first) self.old }
         ensures steps { StepsTo self.old result Plain self.new }
-        ensures proceeds { Proceeds (Place.Mirror global_first) self.old result self.new }
+        ensures proceeds { Proceeds (Place.LoadMirror global_first) self.old result self.new }
     {
         self.place = if global_first {
             Place::Pop { global_first: true }
         } else {
-            Place::RootFlag
+            Place::TakeRootFlag
         };
         Event::Turn
     }
 
     /// Takes the root flag, and where it was set goes on to the poll of the root.
     pub fn take_root_flag(&mut self) -> Event
-        requires sound { SoundAt Place.RootFlag self.old }
-        requires minds { Minds Place.RootFlag self.old }
+        requires sound { SoundAt Place.TakeRootFlag self.old }
+        requires minds { Minds Place.TakeRootFlag self.old }
         ensures steps { StepsTo self.old result Plain self.new }
-        ensures proceeds { Proceeds Place.RootFlag self.old result self.new }
+        ensures proceeds { Proceeds Place.TakeRootFlag self.old result self.new }
     {
         self.place = if self.root.flag {
-            Place::Poll
+            Place::BeginPoll
         } else {
-            Place::Callbacks { then: Then::Look }
+            Place::TakeCallbacks {
+                then: AfterCallbacks::Look,
+            }
         };
         self.root.flag = false;
         Event::Turn

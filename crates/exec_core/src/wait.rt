@@ -1,4 +1,10 @@
 //! The two waits of a worker: on its ring while it has requests, else on its wake word.
+//!
+//! In each the wait bits go into the wake word first, and a last look follows before the sleep:
+//! who comes after the bits finds them and rouses the worker, and who came before is found by the
+//! look. The sleep itself looks again, at the ring or the word and at the clock, in the step in
+//! which it sleeps. What the kernel, the clock and a stray wake do between keeps what is known
+//! (`specs/Minds.antt`). The wake word has three flags in place of bits in a number.
 
 ghost use Rattle.std.specs.Prelude.{◌≡◌, false};
 ghost use Rattle.exec_machine.specs.Allowed.{is_polled_by, has_ended};
@@ -13,48 +19,48 @@ ghost use Rattle.exec_core.specs.Credit.{height, may_stage_now};
 ghost use Rattle.exec_core.specs.Minds.{Minds, Proceeds, IsDoneUntilDue, IsAtRest, is_due_now, is_top};
 
 use crate::executor::{Core, NO_WAKE};
-use crate::place::{Back, Next, Place, Service, Stay};
+use crate::place::{AfterService, AfterWithdraw, Place, Service, WaitsIn};
 use exec_machine::event::Event;
 use exec_machine::state::Rest;
 
 impl Core {
     /// The first step of the wait on the ring: a full submission queue is entered first.
-    pub fn ring_wait(&self, stay: Stay) -> Place
-        requires { Suits (Place.RingTest stay) self.now }
+    pub fn ring_wait(&self, stay: WaitsIn) -> Place
+        requires { Suits (Place.TestRing stay) self.now }
         ensures suits { Suits result self.now }
-        ensures waits { (result ≡ Place.RingFull stay) ⊎ (result ≡ Place.RingTest stay) }
+        ensures waits { (result ≡ Place.EnterFullRing stay) ⊎ (result ≡ Place.TestRing stay) }
     {
         if self.is_full() {
-            Place::RingFull { stay }
+            Place::EnterFullRing { stay }
         } else {
-            Place::RingTest { stay }
+            Place::TestRing { stay }
         }
     }
 
     /// Enters a full submission queue.
-    pub fn enter_full_ring(&mut self, stay: Stay) -> Event
-        requires sound { SoundAt (Place.RingFull stay) self.old }
-        requires minds { Minds (Place.RingFull stay) self.old }
+    pub fn enter_full_ring(&mut self, stay: WaitsIn) -> Event
+        requires sound { SoundAt (Place.EnterFullRing stay) self.old }
+        requires minds { Minds (Place.EnterFullRing stay) self.old }
         ensures steps { StepsTo self.old result Plain self.new }
-        ensures proceeds { Proceeds (Place.RingFull stay) self.old result self.new }
+        ensures proceeds { Proceeds (Place.EnterFullRing stay) self.old result self.new }
     {
         self.driver.enter();
-        self.place = Place::RingTest { stay };
+        self.place = Place::TestRing { stay };
         Event::Enter
     }
 
     /// Tests for submissions, and stages the wake poll where it must be armed.
-    pub fn test_ring(&mut self, stay: Stay) -> Event
-        requires sound { SoundAt (Place.RingTest stay) self.old }
-        requires minds { Minds (Place.RingTest stay) self.old }
+    pub fn test_ring(&mut self, stay: WaitsIn) -> Event
+        requires sound { SoundAt (Place.TestRing stay) self.old }
+        requires minds { Minds (Place.TestRing stay) self.old }
         ensures steps { StepsTo self.old result Plain self.new }
-        ensures proceeds { Proceeds (Place.RingTest stay) self.old result self.new }
+        ensures proceeds { Proceeds (Place.TestRing stay) self.old result self.new }
     {
         if self.must_serve() {
-            self.place = self.after_wait(stay, Next::Service);
+            self.place = self.after_wait(stay, AfterWithdraw::Service);
         } else {
             self.driver.arm_poll();
-            self.place = Place::RingArm { stay };
+            self.place = Place::ArmRing { stay };
         }
         Event::Turn
     }
@@ -67,49 +73,49 @@ impl Core {
     }
 
     /// Puts the ring bit into the wake word.
-    pub fn arm_ring(&mut self, stay: Stay) -> Event
-        requires sound { SoundAt (Place.RingArm stay) self.old }
-        requires minds { Minds (Place.RingArm stay) self.old }
+    pub fn arm_ring(&mut self, stay: WaitsIn) -> Event
+        requires sound { SoundAt (Place.ArmRing stay) self.old }
+        requires minds { Minds (Place.ArmRing stay) self.old }
         ensures steps { StepsTo self.old result Plain self.new }
-        ensures proceeds { Proceeds (Place.RingArm stay) self.old result self.new }
+        ensures proceeds { Proceeds (Place.ArmRing stay) self.old result self.new }
     {
         let found = self.words.wake;
         self.words.wake.on_ring = true;
         self.place = if found.signalled {
-            Place::RingBits {
+            Place::DisarmRing {
                 stay,
                 served: false,
             }
         } else {
-            Place::RingEnter { stay }
+            Place::EnterRing { stay }
         };
         Event::Turn
     }
 
     /// Enters, and where nothing has landed goes on to sleep.
-    pub fn enter_ring(&mut self, stay: Stay) -> Event
-        requires sound { SoundAt (Place.RingEnter stay) self.old }
-        requires minds { Minds (Place.RingEnter stay) self.old }
+    pub fn enter_ring(&mut self, stay: WaitsIn) -> Event
+        requires sound { SoundAt (Place.EnterRing stay) self.old }
+        requires minds { Minds (Place.EnterRing stay) self.old }
         ensures steps { StepsTo self.old result Plain self.new }
-        ensures proceeds { Proceeds (Place.RingEnter stay) self.old result self.new }
+        ensures proceeds { Proceeds (Place.EnterRing stay) self.old result self.new }
     {
         self.driver.enter();
         self.place = if self.driver.is_quiet() {
-            Place::RingSleep { stay }
+            Place::SleepOnRing { stay }
         } else {
-            Place::RingBits { stay, served: true }
+            Place::DisarmRing { stay, served: true }
         };
         Event::Enter
     }
 
     /// Sleeps where still nothing has landed and no deadline is due.
-    pub fn sleep_on_ring(&mut self, stay: Stay) -> Event
-        requires sound { SoundAt (Place.RingSleep stay) self.old }
-        requires minds { Minds (Place.RingSleep stay) self.old }
+    pub fn sleep_on_ring(&mut self, stay: WaitsIn) -> Event
+        requires sound { SoundAt (Place.SleepOnRing stay) self.old }
+        requires minds { Minds (Place.SleepOnRing stay) self.old }
         ensures steps { StepsTo self.old result Plain self.new }
-        ensures proceeds { Proceeds (Place.RingSleep stay) self.old result self.new }
+        ensures proceeds { Proceeds (Place.SleepOnRing stay) self.old result self.new }
     {
-        self.place = Place::RingBits { stay, served: true };
+        self.place = Place::DisarmRing { stay, served: true };
         if self.driver.is_quiet() {
             self.sleep()
         } else {
@@ -118,13 +124,17 @@ impl Core {
     }
 
     /// Takes the wait bits out of the wake word.
-    pub fn disarm_ring(&mut self, stay: Stay, served: bool) -> Event
-        requires sound { SoundAt (Place.RingBits stay served) self.old }
-        requires minds { Minds (Place.RingBits stay served) self.old }
+    pub fn disarm_ring(&mut self, stay: WaitsIn, served: bool) -> Event
+        requires sound { SoundAt (Place.DisarmRing stay served) self.old }
+        requires minds { Minds (Place.DisarmRing stay served) self.old }
         ensures steps { StepsTo self.old result Plain self.new }
-        ensures proceeds { Proceeds (Place.RingBits stay served) self.old result self.new }
+        ensures proceeds { Proceeds (Place.DisarmRing stay served) self.old result self.new }
     {
-        let next = if served { Next::Begin } else { Next::Service };
+        let next = if served {
+            AfterWithdraw::Begin
+        } else {
+            AfterWithdraw::Service
+        };
         self.words.wake = NO_WAKE;
         self.place = self.after_wait(stay, next);
         Event::Turn
@@ -132,29 +142,29 @@ impl Core {
 
     /// Puts the sleeping bit into the wake word.
     pub fn arm_word(&mut self) -> Event
-        requires sound { SoundAt Place.WordArm self.old }
-        requires minds { Minds Place.WordArm self.old }
+        requires sound { SoundAt Place.ArmWord self.old }
+        requires minds { Minds Place.ArmWord self.old }
         ensures steps { StepsTo self.old result Plain self.new }
-        ensures proceeds { Proceeds Place.WordArm self.old result self.new }
+        ensures proceeds { Proceeds Place.ArmWord self.old result self.new }
     {
         let found = self.words.wake;
         self.words.wake.sleeping = true;
         self.place = if found.signalled {
-            Place::WordBits
+            Place::DisarmWord
         } else {
-            Place::WordSleep
+            Place::SleepOnWord
         };
         Event::Turn
     }
 
     /// Sleeps where the word is as it was left and no deadline is due.
     pub fn sleep_on_word(&mut self) -> Event
-        requires sound { SoundAt Place.WordSleep self.old }
-        requires minds { Minds Place.WordSleep self.old }
+        requires sound { SoundAt Place.SleepOnWord self.old }
+        requires minds { Minds Place.SleepOnWord self.old }
         ensures steps { StepsTo self.old result Plain self.new }
-        ensures proceeds { Proceeds Place.WordSleep self.old result self.new }
+        ensures proceeds { Proceeds Place.SleepOnWord self.old result self.new }
     {
-        self.place = Place::WordBits;
+        self.place = Place::DisarmWord;
         if self.words.wake.signalled {
             Event::Turn
         } else {
@@ -201,18 +211,20 @@ impl Core {
 
     /// Takes the wait bits out of the wake word.
     pub fn disarm_word(&mut self) -> Event
-        requires sound { SoundAt Place.WordBits self.old }
-        requires minds { Minds Place.WordBits self.old }
+        requires sound { SoundAt Place.DisarmWord self.old }
+        requires minds { Minds Place.DisarmWord self.old }
         ensures steps { StepsTo self.old result Plain self.new }
-        ensures proceeds { Proceeds Place.WordBits self.old result self.new }
+        ensures proceeds { Proceeds Place.DisarmWord self.old result self.new }
     {
         self.words.wake = NO_WAKE;
-        self.place = Place::Withdraw { next: Next::Begin };
+        self.place = Place::Withdraw {
+            next: AfterWithdraw::Begin,
+        };
         Event::Turn
     }
 
     /// Takes the own bit out of the idle set.
-    pub fn withdraw(&mut self, next: Next) -> Event
+    pub fn withdraw(&mut self, next: AfterWithdraw) -> Event
         requires sound { SoundAt (Place.Withdraw next) self.old }
         requires minds { Minds (Place.Withdraw next) self.old }
         ensures steps { StepsTo self.old result Plain self.new }
@@ -220,11 +232,11 @@ impl Core {
     {
         self.words.idle &= !1;
         self.place = match next {
-            Next::Begin => Place::Begin,
-            Next::Service => Place::Sample {
+            AfterWithdraw::Begin => Place::BeginTurn,
+            AfterWithdraw::Service => Place::Sample {
                 service: Service {
                     defer: false,
-                    back: Back::Begin,
+                    back: AfterService::Begin,
                 },
             },
         };
@@ -232,18 +244,18 @@ impl Core {
     }
 
     /// What follows a wait on the ring. A closing worker has no bit to withdraw, and serves again.
-    fn after_wait(&self, stay: Stay, next: Next) -> Place
-        requires { Suits (Place.RingTest stay) self.now }
+    fn after_wait(&self, stay: WaitsIn, next: AfterWithdraw) -> Place
+        requires { Suits (Place.TestRing stay) self.now }
         ensures suits { Suits result self.now }
         ensures top { is_top result ≡ true }
         ensures below { height result < 50 }
     {
         match stay {
-            Stay::Turn => Place::Withdraw { next },
-            Stay::Closing => Place::Sample {
+            WaitsIn::Turn => Place::Withdraw { next },
+            WaitsIn::Closing => Place::Sample {
                 service: Service {
                     defer: false,
-                    back: Back::Finish,
+                    back: AfterService::Finish,
                 },
             },
         }

@@ -1,4 +1,8 @@
 //! The deadlines of the requests: put on the wheel, told when they have come.
+//!
+//! The order after a whole round of the wheel is told by parts, from the next multiple of the
+//! slots on and then before it, not by slot numbers. No deadline is farther ahead than the wheel
+//! has slots, so both are the same, and a set in order of moments finds the next one at once.
 
 ghost use Rattle.std.specs.Prelude.{◌≡◌, ℕ, true, false, ◌<◌, ◌≤◌, length as len, Some, None, IfOk, OnOk, IfSome, slice_set, if◌then◌else◌};
 ghost use Rattle.std.specs.List.{list_any};

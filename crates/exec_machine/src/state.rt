@@ -1,4 +1,9 @@
 //! The parts of the abstract machine's state that code keeps as they are.
+//!
+//! The timer of a request is the moment at which its deadline fires, while it is on the wheel:
+//! one field in place of "enrolled" and a wheel beside it. A request that is resolved or
+//! cancelled has none. A wake is paid by a request that the task has waited for; one that was let
+//! go while a task waited for it would still owe the wake, which no script can do.
 
 use exec_outcomes::outcome::{OpResult, Outcome};
 

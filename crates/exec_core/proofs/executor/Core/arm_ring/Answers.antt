@@ -14,7 +14,7 @@ pub returns-clause-proceeds : goal.returns-clause-proceeds
 returns-clause-proceeds c =
     let k = c.args.self.now in
     let P : Place → Type 0 =
-    λ x. Proceeds (place.RingArm c.args.stay) k Turn (record k { place = x; words = record k.words { wake = record k.words.wake { on_ring = true } } }) in
+    λ x. Proceeds (place.ArmRing c.args.stay) k Turn (record k { place = x; words = record k.words { wake = record k.words.wake { on_ring = true } } }) in
     elim c.if-found.branch [
       | then-found w ↦
           subst P (sym w.self-is) (record { minds = forget c.requires.minds; falls = λ q o. rises 3 51 (signs k) (signs k) (omega arith) (omega arith) (omega arith) (owes_latch 3 (signs k) refl w.if-found.true); rests = Stays refl refl })

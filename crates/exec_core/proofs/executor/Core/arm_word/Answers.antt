@@ -13,7 +13,7 @@ use Rattle.exec_core.proofs.executor.Core.arm_word.Goals as goal
 pub returns-clause-proceeds : goal.returns-clause-proceeds
 returns-clause-proceeds c =
     let k = c.args.self.now in
-    let P : Place → Type 0 = λ x. Proceeds place.WordArm k Turn (record k { place = x; words = record k.words { wake = record k.words.wake { sleeping = true } } }) in
+    let P : Place → Type 0 = λ x. Proceeds place.ArmWord k Turn (record k { place = x; words = record k.words { wake = record k.words.wake { sleeping = true } } }) in
     elim c.if-found.branch [
       | then-found w ↦
           subst P (sym w.self-is) (record { minds = forget c.requires.minds; falls = λ q o. rises 2 51 (signs k) (signs k) (omega arith) (omega arith) (omega arith) (owes_latch 2 (signs k) refl w.if-found.true); rests = Stays refl refl })

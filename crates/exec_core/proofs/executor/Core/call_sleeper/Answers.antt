@@ -19,7 +19,7 @@ pub returns-in-Some-clause-steps : goal.returns-in-Some-clause-steps
 returns-in-Some-clause-steps c =
     let k = c.args.self.now in (
       PaidBySleeper c.in-Some.paid.timer,
-      sleeper_wakes k c.pay_wake.new.self c.wake_task.new.self (place.Item c.args.then) c.next_callback-self.result c.in-Some.paid.task c.in-Some.paid.timer
+      sleeper_wakes k c.pay_wake.new.self c.wake_task.new.self (place.CallBack c.args.then) c.next_callback-self.result c.in-Some.paid.task c.in-Some.paid.timer
           c.requires.sound c.in-Some.ensures.sleeps c.in-Some.ensures.owed c.in-Some.ensures.becomes c.wake_task.ensures.tasks
           (λ z h. c.wake_task.ensures.waiting ∙ h)
           (c.wake_task.ensures.sound (length k.driver.requests.items) c.requires.sound.root) c.next_callback-self.ensures.suits,

@@ -21,7 +21,7 @@ pub returns-in-Some-clause-steps : goal.returns-in-Some-clause-steps
 returns-in-Some-clause-steps c =
     let k = c.args.self.now in (
       PaidByRequest c.in-Some.paid.request,
-      wakes k c.pay_wake.new.self c.wake_task.new.self (place.Item c.args.then) c.next_callback-self.result c.in-Some.paid.task c.in-Some.paid.request
+      wakes k c.pay_wake.new.self c.wake_task.new.self (place.CallBack c.args.then) c.next_callback-self.result c.in-Some.paid.task c.in-Some.paid.request
           c.requires.sound c.in-Some.ensures.books c.in-Some.ensures.owed c.in-Some.ensures.shows c.wake_task.ensures.tasks
           (λ z h. c.wake_task.ensures.waiting ∙ h)
           (c.wake_task.ensures.sound (length k.driver.requests.items) c.requires.sound.root) c.next_callback-self.ensures.suits,
@@ -30,7 +30,7 @@ returns-in-Some-clause-steps c =
 pub returns-in-None-clause-steps : goal.returns-in-None-clause-steps
 returns-in-None-clause-steps c = (
   Plain,
-  driven c.args.self.now c.pay_wake.new.self (place.Item c.args.then) c.next_callback-self-in-None.result Turn Plain _ _ _ _
+  driven c.args.self.now c.pay_wake.new.self (place.CallBack c.args.then) c.next_callback-self-in-None.result Turn Plain _ _ _ _
       c.requires.sound c.in-None.ensures.books (c.in-None.ensures.none refl) refl c.next_callback-self-in-None.ensures.suits tt refl,
 )
 

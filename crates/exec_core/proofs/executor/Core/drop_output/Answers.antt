@@ -17,7 +17,7 @@ returns-clause-steps c =
     let k = c.args.self.now in
     let b = c.requires.sound.books in (
       Plain,
-      driven k (record k.driver { outputs = c.pop_front.new.self }) (place.Item c.args.then) c.next_callback-self.result Turn Plain _ _ _ _
+      driven k (record k.driver { outputs = c.pop_front.new.self }) (place.CallBack c.args.then) c.next_callback-self.result Turn Plain _ _ _ _
           c.requires.sound
           (record {
             same_length = b.same_length;
@@ -48,10 +48,10 @@ returns-clause-proceeds c =
     let shorter : length e.outputs.items < length k.driver.outputs.items = drop_shorter k.driver.outputs.items e.outputs.items c.requires.some c.pop_front.ensures.rest in
     let down = from_item c.args.then (signs k) (nat_lt 0 (callbacks_of d)) (length e.outputs.items) shorter in
     let next = c.next_callback-self in
-    let P : Place → Type 0 = λ x. weigh (height x) (signs d) < weigh (height (place.Item c.args.then)) (signs k) in
+    let P : Place → Type 0 = λ x. weigh (height x) (signs d) < weigh (height (place.CallBack c.args.then)) (signs k) in
     record {
       minds = next.ensures.minds (record { order = m.order; followed = m.followed; unpaid = m.unpaid; outputs = omega (arith, m.outputs, shorter); known = known_then c.args.then k.phase k.root.flag k.root.flag k.driver e k.timers k.timers k.ring refl refl m.known });
       falls = λ q o.
-          ⊎_elim (λ h. subst P (sym h.0) down) (λ (h : weigh (height next.result) (signs d) < weigh (height (place.Item c.args.then)) (signs d)). omega (arith, h, down)) (next.ensures.falls o);
+          ⊎_elim (λ h. subst P (sym h.0) down) (λ (h : weigh (height next.result) (signs d) < weigh (height (place.CallBack c.args.then)) (signs d)). omega (arith, h, down)) (next.ensures.falls o);
       rests = Stays refl refl;
     }

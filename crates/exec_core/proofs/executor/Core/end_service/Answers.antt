@@ -11,7 +11,7 @@ use Rattle.exec_machine.specs.World.{no_sleeper}
 use Rattle.std.specs.List.{list_any}
 use Rattle.exec_core.specs.declared.place.Place.{Place}
 use Rattle.exec_core.specs.declared.place.Place.TheVariants as place
-use Rattle.exec_core.specs.declared.place.Back.{Back}
+use Rattle.exec_core.specs.declared.place.AfterService.{AfterService}
 use Rattle.exec_core.specs.declared.executor.Core.{Core}
 use Rattle.exec_core.specs.Credit.{signs, weigh, height_back}
 use Rattle.exec_core.specs.Minds.{Proceeds}
@@ -73,24 +73,24 @@ returns-clause-proceeds c =
     let due = due_if_stale k.sampled k.clock (λ x. list_any (is_nap_over x) k.timers.sleepers.items) c.requires.sound.time.not_after (c.in_ok-timer.ensures.none_due none) in
     let d : Core = record k { timers = u } in
     let looks = λ (h : ℕ). weigh_naps h k u same (c.in_ok-timer.ensures.wakes none) in
-    let P : Place → Type 0 = λ x. Proceeds (place.Last c.args.service) k Serve (record k { place = x; timers = u }) in
+    let P : Place → Type 0 = λ x. Proceeds (place.EndService c.args.service) k Serve (record k { place = x; timers = u }) in
     elim c.match-service.branch [
       | in-Mail w ↦
           subst P (sym w.self-is) (record {
             minds = kept;
-            falls = λ q o. subst (λ (b : Back). weigh 17 (signs d) < weigh (height_back b + 1) (signs k)) (sym w.in-Mail.is) (omega (arith, looks 17, to_mail (signs k) due));
+            falls = λ q o. subst (λ (b : AfterService). weigh 17 (signs d) < weigh (height_back b + 1) (signs k)) (sym w.in-Mail.is) (omega (arith, looks 17, to_mail (signs k) due));
             rests = Stays refl refl;
           })
       | in-Begin w ↦
           subst P (sym w.self-is) (record {
             minds = forget kept;
-            falls = λ q o. subst (λ (b : Back). weigh 39 (signs d) < weigh (height_back b + 1) (signs k)) (sym w.in-Begin.is) (omega (arith, looks 39, to_begin (signs k)));
+            falls = λ q o. subst (λ (b : AfterService). weigh 39 (signs d) < weigh (height_back b + 1) (signs k)) (sym w.in-Begin.is) (omega (arith, looks 39, to_begin (signs k)));
             rests = Stays refl refl;
           })
       | in-Finish w ↦
           subst P (sym w.self-is) (record {
             minds = forget kept;
-            falls = λ q o. subst (λ (b : Back). weigh 39 (signs d) < weigh (height_back b + 1) (signs k)) (sym w.in-Finish.is) (omega (arith, looks 39, to_begin (signs k)));
+            falls = λ q o. subst (λ (b : AfterService). weigh 39 (signs d) < weigh (height_back b + 1) (signs k)) (sym w.in-Finish.is) (omega (arith, looks 39, to_begin (signs k)));
             rests = Stays refl refl;
           })
     ]

@@ -51,7 +51,7 @@ returns-clause-steps c =
     elim c.if-due-2.branch [
       | then-due-2+then-urgent w ↦
           subst Q (sym w.self-is)
-          (let h = driven later e (place.Submit t) (place.Enter t) Serve Plain _ _ _ _ sound s.books s.shows refl (q.class, tt) tt refl in
+          (let h = driven later e (place.Submit t) (place.EnterLast t) Serve Plain _ _ _ _ sound s.books s.shows refl (q.class, tt) tt refl in
           record { config = h.config; allowed = h.allowed; becomes = h.becomes; kept = h.kept })
       | else-due-2 w ↦
           subst Q (sym w.self-is)

@@ -10,7 +10,7 @@ use Rattle.exec_core.proofs.Keeping.{enter_keeps}
 use Rattle.exec_core.proofs.executor.Core.enter_last.Goals as goal
 
 pub returns-clause-steps : goal.returns-clause-steps
-returns-clause-steps c = enters c.args.self.now c.enter.new.self (place.Enter c.args.service) (place.Reap c.args.service true) c.requires.sound c.enter.ensures.books c.enter.ensures.shows c.requires.sound.class tt
+returns-clause-steps c = enters c.args.self.now c.enter.new.self (place.EnterLast c.args.service) (place.Reap c.args.service true) c.requires.sound c.enter.ensures.books c.enter.ensures.shows c.requires.sound.class tt
 
 pub returns-clause-proceeds : goal.returns-clause-proceeds
 returns-clause-proceeds c =

@@ -18,11 +18,11 @@ returns-clause-proceeds c =
     let e = c.enter.new.self in
     let s = c.enter.ensures in
     let m = c.requires.minds in
-    let asleep = record k { place = place.RingSleep c.args.stay; driver = e } in
-    let up = record k { place = place.RingBits c.args.stay true; driver = e } in
-    let after_sleep = signs_enter k e (place.RingSleep c.args.stay) s.shows s.owed s.counts s.acknowledged s.armed in
-    let after_up = signs_enter k e (place.RingBits c.args.stay true) s.shows s.owed s.counts s.acknowledged s.armed in
-    let P : Place → Type 0 = λ x. Proceeds (place.RingEnter c.args.stay) k Enter (record k { place = x; driver = e }) in
+    let asleep = record k { place = place.SleepOnRing c.args.stay; driver = e } in
+    let up = record k { place = place.DisarmRing c.args.stay true; driver = e } in
+    let after_sleep = signs_enter k e (place.SleepOnRing c.args.stay) s.shows s.owed s.counts s.acknowledged s.armed in
+    let after_up = signs_enter k e (place.DisarmRing c.args.stay true) s.shows s.owed s.counts s.acknowledged s.armed in
+    let P : Place → Type 0 = λ x. Proceeds (place.EnterRing c.args.stay) k Enter (record k { place = x; driver = e }) in
     elim c.if-is_quiet.branch [
       | then-is_quiet w ↦
           subst P (sym w.self-is) (record {

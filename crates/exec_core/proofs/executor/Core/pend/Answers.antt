@@ -6,7 +6,7 @@ use Rattle.exec_machine.specs.Choice.Choice.{Plain}
 use Rattle.exec_machine.specs.Allowed.{is_polled_by}
 use Rattle.exec_machine.specs.After.{pended_phase}
 use Rattle.exec_core.specs.declared.place.Place.TheVariants as place
-use Rattle.exec_core.specs.declared.place.Then.TheVariants as then
+use Rattle.exec_core.specs.declared.place.AfterCallbacks.TheVariants as then
 use Rattle.exec_core.specs.declared.root.Root.{Root}
 use Rattle.exec_core.specs.Sound.{StepsTo}
 use Rattle.std.proofs.lemmas.Bool.{false≢true}
@@ -37,7 +37,7 @@ returns-clause-steps c =
     let s = c.requires.sound in
     let r = c.pend.new.self in
     let same = c.pend.ensures.same in
-    let P : Root → Type 0 = λ x. StepsTo k (Pend 0) Plain (record k { place = place.Callbacks then.Look; root = x }) in
+    let P : Root → Type 0 = λ x. StepsTo k (Pend 0) Plain (record k { place = place.TakeCallbacks then.Look; root = x }) in
     subst P (sym same) (record {
       config = refl;
       allowed = (s.class.1, c.requires.may);

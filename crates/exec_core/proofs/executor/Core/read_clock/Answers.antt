@@ -14,7 +14,7 @@ pub returns-clause-proceeds : goal.returns-clause-proceeds
 returns-clause-proceeds c =
     let k = c.args.self.now in
     let m = c.requires.minds in
-    let P : Place → Type 0 = λ x. Proceeds place.Clock k Turn (record k { place = x }) in
+    let P : Place → Type 0 = λ x. Proceeds place.ReadClock k Turn (record k { place = x }) in
     elim c.if-is_due.branch [
       | then-is_due w ↦
           subst P (sym w.self-is) (record {

@@ -27,7 +27,7 @@ returns-in-Some-clause-steps c =
     let x = request_at k.driver.requests.items r in
     let both = and_parts (is_resolved x.phase) (not x.released) c.in-Some.ensures.owned in (
       Plain,
-      driven k c.release.new.self (place.Item c.args.then) c.next_callback-self.result (Release r) Plain _ _ _ _
+      driven k c.release.new.self (place.CallBack c.args.then) c.next_callback-self.result (Release r) Plain _ _ _ _
           c.requires.sound c.in-Some.ensures.books c.in-Some.ensures.shows (length-set k.driver.requests.items r _) c.next_callback-self.ensures.suits
           (of_0 is_resolved x (c.requires.sound.books.each r).owner ∙ both.0, not_so x.released both.1) refl,
     )
@@ -35,7 +35,7 @@ returns-in-Some-clause-steps c =
 pub returns-in-None-clause-steps : goal.returns-in-None-clause-steps
 returns-in-None-clause-steps c = (
   Plain,
-  driven c.args.self.now c.release.new.self (place.Item c.args.then) c.next_callback-self-in-None.result Turn Plain _ _ _ _
+  driven c.args.self.now c.release.new.self (place.CallBack c.args.then) c.next_callback-self-in-None.result Turn Plain _ _ _ _
       c.requires.sound c.in-None.ensures.books (c.in-None.ensures.none refl) refl c.next_callback-self-in-None.ensures.suits tt refl,
 )
 
@@ -67,7 +67,7 @@ returns-in-None-clause-proceeds c =
     let others = c.requires.no_others in
     let owed : SameOwed k.driver e = (s.others.0, s.others.1, dropped_none k.driver.resources.items e.resources.items none s.released) in
     let d : Core = record k { driver = e } in
-    let same = weigh_same (height (place.Item c.args.then)) (signs k) (signs d) (signs_same k e shows owed s.counts (s.ring refl) s.staged) in
+    let same = weigh_same (height (place.CallBack c.args.then)) (signs k) (signs d) (signs_same k e shows owed s.counts (s.ring refl) s.staged) in
     let next = c.next_callback-self-in-None in
     record {
       minds = next.ensures.minds (driven_keeps k.driver e (knows_then c.args.then) m c.requires.sound.books (same_requests k.driver e shows.requests) (ap length shows.requests)
@@ -75,7 +75,7 @@ returns-in-None-clause-proceeds c =
       falls = λ q o.
           ⊎_elim
           (λ h. absurd (omega (arith, h.1, ap length (owed.0 ∙ others.0), ap length (owed.1 ∙ others.1), ap length (owed.2 ∙ none), ap length others.2)))
-          (λ (h : weigh (height next.result) (signs d) < weigh (height (place.Item c.args.then)) (signs d)). omega (arith, h, same))
+          (λ (h : weigh (height next.result) (signs d) < weigh (height (place.CallBack c.args.then)) (signs d)). omega (arith, h, same))
           (next.ensures.falls o);
       rests = Stays refl refl;
     }

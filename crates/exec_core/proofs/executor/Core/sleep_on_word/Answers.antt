@@ -14,10 +14,10 @@ sleep-requires-clause-settled c =
     let rs = k.driver.requests.items in
     λ o.
     let over = λ (r : ℕ). resolved_aside (request_at rs r) (uncounted_at is_unresolved rs no_request r refl (sym b.unresolved ∙ (m.known o).1)) in
-    lull (record k { place = place.WordBits }) b c.requires.sound.sleeps c.requires.sound.sized.ring c.requires.sound.class.1 m.order m.followed m.unpaid (m.known o).0
+    lull (record k { place = place.DisarmWord }) b c.requires.sound.sleeps c.requires.sound.sized.ring c.requires.sound.class.1 m.order m.followed m.unpaid (m.known o).0
     (λ r. (over r).0) (λ r. (over r).1)
 
 pub returns-else-self-clause-proceeds : goal.returns-else-self-clause-proceeds
 returns-else-self-clause-proceeds c =
     let k = c.args.self.now in
-    slept k c.sleep.new.self place.WordSleep place.WordBits c.sleep.result c.sleep.ensures.same refl refl c.requires.minds c.sleep.ensures.due c.sleep.ensures.rests
+    slept k c.sleep.new.self place.SleepOnWord place.DisarmWord c.sleep.result c.sleep.ensures.same refl refl c.requires.minds c.sleep.ensures.due c.sleep.ensures.rests

@@ -11,10 +11,10 @@ returns-clause-proceeds c =
     let k = c.args.self.now in
     let next = c.next_callback-self in
     let down = from_callbacks c.args.then (signs k) in
-    let P : Place → Type 0 = λ x. weigh (height x) (signs k) < weigh (height (place.Callbacks c.args.then)) (signs k) in
+    let P : Place → Type 0 = λ x. weigh (height x) (signs k) < weigh (height (place.TakeCallbacks c.args.then)) (signs k) in
     record {
       minds = next.ensures.minds c.requires.minds;
       falls = λ q o.
-          ⊎_elim (λ h. subst P (sym h.0) down) (λ (h : weigh (height next.result) (signs k) < weigh (height (place.Item c.args.then)) (signs k)). omega (arith, h, down)) (next.ensures.falls o);
+          ⊎_elim (λ h. subst P (sym h.0) down) (λ (h : weigh (height next.result) (signs k) < weigh (height (place.CallBack c.args.then)) (signs k)). omega (arith, h, down)) (next.ensures.falls o);
       rests = Stays refl refl;
     }

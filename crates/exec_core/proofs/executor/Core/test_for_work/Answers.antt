@@ -16,7 +16,7 @@ pub returns-clause-proceeds : goal.returns-clause-proceeds
 returns-clause-proceeds c =
     let k = c.args.self.now in
     let m = c.requires.minds in
-    let P : Place → Type 0 = λ x. Proceeds place.Test k Turn (record k { place = x }) in
+    let P : Place → Type 0 = λ x. Proceeds place.TestForWork k Turn (record k { place = x }) in
     elim c.if-has_work.branch [
       | then-has_work w ↦
           subst P (sym w.self-is) (record {

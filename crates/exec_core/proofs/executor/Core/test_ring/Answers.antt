@@ -26,8 +26,8 @@ returns-else-must_serve-clause-proceeds c =
     let m = c.requires.minds in
     let e = c.arm_poll.new.self in
     let s = c.arm_poll.ensures in
-    let d : Core = record k { place = place.RingArm c.args.stay; driver = e } in
-    let arms = signs_arm k e (place.RingArm c.args.stay) s.shows s.owed s.counts s.acknowledged s.armed in
+    let d : Core = record k { place = place.ArmRing c.args.stay; driver = e } in
+    let arms = signs_arm k e (place.ArmRing c.args.stay) s.shows s.owed s.counts s.acknowledged s.armed in
     record {
       minds = driven_keeps k.driver e Unready m c.requires.sound.books (same_requests k.driver e s.shows.requests) (ap length s.shows.requests) (omega (arith, ap length s.owed.1, s.counts.2))
           (known_same Unready k.phase k.root.flag k.driver e k.timers k.ring s.to_do s.owed s.counts s.staged m.known);
