@@ -28,6 +28,26 @@ impl Write for Broken {
     }
 }
 
+/// A writer that counts its flushes, and fails from the second on.
+#[derive(Drop)]
+struct Counted {
+    flushes: u32,
+}
+
+impl Write for Counted {
+    fn write(&mut self, buf: &[u8]) -> io::Result<usize> {
+        Ok(buf.len())
+    }
+
+    fn flush(&mut self) -> io::Result<()> {
+        self.flushes = self.flushes.saturating_add(1);
+        if self.flushes > 1 {
+            return Err(io::Error::from(ErrorKind::Other));
+        }
+        Ok(())
+    }
+}
+
 /// Takes pieces up to the end, past every failure, and adds them to `bytes`.
 fn take_all<I: Input>(alloc: Global, input: &mut I, bytes: &mut Vec<u8>) -> Result<Outcomes, Fail> {
     let mut outcomes = Vec::new(alloc);
@@ -110,7 +130,28 @@ fn memory_output_keeps_what_it_took_before_a_failure(rt: HostRuntime) -> Result<
         [Ok(3), Ok(3), Ok(3), Err(Failed), Ok(0)].as_slice()
     );
     assert_eq!(rt; output.bytes(), b"onetwosix".as_slice());
+    assert_eq!(rt; output.passed(), b"onetwosix".as_slice());
     Ok(())
+}
+
+#[test]
+fn memory_output_passes_on_by_a_flush_alone(rt: HostRuntime) -> Result<(), Fail> {
+    let mut output = MemOutput::new(rt.alloc(), vec![in rt.alloc(); 3]?, 8);
+    assert_eq!(rt; output.give(b"one "), Ok(4));
+    assert_eq!(rt; output.passed(), b"".as_slice());
+    assert_eq!(rt; output.flush(), Ok(()));
+    assert_eq!(rt; output.passed(), b"one ".as_slice());
+    assert_eq!(rt; output.flush(), Err(Failed));
+    assert_eq!(rt; output.passed(), b"one ".as_slice());
+    Ok(())
+}
+
+#[test]
+fn a_standard_output_hands_each_flush_on(rt: HostRuntime) {
+    let mut output = StdOutput::new(Counted { flushes: 0 });
+    assert_eq!(rt; output.flush(), Ok(()));
+    assert_eq!(rt; output.flush(), Err(Failed));
+    assert_eq!(rt; output.into_writer().flushes, 2);
 }
 
 #[test]

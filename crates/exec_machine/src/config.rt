@@ -1,5 +1,8 @@
 //! What a trace sets up: the configuration, the scripts, and the steps.
 
+ghost use Rattle.std.specs.Prelude.{◌≡◌, ◌≤◌, length};
+ghost use Rattle.exec_machine.specs.Text.{text_of_field};
+
 use crate::step::Step;
 use std::fmt;
 
@@ -107,24 +110,33 @@ pub struct Trace {
     pub steps: Vec<Step>,
 }
 
+impl Field {
+    /// The name that it has in a header and in an error.
+    pub fn name(self) -> &'static str
+        ensures text { result.now ≡ text_of_field self }
+        ensures short { length result.now ≤ 8 }
+    {
+        match self {
+            Field::Workers => "workers",
+            Field::Interval => "interval",
+            Field::Ring => "ring",
+            Field::Tick => "tick",
+            Field::Connect => "connect",
+            Field::Rw => "rw",
+            Field::Spin => "spin",
+            Field::Files => "files",
+            Field::Sockets => "sockets",
+            Field::Layout => "layout",
+        }
+    }
+}
+
 impl fmt::Display for Field {
     ghost use Rattle.std.specs.Prelude.{Some};
-    ghost use Rattle.exec_machine.specs.Text.{text_of_field};
 
     ghost output = { λ f. Some (text_of_field f) };
 
     fn fmt<W: fmt::Write>(&self, f: &mut fmt::Formatter<W>) -> fmt::Result {
-        match self {
-            Field::Workers => write!(f, "workers"),
-            Field::Interval => write!(f, "interval"),
-            Field::Ring => write!(f, "ring"),
-            Field::Tick => write!(f, "tick"),
-            Field::Connect => write!(f, "connect"),
-            Field::Rw => write!(f, "rw"),
-            Field::Spin => write!(f, "spin"),
-            Field::Files => write!(f, "files"),
-            Field::Sockets => write!(f, "sockets"),
-            Field::Layout => write!(f, "layout"),
-        }
+        f.write_str(self.name())
     }
 }

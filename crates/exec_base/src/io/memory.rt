@@ -105,13 +105,16 @@ impl Input for MemInput {
     }
 }
 
-/// A sink that keeps in memory what it was given, and fails at the calls that it was told to fail at.
+/// A sink that keeps in memory what it was given and how much of that it has passed on, and fails at the calls
+/// that it was told to fail at. A `give` holds all back, and a `flush` passes all on.
 #[derive(Drop)]
 pub struct MemOutput {
     bytes: Vec<u8>,
+    passed: usize,
     most: usize,
     plan: Plan,
     ghost takes_some: { 0 < most },
+    ghost was_given: { passed ≤ vec_len bytes },
 }
 
 impl MemOutput {
@@ -121,12 +124,14 @@ impl MemOutput {
     pub fn new(alloc: Global, failing: Vec<u64>, most: usize) -> Self
         requires { 0 < most }
         ensures empty { ⟦<MemOutput as Output>⟧.given result ≡ Some [] }
+        ensures none_passed { ⟦<MemOutput as Output>⟧.passed result ≡ Some [] }
         ensures no_faults { ⟦<MemOutput as Output>⟧.faults result ≡ 0 }
         ensures planned { (result.plan.failing ≡ failing) × (result.plan.calls ≡ 0) }
         ensures short { result.most ≡ most }
     {
         MemOutput {
             bytes: Vec::new(alloc),
+            passed: 0,
             most,
             plan: Plan::new(failing),
         }
@@ -138,12 +143,21 @@ impl MemOutput {
     {
         self.bytes.as_slice()
     }
+
+    /// Those of them that it has passed on.
+    pub fn passed(&self) -> &[u8]
+        ensures { ⟦<MemOutput as Output>⟧.passed self.now ≡ Some result.now }
+    {
+        &self.bytes[..self.passed]
+    }
 }
 
 impl Output for MemOutput {
     ghost faults = { λ s. s.plan.faults };
 
     ghost given = { λ s. Some s.bytes.items };
+
+    ghost passed = { λ s. Some (take s.passed s.bytes.items) };
 
     fn give(&mut self, piece: &[u8]) -> Result<usize, Failed>
         requires { 0 < length piece.now }
@@ -158,6 +172,8 @@ impl Output for MemOutput {
         // A call that fails was planned to, or found no room for the piece.
         ensures why { OnErr result (Contains self.old.plan.failing.items self.new.plan.calls
             ⊎ (vec_capacity self.old.bytes < vec_len self.old.bytes + length piece.now)) }
+        ensures held_back { Some (take self.new.passed self.new.bytes.items)
+            ≡ Some (take self.old.passed self.old.bytes.items) }
         ensures counted { self.new.plan.calls ≡ one_more self.old.plan.calls }
         ensures as_many { IfOk result (λ n. n ≡ min (length piece.now) self.old.most) }
         ensures same_plan { self.new.plan.failing ≡ self.old.plan.failing }
@@ -174,9 +190,14 @@ impl Output for MemOutput {
     fn flush(&mut self) -> Result<(), Failed>
         ensures count { self.old.plan.faults ≤ self.new.plan.faults }
         ensures kept { Some self.new.bytes.items ≡ Some self.old.bytes.items }
+        ensures passes { OnOk result (Some (take self.new.passed self.new.bytes.items)
+            ≡ Some self.new.bytes.items) }
+        ensures passes_none { OnErr result (self.new.passed ≡ self.old.passed) }
         ensures planned { IsPlanned self.old.plan self.new.plan result }
         ensures same_most { self.new.most ≡ self.old.most }
     {
-        self.plan.call()
+        self.plan.call()?;
+        self.passed = self.bytes.len();
+        Ok(())
     }
 }

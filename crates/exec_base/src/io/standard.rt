@@ -47,7 +47,8 @@ impl<R: Read + Drop> Input for StdInput<R> {
 }
 
 /// A sink over std's writer, whose bytes a generic caller does not know. An error of the writer, of any
-/// kind, is a fault, and so is a write that takes no byte.
+/// kind, is a fault, and so is a write that takes no byte. A flush is handed on to the writer; that it is can be
+/// said by no clause, and a test shows it.
 #[derive(Drop)]
 pub struct StdOutput<W: Write + Drop> {
     writer: W,
@@ -75,6 +76,8 @@ impl<W: Write + Drop> Output for StdOutput<W> {
     ghost faults = { λ s. s.faults };
 
     ghost given = { λ _. None };
+
+    ghost passed = { λ _. None };
 
     fn give(&mut self, piece: &[u8]) -> Result<usize, Failed>
         requires { 0 < length piece.now }

@@ -66,6 +66,8 @@ impl Output for SureOutput {
 
     ghost given = { λ _. None };
 
+    ghost passed = { λ _. None };
+
     fn give(&mut self, piece: &[u8]) -> Result<usize, Failed>
         requires { 0 < length piece.now }
         ensures every_byte { result ≡ Ok (length piece.now) }
