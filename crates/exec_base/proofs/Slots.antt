@@ -1,14 +1,20 @@
 -- How a change of one slot keeps a slab's layout, and what it does to the map and to the past ids.
-use Rattle.std.proofs.Common.{◌≡◌, ◌≢◌, ◌⊎◌, ◌↔◌, ℕ, ◌+◌, ◌-◌, ◌^◌, ◌<◌, ◌≤◌, zero, suc, List, [], ◌∷◌, ◌++◌, length, get_or, set, slice_get, Some, None, IsSome, Bool, true, false, ltb, count_by, cond, reverse, refl, sym, ap, subst, ◌∙◌, inl, inr, arith, length-set}
+use Rattle.std.proofs.Common.{◌≡◌, ◌≢◌, ◌⊎◌, ◌↔◌, ℕ, ◌+◌, ◌-◌, ◌^◌, ◌<◌, ◌≤◌, zero, suc, List, [], ◌∷◌, ◌++◌, length, get_or, set, slice_get, All, Some, None, IsSome, Bool, true, false, ltb, count_by, cond, reverse, refl, sym, ap, subst, ◌∙◌, inl, inr, arith, length-set}
 use Rattle.std.proofs.lemmas.List.{get_or_default, get_or_past, get_or_push, get_or_append_left, get_or-set_same, get_or-set_other, reverse-append}
 use Rattle.std.proofs.lemmas.List.Sums.{sum_by-set}
+use Rattle.std.proofs.lemmas.Option.{slice_get_cases}
 use Rattle.std.proofs.lemmas.Bool.{false≢true, eq-eqb, ltb-true, ltb-false, lt-ltb, le-ltb}
 use Rattle.std.proofs.lemmas.Bool.Decides.{eqb_tells}
 use Rattle.exec_base.specs.declared.slab.Id.{Id}
 use Rattle.exec_base.specs.declared.slab.Slot.{Slot}
 use Rattle.exec_base.specs.declared.slab.Slot.TheVariants.{Live, Vacant, Retired}
-use Rattle.exec_base.specs.Slab.{Slab, is_live, slot_at, value_at, value_in, generation_of, next_generation, next_index, freed, IsPast, TakesId, Updates, written}
-use Rattle.exec_base.specs.SlabLayout.{Lacks, IsVacantAt, AreVacant, IsLaidOut}
+use Rattle.exec_base.specs.Slab.{Slab, is_live, is_vacant, slot_at, value_at, value_in, generation_of, next_generation, next_index, freed, IsPast, TakesId, Updates, written}
+use Rattle.exec_base.specs.SlabLayout.{Lacks, IsVacantAt, AreVacant, ListsAll, IsLaidOut}
+
+-- an answer is one of two
+tells : (b : Bool) → (b ≡ true) ⊎ (b ≡ false)
+tells true = inl refl
+tells false = inr refl
 
 -- a comparison, with what it says
 pub ltb_tells : (a b : ℕ) → ((ltb a b ≡ true) × (a < b)) ⊎ ((ltb a b ≡ false) × (b ≤ a))
@@ -51,6 +57,12 @@ split_last (y ∷ []) x (suc j) count read = absurd (omega arith)
 split_last (y ∷ z ∷ zs) x (suc j) count read =
     let later = split_last (z ∷ zs) x j (omega arith) read in (y ∷ later.0, ap (λ ys. y ∷ ys) later.1)
 
+-- a list without a last number is empty
+pub no_last : (xs : List ℕ) → slice_get xs (length xs - 1) ≡ None → xs ≡ []
+no_last [] is = refl
+no_last (x ∷ xs) is =
+    elim (slice_get_cases (x ∷ xs) (length (x ∷ xs) - 1)).1 [ inl found ↦ absurd (cc (is, found.2)) | inr past ↦ absurd (omega (arith, past.0)) ]
+
 module _ {T : Type 0} where
   -- a vacant slot is there
   pub vacant_within : (slots : List (Slot T)) (i g : ℕ) → get_or slots i Retired ≡ Vacant g → i < length slots
@@ -84,6 +96,55 @@ module _ {T : Type 0} where
     are.1,
     AreVacant-push slots rest slot are.2,
   )
+
+  pub get_or-push_other : (slots : List (Slot T)) (slot d : Slot T) (j : ℕ) → j ≢ length slots → get_or (slots ++ slot ∷ []) j d ≡ get_or slots j d
+  get_or-push_other [] slot d zero other = absurd (other refl)
+  get_or-push_other [] slot d (suc j) other = refl
+  get_or-push_other (s ∷ slots) slot d zero other = refl
+  get_or-push_other (s ∷ slots) slot d (suc j) other = get_or-push_other slots slot d j (λ same. other (ap suc same))
+
+  -- a slot that gets a value is vacant no more
+  pub ListsAll-fill : (slots : List (Slot T)) (rest : List ℕ) (i : ℕ) (slot : Slot T) → i < length slots → is_vacant slot ≡ false → ListsAll slots (i ∷ rest) → ListsAll (set slots i slot) rest
+  ListsAll-fill slots rest i slot within full all = λ j vacant.
+      elim (eqb_tells j i) [
+        | inl e ↦ absurd (false≢true (sym full ∙ rw (e.1, get_or-set_same slots i slot Retired within) at vacant))
+        | inr e ↦
+            elim (all j (rw (get_or-set_other slots i j slot Retired e.1) at vacant)) [ inl same ↦ absurd (e.1 (sym same)) | inr later ↦ later ]
+      ]
+
+  -- one that holds or takes no value stays so
+  pub ListsAll-keep : (slots : List (Slot T)) (vacant : List ℕ) (i : ℕ) (slot : Slot T) → i < length slots → is_vacant slot ≡ false → ListsAll slots vacant → ListsAll (set slots i slot) vacant
+  ListsAll-keep slots vacant i slot within full all = λ j is.
+      elim (eqb_tells j i) [
+        | inl e ↦ absurd (false≢true (sym full ∙ rw (e.1, get_or-set_same slots i slot Retired within) at is))
+        | inr e ↦ all j (rw (get_or-set_other slots i j slot Retired e.1) at is)
+      ]
+
+  -- one that loses its value is listed
+  pub ListsAll-free : (slots : List (Slot T)) (vacant : List ℕ) (i : ℕ) (slot : Slot T) → ListsAll slots vacant → ListsAll (set slots i slot) (i ∷ vacant)
+  ListsAll-free slots vacant i slot all = λ j is.
+      elim (eqb_tells j i) [ inl e ↦ inl (sym e.1) | inr e ↦ inr (all j (rw (get_or-set_other slots i j slot Retired e.1) at is)) ]
+
+  -- a new slot has a value
+  pub ListsAll-push : (slots : List (Slot T)) (vacant : List ℕ) (slot : Slot T) → is_vacant slot ≡ false → ListsAll slots vacant → ListsAll (slots ++ slot ∷ []) vacant
+  ListsAll-push slots vacant slot full all = λ j is.
+      elim (eqb_tells j (length slots)) [
+        | inl e ↦ absurd (false≢true (sym full ∙ rw (get_or_push slots slot Retired j (sym e.1)) at is))
+        | inr e ↦ all j (rw (get_or-push_other slots slot Retired j e.1) at is)
+      ]
+
+  -- where no slot is listed none is vacant, and the other way round
+  pub none-vacant : (slots : List (Slot T)) → ListsAll slots [] → All (λ slot. is_vacant slot ≡ false) slots
+  none-vacant slots all k d within =
+      elim (tells (is_vacant (get_or slots k d))) [
+        | inl is ↦ absurd (all k (ap is_vacant (get_or_default slots k Retired d within) ∙ is))
+        | inr is ↦ is
+      ]
+
+  pub none-listed : (slots : List (Slot T)) (vacant : List ℕ) → AreVacant slots vacant → All (λ slot. is_vacant slot ≡ false) slots → vacant ≡ []
+  none-listed slots [] are none = refl
+  none-listed slots (i ∷ rest) are none =
+      absurd (false≢true (sym (none i Retired (vacant_within slots i are.0.generation are.0.is)) ∙ ap is_vacant are.0.is))
 
   -- a live slot isn't among the vacant ones
   pub Lacks-live : (slots : List (Slot T)) (vacant : List ℕ) (i g : ℕ) (v : T) → get_or slots i Retired ≡ Live g v → AreVacant slots vacant → Lacks vacant i
@@ -119,6 +180,7 @@ module _ {T : Type 0} where
       record {
         counted = omega (arith, laid.counted);
         vacant_ones = AreVacant-set slots vacant i (Live h w) (Lacks-live slots vacant i g live.value live.is laid.vacant_ones) laid.vacant_ones;
+        all_listed = ListsAll-keep slots vacant i (Live h w) within refl laid.all_listed;
         few = rw length-set laid.few;
         enough = rw length-set laid.enough;
         within = rw length-set laid.within;
@@ -144,6 +206,7 @@ module _ {T : Type 0} where
           lacks,
           AreVacant-set slots vacant i (Vacant (g + 1)) lacks laid.vacant_ones,
         );
+        all_listed = ListsAll-free slots vacant i (Vacant (g + 1)) laid.all_listed;
         few = rw length-set laid.few;
         enough = rw length-set laid.enough;
         within = rw length-set (omega (arith, laid.within, laid.counted));
@@ -156,6 +219,7 @@ module _ {T : Type 0} where
       rw (le-ltb (g + 1) (2 ^ 64) last) (record {
         counted = omega (arith, laid.counted);
         vacant_ones = AreVacant-set slots vacant i Retired (Lacks-live slots vacant i g live.value live.is laid.vacant_ones) laid.vacant_ones;
+        all_listed = ListsAll-keep slots vacant i Retired within refl laid.all_listed;
         few = rw length-set laid.few;
         enough = rw length-set laid.enough;
         within = rw length-set (omega (arith, laid.within, laid.counted));
@@ -170,6 +234,7 @@ module _ {T : Type 0} where
       record {
         counted = omega (arith, laid.counted);
         vacant_ones = AreVacant-set slots vacant i (Live g v) laid.vacant_ones.1 laid.vacant_ones.2;
+        all_listed = ListsAll-fill slots vacant i (Live g v) within refl laid.all_listed;
         few = rw length-set laid.few;
         enough = rw length-set laid.enough;
         within = rw length-set (omega (arith, laid.within, laid.counted));
@@ -183,12 +248,6 @@ module _ {T : Type 0} where
   pub Changed-set : (old new : Slab T) (i : ℕ) (slot : Slot T) → new.first ≡ old.first → new.slots ≡ set old.slots i slot → i < length old.slots → Changed old new i slot
   Changed-set old new i slot first slots within =
       rw (first, slots) (record { here = get_or-set_same old.slots i slot (Vacant old.first) within; there = λ j other. get_or-set_other old.slots i j slot (Vacant old.first) other })
-
-  pub get_or-push_other : (slots : List (Slot T)) (slot d : Slot T) (j : ℕ) → j ≢ length slots → get_or (slots ++ slot ∷ []) j d ≡ get_or slots j d
-  get_or-push_other [] slot d zero other = absurd (other refl)
-  get_or-push_other [] slot d (suc j) other = refl
-  get_or-push_other (s ∷ slots) slot d zero other = refl
-  get_or-push_other (s ∷ slots) slot d (suc j) other = get_or-push_other slots slot d j (λ same. other (ap suc same))
 
   pub Changed-push : (old new : Slab T) (slot : Slot T) → new.first ≡ old.first → new.slots ≡ old.slots ++ slot ∷ [] → Changed old new (length old.slots) slot
   Changed-push old new slot first slots = record {

@@ -1,7 +1,10 @@
 -- What a post has taken.
-use Rattle.std.specs.Prelude.{List, [], ◌∷◌, ◌++◌, Option, Some, None}
+use Rattle.std.specs.Prelude.{◌≡◌, ◌⊎◌, List, [], ◌∷◌, ◌++◌, Contains, Option, Some, None}
 
--- the messages that are known, and then this one
-abbrev pub and_then : {M : Type 0} → Option (List M) → M → Option (List M)
-and_then None message = None
-and_then (Some messages) message = Some (messages ++ message ∷ [])
+module _ {M : Type 0} where
+  -- a post that had taken these messages took one more: it stands at their end, or was dropped, since the same message
+  -- is among them. Where it isn't known what a post took, it isn't known after either
+  abbrev pub Takes : Option (List M) → M → Option (List M) → Type 0
+  Takes None message after = after ≡ None
+  Takes (Some messages) message after =
+      (after ≡ Some (messages ++ message ∷ [])) ⊎ (Contains messages message × (after ≡ Some messages))

@@ -1,5 +1,5 @@
 -- What a contract sees of a slab: a map from live ids to values, the vacant slots, and the number of slots.
-use Rattle.std.specs.Prelude.{◌≡◌, ◌≢◌, ℕ, ◌+◌, ◌^◌, ◌<◌, ◌==◌, List, [], ◌∷◌, ◌++◌, ◌↔◌, ◌⊎◌, length, Option, Some, None, Bool, true, false, nat_lt, count_by, slice_index_or, slice_set, if◌then◌else◌}
+use Rattle.std.specs.Prelude.{◌≡◌, ◌≢◌, ℕ, ◌+◌, ◌^◌, ◌<◌, ◌==◌, List, [], ◌∷◌, ◌++◌, ◌↔◌, ◌⊎◌, length, Option, Some, None, Bool, true, false, nat_lt, count_by, slice_index_or, slice_set, All, if◌then◌else◌}
 use Rattle.exec_base.specs.declared.slab.Id.{Id}
 use Rattle.exec_base.specs.declared.slab.Slot.{Slot}
 use Rattle.exec_base.specs.declared.slab.Slot.TheVariants.{Live, Vacant, Retired}
@@ -19,11 +19,20 @@ abbrev pub next_index : List ℕ → ℕ → ℕ
 next_index [] count = count
 next_index (index ∷ _) count = index
 
+-- the id has a lower index, or the same index and a lower generation
+abbrev pub IsBefore : Id → Id → Type 0
+IsBefore a b = (a.index < b.index) ⊎ ((a.index ≡ b.index) × (a.generation < b.generation))
+
 module _ {T : Type 0} where
   abbrev pub is_live : Slot T → Bool
   is_live (Live _ _) = true
   is_live (Vacant _) = false
   is_live Retired = false
+
+  abbrev pub is_vacant : Slot T → Bool
+  is_vacant (Live _ _) = false
+  is_vacant (Vacant _) = true
+  is_vacant Retired = false
 
   abbrev pub value_of : Slot T → Option T
   value_of (Live _ value) = Some value
@@ -82,7 +91,7 @@ module _ {T : Type 0} where
 
   -- no value can come into the slab: it has as many slots as there can be, and none is vacant
   abbrev pub IsFull : Slab T → Type 0
-  IsFull s = (s.vacant ≡ []) × (length s.slots ≡ 2 ^ 32)
+  IsFull s = (length s.slots ≡ 2 ^ 32) × All (λ slot. is_vacant slot ≡ false) s.slots
 
   -- an insert is refused for this reason, and hands this back
   abbrev pub IsRefused : {V : Type 0} → Slab T → V → InsertError V → Type 0

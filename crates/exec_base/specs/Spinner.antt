@@ -60,24 +60,18 @@ module _ {C : Type 0} (call : C → Bool → C → Type 0) where
   Misses zero first last = last ≡ first
   Misses (suc n) first last = (next : C) × call first false next × Misses n next last
 
-  -- a hit within the budget: some calls that answer false, and one that answers true
-  pub record IsHit (budget : ℕ) (first : C) : Type 0 where
+  -- a hit within the budget: some calls that answer false, then one that answers true, and none after it
+  pub record IsHit (budget : ℕ) (first last : C) : Type 0 where
     pub misses : ℕ
     pub within : misses < budget
     pub before : C
     pub missed : Misses misses first before
-    pub last : C
     pub hit : call before true last
 
-  -- as many calls as the budget says, which all answer false
-  pub record IsMiss (budget : ℕ) (first : C) : Type 0 where
-    pub last : C
-    pub missed : Misses budget first last
-
-  -- the calls of a spin with this answer
-  abbrev pub IsSpun : ℕ → C → Bool → Type 0
-  IsSpun budget first true = IsHit budget first
-  IsSpun budget first false = IsMiss budget first
+  -- the calls of a spin with this answer; a miss is as many calls as the budget says, which all answer false
+  abbrev pub IsSpun : ℕ → C → C → Bool → Type 0
+  IsSpun budget first last true = IsHit budget first last
+  IsSpun budget first last false = Misses budget first last
 
 -- an example: budget 10, at most 50, quick wakes up to 50 microseconds, with 5 looks a microsecond
 abbrev pub ten_to_fifty : Spinner

@@ -1,10 +1,17 @@
 //! A gate that one holds at a time: first come, first served.
 //!
-//! Who enters an open gate holds it. Who enters while another holds it joins the end of the list, and holds the
-//! gate once all before it have left. Ports the permit of `commonware_runtime`'s durable requests, an
-//! asynchronous mutex there: here the one who leaves is told who is next.
+//! A gate is open, or held by one, and then others may wait for it. Who enters an open gate holds it. Who enters
+//! while another holds it joins the end of the list (`entered`), and holds the gate once all before it have left
+//! (`left`). Nobody waits at an open gate: that is the gate's invariant. So at any time there is at most one holder,
+//! and the holder alone leaves.
+//!
+//! Those who wait stand in room that was reserved before, so `enter` takes no memory. Each place that is reserved
+//! serves one who waits, and is free again once that one holds the gate.
+//!
+//! Ports the permit of `commonware_runtime`'s durable requests, an asynchronous mutex there: here the one who leaves
+//! is told who is next, and has to tell that one.
 
-ghost use Rattle.std.specs.Prelude.{◌≡◌, ◌≢◌, [], ◌∷◌, None, Some, is_none, length, slice_get, max, IfNone, OnOk, OnErr};
+ghost use Rattle.std.specs.Prelude.{◌≡◌, ◌≢◌, [], ◌∷◌, None, Some, is_none, ◌+◌, length, slice_get, max, IfNone, OnOk, OnErr};
 ghost use Rattle.exec_base.specs.Gate.{entered, left, HasPlace, held_by_three};
 
 #[cfg(test)]
@@ -19,7 +26,7 @@ use std::marker::Model;
 pub struct Gate<T> {
     holder: Option<T>,
     waiting: VecDeque<T>,
-    // For how many waiting ones there is room.
+    // For how many waiting ones there is room in all.
     room: usize,
 }
 
@@ -47,19 +54,21 @@ impl<T: Copy> Gate<T> {
         }
     }
 
-    /// Makes room for `n` entries in all beside the holder, those who wait already among them.
+    /// Makes room for `n` more to wait, beside those who wait already. Room that is there already counts.
     ///
-    /// Where there is no memory the gate stays as it is.
+    /// Err where there is no memory, and then the gate stays as it is.
     pub fn reserve(&mut self, _alloc: Global, n: usize) -> Result<(), AllocError>
-        ensures room { OnOk result (self.new ≡ record self.old { room = max self.old.room n }) }
+        ensures room { OnOk result (self.new ≡ record self.old { room = max self.old.room (length self.old.waiting + n) }) }
         ensures kept { OnErr result (self.new ≡ self.old) }
     {
-        self.waiting.reserve(n.saturating_sub(self.waiting.len()))?;
-        self.room = self.room.max(n);
+        self.waiting.reserve(n)?;
+        self.room = self.room.max(self.waiting.len() + n);
         Ok(())
     }
 
     /// Answers whether `id` now holds the gate. Where another holds it, `id` joins the end of the list.
+    ///
+    /// The caller must have reserved room for one more, unless the gate is open.
     pub fn enter(&mut self, id: T) -> bool
         requires { HasPlace self.old }
         ensures answer { result ≡ is_none self.old.holder }
@@ -73,8 +82,8 @@ impl<T: Copy> Gate<T> {
         true
     }
 
-    /// The holder leaves. Answers the next one, which holds the gate from then on. None where nobody waits,
-    /// and the gate is open then.
+    /// The holder leaves. Answers the next one, which holds the gate from then on and has to be told so. None where
+    /// nobody waits, and the gate is open then.
     pub fn leave(&mut self) -> Option<T>
         ensures next { result ≡ slice_get self.old.waiting 0 }
         ensures left { self.new ≡ left self.old }
@@ -89,6 +98,13 @@ impl<T: Copy> Gate<T> {
         ensures open { IfNone result (self.now.waiting ≡ []) }
     {
         self.holder
+    }
+
+    /// How many wait for the gate. The holder isn't one of them.
+    pub fn waiting(&self) -> usize
+        ensures { result ≡ length self.now.waiting }
+    {
+        self.waiting.len()
     }
 }
 

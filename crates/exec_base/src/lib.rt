@@ -5,6 +5,7 @@
 pub mod error;
 pub mod gate;
 pub mod io;
+pub mod limits;
 pub mod one_shot;
 pub mod post;
 pub mod slab;

@@ -1,13 +1,24 @@
 //! A channel for one value, once.
 //!
 //! The value that is sent first is delivered once, by a `poll`. A one-shot that is closed before delivers
-//! nothing. Taking the value closes the one-shot, so who polls again is told that it is closed. Ports the
-//! one-shot channel that `commonware_runtime` takes from the crate `futures`, as one value that both ends use.
+//! nothing. Taking the value closes the one-shot, so who polls again is told that it is closed.
+//!
+//! ```text
+//!   Open ──send──▶ Sent ──poll──▶ Closed
+//!     └───────────close──────────▶ Closed
+//! ```
+//!
+//! One end sends or closes, the other polls or closes. `sent`, `polled` and `closed` say what each call makes of each
+//! state, `send_answer` and `poll_answer` what it answers: nothing leads out of `Closed`, and only `Open` takes a
+//! value, so none is delivered twice and none is lost without being handed back.
+//!
+//! Ports the one-shot channel that `commonware_runtime` takes from the crate `futures`, as one value that both ends
+//! use.
 
 ghost use Rattle.std.specs.Prelude.{◌≡◌, Ok, Err, Some, None};
 ghost use Rattle.exec_base.specs.OneShot.{sent, polled, closed, send_answer, poll_answer, waiting};
 ghost use Rattle.exec_base.specs.declared.error.Error.TheVariants as error;
-ghost use Rattle.exec_base.specs.declared.one_shot.State.TheVariants as state;
+ghost use Rattle.exec_base.specs.declared.one_shot.OneShotState.TheVariants as state;
 
 #[cfg(test)]
 mod tests;
@@ -18,7 +29,7 @@ use std::mem;
 
 /// How a one-shot stands.
 #[derive(Drop)]
-pub enum State<T> {
+pub enum OneShotState<T> {
     /// Nothing was sent, and it isn't closed.
     Open,
     /// The value was sent, and nobody has taken it.
@@ -30,11 +41,11 @@ pub enum State<T> {
 /// A channel for one value, once. No call takes memory.
 #[derive(Drop)]
 pub struct OneShot<T> {
-    state: State<T>,
+    state: OneShotState<T>,
 }
 
 impl<T> Model for OneShot<T> {
-    ghost use Rattle.exec_base.specs.declared.one_shot.State.{State as Stand};
+    ghost use Rattle.exec_base.specs.declared.one_shot.OneShotState.{OneShotState as Stand};
 
     ghost Value = { Stand T };
 
@@ -46,7 +57,9 @@ impl<T> OneShot<T> {
     pub fn new() -> Self
         ensures { result ≡ state.Open }
     {
-        OneShot { state: State::Open }
+        OneShot {
+            state: OneShotState::Open,
+        }
     }
 
     /// Sends the value. Gives it back where the one-shot is closed, or has had its value already.
@@ -54,11 +67,11 @@ impl<T> OneShot<T> {
         ensures answer { result ≡ send_answer self.old value }
         ensures sent { self.new ≡ sent self.old value }
     {
-        if !matches!(&self.state, State::Open) {
+        if !matches!(&self.state, OneShotState::Open) {
             return Err(value);
         }
-        match mem::replace(&mut self.state, State::Sent(value)) {
-            State::Open => Ok(()),
+        match mem::replace(&mut self.state, OneShotState::Sent(value)) {
+            OneShotState::Open => Ok(()),
             _ => unreachable!(),
         }
     }
@@ -70,13 +83,13 @@ impl<T> OneShot<T> {
         ensures polled { self.new ≡ polled self.old }
     {
         match &self.state {
-            State::Open => return Ok(None),
-            State::Closed => return Err(Error::Closed),
-            State::Sent(_) => {}
+            OneShotState::Open => return Ok(None),
+            OneShotState::Closed => return Err(Error::Closed),
+            OneShotState::Sent(_) => {}
         }
-        let taken = mem::replace(&mut self.state, State::Closed);
+        let taken = mem::replace(&mut self.state, OneShotState::Closed);
         match taken {
-            State::Sent(value) => Ok(Some(value)),
+            OneShotState::Sent(value) => Ok(Some(value)),
             _ => unreachable!(),
         }
     }
@@ -85,11 +98,11 @@ impl<T> OneShot<T> {
     pub fn close(&mut self)
         ensures { self.new ≡ closed self.old }
     {
-        if !matches!(&self.state, State::Open) {
+        if !matches!(&self.state, OneShotState::Open) {
             return;
         }
-        match mem::replace(&mut self.state, State::Closed) {
-            State::Open => {}
+        match mem::replace(&mut self.state, OneShotState::Closed) {
+            OneShotState::Open => {}
             _ => unreachable!(),
         }
     }

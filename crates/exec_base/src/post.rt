@@ -1,7 +1,12 @@
 //! The way of a message to another worker.
+//!
+//! A post is open until its worker closes it, and closed from then on. Who sends has reserved a place for the message
+//! before, so sending takes no memory and is refused only by a closed post, which gives the message back. What a post
+//! took comes out in the order in which it was taken. A message that says only what a message there says already may
+//! be dropped, as the second wake of a root is.
 
 ghost use Rattle.std.specs.Prelude.{◌≡◌, IsTrue, IsErr, OnOk, OnErr, IfErr, Bool, List, Option};
-ghost use Rattle.exec_base.specs.Post.{and_then};
+ghost use Rattle.exec_base.specs.Post.{Takes};
 
 #[cfg(test)]
 mod tests;
@@ -14,11 +19,19 @@ pub trait Post<M> {
     // The messages that it took so far, where that is known.
     ghost taken: { Self → Option (List M) };
 
-    /// Sends the message. Gives it back only where the post is closed. A post that is closed stays so.
+    // A place is reserved for this message.
+    ghost has_place: { Self → M → Type 0 };
+
+    /// Sends the message, into the place that was reserved for it. Gives it back only where the post is closed. A
+    /// post that is closed stays so.
+    ///
+    /// The caller must have reserved a place for the message. A post that holds the same message already may drop
+    /// this one.
     fn send(&mut self, message: M) -> Result<(), M>
+        requires place { has_place self.old message }
         ensures back { IfErr result (λ m. (m ≡ message) × IsTrue (closed self.new)) }
         ensures stays { IsTrue (closed self.old) → IsTrue (closed self.new) }
         ensures refuses { IsTrue (closed self.old) → IsErr result }
-        ensures taken { OnOk result (taken self.new ≡ and_then (taken self.old) message) }
+        ensures taken { OnOk result (Takes (taken self.old) message (taken self.new)) }
         ensures kept { OnErr result (taken self.new ≡ taken self.old) };
 }

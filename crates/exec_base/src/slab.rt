@@ -5,9 +5,19 @@
 //! next generation, so the old id names nothing from then on. The slot that was freed last is taken first. A
 //! slot whose value had the last generation, 2^64 - 1, is retired for good.
 //!
+//! ```text
+//!   new slot ──insert──▶ live ──remove──▶ vacant ──insert──▶ live, one generation on
+//!                          └──remove, at the last generation──▶ retired
+//! ```
+//!
 //! What a contract sees is in `specs/Slab.antt`: the slots, the vacant ones in the order in which they are
 //! taken, the generation at which slots begin, and for how many slots there is memory. `value_at` is the map
-//! from live ids to values; `IsPast` says which ids no insert gives any more.
+//! from live ids to values (`Updates` says what a call does to it); `IsPast` says which ids no insert gives any
+//! more, and `TakesId` that an insert adds its own id to them and no other.
+//!
+//! The invariant, `IsLaidOut`: the list of vacant slots has each vacant slot once and no other, so an insert is
+//! refused as `Full` only where each of 2^32 slots holds a value or is retired; `len` counts the live slots; and the
+//! list has memory for all slots, so `remove` takes none.
 
 ghost use Rattle.std.specs.Prelude.{◌≡◌, ℕ, ◌+◌, ◌^◌, ◌<◌, ◌≤◌, ◌↔◌, ◌⊎◌, length, [], Some, None, IsOk, IsSome, IsTrue, IfOk, IfErr, OnErr, OnOk, IsNone, IfNone, OnSome, IfSome, option_copied};
 ghost use Rattle.std.specs.Option.{option_copied_mut};
@@ -18,11 +28,13 @@ mod laws;
 mod tests;
 
 pub use laws::{
-    a_slot_retires, a_write_changes_one_value, no_id_is_given_twice, slots_are_taken_again,
+    a_slot_retires, a_write_changes_one_value, ids_are_ordered_by_index_and_then_by_generation,
+    no_id_is_given_twice, slots_are_taken_again,
 };
 use std::alloc::{AllocError, Global};
 use std::marker::Model;
 use std::mem;
+use thiserror::Error;
 
 /// The name of a value in a slab. It names that value from the insert to the removal, and nothing else ever.
 ///
@@ -35,12 +47,15 @@ pub struct Id {
     pub generation: u64,
 }
 
-/// Why an insert was refused, with what was to be inserted. The slab is as it was.
-#[derive(Debug, Drop)]
+/// Why an insert was refused, with what was to be inserted. The slab is as it was. `Display` is the name of the
+/// reason, as [`crate::error::Error`] has it.
+#[derive(Debug, Drop, Error)]
 pub enum InsertError<T> {
     /// There are 2^32 slots, and none is vacant.
+    #[error("Full")]
     Full(T),
     /// There was no memory for one more slot.
+    #[error("NoMemory")]
     NoMemory(T),
 }
 
@@ -124,7 +139,7 @@ impl<T> Slab<T> {
     ghost use Rattle.exec_base.specs.Slab.{value_at, value_in, slot_at, live_count, id_in, next_id, inserted, removed, HasRoom, IsPast, TakesId, IsRefused, IsFull, Updates};
     ghost use Rattle.exec_base.specs.SlabLends.{lends_value, lends_if};
 
-    /// An empty slab with memory for `capacity` slots, whose slots begin at generation 0.
+    /// An empty slab with memory for `capacity` slots, whose slots begin at generation 0. Err only for want of memory.
     pub fn with_capacity(alloc: Global, capacity: usize) -> Result<Self, AllocError>
         ensures slots { IfOk result (λ s. s.slots ≡ []) }
         ensures vacant { IfOk result (λ s. s.vacant ≡ []) }

@@ -10,6 +10,10 @@
 //!
 //! All numbers are looks ("iterations"). How many fit into a microsecond is told by the maker of the spinner, which
 //! upstream measures. A sum that would pass 2^64 - 1 stands still there.
+//!
+//! A spinner has no states but its numbers: the budget lies between the least and the greatest of its configuration,
+//! and the floor isn't above the greatest (`IsInBounds`). `after_hit`, `after_miss` and `after_wake` say what each
+//! event makes of them. A budget of 0 stays 0, so a spinner that is switched off never calls.
 
 ghost use Rattle.std.specs.Prelude.{◌≡◌, ◌≢◌, ◌≤◌, ◌<◌, ℕ, IsTrue, IfOk, IsOk, true, false};
 ghost use Rattle.exec_base.specs.Spinner.{begun, after_hit, after_miss, after_wake, after_spin, looks_in, IsSpun, ten_to_fifty};
@@ -84,7 +88,8 @@ impl Model for Spinner {
 }
 
 impl Spinner {
-    /// A spinner at its least budget, where so many looks take a microsecond.
+    /// A spinner at its least budget, where so many looks take a microsecond. The caller must have a configuration
+    /// whose least budget isn't above its greatest.
     pub fn new(cfg: &SpinnerConfig, iters_per_us: u64) -> Self
         requires { cfg.now.budget_us ≤ cfg.now.max_budget_us }
         ensures { result ≡ begun cfg.now iters_per_us }
@@ -109,11 +114,19 @@ impl Spinner {
         self.budget
     }
 
-    /// Calls `condition` until it is true, or as often as the budget says, and answers whether it was true. The
-    /// budget is adapted. With budget 0 nothing is called and nothing changes.
-    pub fn spin<C: FnMut() -> bool>(&mut self, mut condition: C) -> bool
-        requires { C.IsAlwaysCallable condition }
-        ensures calls { IsSpun C.step self.old.budget condition result }
+    /// What the budget doesn't fall below after a miss, in looks. It is learned from quick wakes.
+    pub fn floor(&self) -> u64
+        ensures { result ≡ self.now.floor }
+    {
+        self.floor
+    }
+
+    /// Calls `condition` until it is true, or as often as the budget says, and answers whether it was true. It is
+    /// called no more once the answer is known. The budget is adapted. With budget 0 nothing is called and nothing
+    /// changes. The caller must have a condition that may always be called.
+    pub fn spin<C: FnMut() -> bool>(&mut self, condition: &mut C) -> bool
+        requires { C.IsAlwaysCallable condition.old }
+        ensures calls { IsSpun C.step self.old.budget condition.old condition.new result }
         ensures adapted { self.new ≡ after_spin self.old result }
     {
         for _ in 0..self.budget {

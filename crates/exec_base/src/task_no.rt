@@ -4,5 +4,5 @@
 ///
 /// Numbers are given in order of making, from 0 on, and none is given twice. Ports `commonware_runtime`'s use
 /// of `std::task::Waker`.
-#[derive(Clone, Copy, Debug, PartialEq, Eq)]
+#[derive(Clone, Copy, Debug, PartialEq, Eq, PartialOrd, Ord)]
 pub struct TaskNo(pub u32);

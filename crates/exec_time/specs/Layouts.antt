@@ -2,10 +2,11 @@
 use Rattle.std.specs.Prelude.{ℕ, ◌+◌, ◌^◌, Bool, List, Option, None, if◌then◌else◌, ◌==◌, ◌||◌, nat_le, nat_lt, map, find}
 use Rattle.std.specs.List.{range_with_len}
 use Rattle.std.specs.Int.{div_ceil}
+use Rattle.exec_base.specs.declared.limits.TheConstants.{LONGEST_TIMEOUT}
 
 -- the longest horizon and the longest tick: 30 years of 365 days, in nanoseconds
 abbrev pub longest : ℕ
-longest = 946080000000000000
+longest = LONGEST_TIMEOUT
 
 -- the sizes that a wheel may have: the powers of two up to 1,048,576
 abbrev pub sizes : List ℕ

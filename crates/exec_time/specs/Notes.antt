@@ -1,7 +1,7 @@
 -- What is noted, and for how much more there is room.
 use Rattle.std.specs.Prelude.{◌≡◌, ℕ, ◌+◌, ◌≤◌, List, ◌++◌, vec_len}
 use Rattle.std.specs.Vec.{vec_capacity}
-use Rattle.exec_time.specs.declared.notes.TaskNo.{TaskNo}
+use Rattle.exec_base.specs.declared.task_no.TaskNo.{TaskNo}
 use Rattle.exec_time.specs.declared.notes.Completion.{Completion}
 use Rattle.exec_time.specs.declared.notes.Notes.{Notes}
 

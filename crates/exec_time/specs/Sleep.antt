@@ -1,19 +1,24 @@
 -- How a sleep stands.
-use Rattle.std.specs.Prelude.{◌≡◌, ℕ, ◌+◌, ◌-◌, ◌^◌, Bool, true, false, min, if◌then◌else◌, ◌==◌, Option, Some, None, Result, Ok, Err}
+use Rattle.std.specs.Prelude.{◌≡◌, ℕ, ◌+◌, ◌-◌, ◌^◌, Bool, true, false, min, if◌then◌else◌, ◌==◌, ◌⊎◌, List, Option, Some, None, Result, Ok, Err}
 use Rattle.exec_base.specs.declared.error.Error.{Error}
-use Rattle.exec_base.specs.declared.error.Error.TheVariants.{Closed}
+use Rattle.exec_base.specs.declared.error.Error.TheVariants.{Closed, Full, NoMemory}
+use Rattle.exec_base.specs.declared.one_shot.OneShotState.{OneShotState}
+use Rattle.exec_base.specs.OneShot.{poll_answer, polled}
+use Rattle.exec_base.specs.Post.{Takes}
 use Rattle.exec_time.specs.Layouts.{longest}
-use Rattle.exec_time.specs.declared.sleep.State.{State}
-use Rattle.exec_time.specs.declared.sleep.State.TheVariants.{Waiting, Registered, Done}
-use Rattle.exec_base.specs.Slab.{Slab, next_id, Updates}
-use Rattle.exec_time.specs.declared.notes.TaskNo.{TaskNo}
+use Rattle.exec_time.specs.declared.sleep.SleepState.{SleepState}
+use Rattle.exec_time.specs.declared.sleep.SleepState.TheVariants.{Waiting, Registered, Forwarded, Done}
+use Rattle.exec_base.specs.Slab.{Slab, next_id, IsFull, Updates}
+use Rattle.exec_time.specs.declared.sleep.TimerMessage.{TimerMessage}
+use Rattle.exec_time.specs.declared.sleep.TimerMessage.TheVariants.{Forward}
+use Rattle.exec_base.specs.declared.task_no.TaskNo.{TaskNo}
 use Rattle.exec_time.specs.declared.timers.Observer.TheVariants.{Local}
 use Rattle.exec_time.specs.declared.timers.Sleeper.{Sleeper}
 use Rattle.exec_time.specs.declared.timers.TimerId.{TimerId}
 
 -- a sleep for this long from now: over at once where that is no time, else until then, with what is too long cut
 -- to the longest. No sum is above the end of u64
-abbrev pub asleep : ℕ → ℕ → State
+abbrev pub asleep : ℕ → ℕ → SleepState
 asleep duration now = if duration == 0 then Done else Waiting (min (now + min duration longest) (2 ^ 64 - 1))
 
 -- what a look at the one-shot of a forwarded sleep answers: nothing yet, the result, or that it is closed
@@ -24,14 +29,47 @@ heard (Ok (Some (Err e))) = Err e
 heard (Err _) = Err Closed
 
 -- and what it makes of the sleep
-abbrev pub after_hearing : State → Result (Option (Result (Unit {0}) Error)) Error → State
+abbrev pub after_hearing : SleepState → Result (Option (Result (Unit {0}) Error)) Error → State
 after_hearing state (Ok None) = state
 after_hearing state (Ok (Some _)) = Done
 after_hearing state (Err _) = Done
 
+-- whether a poll by this worker needs no other one: the sleep has no sleeper, or one of this worker that isn't forwarded
+abbrev pub is_local : SleepState → ℕ → Bool
+is_local (Waiting _) worker = true
+is_local (Registered at _) worker = at == worker
+is_local (Forwarded _ _) worker = false
+is_local Done worker = true
+
 -- the sleep has a new sleeper of this worker
-pub record Registers {S : Type 0} (new : State) (before after : Slab (Sleeper S)) (worker deadline : ℕ) (waker : TaskNo) : Type 0 where
+pub record Registers {S : Type 0} (new : SleepState) (before after : Slab (Sleeper S)) (worker deadline : ℕ) (waker : TaskNo) : Type 0 where
   pub id : TimerId
   pub next : next_id before ≡ Some id.0
   pub is : new ≡ Registered worker id
   pub there : Updates before after id.0 (Some (record { deadline = deadline; observer = Local waker }))
+
+-- no sleeper could be made, for this reason: no more can be named, or there was no memory. All is as before
+pub record IsRefused {S : Type 0} (old new : SleepState) (before after : Slab (Sleeper S)) (reason : Error) : Type 0 where
+  pub cause : ((reason ≡ Full) × IsFull before) ⊎ (reason ≡ NoMemory)
+  pub asleep_still : new ≡ old
+  pub kept : after ≡ before
+
+module _ {S P : Type 0} (is_closed : P → Bool) (taken : P → Option (List (TimerMessage S))) where
+  -- the post took the message that the sleeper of this id sends its result by this, and the one-shot was looked at
+  pub record IsAsked (old new : P) (at : ℕ) (id : TimerId) (sender : S) (state : SleepState) (before after : OneShotState (Result (Unit {0}) Error)) (answer : Result Bool Error) : Type 0 where
+    pub took : Takes (taken old) (Forward id sender) (taken new)
+    pub looked : answer ≡ heard (poll_answer before)
+    pub stands : state ≡ after_hearing (Forwarded at id) (poll_answer before)
+    pub heard_of : after ≡ polled before
+
+  -- or the post was closed, at the latest when it refused the message, and nothing was sent
+  pub record IsShut (old new : P) (state : SleepState) (before after : OneShotState (Result (Unit {0}) Error)) (answer : Result Bool Error) : Type 0 where
+    pub shut : is_closed new ≡ true
+    pub kept : taken new ≡ taken old
+    pub told : answer ≡ Err Closed
+    pub over : state ≡ Done
+    pub unheard : after ≡ before
+
+  -- a poll that is to ask the sleeper's worker does one of the two
+  abbrev pub Asks : P → P → ℕ → TimerId → S → SleepState → OneShotState (Result (Unit {0}) Error) → OneShotState (Result (Unit {0}) Error) → Result Bool Error → Type 0
+  Asks old new at id sender state before after answer = IsAsked old new at id sender state before after answer ⊎ IsShut old new state before after answer

@@ -2,7 +2,7 @@
 use Rattle.std.specs.Prelude.{ℕ, []}
 use Rattle.exec_base.specs.Slab.{Slab, inserted}
 use Rattle.exec_base.specs.declared.slab.Id.{Id}
-use Rattle.exec_time.specs.declared.notes.TaskNo.{TaskNo}
+use Rattle.exec_base.specs.declared.task_no.TaskNo.{TaskNo}
 use Rattle.exec_time.specs.declared.timers.Sleeper.{Sleeper}
 use Rattle.exec_time.specs.declared.timers.Observer.TheVariants.{Local, Forwarded}
 

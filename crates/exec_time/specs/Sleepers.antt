@@ -5,7 +5,7 @@ use Rattle.exec_base.specs.Slab.{Slab, value_at, removed, Updates}
 use Rattle.exec_base.specs.declared.error.Error.{Error}
 use Rattle.exec_base.specs.declared.error.Error.TheVariants.{Closed}
 use Rattle.exec_base.specs.declared.slab.Id.{Id}
-use Rattle.exec_time.specs.declared.notes.TaskNo.{TaskNo}
+use Rattle.exec_base.specs.declared.task_no.TaskNo.{TaskNo}
 use Rattle.exec_time.specs.declared.notes.Completion.{Completion}
 use Rattle.exec_time.specs.declared.notes.Notes.{Notes}
 use Rattle.exec_time.specs.declared.timers.Sleeper.{Sleeper}

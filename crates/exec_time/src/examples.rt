@@ -10,7 +10,7 @@ ghost use Rattle.exec_base.specs.declared.error.Error.TheVariants as error;
 ghost use Rattle.exec_time.specs.Sleepers.{wakes_of, completions_of, is_forwarded, observation, displaced, deadline_at, left_at, IsFirst, IsDue, IsLowest};
 ghost use Rattle.exec_time.specs.SleepExamples.{task, named, local, forwarded, two};
 ghost use Rattle.exec_time.specs.Sleep.{asleep, heard, after_hearing};
-ghost use Rattle.exec_time.specs.declared.sleep.State.TheVariants as state;
+ghost use Rattle.exec_time.specs.declared.sleep.SleepState.TheVariants as state;
 ghost use Rattle.exec_time.specs.declared.timers.TimerId.{TimerId as TimerName};
 ghost use Rattle.exec_time.specs.declared.timers.Observation.TheVariants.{Ready, Pending, Refresh};
 

@@ -1,15 +1,16 @@
 //! What a worker's parts leave to be told once their own work is done: wakes and completions.
+//!
+//! A part that ends something, a sleeper here, doesn't wake or send by itself, since that may lead back into the
+//! part. It notes what is to be told, and its caller tells it once the part is done. `Adds` says what a call notes.
+//! The room for a note is made by the caller before (`HasRoom`), so a call that notes takes no memory.
 
 ghost use Rattle.std.specs.Prelude.{◌≡◌, ◌≤◌, ◌+◌, [], IfOk, OnOk, vec_len};
 ghost use Rattle.std.specs.Vec.{vec_capacity};
 ghost use Rattle.exec_time.specs.Notes.{HasRoom, Adds};
 
 use exec_base::error::Error;
+use exec_base::task_no::TaskNo;
 use std::alloc::{AllocError, Global};
-
-/// The number of a task, which stands for its waker.
-#[derive(Clone, Copy, Debug, PartialEq, Eq, PartialOrd, Ord)]
-pub struct TaskNo(pub u32);
 
 /// A result for who waits elsewhere, with the way to send it.
 #[derive(Drop)]
@@ -43,7 +44,7 @@ impl<S> Notes<S> {
 
     /// Makes room for `n` more wakes and `n` more completions, which are then noted without memory. Err where
     /// there is no memory; what is noted stays in any case.
-    pub fn reserve(&mut self, n: usize) -> Result<(), AllocError>
+    pub fn reserve(&mut self, _alloc: Global, n: usize) -> Result<(), AllocError>
         ensures same { Adds self.old self.new [] [] }
         ensures ok { OnOk result (HasRoom self.new n) }
     {
@@ -62,7 +63,7 @@ mod tests {
         let mut notes = Notes::new(rt.alloc());
         assert_eq!(rt; notes.wakes.len(), 0);
         assert_eq!(rt; notes.completions.len(), 0);
-        let room = notes.reserve(2).is_ok();
+        let room = notes.reserve(rt.alloc(), 2).is_ok();
         assert!(rt; room);
         notes.wakes.push_reserved(TaskNo(4));
         notes.wakes.push_reserved(TaskNo(3));

@@ -1,29 +1,37 @@
 //! A sleep of a task.
 //!
-//! A sleep has a deadline from its making. Its first poll before the deadline registers a sleeper with the worker
-//! of the task. On that worker each further poll looks at the sleeper; a poll anywhere else has the worker send
-//! the result, and from then on looks at the one-shot to which it comes. Moments are in nanoseconds.
+//! A sleep has a deadline from its making (`Waiting`). Its first poll before the deadline registers a sleeper with
+//! the worker that polls it (`Registered`). While it is polled by that worker each further poll looks at the sleeper.
+//! The first poll by another worker sends the sleeper's worker a message, by which the result is to come to a
+//! one-shot (`Forwarded`); from then on each poll looks there, whoever polls. A sleep that is over stays so (`Done`).
+//! Moments are in nanoseconds.
+//!
+//! ```text
+//!   Waiting ──poll──▶ Registered ──poll by another worker──▶ Forwarded
+//!      └─ deadline passed ─┴─ sleeper gone, or closing ─┴─ result heard ─▶ Done
+//! ```
+//!
+//! The sleeper belongs to its worker. A task that goes to another worker has only the id, and asks by a message. An
+//! error ends the sleep, but for want of room for a sleeper, which leaves all as it was.
 
-ghost use Rattle.std.specs.Prelude.{◌≡◌, ℕ, ◌-◌, ◌<◌, ◌≤◌, Some, None, Ok, Err, true, false, IfOk, OnOk, OnErr, IfErr};
-ghost use Rattle.std.specs.Prelude.{IfSome, IsOk, IsErr};
-ghost use Rattle.exec_base.specs.Post.{and_then};
+ghost use Rattle.std.specs.Prelude.{◌≡◌, ◌≢◌, ℕ, ◌-◌, ◌<◌, ◌≤◌, ◌⊎◌, Some, None, Ok, Err, true, false, IsTrue, IfOk, OnOk, OnErr, IfErr};
 ghost use Rattle.exec_time.specs.declared.sleep.TimerMessage.TheVariants.{Forward};
 ghost use Rattle.exec_base.specs.OneShot.{poll_answer, polled};
-ghost use Rattle.exec_base.specs.Slab.{value_at, next_id, inserted, written};
+ghost use Rattle.exec_base.specs.Post.{Takes};
+ghost use Rattle.exec_base.specs.Slab.{value_at, written, IsFull};
 ghost use Rattle.exec_base.specs.declared.error.Error.TheVariants as error;
-ghost use Rattle.exec_base.specs.declared.slab.Id.{Id as Name};
 ghost use Rattle.exec_time.specs.Sleepers.{is_forwarded};
 ghost use Rattle.exec_time.specs.declared.timers.Observer.TheVariants.{Local};
 ghost use Rattle.exec_time.specs.declared.timers.Sleeper.{Sleeper as Sleeping};
 ghost use Rattle.exec_time.specs.declared.timers.TimerId.{TimerId as TimerName};
-ghost use Rattle.exec_time.specs.declared.sleep.State.TheVariants as state;
+ghost use Rattle.exec_time.specs.declared.sleep.SleepState.TheVariants as state;
 
-use crate::notes::TaskNo;
-use crate::timers::{Observation, TimerId, Timers};
+use crate::timers::{TimerId, Timers};
 use crate::wheel::TimeoutWheel;
 use exec_base::error::Error;
 use exec_base::one_shot::OneShot;
 use exec_base::post::Post;
+use exec_base::task_no::TaskNo;
 use std::alloc::Global;
 use std::marker::Model;
 
@@ -38,7 +46,7 @@ pub enum TimerMessage<S> {
 
 /// How a sleep stands.
 #[derive(Clone, Copy)]
-pub enum State {
+pub enum SleepState {
     /// It has no sleeper yet, and ends at this moment.
     Waiting(u64),
     /// It has this sleeper of this worker.
@@ -49,14 +57,25 @@ pub enum State {
     Done,
 }
 
+/// The worker that polls, and how it stands.
+#[derive(Clone, Copy)]
+pub struct Here {
+    /// Its number.
+    pub worker: u32,
+    /// The moment that it has sampled.
+    pub now: u64,
+    /// Whether it closes.
+    pub closing: bool,
+}
+
 /// A sleep. Ports `Sleep`.
 #[derive(Drop)]
 pub struct Sleep {
-    state: State,
+    state: SleepState,
 }
 
 impl Model for Sleep {
-    ghost use Rattle.exec_time.specs.declared.sleep.State.{State as Stand};
+    ghost use Rattle.exec_time.specs.declared.sleep.SleepState.{SleepState as Stand};
 
     ghost Value = { Stand };
 
@@ -64,7 +83,7 @@ impl Model for Sleep {
 }
 
 impl Sleep {
-    ghost use Rattle.exec_time.specs.Sleep.{asleep, heard, after_hearing, Registers};
+    ghost use Rattle.exec_time.specs.Sleep.{asleep, heard, after_hearing, is_local, Registers, Asks, IsRefused};
 
     /// A sleep for `duration` nanoseconds from `now` on. None at all is over at once, and more than
     /// `TimeoutWheel::MAX_TIMEOUT` is cut to that.
@@ -72,11 +91,13 @@ impl Sleep {
         ensures { result ≡ asleep duration now }
     {
         if duration == 0 {
-            return Sleep { state: State::Done };
+            return Sleep {
+                state: SleepState::Done,
+            };
         }
         let deadline = now.saturating_add(duration.min(TimeoutWheel::MAX_TIMEOUT));
         Sleep {
-            state: State::Waiting(deadline),
+            state: SleepState::Waiting(deadline),
         }
     }
 
@@ -88,85 +109,128 @@ impl Sleep {
         Sleep::new(instant.saturating_sub(now), now)
     }
 
-    /// How the sleep stands, which says where it is to be polled.
-    pub fn state(&self) -> State
+    /// How the sleep stands.
+    pub fn state(&self) -> SleepState
         ensures { result ≡ self.now }
     {
         self.state
     }
 
-    /// A poll on the worker `worker` at the moment `now`, with the sleepers of that worker: true where the sleep
-    /// is over, else false, and then `waker` will be woken. The sleep has no sleeper elsewhere and is not
-    /// forwarded. `Closed` where the worker is closing; where the sleeper is to be made, `Full` and `NoMemory` as
-    /// `Timers::insert` has them, and then nothing changes.
-    pub fn poll<S: Drop>(
+    /// Whether a poll by this worker needs no other one: the sleep has no sleeper, or one of this worker that isn't
+    /// forwarded.
+    pub fn is_local(&self, worker: u32) -> bool
+        ensures { result ≡ is_local self.now worker }
+    {
+        match self.state {
+            SleepState::Registered(at, _) => at == worker,
+            SleepState::Forwarded(_, _) => false,
+            SleepState::Waiting(_) | SleepState::Done => true,
+        }
+    }
+
+    /// A poll by the worker `here`, with its sleepers: true where the sleep is over. False where it isn't; then
+    /// `waker` will be woken, or the result will come to `answer`.
+    ///
+    /// `sender`, `post` and `answer` serve a sleep whose sleeper is another worker's: the first such poll sends that
+    /// worker, by `post`, the message to send the result by `sender`, and it comes to the one-shot `answer`. Each such
+    /// poll must bring the same one-shot. The caller must have reserved a place for that message, and must know that
+    /// a sleeper of its own worker isn't forwarded but by the sleep itself.
+    ///
+    /// `Closed` comes only where this worker closes, where the post or the one-shot is closed, or where it is the
+    /// result that was sent; `Full` and `NoMemory` only where a sleeper is to be made, as `Timers::insert` has them, and
+    /// then nothing changes. Any other error ends the sleep.
+    pub fn poll<S: Drop, P: Post<TimerMessage<S>>>(
         &mut self,
         alloc: Global,
         waker: TaskNo,
-        now: u64,
-        worker: u32,
-        closing: bool,
+        here: Here,
+        timers: &mut Timers<S>,
+        sender: S,
+        post: &mut P,
+        answer: &mut OneShot<Result<(), Error>>,
+    ) -> Result<bool, Error>
+        requires own { (id : TimerName) → self.old ≡ state.Registered here.worker id → is_forwarded (value_at timers.old id.0) ≡ false }
+        requires place { (at : ℕ) (id : TimerName) → self.old ≡ state.Registered at id → at ≢ here.worker → P.has_place post.old (Forward id sender) }
+        ensures over { self.old ≡ state.Done → (result ≡ Ok true) × (self.new ≡ state.Done) × (timers.new ≡ timers.old) }
+        ensures elapsed { (deadline : ℕ) → self.old ≡ state.Waiting deadline → deadline ≤ here.now → (result ≡ Ok true) × (self.new ≡ state.Done) × (timers.new ≡ timers.old) }
+        ensures closing_new { (deadline : ℕ) → self.old ≡ state.Waiting deadline → here.now < deadline → here.closing ≡ true → (result ≡ Err error.Closed) × (self.new ≡ state.Done) × (timers.new ≡ timers.old) }
+        ensures registers { (deadline : ℕ) → self.old ≡ state.Waiting deadline → here.now < deadline → here.closing ≡ false → OnOk result (Registers self.new timers.old timers.new here.worker deadline waker) × IfOk result (λ over. over ≡ false) × IfErr result (IsRefused self.old self.new timers.old timers.new) }
+        ensures closing_old { (id : TimerName) → self.old ≡ state.Registered here.worker id → here.closing ≡ true → (result ≡ Err error.Closed) × (self.new ≡ state.Done) × (timers.new ≡ timers.old) }
+        ensures waits { (id : TimerName) → self.old ≡ state.Registered here.worker id → here.closing ≡ false → (sleeper : Sleeping S) → value_at timers.old id.0 ≡ Some sleeper → (result ≡ Ok false) × (self.new ≡ self.old) × (timers.new ≡ written timers.old id.0 (record sleeper { observer = Local waker })) }
+        ensures fired { (id : TimerName) → self.old ≡ state.Registered here.worker id → here.closing ≡ false → value_at timers.old id.0 ≡ None → (result ≡ Ok true) × (self.new ≡ state.Done) × (timers.new ≡ timers.old) }
+        ensures stays_here { is_local self.old here.worker ≡ true → (post.new ≡ post.old) × (answer.new ≡ answer.old) }
+        ensures asks { (at : ℕ) (id : TimerName) → self.old ≡ state.Registered at id → at ≢ here.worker → (timers.new ≡ timers.old) × Asks P.closed P.taken post.old post.new at id sender self.new answer.old answer.new result }
+        ensures open { (at : ℕ) (id : TimerName) → self.old ≡ state.Registered at id → at ≢ here.worker → P.closed post.old ≡ true → (result ≡ Err error.Closed) × (self.new ≡ state.Done) × (answer.new ≡ answer.old) }
+        ensures hears { (at : ℕ) (id : TimerName) → self.old ≡ state.Forwarded at id → (timers.new ≡ timers.old) × (post.new ≡ post.old) × (result ≡ heard (poll_answer answer.old)) × (self.new ≡ after_hearing self.old (poll_answer answer.old)) × (answer.new ≡ polled answer.old) }
+    {
+        if self.is_local(here.worker) {
+            self.poll_here(alloc, waker, here, timers)
+        } else {
+            self.poll_elsewhere(sender, post, answer)
+        }
+    }
+
+    /// A poll that needs no other worker.
+    fn poll_here<S: Drop>(
+        &mut self,
+        alloc: Global,
+        waker: TaskNo,
+        here: Here,
         timers: &mut Timers<S>,
     ) -> Result<bool, Error>
-        requires here { (at : ℕ) (id : TimerName) → self.old ≡ state.Registered at id → (at ≡ worker) × (is_forwarded (value_at timers.old id.0) ≡ false) }
-        requires local { (at : ℕ) (id : TimerName) → self.old ≡ state.Forwarded at id → ⊥ }
+        requires local { is_local self.old here.worker ≡ true }
+        requires own { (id : TimerName) → self.old ≡ state.Registered here.worker id → is_forwarded (value_at timers.old id.0) ≡ false }
         ensures over { self.old ≡ state.Done → (result ≡ Ok true) × (self.new ≡ state.Done) × (timers.new ≡ timers.old) }
-        ensures elapsed { (deadline : ℕ) → self.old ≡ state.Waiting deadline → deadline ≤ now → (result ≡ Ok true) × (self.new ≡ state.Done) × (timers.new ≡ timers.old) }
-        ensures closing_new { (deadline : ℕ) → self.old ≡ state.Waiting deadline → now < deadline → closing ≡ true → (result ≡ Err error.Closed) × (self.new ≡ state.Done) × (timers.new ≡ timers.old) }
-        ensures registers { (deadline : ℕ) → self.old ≡ state.Waiting deadline → now < deadline → closing ≡ false → OnOk result (Registers self.new timers.old timers.new worker deadline waker) × IfOk result (λ over. over ≡ false) × OnErr result ((self.new ≡ self.old) × (timers.new ≡ timers.old)) }
-        ensures closing_old { (id : TimerName) → self.old ≡ state.Registered worker id → closing ≡ true → (result ≡ Err error.Closed) × (self.new ≡ state.Done) × (timers.new ≡ timers.old) }
-        ensures waits { (id : TimerName) → self.old ≡ state.Registered worker id → closing ≡ false → (sleeper : Sleeping S) → value_at timers.old id.0 ≡ Some sleeper → (result ≡ Ok false) × (self.new ≡ self.old) × (timers.new ≡ written timers.old id.0 (record sleeper { observer = Local waker })) }
-        ensures fired { (id : TimerName) → self.old ≡ state.Registered worker id → closing ≡ false → value_at timers.old id.0 ≡ None → (result ≡ Ok true) × (self.new ≡ state.Done) × (timers.new ≡ timers.old) }
+        ensures elapsed { (deadline : ℕ) → self.old ≡ state.Waiting deadline → deadline ≤ here.now → (result ≡ Ok true) × (self.new ≡ state.Done) × (timers.new ≡ timers.old) }
+        ensures closing_new { (deadline : ℕ) → self.old ≡ state.Waiting deadline → here.now < deadline → here.closing ≡ true → (result ≡ Err error.Closed) × (self.new ≡ state.Done) × (timers.new ≡ timers.old) }
+        ensures registers { (deadline : ℕ) → self.old ≡ state.Waiting deadline → here.now < deadline → here.closing ≡ false → OnOk result (Registers self.new timers.old timers.new here.worker deadline waker) × IfOk result (λ over. over ≡ false) × IfErr result (IsRefused self.old self.new timers.old timers.new) }
+        ensures closing_old { (id : TimerName) → self.old ≡ state.Registered here.worker id → here.closing ≡ true → (result ≡ Err error.Closed) × (self.new ≡ state.Done) × (timers.new ≡ timers.old) }
+        ensures waits { (id : TimerName) → self.old ≡ state.Registered here.worker id → here.closing ≡ false → (sleeper : Sleeping S) → value_at timers.old id.0 ≡ Some sleeper → (result ≡ Ok false) × (self.new ≡ self.old) × (timers.new ≡ written timers.old id.0 (record sleeper { observer = Local waker })) }
+        ensures fired { (id : TimerName) → self.old ≡ state.Registered here.worker id → here.closing ≡ false → value_at timers.old id.0 ≡ None → (result ≡ Ok true) × (self.new ≡ state.Done) × (timers.new ≡ timers.old) }
     {
         match self.state {
-            State::Done => Ok(true),
-            State::Forwarded(_, _) => unreachable!(),
-            State::Waiting(deadline) if deadline <= now => Ok(self.finish()),
-            State::Waiting(_) | State::Registered(_, _) if closing => {
+            SleepState::Done => Ok(true),
+            SleepState::Forwarded(_, _) => unreachable!(),
+            SleepState::Waiting(deadline) if deadline <= here.now => Ok(self.finish()),
+            SleepState::Waiting(_) | SleepState::Registered(_, _) if here.closing => {
                 self.finish();
                 Err(Error::Closed)
             }
-            State::Waiting(deadline) => {
+            SleepState::Waiting(deadline) => {
                 let id = timers.insert(alloc, deadline, waker)?;
-                self.state = State::Registered(worker, id);
+                self.state = SleepState::Registered(here.worker, id);
                 Ok(false)
             }
-            State::Registered(_, id) => match timers.refresh(id, waker) {
+            SleepState::Registered(_, id) => match timers.refresh(id, waker) {
                 Ok(_) => Ok(false),
                 Err(_) => Ok(self.finish()),
             },
         }
     }
 
-    /// A poll of a registered sleep that isn't on the sleeper's worker, or was so before. The first one sends the
-    /// worker a message, by which the result is to come to the one-shot `answer`; each looks there. True where the
-    /// sleep is over, false where it isn't yet, `Closed` where the post or the one-shot is closed, else the error
-    /// that the worker sends.
-    pub fn poll_elsewhere<S, P>(
+    /// A poll of a sleep whose sleeper is another worker's, or was so before.
+    fn poll_elsewhere<S: Drop, P: Post<TimerMessage<S>>>(
         &mut self,
         sender: S,
         post: &mut P,
         answer: &mut OneShot<Result<(), Error>>,
     ) -> Result<bool, Error>
-    where
-        S: Drop,
-        P: Post<TimerMessage<S>>,
-        requires registered { (deadline : ℕ) → self.old ≡ state.Waiting deadline → ⊥ }
-        ensures over { self.old ≡ state.Done → (result ≡ Ok true) × (self.new ≡ state.Done) × (post.new ≡ post.old) × (answer.new ≡ answer.old) }
-        ensures forwards { (worker : ℕ) (id : TimerName) → self.old ≡ state.Registered worker id → P.closed post.new ≡ false → (P.taken post.new ≡ and_then (P.taken post.old) (Forward id sender)) × (result ≡ heard (poll_answer answer.old)) × (self.new ≡ after_hearing (state.Forwarded worker id) (poll_answer answer.old)) × (answer.new ≡ polled answer.old) }
-        ensures refused { (worker : ℕ) (id : TimerName) → self.old ≡ state.Registered worker id → P.closed post.old ≡ true → (result ≡ Err error.Closed) × (self.new ≡ state.Done) × (answer.new ≡ answer.old) }
-        ensures hears { (worker : ℕ) (id : TimerName) → self.old ≡ state.Forwarded worker id → (post.new ≡ post.old) × (result ≡ heard (poll_answer answer.old)) × (self.new ≡ after_hearing self.old (poll_answer answer.old)) × (answer.new ≡ polled answer.old) }
+        requires made { (deadline : ℕ) → self.old ≡ state.Waiting deadline → ⊥ }
+        requires not_over { self.old ≡ state.Done → ⊥ }
+        requires place { (at : ℕ) (id : TimerName) → self.old ≡ state.Registered at id → P.has_place post.old (Forward id sender) }
+        ensures asks { (at : ℕ) (id : TimerName) → self.old ≡ state.Registered at id → Asks P.closed P.taken post.old post.new at id sender self.new answer.old answer.new result }
+        ensures open { (at : ℕ) (id : TimerName) → self.old ≡ state.Registered at id → P.closed post.old ≡ true → (result ≡ Err error.Closed) × (self.new ≡ state.Done) × (answer.new ≡ answer.old) }
+        ensures hears { (at : ℕ) (id : TimerName) → self.old ≡ state.Forwarded at id → (post.new ≡ post.old) × (result ≡ heard (poll_answer answer.old)) × (self.new ≡ after_hearing self.old (poll_answer answer.old)) × (answer.new ≡ polled answer.old) }
     {
         match self.state {
-            State::Done => Ok(true),
-            State::Waiting(_) => unreachable!(),
-            State::Forwarded(_, _) => self.hear(answer),
-            State::Registered(worker, id) => {
+            SleepState::Waiting(_) | SleepState::Done => unreachable!(),
+            SleepState::Forwarded(_, _) => self.hear(answer),
+            SleepState::Registered(at, id) => {
                 if post.send(TimerMessage::Forward(id, sender)).is_err() {
                     self.finish();
                     return Err(Error::Closed);
                 }
-                self.state = State::Forwarded(worker, id);
+                self.state = SleepState::Forwarded(at, id);
                 self.hear(answer)
             }
         }
@@ -196,7 +260,7 @@ impl Sleep {
         ensures over { result ≡ true }
         ensures done { self.new ≡ state.Done }
     {
-        self.state = State::Done;
+        self.state = SleepState::Done;
         true
     }
 }

@@ -14,9 +14,10 @@ ghost use Rattle.exec_base.specs.declared.error.Error.TheVariants as error;
 ghost use Rattle.exec_time.specs.Notes.{HasRoom, Adds};
 ghost use Rattle.exec_time.specs.Sleepers.{wakes_of, completions_of};
 
-use crate::notes::{Completion, Notes, TaskNo};
+use crate::notes::{Completion, Notes};
 use exec_base::error::Error;
 use exec_base::slab::{Id, InsertError, Slab};
+use exec_base::task_no::TaskNo;
 use std::alloc::Global;
 use std::marker::Model;
 use std::mem;
@@ -86,8 +87,8 @@ impl<S: Drop> Timers<S> {
         }
     }
 
-    /// One more sleeper, which wakes this task. `Full` just where no more sleepers can be named, `NoMemory`
-    /// where there is no memory; then nothing changes.
+    /// One more sleeper, which wakes this task. `Full` just where no more sleepers can be named, as the slab's insert
+    /// has it, `NoMemory` where there is no memory; then nothing changes.
     pub fn insert(&mut self, alloc: Global, deadline: u64, waker: TaskNo) -> Result<TimerId, Error>
         ensures id { IfOk result (λ id. next_id self.old ≡ Some id.0) }
         ensures inserted { OnOk result (self.new ≡ record (inserted self.old (record { deadline = deadline; observer = Local waker })) { room = self.new.room }) }
@@ -109,7 +110,24 @@ impl<S: Drop> Timers<S> {
         }
     }
 
-    /// What a task of the worker finds. The sleeper isn't observed elsewhere.
+    /// How many sleepers there are.
+    pub fn len(&self) -> usize
+        ensures { result ≡ live_count self.now }
+    {
+        self.sleepers.len()
+    }
+
+    /// Whether a sleeper is there and observed elsewhere.
+    pub fn is_forwarded(&self, id: TimerId) -> bool
+        ensures { result ≡ is_forwarded (value_at self.now id.0) }
+    {
+        match self.sleepers.get(id.0) {
+            None => false,
+            Some(sleeper) => matches!(&sleeper.observer, Observer::Forwarded(_)),
+        }
+    }
+
+    /// What a task of the worker finds. The caller must know that the sleeper isn't observed elsewhere.
     pub fn observe(&self, id: TimerId, waker: TaskNo) -> Observation<()>
         requires observed { is_forwarded (value_at self.now id.0) ≡ false }
         ensures { result ≡ observation waker (value_at self.now id.0) }
@@ -124,7 +142,7 @@ impl<S: Drop> Timers<S> {
     }
 
     /// Has the sleeper wake this task from now on, and answers the one that it would have woken. Err with the
-    /// same waker where the sleeper is gone. The sleeper isn't observed elsewhere.
+    /// same waker where the sleeper is gone. The caller must know that the sleeper isn't observed elsewhere.
     pub fn refresh(&mut self, id: TimerId, waker: TaskNo) -> Result<TaskNo, TaskNo>
         requires observed { is_forwarded (value_at self.old id.0) ≡ false }
         ensures answer { result ≡ displaced waker (value_at self.old id.0) }
@@ -141,7 +159,8 @@ impl<S: Drop> Timers<S> {
     }
 
     /// Has a result sent by this from now on, in place of a wake. Where the sleeper is gone it has fired, and the
-    /// result is sent at once. The sleeper isn't observed elsewhere yet, and one completion has room.
+    /// result is sent at once. The caller must know that the sleeper isn't observed elsewhere yet, and must have made
+    /// room for one completion.
     pub fn forward(&mut self, id: TimerId, sender: S, notes: &mut Notes<S>)
         requires observed { is_forwarded (value_at self.old id.0) ≡ false }
         requires room { HasRoom notes.old 1 }
@@ -162,7 +181,7 @@ impl<S: Drop> Timers<S> {
     }
 
     /// Removes a sleeper without a wake. One that is observed elsewhere has `Closed` sent. Nothing changes where
-    /// it is gone. One completion has room.
+    /// it is gone. The caller must have made room for one completion.
     pub fn cancel(&mut self, id: TimerId, notes: &mut Notes<S>)
         requires room { HasRoom notes.old 1 }
         ensures cancelled { (sleeper : Sleeping S) → value_at self.old id.0 ≡ Some sleeper → (self.new ≡ removed self.old id.0) × Adds notes.old notes.new [] (completions_of (Err error.Closed) sleeper.observer) }
@@ -195,7 +214,7 @@ impl<S: Drop> Timers<S> {
     }
 
     /// Removes the first sleeper and tells its observer, where it is due at the moment `now`. None where no
-    /// sleeper is due. Where anybody sleeps, one wake and one completion have room.
+    /// sleeper is due. Where anybody sleeps, the caller must have made room for one wake and one completion.
     pub fn fire(&mut self, now: u64, notes: &mut Notes<S>) -> Option<TimerId>
         requires room { 0 < live_count self.old → HasRoom notes.old 1 }
         ensures first { IfSome result (λ id. (deadline : ℕ) × (deadline ≤ now) × IsFirst self.old deadline id.0) }
@@ -211,8 +230,8 @@ impl<S: Drop> Timers<S> {
         Some(id)
     }
 
-    /// Removes each sleeper that is due at the moment `now` and tells its observer, the first one first. As many
-    /// wakes and completions have room as there are sleepers.
+    /// Removes each sleeper that is due at the moment `now` and tells its observer, the first one first. The caller
+    /// must have made room for as many wakes and completions as there are sleepers.
     pub fn expire(&mut self, now: u64, notes: &mut Notes<S>)
         requires room { HasRoom notes.old (live_count self.old) }
         ensures fired { FiresTo now self.old notes.old self.new notes.new }
@@ -222,7 +241,8 @@ impl<S: Drop> Timers<S> {
     }
 
     /// Removes the sleeper in the first slot that has one, and tells its observer that the worker closes: a wake,
-    /// or `Closed`. None where nobody sleeps. Where anybody does, one wake and one completion have room.
+    /// or `Closed`. None where nobody sleeps. Where anybody does, the caller must have made room for one wake and one
+    /// completion.
     pub fn close_next(&mut self, notes: &mut Notes<S>) -> Option<TimerId>
         requires room { 0 < live_count self.old → HasRoom notes.old 1 }
         ensures lowest { IfSome result (λ id. IsLowest self.old id.0) }
@@ -235,8 +255,8 @@ impl<S: Drop> Timers<S> {
         Some(id)
     }
 
-    /// Removes all sleepers in order of their slots, and tells each observer that the worker closes. As many
-    /// wakes and completions have room as there are sleepers.
+    /// Removes all sleepers in order of their slots, and tells each observer that the worker closes. The caller must
+    /// have made room for as many wakes and completions as there are sleepers.
     pub fn clear(&mut self, notes: &mut Notes<S>)
         requires room { HasRoom notes.old (live_count self.old) }
         ensures closed { ClosesTo self.old notes.old self.new notes.new }

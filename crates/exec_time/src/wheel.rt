@@ -6,26 +6,30 @@
 //! active is stale: its id stays in its bucket, and may come out later, so a caller must know which ids still
 //! stand for something. Moments and lengths of time are in nanoseconds.
 
-ghost use Rattle.std.specs.Prelude.{◌≡◌, ℕ, ◌+◌, ◌-◌, ◌*◌, ◌^◌, ◌<◌, ◌≤◌, [], ◌∷◌, ◌++◌, length, map, filter, not, ◌||◌, nat_lt, vec_len, min, position, Contains, All, ◌==◌, ◌%◌, if◌then◌else◌, IsSome, IfSome, IfNone, IsSomeAnd, IfOk, OnOk, MatchResult};
+ghost use Rattle.std.specs.Prelude.{◌≡◌, ℕ, ◌+◌, ◌-◌, ◌*◌, ◌^◌, ◌<◌, ◌≤◌, [], ◌∷◌, ◌++◌, length, map, filter, not, ◌||◌, nat_lt, vec_len, min, position, Contains, All, ◌==◌, ◌%◌, ◌↔◌, IsTrue, if◌then◌else◌, IsSome, IfSome, IfNone, IsSomeAnd, IfOk, OnOk, MatchResult};
 ghost use Rattle.std.specs.List.{range_with_len};
 ghost use Rattle.std.specs.Vec.{vec_capacity};
 ghost use Rattle.std.specs.VecDeque.{deque_len, deque_capacity};
 ghost use Rattle.exec_time.specs.Layouts.{slots_of, is_out_of_range as out_of_range};
 ghost use Rattle.exec_time.specs.Entries.{bucket_in, active_in, is_in_slot};
 
+use exec_base::limits::LONGEST_TIMEOUT;
 use exec_base::slab::Id;
 use std::alloc::{AllocError, Global};
 use std::collections::VecDeque;
+use thiserror::Error;
 
 /// A tick of a wheel, counted from the wheel's start.
 pub type Tick = u64;
 
 /// The horizon or the tick of a wheel is none at all or too long, or its wheel would have too many slots.
-#[derive(Clone, Copy, Debug, PartialEq, Eq)]
+#[derive(Clone, Copy, Debug, PartialEq, Eq, Error)]
+#[error("no wheel has this horizon and tick")]
 pub struct Layout;
 
 /// The deadline is further ahead than the wheel reaches.
-#[derive(Clone, Copy, Debug, PartialEq, Eq)]
+#[derive(Clone, Copy, Debug, PartialEq, Eq, Error)]
+#[error("the wheel does not reach the deadline")]
 pub struct Span;
 
 /// An id that is scheduled at a tick.
@@ -68,7 +72,7 @@ impl TimeoutWheel {
     ghost use Rattle.exec_time.specs.WheelView.{wheel_of, room_of};
 
     /// The longest horizon and the longest tick: 30 years of 365 days.
-    pub const MAX_TIMEOUT: u64 = 946_080_000_000_000_000;
+    pub const MAX_TIMEOUT: u64 = LONGEST_TIMEOUT;
 
     /// The largest number of slots.
     const MAX_SLOTS: u64 = 1_048_576;
@@ -89,8 +93,8 @@ impl TimeoutWheel {
         Ok(needed.next_power_of_two() as usize)
     }
 
-    /// A wheel with nothing in it, whose tick 0 stands at `start`. The layout is one that `validate_layout`
-    /// takes. Err where there is no memory.
+    /// A wheel with nothing in it, whose tick 0 stands at `start`. The caller must have a layout that
+    /// `validate_layout` takes. Err where there is no memory.
     pub fn new(alloc: Global, horizon: u64, tick: u64, start: u64) -> Result<Self, AllocError>
         requires layout { IsSome (slots_of horizon tick) }
         ensures { IfOk result (λ w. IsSomeAnd (slots_of horizon tick) (λ slots. wheel_of w ≡ fresh horizon tick start slots)) }
@@ -113,7 +117,7 @@ impl TimeoutWheel {
 
     /// Makes room for `n` more entries, which `schedule` then takes without memory. Err where there is no
     /// memory, and then nothing changes.
-    pub fn reserve(&mut self, n: usize) -> Result<(), AllocError>
+    pub fn reserve(&mut self, _alloc: Global, n: usize) -> Result<(), AllocError>
         ensures same { wheel_of self.new ≡ wheel_of self.old }
         ensures room { room_of self.old ≤ room_of self.new }
         ensures ok { OnOk result (n ≤ room_of self.new) }
@@ -147,8 +151,9 @@ impl TimeoutWheel {
         }
     }
 
-    /// Schedules an id at a tick ahead, less than a revolution away, whose moment is below 2^64. The entry is
-    /// active until `remove` is called for its tick. All entries up to the current tick were removed.
+    /// Schedules an id at a tick ahead, less than a revolution away, whose moment is below 2^64 (`is_ahead`). The
+    /// entry is active until `remove` is called for its tick. The caller must have removed all entries up to the
+    /// current tick (`is_settled`), and must have made room for one more.
     pub fn schedule(&mut self, id: Id, tick: Tick)
         requires settled { IsSettled (wheel_of self.old) }
         requires ahead { (wheel_of self.old).current < tick }
@@ -164,7 +169,7 @@ impl TimeoutWheel {
         self.active.push_reserved(tick);
     }
 
-    /// Says that an entry of this tick is active no more. The tick has an active entry.
+    /// Says that an entry of this tick is active no more. The caller must name a tick that has an active entry.
     pub fn remove(&mut self, tick: Tick)
         requires active { 0 < (wheel_of self.old).active tick }
         ensures removed { wheel_of self.new ≡ removed (wheel_of self.old) tick }
@@ -177,7 +182,7 @@ impl TimeoutWheel {
 
     /// Goes on to the tick at the moment `now`, and makes the ids of the buckets that are passed ready for
     /// `drained` where any entry is due. Answers how many; None where the wheel doesn't move, has no active
-    /// entry or none that is due. All entries up to the current tick were removed.
+    /// entry or none that is due. The caller must have removed all entries up to the current tick.
     pub fn advance(&mut self, now: u64) -> Option<usize>
         requires settled { IsSettled (wheel_of self.old) }
         ensures wheel { wheel_of self.new ≡ (advanced (wheel_of self.old) now).wheel }
@@ -211,14 +216,71 @@ impl TimeoutWheel {
         self.ready.pop_front()
     }
 
-    /// The moment of the least tick that has an active entry. None where nothing is active. All entries up to
-    /// the current tick were removed.
+    /// The moment of the least tick that has an active entry. None where nothing is active. The caller must have
+    /// removed all entries up to the current tick.
     pub fn next_deadline(&self) -> Option<u64>
         requires settled { IsSettled (wheel_of self.now) }
         ensures { result ≡ next_moment (wheel_of self.now) }
     {
         let least = self.least_active()?;
         Some(self.start + least * self.tick)
+    }
+
+    /// How long a tick is, in nanoseconds.
+    pub fn tick(&self) -> u64
+        ensures { result ≡ (wheel_of self.now).tick }
+    {
+        self.tick
+    }
+
+    /// How many slots the wheel has.
+    pub fn slots(&self) -> usize
+        ensures { result ≡ (wheel_of self.now).slots }
+    {
+        self.slots as usize
+    }
+
+    /// How many more entries `schedule` takes without memory.
+    pub fn room(&self) -> usize
+        ensures { result ≡ room_of self.now }
+    {
+        let scheduled = self.entries.len();
+        let entries = self.entries.capacity() - scheduled;
+        let active = self.active.capacity() - self.active.len();
+        let ready = self.ready.capacity() - self.ready.len() - scheduled;
+        entries.min(active).min(ready)
+    }
+
+    /// Whether all entries up to the current tick were removed.
+    pub fn is_settled(&self) -> bool
+        ensures { IsTrue result ↔ IsSettled (wheel_of self.now) }
+    {
+        match least(&self.active) {
+            None => true,
+            Some(tick) => self.current < tick,
+        }
+    }
+
+    /// Whether a tick is ahead and less than a revolution away, and its moment below 2^64.
+    pub fn is_ahead(&self, tick: Tick) -> bool
+        ensures ahead { IsTrue result → (wheel_of self.now).current < tick }
+        ensures span { IsTrue result → tick < (wheel_of self.now).current + (wheel_of self.now).slots }
+        ensures in_time { IsTrue result → moment_of (wheel_of self.now) tick < 2 ^ 64 }
+        ensures whole { (wheel_of self.now).current < tick → tick < (wheel_of self.now).current + (wheel_of self.now).slots → moment_of (wheel_of self.now) tick < 2 ^ 64 → IsTrue result }
+    {
+        let Some(offset) = tick.checked_mul(self.tick) else {
+            return false;
+        };
+        self.start.checked_add(offset).is_some()
+            && self.current < tick
+            && tick - self.current < self.slots
+    }
+
+    /// Whether a tick has an active entry.
+    pub fn is_active(&self, tick: Tick) -> bool
+        ensures { IsTrue result ↔ (0 < (wheel_of self.now).active tick) }
+    {
+        self.active_at(tick) > 0
     }
 
     /// The tick at a moment.

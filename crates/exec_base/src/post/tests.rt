@@ -1,7 +1,7 @@
 use super::Post;
 use std::test::Fail;
 
-/// A post into a list that has room for a few messages and then is closed.
+/// A post into a list with room for a few messages, which may be closed. A message that is there already is dropped.
 #[derive(Drop)]
 struct Inbox {
     messages: Vec<u32>,
@@ -9,39 +9,36 @@ struct Inbox {
 }
 
 impl Post<u32> for Inbox {
-    ghost use Rattle.std.specs.Prelude.{Some};
+    ghost use Rattle.std.specs.Prelude.{Some, ◌+◌, ◌≤◌, vec_len, vec_capacity};
 
     ghost closed = { λ inbox. inbox.closed };
 
     ghost taken = { λ inbox. Some inbox.messages.items };
 
+    ghost has_place = { λ inbox message. vec_len inbox.messages + 1 ≤ vec_capacity inbox.messages };
+
     fn send(&mut self, message: u32) -> Result<(), u32> {
         if self.closed {
             return Err(message);
         }
-        match self.messages.push(message) {
-            Ok(()) => Ok(()),
-            Err(refused) => {
-                self.closed = true;
-                Err(refused.value)
-            }
+        if !self.messages.contains(&message) {
+            self.messages.push_reserved(message);
         }
+        Ok(())
     }
-}
-
-/// Sends two messages to any post, and answers how many it took.
-fn send_two<P: Post<u32>>(post: &mut P) -> usize {
-    let first = post.send(1).is_ok() as usize;
-    first + post.send(2).is_ok() as usize
 }
 
 #[test]
 fn a_closed_post_gives_the_message_back(rt: HostRuntime) -> Result<(), Fail> {
     let mut inbox = Inbox {
-        messages: Vec::new(rt.alloc()),
+        messages: Vec::with_capacity(rt.alloc(), 3)?,
         closed: false,
     };
-    assert_eq!(rt; send_two(&mut inbox), 2);
+    assert_eq!(rt; inbox.send(1), Ok(()));
+    assert_eq!(rt; inbox.messages.len(), 1);
+    assert_eq!(rt; inbox.send(1), Ok(()));
+    assert_eq!(rt; inbox.messages.len(), 1);
+    assert_eq!(rt; inbox.send(2), Ok(()));
     assert_eq!(rt; inbox.messages.as_slice(), [1, 2].as_slice());
     inbox.closed = true;
     assert_eq!(rt; inbox.send(3), Err(3));

@@ -2,13 +2,24 @@
 
 ghost use Rattle.std.specs.Prelude.{List, ◌<◌, ◌≡◌, ◌≢◌, ◌↔◌, ◌^◌, ◌-◌, ℕ, None, Some, IsSome, length};
 ghost use Rattle.exec_base.specs.declared.slab.Id.{Id};
-ghost use Rattle.exec_base.specs.Slab.{Slab, value_at, next_id, inserted, removed, written, live_count, IsPast, Updates};
+ghost use Rattle.std.specs.Prelude.{◌⊎◌};
+ghost use Rattle.std.specs.declared.cmp.Ordering.TheVariants.{Less, Equal, Greater};
+ghost use Rattle.exec_base.specs.Slab.{Slab, IsBefore, value_at, next_id, inserted, removed, written, live_count, IsPast, Updates};
 ghost use Rattle.exec_base.specs.SlabRuns.{Change, NoneTwice, empty_from, ids_given};
 ghost use Rattle.exec_base.specs.SlabExamples.{named, three, one_left, refilled, last_but_one, retired};
+
+use super::Id;
 
 /// No id is given twice, whatever calls are made on a slab.
 pub fn no_id_is_given_twice()
     ensures { (first : ℕ) (changes : List (Change ℕ)) → first < 2 ^ 64 → NoneTwice (ids_given (empty_from first) changes) }
+{}
+
+/// Ids are ordered by index and then by generation. Two that are equal in this order are the same id.
+pub fn ids_are_ordered_by_index_and_then_by_generation()
+    ensures less { (a b : Id) → (⟦<Id as Ord>⟧.cmp a b ≡ Less) ↔ IsBefore a b }
+    ensures equal { (a b : Id) → (⟦<Id as Ord>⟧.cmp a b ≡ Equal) ↔ (a ≡ b) }
+    ensures greater { (a b : Id) → (⟦<Id as Ord>⟧.cmp a b ≡ Greater) ↔ IsBefore b a }
 {}
 
 /// A write through `get_mut` changes the value of its id and nothing else, and which ids are past stays.

@@ -1,5 +1,5 @@
 use Rattle.std.proofs.Common.{refl, ap, ◌≡◌, add-one, arith, rules, of_calls}
-use Rattle.exec_base.specs.declared.spinner.Spinner.{Spinner}
+use Rattle.exec_base.specs.Spinner.{Spinner}
 use Rattle.exec_base.proofs.Looks.{Misses-more}
 use Rattle.exec_base.proofs.spinner.Spinner.spin.Goals as goal
 
@@ -9,7 +9,7 @@ loop-init g c = (c.requires, refl, refl)
 pub loop-preserved : goal.loop-preserved
 loop-preserved g c =
     let miss = rw c.if-condition.false at c.condition.ensures in
-    (search (rules, of_calls), c.loop.invariant.1, rw add-one (Misses-more (goal.C-step g) c.loop.counter c.args.condition c.loop.condition c.condition.new.self c.loop.invariant.2 miss))
+    (search (rules, of_calls), c.loop.invariant.1, rw add-one (Misses-more (goal.C-step g) c.loop.counter c.args.condition.now c.loop.condition c.condition.new.self c.loop.invariant.2 miss))
 
 pub returns-then-condition-clause-calls : goal.returns-then-condition-clause-calls
 returns-then-condition-clause-calls g c =
@@ -20,7 +20,6 @@ returns-then-condition-clause-calls g c =
       within = omega (arith, c.loop-test.true, budget);
       before = c.loop.condition;
       missed = c.loop.invariant.2;
-      last = c.condition.new.self;
       hit = hit;
     }
 
@@ -28,4 +27,4 @@ pub returns-clause-calls : goal.returns-clause-calls
 returns-clause-calls g c =
     let budget : c.self.inside.budget ≡ c.args.self.now.budget = ap (λ (s : Spinner). s.budget) c.self.view_is in
     let all : c.loop.counter ≡ c.args.self.now.budget = omega (arith, c.loop-test.false, budget) in
-    record { last = c.loop.condition; missed = rw all at c.loop.invariant.2 }
+    rw all at c.loop.invariant.2

@@ -1,0 +1,10 @@
+//! Limits of the executor, each said once.
+
+/// The longest timeout, the longest tick of a wheel and the longest sleep, in nanoseconds: 30 years of 365 days.
+pub const LONGEST_TIMEOUT: u64 = 946_080_000_000_000_000;
+
+/// The last moment that a clock reaches, in nanoseconds.
+pub const LAST_MOMENT: u64 = 1 << 62;
+
+/// The most steps that a trace may ask for, over all its lines.
+pub const MOST_STEPS: u64 = 1 << 24;

@@ -1,0 +1,59 @@
+//! The part that a case speaks of.
+
+use crate::fault::Fault;
+use crate::sleepers::Sleepers;
+use crate::slots;
+use crate::spins;
+use crate::ticks;
+use crate::words::{named, number};
+use exec_base::slab::Slab;
+use exec_base::spinner::Spinner;
+use exec_time::wheel::TimeoutWheel;
+use std::alloc::Global;
+
+/// The part that a case speaks of.
+#[derive(Drop)]
+pub enum Part {
+    /// No case has begun.
+    Nothing,
+    /// Layouts of wheels alone.
+    Layouts,
+    /// A slab of numbers.
+    Slab(Slab<u64>),
+    /// A spinner.
+    Spinner(Spinner),
+    /// A wheel of deadlines.
+    Wheel(TimeoutWheel),
+    /// The sleepers of a worker.
+    Sleepers(Sleepers),
+}
+
+impl Part {
+    /// The part that a line `case N ..` begins.
+    pub fn begin(alloc: Global, line: &str) -> Result<Part, Fault> {
+        let mut words = line.split_whitespace();
+        let _number = named(&mut words)?;
+        match words.next() {
+            Some("layouts") => Ok(Part::Layouts),
+            Some("sleepers") => Ok(Part::Sleepers(Sleepers::new(alloc))),
+            Some("start") => Ok(Part::Slab(Slab::starting_at(alloc, number(&mut words)?))),
+            Some("budget") => Ok(Part::Spinner(spins::begin(&mut words)?)),
+            Some("horizon") => Ok(Part::Wheel(ticks::begin(alloc, &mut words)?)),
+            _ => Err(Fault::Malformed),
+        }
+    }
+
+    /// Makes a call, and answers what it gave.
+    pub fn answer(&mut self, alloc: Global, call: &str) -> Result<String, Fault> {
+        let mut words = call.split_whitespace();
+        let operation = words.next().unwrap_or("");
+        match self {
+            Part::Nothing => Err(Fault::Malformed),
+            Part::Layouts => ticks::layout(alloc, &mut words),
+            Part::Slab(slab) => slots::answer(slab, alloc, operation, &mut words),
+            Part::Spinner(spinner) => spins::answer(spinner, alloc, operation, &mut words),
+            Part::Wheel(wheel) => ticks::answer(wheel, alloc, operation, &mut words),
+            Part::Sleepers(sleepers) => sleepers.answer(alloc, operation, &mut words),
+        }
+    }
+}

@@ -1,0 +1,53 @@
+//! Calls on a spinner. Each answer ends with the budget and the floor after the call.
+
+use crate::fault::Fault;
+use crate::words::{named, number};
+use exec_base::spinner::{Spinner, SpinnerConfig};
+use std::alloc::Global;
+use std::str::SplitWhitespace;
+
+/// The spinner of `B max M quick Q iters I`.
+pub fn begin(words: &mut SplitWhitespace<'_>) -> Result<Spinner, Fault> {
+    let cfg = SpinnerConfig {
+        budget_us: number(words)?,
+        max_budget_us: named(words)?,
+        quick_wake_us: named(words)?,
+    };
+    let looks = named(words)?;
+    if cfg.budget_us > cfg.max_budget_us {
+        return Err(Fault::Condition);
+    }
+    Ok(Spinner::new(&cfg, looks))
+}
+
+/// Makes a call on a spinner, and answers what it gave.
+pub fn answer(
+    spinner: &mut Spinner,
+    alloc: Global,
+    operation: &str,
+    words: &mut SplitWhitespace<'_>,
+) -> Result<String, Fault> {
+    let mut given = String::new(alloc);
+    match operation {
+        "begin" => {}
+        "spin" => {
+            let (hit, calls) = spin(spinner, number(words)?);
+            let word = if hit { "hit" } else { "miss" };
+            given = format!(in alloc; "{word} calls {calls} ")?;
+        }
+        "wake" => spinner.on_wake(number(words)?),
+        _ => return Err(Fault::Malformed),
+    }
+    let (budget, floor) = (spinner.budget(), spinner.floor());
+    Ok(format!(in alloc; "{given}budget {budget} floor {floor}")?)
+}
+
+/// Spins with a condition that is true from this call on, or never at 0. Answers whether it hit, and the calls.
+fn spin(spinner: &mut Spinner, call: u64) -> (bool, u64) {
+    let mut calls = 0u64;
+    let hit = spinner.spin(&mut || {
+        calls = calls.saturating_add(1);
+        calls == call
+    });
+    (hit, calls)
+}
