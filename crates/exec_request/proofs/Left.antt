@@ -1,5 +1,5 @@
 -- What one more result means depends on what is left alone.
-use Rattle.std.proofs.Common.{◌≡◌, ℕ, ◌+◌, ◌-◌, ◌≤◌, ◌<◌, Bool, true, false, not, ◌||◌, ◌&&◌, List, [], ◌∷◌, Option, Some, None, find, refl, sym, ap, ◌∙◌, inl, inr, arith, if◌then◌else◌, leb, le-leb, leb-false}
+use Rattle.std.proofs.Common.{◌≡◌, ℕ, zero-add, ◌+◌, ◌-◌, ◌≤◌, ◌<◌, Bool, true, false, not, ◌||◌, ◌&&◌, List, [], ◌∷◌, Option, Some, None, find, refl, sym, ap, ◌∙◌, inl, inr, arith, if◌then◌else◌, leb, le-leb, leb-false}
 use Rattle.std.specs.List.{after_first}
 use Rattle.std.proofs.lemmas.Bool.{cases_Bool, leb-true, lt-leb}
 use Rattle.exec_outcomes.specs.declared.outcome.Kind.{Kind}
@@ -8,10 +8,14 @@ use Rattle.exec_outcomes.specs.declared.outcome.OpResult.{OpResult}
 use Rattle.exec_outcomes.specs.declared.outcome.OpResult.TheVariants.{Count, Errno}
 use Rattle.exec_outcomes.specs.declared.outcome.Judged.{Judged}
 use Rattle.exec_outcomes.specs.declared.outcome.Outcome.{Outcome}
-use Rattle.exec_outcomes.specs.Outcomes.{Asked, Part, first_length, first_part, bytes_of, is_positive, takes_any, suits_direct, is_transient, is_unsupported, lasting, with_totals, results_in, completes, decides, passes_on, stops, verdict, verdict_of, outcome_by, outcome_of_part, outcome_by_stop, outcome_next, moves_on}
+use Rattle.exec_outcomes.specs.Outcomes.{Asked, Part, first_length, first_part, bytes_of, is_positive, takes_any, suits_direct, is_transient, is_unsupported, refuses_hint, lasting, with_totals, results_in, completes, decides, passes_on, stops, verdict, verdict_of, outcome_by, outcome_of_part, outcome_by_stop, outcome_next, moves_on}
 use Rattle.exec_outcomes.proofs.Runs.{one_lasts, after_only}
+use Rattle.exec_request.specs.Judging.{whole, judged_alone, is_enough, passes, ends}
 use Rattle.exec_request.specs.Ways.{asked_by, is_direct, is_switched, size_for}
+use Rattle.exec_request.specs.Syncing.{write_kind, is_syncing}
 use Rattle.exec_request.specs.declared.way.Way.{Way}
+use Rattle.exec_request.specs.declared.write_at.WriteAtState.{WriteAtState}
+use Rattle.exec_request.specs.declared.write_at.WriteAtState.TheVariants.{Writing, WritingSync, WritingBeforeSync, Syncing}
 use Rattle.exec_request.specs.declared.way.Way.TheVariants.{Buffered, Hinted, Switched}
 use Rattle.exec_request.specs.declared.way.Way.TheVariants as way
 
@@ -162,3 +166,93 @@ not_direct Buffered other = refl
 not_direct Hinted other = refl
 not_direct (way.Direct skip len) other = absurd (other skip len refl)
 not_direct (Switched skip len) other = refl
+
+-- a result that says nothing is struck out
+silent : (kind : Kind) (r : Judged) → (is_transient kind r.result || refuses_hint r) ≡ true → lasting kind (r ∷ []) ≡ []
+silent kind r nothing =
+    elim (cases_Bool (is_transient kind r.result)) [
+      | inl transient ↦ rw transient refl
+      | inr lasts ↦
+          let refused : refuses_hint r ≡ true = sym (ap (λ b. b || refuses_hint r) lasts) ∙ nothing in
+          rw (lasts, refused) refl
+    ]
+
+-- and one that says something stays
+audible : (kind : Kind) (r : Judged) → (is_transient kind r.result || refuses_hint r) ≡ false → lasting kind (r ∷ []) ≡ r ∷ []
+audible kind r something =
+    elim (cases_Bool (is_transient kind r.result)) [
+      | inl transient ↦ let e : true ≡ false = sym (ap (λ b. b || refuses_hint r) transient) ∙ something in cc
+      | inr lasts ↦
+          let taken : refuses_hint r ≡ false = sym (ap (λ b. b || refuses_hint r) lasts) ∙ something in
+          rw (lasts, taken) refl
+    ]
+
+whole-length : (kind : Kind) (left : ℕ) → first_length kind left 0 ≡ left
+whole-length Direct left = zero-add left
+whole-length Poll left = refl
+whole-length Send left = refl
+whole-length Recv left = refl
+whole-length Fill left = refl
+whole-length Connect left = refl
+whole-length Read left = refl
+whole-length Hint left = refl
+whole-length Write left = refl
+whole-length Dsync left = refl
+whole-length Many left = refl
+whole-length Sync left = refl
+
+completes-alone : (kind : Kind) (left : ℕ) (r : Judged) → completes (first_part (whole kind left)) (r, 0 + bytes_of r.result) ≡ is_enough kind left r.result
+completes-alone kind left r =
+    ap (λ k. is_positive r.result && (takes_any kind || leb k (0 + bytes_of r.result))) (whole-length kind left)
+    ∙ ap (λ n. is_positive r.result && (takes_any kind || leb left n)) (zero-add (bytes_of r.result))
+
+passes-alone : (kind : Kind) (left : ℕ) (r : Judged) → completes (first_part (whole kind left)) (r, 0 + bytes_of r.result) ≡ is_enough kind left r.result → passes_on kind (first_part (whole kind left)) (r, 0 + bytes_of r.result) ≡ passes kind left r.result
+passes-alone Direct left r e = ap (λ t. not (t || suits_direct r.result)) e
+passes-alone Many left r e = e
+passes-alone Poll left r e = refl
+passes-alone Send left r e = refl
+passes-alone Recv left r e = refl
+passes-alone Fill left r e = refl
+passes-alone Connect left r e = refl
+passes-alone Read left r e = refl
+passes-alone Hint left r e = refl
+passes-alone Write left r e = refl
+passes-alone Dsync left r e = refl
+passes-alone Sync left r e = refl
+
+-- a part that passes on doesn't end the request
+ends-form : (kind : Kind) (given_up d p : Bool) (r : Judged) → one_form kind given_up r (d || p) p ≡ (if d && not p then Some (verdict kind r) else outcome_by kind given_up None)
+unfolding one_form
+ends-form kind given_up true true r = refl
+ends-form kind given_up true false r = refl
+ends-form kind given_up false true r = refl
+ends-form kind given_up false false r = refl
+
+-- what one result alone means, by whether it ends the request
+pub judged_by : (kind : Kind) (left : ℕ) (hinted cancelled : Bool) (given : OpResult) → judged_alone kind left hinted cancelled given ≡ (if ends kind left hinted given then Some (verdict_of kind given cancelled) else outcome_by kind cancelled None)
+judged_by kind left hinted cancelled given =
+    let asked : Asked = whole kind left in
+    let r : Judged = record { result = given; hinted = hinted; cancelled = cancelled } in
+    let x : Judged × ℕ = (r, 0 + bytes_of given) in
+    let no : Option Outcome = outcome_by kind cancelled None in
+    let by : Bool → Option Outcome = λ b. if b then Some (verdict kind r) else no in
+    let done : completes (first_part asked) x ≡ is_enough kind left given = completes-alone kind left r in
+    let pass : passes_on kind (first_part asked) x ≡ passes kind left given = passes-alone kind left r done in
+    elim (cases_Bool (is_transient kind given || refuses_hint r)) [
+      | inl nothing ↦ nothing-form asked 0 hinted r (silent kind r nothing) ∙ ap (λ b. by (not b && ((not (is_positive given) || is_enough kind left given) && not (passes kind left given)))) (sym nothing)
+      | inr something ↦
+          one-form asked 0 hinted r (audible kind r something)
+          ∙ (ends-form kind cancelled (decides (first_part asked) x) (passes_on kind (first_part asked) x) r
+          ∙ (ap (λ d. by ((not (is_positive given) || d) && not (passes_on kind (first_part asked) x))) done
+          ∙ (ap (λ p. by ((not (is_positive given) || is_enough kind left given) && not p)) pass
+          ∙ ap (λ b. by (not b && ((not (is_positive given) || is_enough kind left given) && not (passes kind left given)))) (sym something))))
+    ]
+
+-- a write, however durable and however far
+pub of_write : (state : WriteAtState) (n m : ℕ) (h c : Bool) (given : OpResult) →
+    outcome_next (record { kind = write_kind state; length = n; skip = 0 }) (record { moved = if is_syncing state then 0 else m; switched = is_syncing state; hinted = h }) (record { result = given; hinted = not (is_syncing state) && h; cancelled = c })
+    ≡ (if is_syncing state then judged_alone Sync 1 false c given else judged_alone (write_kind state) (n - m) h c given)
+of_write Writing n m h c given = outcome-left Write n 0 (n - m) m h h refl (record { result = given; hinted = h; cancelled = c })
+of_write WritingSync n m h c given = outcome-left Dsync n 0 (n - m) m h h refl (record { result = given; hinted = h; cancelled = c })
+of_write WritingBeforeSync n m h c given = outcome-left Many n 0 (n - m) m h h refl (record { result = given; hinted = h; cancelled = c })
+of_write Syncing n m h c given = trailing n h c given

@@ -1,3 +1,4 @@
 pub mod Chunks
 pub mod Judging
 pub mod Left
+pub mod Moving

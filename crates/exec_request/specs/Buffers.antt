@@ -30,3 +30,8 @@ is_sound (Vectored bufs chunk offset remaining) =
 abbrev pub batch_of : WriteBuffers → ℕ
 batch_of (Single buf offset) = min (length buf - offset) (2 ^ 32 - 1)
 batch_of (Vectored bufs chunk offset remaining) = min (total (take 1024 (drop chunk bufs)) - offset) (2 ^ 32 - 1)
+
+-- in how many chunks the bytes of one operation lie
+abbrev pub chunks_of : WriteBuffers → ℕ
+chunks_of (Single buf offset) = 1
+chunks_of (Vectored bufs chunk offset remaining) = min (length bufs - chunk) 1024

@@ -1,4 +1,5 @@
 pub mod States
+pub mod Windows
 pub mod Buffers
 pub mod Hints
 pub mod Ways
@@ -6,3 +7,5 @@ pub mod Syncing
 pub mod Judging
 pub mod Views
 pub mod Requests
+pub mod Bytes
+pub mod Kept

@@ -5,7 +5,7 @@ use Rattle.exec_outcomes.specs.Outcomes.{Asked, Cursor}
 use Rattle.exec_outcomes.specs.declared.outcome.Kind.TheVariants as kind
 use Rattle.exec_outcomes.specs.declared.outcome.Outcome.{Outcome}
 use Rattle.exec_request.specs.Buffers.{owners_of}
-use Rattle.exec_request.specs.States.{result_of, received, range_read, told_by, account_by}
+use Rattle.exec_request.specs.States.{Ended, received, range_read, told_by, account_by}
 use Rattle.exec_request.specs.Syncing.{write_kind, is_syncing}
 use Rattle.exec_request.specs.Ways.{narrowed}
 use Rattle.exec_request.specs.Views.{send_asked, send_cursor, send_window, recv_asked, recv_cursor, recv_window, read_asked, read_cursor, read_hinted, read_window, write_asked, write_cursor, write_hinted, write_window, sync_asked, sync_cursor, sync_window, connect_asked, connect_cursor, connect_window, poll_asked, poll_cursor, poll_window}
@@ -101,19 +101,19 @@ window_by hinted (Connect c) = connect_window c
 window_by hinted (Poll p) = poll_window p
 
 -- the record of its open after the request has ended so
-abbrev pub record_after : Request → Outcome → Option Account → Option Account
+abbrev pub record_after : Request → Ended → Option Account → Option Account
 record_after (WriteAt w) ended account = account_by w.file (is_syncing w.state) w.seen (write_kind w.state) ended account
 record_after (Sync s) ended account = account_by s.file false s.seen kind.Sync ended account
 record_after _ ended account = account
 
-abbrev pub output_of : Request → Outcome → Option Account → RequestOutput
-output_of (Send s) ended account = output.Send (result_of ended)
+abbrev pub output_of : Request → Ended → Option Account → RequestOutput
+output_of (Send s) ended account = output.Send ended
 output_of (Recv r) ended account = output.Recv (received r.buf r.offset ended)
 output_of (ReadAt r) ended account = output.ReadAt (range_read (narrowed r.way r.buf) r.buf ended)
-output_of (WriteAt w) ended account = output.WriteAt (result_of (told_by (write_kind w.state) ended account))
-output_of (Sync s) ended account = output.Sync (result_of (told_by kind.Sync ended account))
-output_of (Connect c) ended account = output.Connect (result_of ended)
-output_of (Poll p) ended account = output.Poll (result_of ended)
+output_of (WriteAt w) ended account = output.WriteAt (told_by (write_kind w.state) ended account)
+output_of (Sync s) ended account = output.Sync (told_by kind.Sync ended account)
+output_of (Connect c) ended account = output.Connect ended
+output_of (Poll p) ended account = output.Poll ended
 
 -- all that the request owned, but for what its output hands back
 abbrev pub retired_of : Request → RetiredResources

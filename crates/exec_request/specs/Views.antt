@@ -4,8 +4,9 @@ use Rattle.exec_outcomes.specs.declared.outcome.Kind.TheVariants as kind
 use Rattle.exec_bufs.specs.Buffers.{Buffer}
 use Rattle.exec_outcomes.specs.Lawful.{aligned}
 use Rattle.exec_outcomes.specs.Outcomes.{Asked, Cursor}
-use Rattle.exec_request.specs.Buffers.{length_of, moved_of, batch_of}
+use Rattle.exec_request.specs.Buffers.{length_of, moved_of, batch_of, chunks_of}
 use Rattle.exec_request.specs.Hints.{asks_hint}
+use Rattle.exec_request.specs.Windows.{plain_window}
 use Rattle.exec_request.specs.Syncing.{write_kind, is_syncing, is_dsync}
 use Rattle.exec_request.specs.Ways.{asked_by, is_direct, is_switched, skipped, narrowed}
 use Rattle.exec_request.specs.declared.cache.Cache.TheVariants.{Disabled}
@@ -18,16 +19,11 @@ use Rattle.exec_request.specs.declared.sync.SyncRequest.{SyncRequest}
 use Rattle.exec_request.specs.declared.connect.ConnectRequest.{ConnectRequest}
 use Rattle.exec_request.specs.declared.poll.PollRequest.{PollRequest}
 use Rattle.exec_request.specs.declared.window.Window.{Window}
-use Rattle.exec_request.specs.declared.window.Opcode.{Opcode}
 use Rattle.exec_request.specs.declared.window.Opcode.TheVariants as opcode
 
 -- what moves no bytes
 abbrev pub no_bytes : Cursor
 no_bytes = record { moved = 0; switched = false; hinted = false }
-
--- an operation on no file
-abbrev pub plain_window : Opcode → ℕ → ℕ → Window
-plain_window kind target length = record { kind = kind; target = target; offset = 0; length = length; hint = false; direct = false; dsync = false }
 
 abbrev pub send_asked : SendRequest → Asked
 send_asked s = record { kind = kind.Send; length = length_of s.write; skip = 0 }
@@ -36,7 +32,7 @@ abbrev pub send_cursor : SendRequest → Cursor
 send_cursor s = record { moved = moved_of s.write; switched = false; hinted = false }
 
 abbrev pub send_window : SendRequest → Window
-send_window s = plain_window opcode.Send s.fd (batch_of s.write)
+send_window s = plain_window opcode.Send s.fd (batch_of s.write) (chunks_of s.write)
 
 abbrev pub recv_asked : RecvRequest → Asked
 recv_asked r = record { kind = if r.exact then kind.Fill else kind.Recv; length = r.len - r.start; skip = 0 }
@@ -45,7 +41,7 @@ abbrev pub recv_cursor : RecvRequest → Cursor
 recv_cursor r = record { moved = r.offset - r.start; switched = false; hinted = false }
 
 abbrev pub recv_window : RecvRequest → Window
-recv_window r = plain_window opcode.Recv r.fd (min (r.len - r.offset) (2 ^ 32 - 1))
+recv_window r = plain_window opcode.Recv r.fd (min (r.len - r.offset) (2 ^ 32 - 1)) 1
 
 abbrev pub read_asked : ReadAtRequest → Asked
 read_asked r = asked_by r.way (length r.buf.bytes)
@@ -64,6 +60,7 @@ read_window hinted r =
       target = r.file;
       offset = r.offset + r.read;
       length = min (length r.buf.bytes - r.read) (if is_direct r.way then 2147479552 else 2 ^ 32 - 1);
+      chunks = 1;
       hint = read_hinted r && hinted;
       direct = is_direct r.way;
       dsync = false;
@@ -94,12 +91,13 @@ write_hinted w = not (is_syncing w.state) && asks_hint w.cache
 
 abbrev pub write_window : Bool → WriteAtRequest → Window
 write_window hinted w =
-    if is_syncing w.state then plain_window opcode.Sync w.file 0
+    if is_syncing w.state then plain_window opcode.Sync w.file 0 0
     else record {
       kind = opcode.Write;
       target = w.file;
       offset = w.offset;
       length = batch_of w.write;
+      chunks = chunks_of w.write;
       hint = write_hinted w && hinted;
       direct = false;
       dsync = is_dsync w.state;
@@ -112,7 +110,7 @@ abbrev pub poll_cursor : PollRequest → Cursor
 poll_cursor p = no_bytes
 
 abbrev pub poll_window : PollRequest → Window
-poll_window p = plain_window opcode.Poll p.fd 0
+poll_window p = plain_window opcode.Poll p.fd 0 0
 
 abbrev pub sync_asked : SyncRequest → Asked
 sync_asked s = record { kind = kind.Sync; length = 1; skip = 0 }
@@ -121,7 +119,7 @@ abbrev pub sync_cursor : SyncRequest → Cursor
 sync_cursor s = no_bytes
 
 abbrev pub sync_window : SyncRequest → Window
-sync_window s = plain_window opcode.Sync s.file 0
+sync_window s = plain_window opcode.Sync s.file 0 0
 
 abbrev pub connect_asked : ConnectRequest → Asked
 connect_asked c = record { kind = kind.Connect; length = 1; skip = 0 }
@@ -130,4 +128,4 @@ abbrev pub connect_cursor : ConnectRequest → Cursor
 connect_cursor c = no_bytes
 
 abbrev pub connect_window : ConnectRequest → Window
-connect_window c = plain_window opcode.Connect c.fd 0
+connect_window c = plain_window opcode.Connect c.fd 0 0

@@ -6,8 +6,11 @@
 
 ghost use Rattle.std.specs.Prelude.{◌≡◌, true, IsTrue, ℕ, ◌+◌, ◌-◌, ◌<◌, ◌≤◌, ◌^◌, ◌↔◌, [], List, length, take, drop, min, slice_index_or};
 ghost use Rattle.exec_bufs.specs.Buffers.{total};
-ghost use Rattle.exec_request.specs.Buffers.{length_of, moved_of, owners_of, is_sound, batch_of};
+ghost use Rattle.exec_request.specs.Buffers.{length_of, moved_of, owners_of, is_sound, batch_of, chunks_of};
+ghost use Rattle.exec_request.specs.Bytes.{batch_bytes};
+ghost use Rattle.exec_request.specs.Kept.{rewound};
 
+use crate::bytes::{chunk_len, copy_chunks};
 use crate::results::LARGEST_WINDOW;
 use exec_bufs::buf::IoBuf;
 use exec_bufs::bufs::IoBufs;
@@ -98,7 +101,7 @@ impl WriteBuffers {
         ensures sound { is_sound self.new ≡ true }
         ensures moved { moved_of self.new ≡ moved_of self.old + count }
         ensures same { length_of self.new ≡ length_of self.old }
-        ensures owners { owners_of self.new ≡ owners_of self.old }
+        ensures kept { rewound self.new ≡ rewound self.old }
     {
         match self {
             WriteBuffers::Single { buf, offset } => {
@@ -136,6 +139,43 @@ impl WriteBuffers {
         };
         (left as u64).min(LARGEST_WINDOW)
     }
+
+    /// Copies bytes of the next operation, from its byte `at` on, as many as `into` has.
+    pub(crate) fn copy_batch(&self, at: usize, into: &mut [u8])
+        requires sound { is_sound self.now ≡ true }
+        requires within { at + length into.old ≤ batch_of self.now }
+        ensures { into.new ≡ take (length into.old) (drop at (batch_bytes self.now)) }
+    {
+        match self {
+            WriteBuffers::Single { buf, offset } => {
+                let rest = &buf.as_slice()[*offset..];
+                into.copy_from_slice(&rest[at..at + into.len()]);
+            }
+            WriteBuffers::Vectored {
+                bufs,
+                chunk,
+                offset,
+                ..
+            } => {
+                let _all = bufs.len();
+                copy_chunks(bufs, *chunk, *offset + at, into);
+            }
+        }
+    }
+
+    /// In how many chunks the bytes of the next operation lie.
+    pub(crate) fn batch_chunks(&self) -> u32
+        ensures { result ≡ chunks_of self.now }
+    {
+        match self {
+            WriteBuffers::Single { .. } => 1,
+            WriteBuffers::Vectored { bufs, chunk, .. } => {
+                bufs.chunk_count()
+                    .saturating_sub(*chunk)
+                    .min(IOVEC_BATCH_SIZE) as u32
+            }
+        }
+    }
 }
 
 /// The place in these chunks after `count` more bytes: the number of a chunk, and how many of its bytes lie before.
@@ -157,16 +197,6 @@ fn place_after(bufs: &IoBufs, chunk: usize, offset: usize, count: usize) -> (usi
         gone = 0;
     }
     (end.max(chunk), 0)
-}
-
-/// How many bytes this chunk has: none past the last.
-fn chunk_len(bufs: &IoBufs, at: usize) -> usize
-    ensures { result ≡ length (slice_index_or bufs.now at []) }
-{
-    match bufs.chunk_at(at) {
-        Some(bytes) => bytes.len(),
-        None => 0,
-    }
 }
 
 /// How many bytes the next chunks have that one operation takes.

@@ -28,15 +28,20 @@ impl Cache {
         matches!(self, Cache::Disabled)
     }
 
-    /// Whether the next operation has the hint; a request gives it up where its open has. Ports `rw_flag`.
-    pub(crate) fn rw_flag(&mut self, open_: &Option<OpenRecord>) -> bool
-        ensures hint { result ≡ (asks_hint self.old && has_hint open_.now) }
-        ensures cache { self.new ≡ cache_for (has_hint open_.now) self.old }
+    /// Whether the next operation has the hint. Ports `rw_flag`.
+    pub(crate) fn rw_flag(self, open_: &Option<OpenRecord>) -> bool
+        ensures { result ≡ (asks_hint self && has_hint open_.now) }
+    {
+        self.is_disabled() && open_hinted(open_)
+    }
+
+    /// Gives the hint up where the open has.
+    pub(crate) fn give_up(&mut self, open_: &Option<OpenRecord>)
+        ensures { self.new ≡ cache_for (has_hint open_.now) self.old }
     {
         if !open_hinted(open_) {
             *self = Cache::Enabled;
         }
-        self.is_disabled()
     }
 
     /// Gives the hint up where an operation had it and this result refuses it. Ports `fallback`.

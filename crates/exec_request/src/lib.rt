@@ -2,8 +2,10 @@
 #![tactic(auto)]
 
 pub mod buffers;
+mod bytes;
 pub mod cache;
 pub mod connect;
+mod judge;
 pub mod open_record;
 pub mod output;
 pub mod poll;
@@ -13,8 +15,6 @@ pub mod request;
 pub mod results;
 pub mod send;
 pub mod sync;
-#[cfg(test)]
-mod tests;
 pub mod way;
 pub mod window;
 pub mod write_at;

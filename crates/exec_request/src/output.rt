@@ -3,7 +3,7 @@
 //! Both leave the executor's own state before anyone else sees them, so an owner's end never runs within it.
 
 ghost use Rattle.std.specs.Prelude.{◌≡◌};
-ghost use Rattle.exec_request.specs.States.{result_of};
+ghost use Rattle.exec_request.specs.States.{as_outcome};
 
 use crate::buffers::WriteBuffers;
 use crate::connect::SockAddr;
@@ -36,17 +36,17 @@ pub enum RetiredResources {
     /// The listener of a poll.
     Listener {
         /// Its number.
-        fd: usize,
+        fd: u32,
     },
     /// The socket of a receive.
     Socket {
         /// Its number.
-        fd: usize,
+        fd: u32,
     },
     /// The socket and the bytes of a send.
     Send {
         /// The socket's number.
-        fd: usize,
+        fd: u32,
         /// All of the bytes.
         write: WriteBuffers,
     },
@@ -60,18 +60,18 @@ pub enum RetiredResources {
     /// The socket and the address of a connect.
     Connect {
         /// The socket's number.
-        fd: usize,
+        fd: u32,
         /// Where it was to be connected to.
         address: SockAddr,
     },
 }
 
-/// An outcome as a result.
-pub fn to_result(outcome: Outcome) -> Result<(), Error>
-    ensures { result ≡ result_of outcome }
+/// How a request ended, as the word that a log tells.
+pub fn to_outcome(ended: Result<(), Error>) -> Outcome
+    ensures { result ≡ as_outcome ended }
 {
-    match outcome {
-        Outcome::Success => Ok(()),
-        Outcome::Failure(error) => Err(error),
+    match ended {
+        Ok(()) => Outcome::Success,
+        Err(error) => Outcome::Failure(error),
     }
 }

@@ -6,26 +6,21 @@
 
 ghost use Rattle.std.specs.Prelude.{◌≡◌, ◌+◌, ◌-◌, ◌<◌, ◌≤◌, ◌^◌, true, false, length};
 ghost use Rattle.exec_outcomes.specs.Lawful.{aligned};
-ghost use Rattle.exec_outcomes.specs.Outcomes.{outcome_next, moves_on};
-ghost use Rattle.exec_outcomes.specs.declared.outcome.Kind.TheVariants.{Read, Direct};
 ghost use Rattle.exec_request.specs.Ways.{size_for};
 
+use crate::bytes::fill;
 use crate::cache::Cache;
+use crate::judge::{judge, moves_on};
 use crate::open_record::OpenRecord;
 use crate::output::{RequestOutput, RetiredResources};
-use crate::results::{
-    CANCELED, INTERRUPTED, LARGEST_WINDOW, UNSUPPORTED, WOULD_BLOCK, WaiterState, another,
-    counted_by,
-};
+use crate::results::{DIRECT_ALIGN, LARGEST_WINDOW, WaiterState, counted_by};
 use crate::way::Way;
 use crate::window::{Opcode, Window};
 use exec_base::error::Error;
 use exec_bufs::buf::IoBufMut;
-use exec_outcomes::outcome::{OpResult, Outcome};
+use exec_outcomes::outcome::{Kind, OpResult};
 use std::alloc::{AllocError, Global};
 
-/// The alignment of direct reads, in bytes. Ports `DIRECT_ALIGN`.
-pub const DIRECT_ALIGN: u64 = 4096;
 /// The most bytes of one direct read: the whole pages that an i32 can say. Ports `DIRECT_CHUNK`.
 pub const DIRECT_CHUNK: u64 = 2_147_479_552;
 /// The largest end of a range in a file.
@@ -54,12 +49,15 @@ pub struct ReadAtRequest {
 impl ReadAtRequest {
     ghost use Rattle.std.specs.Prelude.{◌⊎◌, ◌%◌, ◌&&◌, ◌↔◌, Bool, [], Ok, None, IsTrue, IfOk, IfSome, if◌then◌else◌};
     ghost use Rattle.exec_outcomes.specs.Lawful.{is_lawful, window_of};
-    ghost use Rattle.exec_outcomes.specs.Outcomes.{cursor_next, is_unsupported};
+    ghost use Rattle.exec_outcomes.specs.Outcomes.{cursor_next, is_unsupported, outcome_next, moves_on};
     ghost use Rattle.exec_request.specs.Hints.{asks_hint, has_hint, cache_for, without_hint};
-    ghost use Rattle.exec_request.specs.States.{range_read};
+    ghost use Rattle.exec_request.specs.States.{as_answer, range_read};
+    ghost use Rattle.exec_bufs.specs.Buffers.{resized};
+    ghost use Rattle.exec_request.specs.Bytes.{filled_at};
+    ghost use Rattle.exec_request.specs.Kept.{read_kept};
     ghost use Rattle.exec_request.specs.Judging.{Judges, judged_as};
     ghost use Rattle.exec_request.specs.Ways.{is_direct, is_switched, switched_from, narrowed};
-    ghost use Rattle.exec_request.specs.Views.{read_asked, read_cursor, read_hinted, read_window, reads_range, IsDirectRead};
+    ghost use Rattle.exec_request.specs.Views.{read_asked, read_cursor, read_hinted, read_window, IsDirectRead};
 
     /// A read of as many bytes as this buffer has, from `offset` on.
     pub fn new(file: u32, offset: u64, buf: IoBufMut, cache: Cache) -> Self
@@ -120,25 +118,36 @@ impl ReadAtRequest {
         }))
     }
 
+    /// What the next operation will ask of the kernel. Nothing changes.
+    pub fn window(&self, open_: &Option<OpenRecord>) -> Window
+        ensures window { result ≡ read_window (has_hint open_.now) self.now }
+        ensures left { result.length ≡ window_of (read_asked self.now) (read_cursor self.now) }
+    {
+        let direct = self.way.is_direct();
+        Window {
+            kind: Opcode::Read,
+            target: self.file,
+            offset: self.offset + self.read as u64,
+            length: self.window_len() as u32,
+            chunks: 1,
+            hint: !direct && self.cache.rw_flag(open_),
+            direct,
+            dsync: false,
+        }
+    }
+
     /// What the next operation asks of the kernel. A request gives up the hint that its open has given up.
     pub fn build_sqe(&mut self, open_: &Option<OpenRecord>) -> Window
         ensures window { result ≡ read_window (has_hint open_.now) self.old }
         ensures left { result.length ≡ window_of (read_asked self.old) (read_cursor self.old) }
+        ensures again { read_window true self.new ≡ result }
         ensures after { self.new ≡ record self.old { cache = if is_direct self.old.way then self.old.cache else cache_for (has_hint open_.now) self.old.cache } }
     {
-        let direct = self.way.is_direct();
-        let left = (self.buf.len() - self.read) as u64;
-        let most = if direct { DIRECT_CHUNK } else { LARGEST_WINDOW };
-        let hint = !direct && self.cache.rw_flag(open_);
-        Window {
-            kind: Opcode::Read,
-            target: self.file as usize,
-            offset: self.offset + self.read as u64,
-            length: left.min(most) as u32,
-            hint,
-            direct,
-            dsync: false,
+        let window = self.window(open_);
+        if !self.way.is_direct() {
+            self.cache.give_up(open_);
         }
+        window
     }
 
     /// The most that the next operation may answer.
@@ -153,16 +162,28 @@ impl ReadAtRequest {
         ((self.buf.len() - self.read) as u64).min(most)
     }
 
+    /// Fills bytes of the next window.
+    pub(crate) fn fill(&mut self, at: usize, count: usize, bytes: &[u8])
+        requires within { at + count ≤ (read_window true self.old).length }
+        requires whole { length bytes.now ≤ count }
+        ensures buffer { self.new.buf ≡ filled_at (self.old.read + at) (resized count bytes.now) self.old.buf }
+        ensures length { length self.new.buf.bytes ≡ length self.old.buf.bytes }
+        ensures rest { self.new.file ≡ self.old.file × (self.new.offset ≡ self.old.offset) × (self.new.read ≡ self.old.read) × (self.new.cache ≡ self.old.cache) × (self.new.way ≡ self.old.way) }
+    {
+        let _long = self.buf.len();
+        fill(&mut self.buf, self.read + at, count, bytes);
+    }
+
     /// Ends the request: what is told of it, with the buffer, and all else that it owned. The buffer has the range
     /// where it was read, and else no byte.
-    pub fn complete(self, ended: Outcome) -> (RequestOutput, RetiredResources)
+    pub fn complete(self, ended: Result<(), Error>) -> (RequestOutput, RetiredResources)
         ensures told { result.0 ≡ RequestOutput.ReadAt (range_read (narrowed self.way self.buf) self.buf ended) }
         ensures retired { result.1 ≡ RetiredResources.File self.file None }
     {
         let file = self.file;
         let told = match ended {
-            Outcome::Success => Ok(self.into_range()),
-            Outcome::Failure(error) => Err((self.into_empty(), error)),
+            Ok(()) => Ok(self.into_range()),
+            Err(error) => Err((self.into_empty(), error)),
         };
         (
             RequestOutput::ReadAt(told),
@@ -203,13 +224,12 @@ impl ReadAtRequest {
         state: WaiterState,
         given: OpResult,
         open_: &mut Option<OpenRecord>,
-    ) -> Option<Outcome>
+    ) -> Option<Result<(), Error>>
         requires lawful { IsTrue (is_lawful (window_of (read_asked self.old) (read_cursor self.old)) given) }
-        ensures judges { Judges (read_asked self.old) (read_cursor self.old) (read_cursor self.new) (judged_as (read_hinted self.old) state given) result }
-        ensures asked { read_asked self.new ≡ read_asked self.old }
-        ensures range { reads_range self.new ≡ reads_range self.old }
+        ensures judges { Judges (read_asked self.old) (read_cursor self.old) (read_cursor self.new) (judged_as (read_hinted self.old) state given) (as_answer result) }
+        ensures kept { read_kept self.new ≡ read_kept self.old }
+        ensures pages { is_direct self.new.way ≡ true → self.new.buf ≡ self.old.buf }
         ensures open { open_.new ≡ (if read_hinted self.old && is_unsupported given then without_hint open_.old else open_.old) }
-        ensures file { self.new.file ≡ self.old.file }
     {
         let hinted = self.is_hinted();
         let outcome = self.judge(state.is_cancelled(), given);
@@ -223,9 +243,8 @@ impl ReadAtRequest {
         requires lawful { IsTrue (is_lawful (window_of (read_asked self.old) (read_cursor self.old)) given) }
         ensures cursor { (cancelled : Bool) → let next = cursor_next (read_asked self.old) (read_cursor self.old) (record { result = given; hinted = read_hinted self.old; cancelled = cancelled }) in
             (self.new.read ≡ next.moved) × (is_switched self.new.way ≡ next.switched) }
-        ensures asked { read_asked self.new ≡ read_asked self.old }
-        ensures range { reads_range self.new ≡ reads_range self.old }
-        ensures file { self.new.file ≡ self.old.file }
+        ensures kept { read_kept self.new ≡ read_kept self.old }
+        ensures pages { is_direct self.new.way ≡ true → self.new.buf ≡ self.old.buf }
         ensures cache { self.new.cache ≡ self.old.cache }
     {
         if self.switches(given) {
@@ -236,17 +255,18 @@ impl ReadAtRequest {
     }
 
     /// What one more result means.
-    fn judge(&self, cancelled: bool, given: OpResult) -> Option<Outcome>
-        ensures { result ≡ outcome_next (read_asked self.now) (read_cursor self.now) (record { result = given; hinted = read_hinted self.now; cancelled = cancelled }) }
+    fn judge(&self, cancelled: bool, given: OpResult) -> Option<Result<(), Error>>
+        requires { IsTrue (is_lawful (window_of (read_asked self.now) (read_cursor self.now)) given) }
+        ensures { as_answer result ≡ outcome_next (read_asked self.now) (read_cursor self.now) (record { result = given; hinted = read_hinted self.now; cancelled = cancelled }) }
     {
         match self.way {
             Way::Direct { skip, len } => {
                 let left = (skip as u64 + len as u64).saturating_sub(self.read as u64);
-                judge_direct(left, cancelled, given)
+                judge(Kind::Direct, left, false, cancelled, given)
             }
             _ => {
                 let left = (self.buf.len() - self.read) as u64;
-                judge_buffered(left, self.cache.is_disabled(), cancelled, given)
+                judge(Kind::Read, left, self.cache.is_disabled(), cancelled, given)
             }
         }
     }
@@ -259,7 +279,7 @@ impl ReadAtRequest {
         match self.way {
             Way::Direct { skip, len } => {
                 let left = (skip as u64 + len as u64).saturating_sub(self.read as u64);
-                leaves_pages(left, given)
+                moves_on(Kind::Direct, left, false, given)
             }
             _ => false,
         }
@@ -270,9 +290,7 @@ impl ReadAtRequest {
         requires { is_direct self.old.way ≡ true }
         ensures read { self.new.read ≡ 0 }
         ensures way { self.new.way ≡ switched_from self.old.way }
-        ensures asked { read_asked self.new ≡ read_asked self.old }
-        ensures range { reads_range self.new ≡ reads_range self.old }
-        ensures file { self.new.file ≡ self.old.file }
+        ensures kept { read_kept self.new ≡ read_kept self.old }
         ensures cache { self.new.cache ≡ self.old.cache }
     {
         if let Way::Direct { skip, len } = self.way {
@@ -291,40 +309,4 @@ fn whole_pages(count: u64) -> u64
     ensures { result ≡ aligned count }
 {
     (count + (DIRECT_ALIGN - 1)) / DIRECT_ALIGN * DIRECT_ALIGN
-}
-
-/// What one more result of a direct read means where so many bytes are left up to the end of its range.
-fn judge_direct(left: u64, cancelled: bool, given: OpResult) -> Option<Outcome>
-    ensures { result ≡ outcome_next (record { kind = Direct; length = left; skip = 0 }) (record { moved = 0; switched = false; hinted = true }) (record { result = given; hinted = false; cancelled = cancelled }) }
-{
-    match given {
-        OpResult::Count(count) if count > 0 && count >= left => Some(Outcome::Success),
-        OpResult::Errno(CANCELED) => Some(Outcome::Failure(Error::ReadFailed)),
-        _ => another(cancelled),
-    }
-}
-
-/// Whether one more result of a direct read neither ends it nor leaves it at a page.
-fn leaves_pages(left: u64, given: OpResult) -> bool
-    ensures { result ≡ moves_on (record { kind = Direct; length = left; skip = 0 }) (record { moved = 0; switched = false; hinted = true }) (record { result = given; hinted = false; cancelled = false }) }
-{
-    match given {
-        OpResult::Count(0) => true,
-        OpResult::Count(count) => count < left && count % DIRECT_ALIGN != 0,
-        OpResult::Errno(INTERRUPTED | WOULD_BLOCK | CANCELED) => false,
-        OpResult::Errno(_) => true,
-    }
-}
-
-/// What one more result of a buffered read means where so many bytes are left.
-fn judge_buffered(left: u64, hinted: bool, cancelled: bool, given: OpResult) -> Option<Outcome>
-    ensures { result ≡ outcome_next (record { kind = Read; length = left; skip = 0 }) (record { moved = 0; switched = false; hinted = hinted }) (record { result = given; hinted = hinted; cancelled = cancelled }) }
-{
-    match given {
-        OpResult::Count(0) => Some(Outcome::Failure(Error::BlobInsufficientLength)),
-        OpResult::Count(count) if count >= left => Some(Outcome::Success),
-        OpResult::Count(_) | OpResult::Errno(INTERRUPTED | WOULD_BLOCK) => another(cancelled),
-        OpResult::Errno(UNSUPPORTED) if hinted => another(cancelled),
-        OpResult::Errno(_) => Some(Outcome::Failure(Error::ReadFailed)),
-    }
 }

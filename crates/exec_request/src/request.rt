@@ -4,18 +4,23 @@
 //! its operations is under way: the result of an operation alone says that the kernel has done with the memory.
 //! Calls that concern a file are lent the record of its open; where a request has no file there is none.
 
-ghost use Rattle.std.specs.Prelude.{◌≡◌, ◌≤◌, ◌&&◌, IsTrue, true, List, if◌then◌else◌};
+ghost use Rattle.std.specs.Prelude.{◌≡◌, ◌+◌, ◌≤◌, ◌&&◌, Bool, IsTrue, true, List, length, take, drop, if◌then◌else◌};
+ghost use Rattle.exec_bufs.specs.Buffers.{resized};
 ghost use Rattle.exec_outcomes.specs.Accounts.{is_durable};
 ghost use Rattle.exec_outcomes.specs.Lawful.{is_lawful, window_of};
 ghost use Rattle.exec_outcomes.specs.Outcomes.{HasCome, is_unsupported};
 ghost use Rattle.exec_outcomes.specs.declared.outcome.Judged.{Judged};
 ghost use Rattle.exec_request.specs.Hints.{has_hint, without_hint};
 ghost use Rattle.exec_request.specs.Judging.{Judges, judged_as};
-ghost use Rattle.exec_request.specs.Requests.{asked_of, owned_bytes, cursor_of, hinted_of, target_of, deadline_of, goes_on_alone, gate_of, outcome_if_granted, window_by, record_after, output_of, retired_of};
+ghost use Rattle.exec_request.specs.Bytes.{window_bytes, lent_of, filled_of, filled_at};
+ghost use Rattle.exec_request.specs.Kept.{kept_of, owned_by};
+ghost use Rattle.exec_request.specs.States.{as_answer};
+ghost use Rattle.exec_request.specs.Windows.{most_of, moves_in, moves_out};
+ghost use Rattle.exec_request.specs.Requests.{asked_of, cursor_of, hinted_of, deadline_of, goes_on_alone, gate_of, outcome_if_granted, window_by, record_after, output_of, retired_of};
 
 use crate::connect::ConnectRequest;
 use crate::open_record::OpenRecord;
-use crate::output::{RequestOutput, RetiredResources, to_result};
+use crate::output::{RequestOutput, RetiredResources};
 use crate::poll::PollRequest;
 use crate::read_at::ReadAtRequest;
 use crate::recv::RecvRequest;
@@ -24,7 +29,8 @@ use crate::send::SendRequest;
 use crate::sync::SyncRequest;
 use crate::window::Window;
 use crate::write_at::{WriteAtRequest, WriteAtState};
-use exec_outcomes::outcome::{OpResult, Outcome};
+use exec_base::error::Error;
+use exec_outcomes::outcome::{Kind, OpResult};
 
 /// What a task asks the kernel for, with what the kernel may use meanwhile. Ports `Request`.
 #[derive(Debug, Drop)]
@@ -46,6 +52,21 @@ pub enum Request {
 }
 
 impl Request {
+    /// What it asks for, by the word of a log.
+    pub fn kind(&self) -> Kind
+        ensures { result ≡ (asked_of self.now).kind }
+    {
+        match self {
+            Request::Send(_) => Kind::Send,
+            Request::Recv(recv) => recv.kind(),
+            Request::ReadAt(read) => read.way.kind(),
+            Request::WriteAt(write) => write.state.kind(),
+            Request::Sync(_) => Kind::Sync,
+            Request::Connect(_) => Kind::Connect,
+            Request::Poll(_) => Kind::Poll,
+        }
+    }
+
     /// The moment in nanoseconds from which on the request is too late; requests on files have none. Ports
     /// `deadline`.
     pub fn deadline(&self) -> Option<u64>
@@ -83,19 +104,35 @@ impl Request {
 
     /// What ends a durable request that has its permit before it has any operation: a failure that its open keeps,
     /// and for a sync that there is nothing to make durable. Ports `prepare_durability`.
-    pub fn prepare_durability(&self, open_: &Option<OpenRecord>) -> Option<Outcome>
+    pub fn prepare_durability(&self, open_: &Option<OpenRecord>) -> Option<Result<(), Error>>
         requires { is_durable (asked_of self.now).kind ≡ true }
-        ensures { result ≡ outcome_if_granted self.now open_.now }
+        ensures { as_answer result ≡ outcome_if_granted self.now open_.now }
     {
         let Some(record) = open_ else {
             return None;
         };
         if let Some(error) = record.failure() {
-            return Some(Outcome::Failure(error));
+            return Some(Err(error));
         }
         match self {
-            Request::Sync(_) if !record.is_dirty() => Some(Outcome::Success),
+            Request::Sync(_) if !record.is_dirty() => Some(Ok(())),
             _ => None,
+        }
+    }
+
+    /// What the next operation will ask of the kernel. Nothing changes.
+    pub fn window(&self, open_: &Option<OpenRecord>) -> Window
+        ensures window { result ≡ window_by (has_hint open_.now) self.now }
+        ensures left { most_of result ≤ window_of (asked_of self.now) (cursor_of self.now) }
+    {
+        match self {
+            Request::Send(send) => send.build_sqe(),
+            Request::Recv(recv) => recv.build_sqe(),
+            Request::ReadAt(read) => read.window(open_),
+            Request::WriteAt(write) => write.window(open_),
+            Request::Sync(sync) => sync.build_sqe(),
+            Request::Connect(connect) => connect.build_sqe(),
+            Request::Poll(poll) => poll.build_sqe(),
         }
     }
 
@@ -103,13 +140,11 @@ impl Request {
     /// `build_sqe`.
     pub fn build_sqe(&mut self, open_: &Option<OpenRecord>) -> Window
         ensures window { result ≡ window_by (has_hint open_.now) self.old }
-        ensures left { result.length ≤ window_of (asked_of self.old) (cursor_of self.old) }
+        ensures left { most_of result ≤ window_of (asked_of self.old) (cursor_of self.old) }
         ensures hint { hinted_of self.new ≡ result.hint }
-        ensures asked { asked_of self.new ≡ asked_of self.old }
+        ensures again { window_by true self.new ≡ result }
         ensures goes_on { (results : List Judged) → HasCome (asked_of self.old) (cursor_of self.old) results → HasCome (asked_of self.new) (cursor_of self.new) results }
-        ensures bytes { owned_bytes self.new ≡ owned_bytes self.old }
-        ensures target { target_of self.new ≡ target_of self.old }
-        ensures deadline { deadline_of self.new ≡ deadline_of self.old }
+        ensures kept { kept_of self.new ≡ kept_of self.old }
     {
         match self {
             Request::Send(send) => send.build_sqe(),
@@ -119,6 +154,47 @@ impl Request {
             Request::Sync(sync) => sync.build_sqe(),
             Request::Connect(connect) => connect.build_sqe(),
             Request::Poll(poll) => poll.build_sqe(),
+        }
+    }
+
+    /// Copies bytes of the next window of a send or a write, from its byte `at` on, as many as `into` has. The caller
+    /// must have such a request, and the window must have the bytes.
+    pub fn copy_window(&self, at: usize, into: &mut [u8])
+        requires out { moves_out (window_by true self.now).kind ≡ true }
+        requires within { at + length into.old ≤ (window_by true self.now).length }
+        ensures { into.new ≡ take (length into.old) (drop at (window_bytes self.now)) }
+    {
+        match self {
+            Request::Send(send) => send.write.copy_batch(at, into),
+            Request::WriteAt(write) => write.write.copy_batch(at, into),
+            Request::Recv(_)
+            | Request::ReadAt(_)
+            | Request::Sync(_)
+            | Request::Connect(_)
+            | Request::Poll(_) => unreachable!(),
+        }
+    }
+
+    /// Fills `count` bytes of the next window of a receive or a read, from its byte `at` on: with these bytes, and
+    /// with zeros after their end. A receive's buffer grows to hold them, within its capacity. The caller must have
+    /// such a request, and the window must have the room.
+    pub fn fill_window(&mut self, at: usize, count: usize, bytes: &[u8])
+        requires comes { moves_in (window_by true self.old).kind ≡ true }
+        requires within { at + count ≤ (window_by true self.old).length }
+        requires whole { length bytes.now ≤ count }
+        ensures buffer { lent_of self.new ≡ filled_at (filled_of self.old + at) (resized count bytes.now) (lent_of self.old) }
+        ensures kept { kept_of self.new ≡ record (kept_of self.old) { owned = owned_by self.new } }
+        ensures cursor { cursor_of self.new ≡ cursor_of self.old }
+        ensures window { (hinted : Bool) → window_by hinted self.new ≡ window_by hinted self.old }
+    {
+        match self {
+            Request::Recv(recv) => recv.fill(at, count, bytes),
+            Request::ReadAt(read) => read.fill(at, count, bytes),
+            Request::Send(_)
+            | Request::WriteAt(_)
+            | Request::Sync(_)
+            | Request::Connect(_)
+            | Request::Poll(_) => unreachable!(),
         }
     }
 
@@ -149,13 +225,10 @@ impl Request {
         state: WaiterState,
         given: OpResult,
         open_: &mut Option<OpenRecord>,
-    ) -> Option<Outcome>
+    ) -> Option<Result<(), Error>>
         requires lawful { IsTrue (is_lawful (window_of (asked_of self.old) (cursor_of self.old)) given) }
-        ensures judges { Judges (asked_of self.old) (cursor_of self.old) (cursor_of self.new) (judged_as (hinted_of self.old) state given) result }
-        ensures asked { asked_of self.new ≡ asked_of self.old }
-        ensures bytes { owned_bytes self.new ≡ owned_bytes self.old }
-        ensures target { target_of self.new ≡ target_of self.old }
-        ensures deadline { deadline_of self.new ≡ deadline_of self.old }
+        ensures judges { Judges (asked_of self.old) (cursor_of self.old) (cursor_of self.new) (judged_as (hinted_of self.old) state given) (as_answer result) }
+        ensures kept { kept_of self.new ≡ kept_of self.old }
         ensures open { open_.new ≡ (if hinted_of self.old && is_unsupported given then without_hint open_.old else open_.old) }
     {
         match self {
@@ -173,7 +246,7 @@ impl Request {
     /// may be under way. The record of its open takes the end of a write or a sync in. Ports `complete`.
     pub fn complete(
         self,
-        ended: Outcome,
+        ended: Result<(), Error>,
         open_: &mut Option<OpenRecord>,
     ) -> (RequestOutput, RetiredResources)
         ensures told { result.0 ≡ output_of self ended open_.old }

@@ -1,12 +1,11 @@
-//! What the numbers of a result say, for each kind of request.
+//! The numbers of results, and how a waiter stands when one is reaped.
 
-ghost use Rattle.std.specs.Prelude.{◌≡◌, ◌<◌, if◌then◌else◌, Some, None};
+ghost use Rattle.std.specs.Prelude.{◌≡◌};
 ghost use Rattle.exec_outcomes.specs.Lawful.{is_lawful};
 ghost use Rattle.exec_outcomes.specs.Outcomes.{bytes_of};
 ghost use Rattle.exec_request.specs.States.{asks_cancel};
 
-use exec_base::error::{Cause, Error};
-use exec_outcomes::outcome::{OpResult, Outcome};
+use exec_outcomes::outcome::OpResult;
 
 /// EINTR: the operation was interrupted.
 pub const INTERRUPTED: u64 = 4;
@@ -27,6 +26,8 @@ pub const LARGEST_WINDOW: u64 = 0xffff_ffff;
 pub const LARGEST_COUNT: u64 = 0x7fff_ffff;
 /// The largest error number that a result can say.
 pub const LARGEST_ERRNO: u64 = 4095;
+/// The alignment of direct reads, in bytes. Ports `DIRECT_ALIGN`.
+pub const DIRECT_ALIGN: u64 = 4096;
 
 /// How the waiter of a request stands when a result is reaped. Ports `WaiterState`.
 #[derive(Clone, Copy, Debug, PartialEq, Eq)]
@@ -67,23 +68,4 @@ pub(crate) fn is_within(window: u64, given: OpResult) -> bool
         OpResult::Count(count) => count <= window && count <= LARGEST_COUNT,
         OpResult::Errno(code) => 1 <= code && code <= LARGEST_ERRNO,
     }
-}
-
-/// What comes of a request that needs another operation: a cancelled one is given up.
-pub(crate) fn another(cancelled: bool) -> Option<Outcome>
-    ensures { result ≡ (if cancelled then Some (Outcome.Failure Error.Timeout) else None) }
-{
-    if cancelled {
-        Some(Outcome::Failure(Error::Timeout))
-    } else {
-        None
-    }
-}
-
-/// The error of an operation, handed on by its number.
-pub(crate) fn handed_on(code: u64) -> Option<Outcome>
-    requires { code < 65536 }
-    ensures { result ≡ Some (Outcome.Failure (Error.Io (Cause.Code code))) }
-{
-    Some(Outcome::Failure(Error::Io(Cause::Code(code as u16))))
 }

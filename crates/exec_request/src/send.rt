@@ -7,19 +7,18 @@ ghost use Rattle.std.specs.Prelude.{◌≡◌, true};
 ghost use Rattle.exec_request.specs.Buffers.{is_sound};
 
 use crate::buffers::WriteBuffers;
-use crate::output::{RequestOutput, RetiredResources, to_result};
-use crate::results::{
-    CANCELED, INTERRUPTED, LARGEST_WINDOW, WOULD_BLOCK, WaiterState, another, counted_by,
-};
+use crate::judge::judge;
+use crate::output::{RequestOutput, RetiredResources};
+use crate::results::{LARGEST_WINDOW, WaiterState, counted_by};
 use crate::window::{Opcode, Window};
 use exec_base::error::Error;
-use exec_outcomes::outcome::{OpResult, Outcome};
+use exec_outcomes::outcome::{Kind, OpResult};
 
 /// A send of all bytes of its buffers. Ports `SendRequest`.
 #[derive(Debug, Drop)]
 pub struct SendRequest {
     /// The socket.
-    pub fd: usize,
+    pub fd: u32,
     /// The bytes, and how many were sent.
     pub write: WriteBuffers,
     /// The moment in nanoseconds from which on the request is too late, if there is one.
@@ -31,13 +30,13 @@ impl SendRequest {
     ghost use Rattle.std.specs.Prelude.{◌≤◌, IsTrue, false};
     ghost use Rattle.exec_outcomes.specs.Lawful.{is_lawful, window_of};
     ghost use Rattle.exec_outcomes.specs.Outcomes.{outcome_next};
-    ghost use Rattle.exec_request.specs.Buffers.{owners_of};
-    ghost use Rattle.exec_request.specs.States.{result_of};
+    ghost use Rattle.exec_request.specs.States.{as_answer};
+    ghost use Rattle.exec_request.specs.Kept.{send_kept};
     ghost use Rattle.exec_request.specs.Judging.{Judges, judged_as};
     ghost use Rattle.exec_request.specs.Views.{send_asked, send_cursor, send_window};
 
     /// A send of these bytes. Some may have gone already.
-    pub fn new(fd: usize, write: WriteBuffers, deadline: Option<u64>) -> Self
+    pub fn new(fd: u32, write: WriteBuffers, deadline: Option<u64>) -> Self
         requires { is_sound write ≡ true }
         ensures fd { result.fd ≡ fd }
         ensures write { result.write ≡ write }
@@ -56,7 +55,7 @@ impl SendRequest {
         ensures left { result.length ≤ window_of (send_asked self.now) (send_cursor self.now) }
     {
         let length = self.write.batch_len() as u32;
-        Window::plain(Opcode::Send, self.fd, length)
+        Window::plain(Opcode::Send, self.fd, length, self.write.batch_chunks())
     }
 
     /// The most that the next operation may answer.
@@ -68,13 +67,10 @@ impl SendRequest {
 
     /// Judges the next result. Answers the outcome that all results so far give, or None where another
     /// operation is needed.
-    pub fn on_cqe(&mut self, state: WaiterState, given: OpResult) -> Option<Outcome>
+    pub fn on_cqe(&mut self, state: WaiterState, given: OpResult) -> Option<Result<(), Error>>
         requires lawful { IsTrue (is_lawful (window_of (send_asked self.old) (send_cursor self.old)) given) }
-        ensures judges { Judges (send_asked self.old) (send_cursor self.old) (send_cursor self.new) (judged_as false state given) result }
-        ensures asked { send_asked self.new ≡ send_asked self.old }
-        ensures owners { owners_of self.new.write ≡ owners_of self.old.write }
-        ensures fd { self.new.fd ≡ self.old.fd }
-        ensures deadline { self.new.deadline ≡ self.old.deadline }
+        ensures judges { Judges (send_asked self.old) (send_cursor self.old) (send_cursor self.new) (judged_as false state given) (as_answer result) }
+        ensures kept { send_kept self.new ≡ send_kept self.old }
     {
         let outcome = self.judge(state.is_cancelled(), given);
         self.write.advance(counted_by(given) as usize);
@@ -82,29 +78,23 @@ impl SendRequest {
     }
 
     /// Ends the request: what is told of it, and all that it owned.
-    pub fn complete(self, ended: Outcome) -> (RequestOutput, RetiredResources)
-        ensures told { result.0 ≡ RequestOutput.Send (result_of ended) }
+    pub fn complete(self, ended: Result<(), Error>) -> (RequestOutput, RetiredResources)
+        ensures told { result.0 ≡ RequestOutput.Send ended }
         ensures retired { result.1 ≡ RetiredResources.Send self.fd self.write }
     {
         let retired = RetiredResources::Send {
             fd: self.fd,
             write: self.write,
         };
-        (RequestOutput::Send(to_result(ended)), retired)
+        (RequestOutput::Send(ended), retired)
     }
 
     /// What one more result means, after as many bytes as were sent.
-    fn judge(&self, cancelled: bool, given: OpResult) -> Option<Outcome>
+    fn judge(&self, cancelled: bool, given: OpResult) -> Option<Result<(), Error>>
         requires { IsTrue (is_lawful (window_of (send_asked self.now) (send_cursor self.now)) given) }
-        ensures { result ≡ outcome_next (send_asked self.now) (send_cursor self.now) (record { result = given; hinted = false; cancelled = cancelled }) }
+        ensures { as_answer result ≡ outcome_next (send_asked self.now) (send_cursor self.now) (record { result = given; hinted = false; cancelled = cancelled }) }
     {
         let left = self.write.remaining_len() as u64;
-        match given {
-            OpResult::Count(0) => Some(Outcome::Failure(Error::SendFailed)),
-            OpResult::Count(count) if count >= left => Some(Outcome::Success),
-            OpResult::Count(_) | OpResult::Errno(INTERRUPTED | WOULD_BLOCK) => another(cancelled),
-            OpResult::Errno(CANCELED) if cancelled => Some(Outcome::Failure(Error::Timeout)),
-            OpResult::Errno(_) => Some(Outcome::Failure(Error::SendFailed)),
-        }
+        judge(Kind::Send, left, false, cancelled, given)
     }
 }

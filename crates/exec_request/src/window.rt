@@ -1,6 +1,12 @@
 //! What the next operation of a request asks of the kernel.
+//!
+//! A window names no memory: it says how many bytes move, from where or to where, and how. Whoever has the request
+//! has the bytes. Two windows belong to no request: the cancel of an operation, and the poll by which a ring is woken.
 
-ghost use Rattle.std.specs.Prelude.{◌≡◌, false};
+ghost use Rattle.std.specs.Prelude.{◌≡◌};
+ghost use Rattle.exec_request.specs.Windows.{plain_window, cancel_window, wake_window, most_of};
+
+use crate::results::LARGEST_COUNT;
 
 /// The kind of an operation. Stands for the operation code of a submission.
 #[derive(Clone, Copy, Debug, PartialEq, Eq)]
@@ -19,6 +25,10 @@ pub enum Opcode {
     Connect,
     /// One event of a listener is awaited.
     Poll,
+    /// An operation that is under way is to end.
+    Cancel,
+    /// A ring is told to wake its worker.
+    Wake,
 }
 
 /// The window of an operation: what it moves, from where or to where, and how. It stands for the submission of
@@ -27,12 +37,14 @@ pub enum Opcode {
 pub struct Window {
     /// What the operation does.
     pub kind: Opcode,
-    /// The number of its socket, listener or open.
-    pub target: usize,
-    /// Where it begins in the file, in bytes; 0 where there is no file.
+    /// The number of its socket, listener or open; 0 where it has none.
+    pub target: u32,
+    /// Where it begins in the file, in bytes. Of a cancel, the user data of the operation that is to end. Else 0.
     pub offset: u64,
     /// How many bytes it moves at most.
     pub length: u32,
+    /// In how many chunks they lie, at most 1,024; 0 where it moves no bytes.
+    pub chunks: u32,
     /// Whether it has the hint to keep its bytes out of the page cache.
     pub hint: bool,
     /// Whether it passes the page cache by.
@@ -42,18 +54,48 @@ pub struct Window {
 }
 
 impl Window {
-    /// An operation on a socket or a listener, or a sync: all of it but the bytes.
-    pub(crate) fn plain(kind: Opcode, target: usize, length: u32) -> Window
-        ensures { result ≡ record { kind = kind; target = target; offset = 0; length = length; hint = false; direct = false; dsync = false } }
+    /// An operation that has no place in a file, or a sync: bytes in so many chunks, or none.
+    pub(crate) fn plain(kind: Opcode, target: u32, length: u32, chunks: u32) -> Window
+        ensures { result ≡ plain_window kind target length chunks }
     {
         Window {
             kind,
             target,
             offset: 0,
             length,
+            chunks,
             hint: false,
             direct: false,
             dsync: false,
+        }
+    }
+
+    /// The cancel of the operation with this user data.
+    pub fn cancel(user_data: u64) -> Window
+        ensures { result ≡ cancel_window user_data }
+    {
+        Window {
+            offset: user_data,
+            ..Window::plain(Opcode::Cancel, 0, 0, 0)
+        }
+    }
+
+    /// The poll by which a ring is woken.
+    pub fn wake() -> Window
+        ensures { result ≡ wake_window }
+    {
+        Window::plain(Opcode::Wake, 0, 0, 0)
+    }
+
+    /// The largest count that the kernel may answer: the window's bytes, and what a result can say where it moves none.
+    pub fn most(self) -> u64
+        ensures { result ≡ most_of self }
+    {
+        match self.kind {
+            Opcode::Send | Opcode::Recv | Opcode::Read | Opcode::Write => self.length as u64,
+            Opcode::Sync | Opcode::Connect | Opcode::Poll | Opcode::Cancel | Opcode::Wake => {
+                LARGEST_COUNT
+            }
         }
     }
 }

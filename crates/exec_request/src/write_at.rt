@@ -3,24 +3,19 @@
 //! It is durable in no way, or each of its operations is durable by itself, or one sync trails them all. The trailing
 //! sync begins once every byte is written, and what its results count is no bytes.
 
-ghost use Rattle.std.specs.Prelude.{◌≡◌, ℕ, ◌+◌, ◌-◌, ◌<◌, ◌^◌, IsTrue, true, false};
-ghost use Rattle.exec_outcomes.specs.Lawful.{is_lawful};
-ghost use Rattle.exec_outcomes.specs.Outcomes.{outcome_next};
-ghost use Rattle.exec_outcomes.specs.declared.outcome.Kind.TheVariants.{Write, Dsync, Many};
-ghost use Rattle.exec_request.specs.Buffers.{length_of, moved_of, owners_of, is_sound};
+ghost use Rattle.std.specs.Prelude.{◌≡◌, ◌+◌, ◌-◌, ◌<◌, ◌^◌, true};
+ghost use Rattle.exec_request.specs.Buffers.{length_of, moved_of, is_sound};
+ghost use Rattle.exec_request.specs.Syncing.{is_syncing};
 
 use crate::buffers::WriteBuffers;
 use crate::cache::Cache;
+use crate::judge::judge;
 use crate::open_record::{OpenRecord, kept_as};
-use crate::output::{RequestOutput, RetiredResources, to_result};
-use crate::results::{
-    INTERRUPTED, LARGEST_COUNT, LARGEST_WINDOW, UNSUPPORTED, WOULD_BLOCK, WaiterState, another,
-    counted_by, handed_on,
-};
-use crate::sync::judge_sync;
+use crate::output::{RequestOutput, RetiredResources};
+use crate::results::{LARGEST_COUNT, LARGEST_WINDOW, WaiterState, counted_by};
 use crate::window::{Opcode, Window};
 use exec_base::error::Error;
-use exec_outcomes::outcome::{OpResult, Outcome};
+use exec_outcomes::outcome::{Kind, OpResult};
 
 /// How durable a write is, and how far. Ports `WriteAtState`.
 #[derive(Clone, Copy, Debug, PartialEq, Eq)]
@@ -36,7 +31,18 @@ pub enum WriteAtState {
 }
 
 impl WriteAtState {
-    ghost use Rattle.exec_request.specs.Syncing.{is_syncing};
+    ghost use Rattle.exec_request.specs.Syncing.{is_syncing, write_kind};
+
+    /// The kind of a write that is so durable.
+    pub fn kind(self) -> Kind
+        ensures { result ≡ write_kind self }
+    {
+        match self {
+            WriteAtState::Writing => Kind::Write,
+            WriteAtState::WritingSync => Kind::Dsync,
+            WriteAtState::WritingBeforeSync | WriteAtState::Syncing => Kind::Many,
+        }
+    }
 
     /// Whether the trailing sync has begun.
     pub fn is_syncing(self) -> bool
@@ -63,21 +69,25 @@ pub struct WriteAtRequest {
     pub seen: u64,
     pub ghost sound: { is_sound write ≡ true },
     pub ghost ends: { offset + (length_of write - moved_of write) < 2 ^ 64 },
+    pub ghost written: { is_syncing state ≡ true → moved_of write ≡ length_of write },
 }
 
 impl WriteAtRequest {
-    ghost use Rattle.std.specs.Prelude.{◌≤◌, ◌&&◌, Bool, Some, if◌then◌else◌};
-    ghost use Rattle.exec_outcomes.specs.Lawful.{window_of};
-    ghost use Rattle.exec_outcomes.specs.Outcomes.{cursor_next, is_unsupported};
+    ghost use Rattle.std.specs.Prelude.{◌≤◌, ◌&&◌, Bool, IsTrue, Some, if◌then◌else◌};
+    ghost use Rattle.exec_outcomes.specs.Lawful.{is_lawful, window_of};
+    ghost use Rattle.exec_outcomes.specs.Outcomes.{cursor_next, is_unsupported, outcome_next};
+    ghost use Rattle.exec_outcomes.specs.declared.outcome.Outcome.TheVariants.{Success};
     ghost use Rattle.exec_request.specs.Hints.{asks_hint, has_hint, cache_for, without_hint};
-    ghost use Rattle.exec_request.specs.States.{result_of, told_by, account_by};
+    ghost use Rattle.exec_request.specs.States.{as_outcome, as_answer, result_of, told_by, account_by};
+    ghost use Rattle.exec_request.specs.Kept.{write_kept};
     ghost use Rattle.exec_request.specs.Judging.{Judges, judged_as};
     ghost use Rattle.exec_outcomes.specs.Accounts.{account_after, after_success, after_failure, outcome_told};
-    ghost use Rattle.exec_request.specs.Syncing.{is_syncing, write_kind};
+    ghost use Rattle.exec_request.specs.Syncing.{write_kind};
+    ghost use Rattle.exec_request.specs.Windows.{most_of};
     ghost use Rattle.exec_request.specs.Views.{write_asked, write_cursor, write_hinted, write_window};
 
     /// A write of these bytes, some of which may have been written already, from `offset` on. `seen` is what
-    /// `begin_sync` of the open's record answered.
+    /// `begin_sync` of the open's record answered. A trailing sync begins only where all is written.
     pub fn new(
         file: u32,
         offset: u64,
@@ -88,6 +98,7 @@ impl WriteAtRequest {
     ) -> Self
         requires sound { is_sound write ≡ true }
         requires ends { offset + (length_of write - moved_of write) < 2 ^ 64 }
+        requires written { is_syncing state ≡ true → moved_of write ≡ length_of write }
         ensures file { result.file ≡ file }
         ensures offset { result.offset ≡ offset }
         ensures write { result.write ≡ write }
@@ -105,30 +116,38 @@ impl WriteAtRequest {
         }
     }
 
-    /// What the next operation asks of the kernel. A request gives up the hint that its open has given up.
-    pub fn build_sqe(&mut self, open_: &Option<OpenRecord>) -> Window
-        ensures window { result ≡ write_window (has_hint open_.now) self.old }
-        ensures left { result.length ≤ window_of (write_asked self.old) (write_cursor self.old) }
-        ensures cache { self.new.cache ≡ (if is_syncing self.old.state then self.old.cache else cache_for (has_hint open_.now) self.old.cache) }
-        ensures write { self.new.write ≡ self.old.write }
-        ensures state { self.new.state ≡ self.old.state }
-        ensures offset { self.new.offset ≡ self.old.offset }
-        ensures seen { self.new.seen ≡ self.old.seen }
-        ensures file { self.new.file ≡ self.old.file }
+    /// What the next operation will ask of the kernel. Nothing changes.
+    pub fn window(&self, open_: &Option<OpenRecord>) -> Window
+        ensures window { result ≡ write_window (has_hint open_.now) self.now }
+        ensures left { most_of result ≤ window_of (write_asked self.now) (write_cursor self.now) }
     {
         if self.state.is_syncing() {
-            return Window::plain(Opcode::Sync, self.file as usize, 0);
+            return Window::plain(Opcode::Sync, self.file, 0, 0);
         }
-        let hint = self.cache.rw_flag(open_);
         Window {
             kind: Opcode::Write,
-            target: self.file as usize,
+            target: self.file,
             offset: self.offset,
             length: self.write.batch_len() as u32,
-            hint,
+            chunks: self.write.batch_chunks(),
+            hint: self.cache.rw_flag(open_),
             direct: false,
             dsync: matches!(self.state, WriteAtState::WritingSync),
         }
+    }
+
+    /// What the next operation asks of the kernel. A request gives up the hint that its open has given up.
+    pub fn build_sqe(&mut self, open_: &Option<OpenRecord>) -> Window
+        ensures window { result ≡ write_window (has_hint open_.now) self.old }
+        ensures left { most_of result ≤ window_of (write_asked self.old) (write_cursor self.old) }
+        ensures again { write_window true self.new ≡ result }
+        ensures after { self.new ≡ record self.old { cache = if is_syncing self.old.state then self.old.cache else cache_for (has_hint open_.now) self.old.cache } }
+    {
+        let window = self.window(open_);
+        if !self.state.is_syncing() {
+            self.cache.give_up(open_);
+        }
+        window
     }
 
     /// Whether its last operation had the hint.
@@ -145,15 +164,11 @@ impl WriteAtRequest {
         state: WaiterState,
         given: OpResult,
         open_: &mut Option<OpenRecord>,
-    ) -> Option<Outcome>
+    ) -> Option<Result<(), Error>>
         requires lawful { IsTrue (is_lawful (window_of (write_asked self.old) (write_cursor self.old)) given) }
-        ensures judges { Judges (write_asked self.old) (write_cursor self.old) (write_cursor self.new) (judged_as (write_hinted self.old) state given) result }
-        ensures asked { write_asked self.new ≡ write_asked self.old }
-        ensures owners { owners_of self.new.write ≡ owners_of self.old.write }
-        ensures range { self.new.offset + moved_of self.old.write ≡ self.old.offset + moved_of self.new.write }
+        ensures judges { Judges (write_asked self.old) (write_cursor self.old) (write_cursor self.new) (judged_as (write_hinted self.old) state given) (as_answer result) }
+        ensures kept { write_kept self.new ≡ write_kept self.old }
         ensures open { open_.new ≡ (if write_hinted self.old && is_unsupported given then without_hint open_.old else open_.old) }
-        ensures file { self.new.file ≡ self.old.file }
-        ensures seen { self.new.seen ≡ self.old.seen }
     {
         let hinted = self.is_hinted();
         let outcome = self.judge(state.is_cancelled(), given);
@@ -175,10 +190,10 @@ impl WriteAtRequest {
     /// Ends the request: what is told of it, and all that it owned. The record of its open takes its end in.
     pub fn complete(
         self,
-        ended: Outcome,
+        ended: Result<(), Error>,
         open_: &mut Option<OpenRecord>,
     ) -> (RequestOutput, RetiredResources)
-        ensures told { result.0 ≡ RequestOutput.WriteAt (result_of (told_by (write_kind self.state) ended open_.old)) }
+        ensures told { result.0 ≡ RequestOutput.WriteAt (told_by (write_kind self.state) ended open_.old) }
         ensures retired { result.1 ≡ RetiredResources.File self.file (Some self.write) }
         ensures open { open_.new ≡ account_by self.file (is_syncing self.state) self.seen (write_kind self.state) ended open_.old }
     {
@@ -190,45 +205,44 @@ impl WriteAtRequest {
             file: self.file,
             write: Some(self.write),
         };
-        (RequestOutput::WriteAt(to_result(told)), retired)
+        (RequestOutput::WriteAt(told), retired)
     }
 
     /// Ends the request with this outcome, which the record of its open takes in. Answers what is told of it:
     /// a failure of the open in place of a durable success. Ports `wrote` of an open, with the end of a trailing
     /// sync.
-    pub(crate) fn settle(&self, ended: Outcome, books: &mut OpenRecord) -> Outcome
-        ensures account { books.new ≡ account_after self.now.file (is_syncing self.now.state) self.now.seen (write_kind self.now.state) ended books.old }
-        ensures told { result ≡ outcome_told (write_kind self.now.state) books.old ended }
+    pub(crate) fn settle(
+        &self,
+        ended: Result<(), Error>,
+        books: &mut OpenRecord,
+    ) -> Result<(), Error>
+        ensures account { books.new ≡ account_after self.now.file (is_syncing self.now.state) self.now.seen (write_kind self.now.state) (as_outcome ended) books.old }
+        ensures told { result ≡ result_of (outcome_told (write_kind self.now.state) books.old (as_outcome ended)) }
     {
         match ended {
-            Outcome::Success => self.settle_success(books),
-            Outcome::Failure(error) => {
+            Ok(()) => self.settle_success(books),
+            Err(error) => {
                 self.settle_failure(error, books);
-                ended
+                Err(error)
             }
         }
     }
 
     /// All was written, and made durable as asked.
-    fn settle_success(&self, books: &mut OpenRecord) -> Outcome
+    fn settle_success(&self, books: &mut OpenRecord) -> Result<(), Error>
         ensures account { books.new ≡ after_success self.now.seen (write_kind self.now.state) books.old }
-        ensures told { result ≡ outcome_told (write_kind self.now.state) books.old Outcome.Success }
+        ensures told { result ≡ result_of (outcome_told (write_kind self.now.state) books.old Success) }
     {
         match self.state {
             WriteAtState::Writing => {
                 books.complete();
-                Outcome::Success
+                Ok(())
             }
             WriteAtState::WritingSync => match books.failure() {
-                Some(error) => Outcome::Failure(error),
-                None => Outcome::Success,
+                Some(error) => Err(error),
+                None => Ok(()),
             },
-            WriteAtState::WritingBeforeSync | WriteAtState::Syncing => {
-                match books.end_sync(self.seen) {
-                    Ok(()) => Outcome::Success,
-                    Err(error) => Outcome::Failure(error),
-                }
-            }
+            WriteAtState::WritingBeforeSync | WriteAtState::Syncing => books.end_sync(self.seen),
         }
     }
 
@@ -251,11 +265,7 @@ impl WriteAtRequest {
         requires lawful { IsTrue (is_lawful (window_of (write_asked self.old) (write_cursor self.old)) given) }
         ensures cursor { (cancelled : Bool) → let next = cursor_next (write_asked self.old) (write_cursor self.old) (record { result = given; hinted = write_hinted self.old; cancelled = cancelled }) in
             ((if is_syncing self.new.state then 0 else moved_of self.new.write) ≡ next.moved) × (is_syncing self.new.state ≡ next.switched) }
-        ensures asked { write_asked self.new ≡ write_asked self.old }
-        ensures owners { owners_of self.new.write ≡ owners_of self.old.write }
-        ensures range { self.new.offset + moved_of self.old.write ≡ self.old.offset + moved_of self.new.write }
-        ensures file { self.new.file ≡ self.old.file }
-        ensures seen { self.new.seen ≡ self.old.seen }
+        ensures kept { write_kept self.new ≡ write_kept self.old }
         ensures cache { self.new.cache ≡ self.old.cache }
     {
         if self.state.is_syncing() {
@@ -271,56 +281,20 @@ impl WriteAtRequest {
     }
 
     /// What one more result means.
-    fn judge(&self, cancelled: bool, given: OpResult) -> Option<Outcome>
+    fn judge(&self, cancelled: bool, given: OpResult) -> Option<Result<(), Error>>
         requires { IsTrue (is_lawful (window_of (write_asked self.now) (write_cursor self.now)) given) }
-        ensures { result ≡ outcome_next (write_asked self.now) (write_cursor self.now) (record { result = given; hinted = write_hinted self.now; cancelled = cancelled }) }
+        ensures { as_answer result ≡ outcome_next (write_asked self.now) (write_cursor self.now) (record { result = given; hinted = write_hinted self.now; cancelled = cancelled }) }
     {
-        let left = self.write.remaining_len() as u64;
-        let hinted = self.cache.is_disabled();
-        match self.state {
-            WriteAtState::Writing => judge_plain(left, hinted, cancelled, given),
-            WriteAtState::WritingSync => judge_durable(left, hinted, cancelled, given),
-            WriteAtState::WritingBeforeSync => judge_first(hinted, cancelled, given),
-            WriteAtState::Syncing => judge_sync(cancelled, given),
+        if self.state.is_syncing() {
+            return judge(Kind::Sync, 1, false, cancelled, given);
         }
-    }
-}
-
-/// What one more result of a write that isn't durable means where so many bytes are left.
-fn judge_plain(left: u64, hinted: bool, cancelled: bool, given: OpResult) -> Option<Outcome>
-    ensures { result ≡ outcome_next (record { kind = Write; length = left; skip = 0 }) (record { moved = 0; switched = false; hinted = hinted }) (record { result = given; hinted = hinted; cancelled = cancelled }) }
-{
-    match given {
-        OpResult::Count(0) => Some(Outcome::Failure(Error::WriteFailed)),
-        OpResult::Count(count) if count >= left => Some(Outcome::Success),
-        OpResult::Count(_) | OpResult::Errno(INTERRUPTED | WOULD_BLOCK) => another(cancelled),
-        OpResult::Errno(UNSUPPORTED) if hinted => another(cancelled),
-        OpResult::Errno(_) => Some(Outcome::Failure(Error::WriteFailed)),
-    }
-}
-
-/// What one more result of a write means whose operations are durable, where so many bytes are left.
-fn judge_durable(left: u64, hinted: bool, cancelled: bool, given: OpResult) -> Option<Outcome>
-    requires { IsTrue (is_lawful 2147483647 given) }
-    ensures { result ≡ outcome_next (record { kind = Dsync; length = left; skip = 0 }) (record { moved = 0; switched = false; hinted = hinted }) (record { result = given; hinted = hinted; cancelled = cancelled }) }
-{
-    match given {
-        OpResult::Count(0) => Some(Outcome::Failure(Error::WriteFailed)),
-        OpResult::Count(count) if count >= left => Some(Outcome::Success),
-        OpResult::Count(_) | OpResult::Errno(INTERRUPTED | WOULD_BLOCK) => another(cancelled),
-        OpResult::Errno(UNSUPPORTED) if hinted => another(cancelled),
-        OpResult::Errno(code) => handed_on(code),
-    }
-}
-
-/// What one more result of a write means that a sync will follow, of which nothing has come yet: no bytes end it well.
-fn judge_first(hinted: bool, cancelled: bool, given: OpResult) -> Option<Outcome>
-    ensures { (left : ℕ) → result ≡ outcome_next (record { kind = Many; length = left; skip = 0 }) (record { moved = 0; switched = false; hinted = hinted }) (record { result = given; hinted = hinted; cancelled = cancelled }) }
-{
-    match given {
-        OpResult::Count(0) => Some(Outcome::Failure(Error::WriteFailed)),
-        OpResult::Count(_) | OpResult::Errno(INTERRUPTED | WOULD_BLOCK) => another(cancelled),
-        OpResult::Errno(UNSUPPORTED) if hinted => another(cancelled),
-        OpResult::Errno(_) => Some(Outcome::Failure(Error::WriteFailed)),
+        let left = self.write.remaining_len() as u64;
+        judge(
+            self.state.kind(),
+            left,
+            self.cache.is_disabled(),
+            cancelled,
+            given,
+        )
     }
 }

@@ -3,6 +3,7 @@ use Rattle.exec_outcomes.specs.declared.outcome.Judged.{Judged}
 use Rattle.exec_outcomes.specs.declared.outcome.Kind.TheVariants.{Recv, Fill}
 use Rattle.exec_outcomes.specs.Outcomes.{Cursor, Part, outcome_next, bytes_of, passes_on, moves_bytes}
 use Rattle.exec_request.specs.Judging.{judged_as}
+use Rattle.exec_request.specs.States.{as_answer}
 use Rattle.exec_request.specs.Views.{recv_asked, recv_cursor}
 use Rattle.exec_request.proofs.Judging.{judges, cursor_next-plain}
 use Rattle.exec_request.proofs.recv.RecvRequest.on_cqe.Goals as goal
@@ -25,6 +26,6 @@ returns-clause-judges c =
     let n = bytes_of c.args.given in
     let more : (s.offset + c.counted_by.result) - s.start ≡ (s.offset - s.start) + n = omega (arith, c.counted_by.ensures, s.begun) in
     let moved : (s.offset + c.counted_by.result) - s.start ≡ (s.offset - s.start) + (if moves_bytes (if s.exact then Fill else Recv) then n else 0) = more ∙ ap (λ b. (s.offset - s.start) + (if b then n else 0)) (sym (counts s.exact)) in
-    judges asked before (at ((s.offset + c.counted_by.result) - s.start)) (judged_as false c.args.state c.args.given) c.judge-outcome.result
+    judges asked before (at ((s.offset + c.counted_by.result) - s.start)) (judged_as false c.args.state c.args.given) (as_answer c.judge-outcome.result)
     (c.judge-outcome.ensures ∙ ap (λ b. outcome_next asked before (record { result = c.args.given; hinted = false; cancelled = b })) c.is_cancelled.ensures)
     (ap at moved ∙ sym (cursor_next-plain asked (s.offset - s.start) false false (judged_as false c.args.state c.args.given) (λ x. one_part s.exact _ x))) (λ h. h)

@@ -1,23 +1,35 @@
-use Rattle.std.proofs.Common.{ℕ, Bool, false, not, ◌-◌, ◌&&◌, Option, refl, sym, ap, ◌∙◌, if◌then◌else◌}
+use Rattle.std.proofs.Common.{◌≡◌, ℕ, Bool, true, false, ◌-◌, ap, sym, ◌∙◌, arith, Option, if◌then◌else◌}
 use Rattle.exec_outcomes.specs.declared.outcome.Outcome.{Outcome}
-use Rattle.exec_outcomes.specs.declared.outcome.Kind.TheVariants.{Many}
-use Rattle.exec_outcomes.specs.Outcomes.{outcome_next}
+use Rattle.exec_outcomes.specs.declared.outcome.Kind.{Kind}
+use Rattle.exec_outcomes.specs.declared.outcome.Kind.TheVariants.{Sync}
 use Rattle.exec_request.specs.Buffers.{length_of, moved_of}
 use Rattle.exec_request.specs.Hints.{asks_hint}
+use Rattle.exec_request.specs.Judging.{judged_alone}
 use Rattle.exec_request.specs.Syncing.{write_kind, is_syncing}
-use Rattle.exec_request.specs.declared.write_at.WriteAtState.{WriteAtState}
-use Rattle.exec_request.proofs.Left.{outcome-left}
+use Rattle.exec_request.proofs.Left.{of_write}
 use Rattle.exec_request.proofs.write_at.WriteAtRequest.judge.Goals as goal
 
-pub returns-in-WritingBeforeSync : goal.returns-in-WritingBeforeSync
-returns-in-WritingBeforeSync c =
+pub returns-then-is_syncing : goal.returns-then-is_syncing
+returns-then-is_syncing c =
     let s = c.args.self.now in
     let n : ℕ = length_of s.write in
     let m : ℕ = moved_of s.write in
     let h : Bool = asks_hint s.cache in
-    let by : Bool → Option Outcome = λ b. outcome_next (record { kind = Many; length = n - m; skip = 0 }) (record { moved = 0; switched = false; hinted = b }) (record { result = c.args.given; hinted = b; cancelled = c.args.cancelled }) in
-    let at : WriteAtState → Option Outcome = λ st. outcome_next (record { kind = write_kind st; length = n; skip = 0 }) (record { moved = if is_syncing st then 0 else m; switched = is_syncing st; hinted = h }) (record { result = c.args.given; hinted = not (is_syncing st) && h; cancelled = c.args.cancelled }) in
-    c.judge_first.ensures (n - m)
-    ∙ (ap by c.is_disabled-hinted.ensures
-    ∙ (sym (outcome-left Many n 0 (n - m) m h h refl (record { result = c.args.given; hinted = h; cancelled = c.args.cancelled }))
-    ∙ ap at (sym c.in-WritingBeforeSync.is)))
+    let by : Bool → Option Outcome = λ b. if b then judged_alone Sync 1 false c.args.cancelled c.args.given else judged_alone (write_kind s.state) (n - m) h c.args.cancelled c.args.given in
+    let syncing : is_syncing s.state ≡ true = sym c.is_syncing.ensures ∙ c.if-is_syncing.true in
+    c.judge.ensures ∙ sym (of_write s.state n m h c.args.cancelled c.args.given ∙ ap by syncing)
+
+pub returns : goal.returns
+returns c =
+    let s = c.args.self.now in
+    let n : ℕ = length_of s.write in
+    let m : ℕ = moved_of s.write in
+    let h : Bool = asks_hint s.cache in
+    let by : Bool → Option Outcome = λ b. if b then judged_alone Sync 1 false c.args.cancelled c.args.given else judged_alone (write_kind s.state) (n - m) h c.args.cancelled c.args.given in
+    let syncing : is_syncing s.state ≡ false = sym c.is_syncing.ensures ∙ c.if-is_syncing.false in
+    let left : c.remaining_len-left.result ≡ n - m = omega (arith, c.remaining_len-left.ensures) in
+    c.judge-2.ensures
+    ∙ (ap (λ k. judged_alone k c.remaining_len-left.result c.is_disabled.result c.args.cancelled c.args.given) c.kind.ensures
+    ∙ (ap (λ k. judged_alone (write_kind s.state) k c.is_disabled.result c.args.cancelled c.args.given) left
+    ∙ (ap (λ b. judged_alone (write_kind s.state) (n - m) b c.args.cancelled c.args.given) c.is_disabled.ensures
+    ∙ sym (of_write s.state n m h c.args.cancelled c.args.given ∙ ap by syncing))))

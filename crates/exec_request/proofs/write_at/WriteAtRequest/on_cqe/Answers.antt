@@ -1,7 +1,7 @@
 use Rattle.std.proofs.Common.{◌≡◌, ℕ, Bool, not, ◌&&◌, ap, ◌∙◌, if◌then◌else◌}
 use Rattle.std.proofs.lemmas.Bool.{and_parts}
 use Rattle.exec_outcomes.specs.Outcomes.{Cursor, outcome_next, cursor_next, is_unsupported}
-use Rattle.exec_request.specs.States.{asks_cancel}
+use Rattle.exec_request.specs.States.{asks_cancel, as_answer}
 use Rattle.exec_request.specs.Hints.{asks_hint}
 use Rattle.exec_request.specs.Buffers.{moved_of}
 use Rattle.exec_request.specs.Syncing.{is_syncing}
@@ -24,7 +24,7 @@ returns-clause-judges c =
     let cache : c.fallback.new.self ≡ given_up (hinted && is_unsupported c.args.given) s.cache =
     c.fallback.ensures.cache ∙ (ap (λ b. given_up (b && is_unsupported c.args.given) t.cache) c.is_hinted-hinted.ensures ∙ ap (λ k. given_up (hinted && is_unsupported c.args.given) k) c.go_on.ensures.cache) in
     let hint : asks_hint c.fallback.new.self ≡ next.hinted = ap asks_hint cache ∙ hint_left s.cache (not (is_syncing s.state)) (is_unsupported c.args.given) in
-    judges asked before (at (if is_syncing t.state then 0 else moved_of t.write) (is_syncing t.state) (asks_hint c.fallback.new.self)) r c.judge-outcome.result
+    judges asked before (at (if is_syncing t.state then 0 else moved_of t.write) (is_syncing t.state) (asks_hint c.fallback.new.self)) r (as_answer c.judge-outcome.result)
     (c.judge-outcome.ensures ∙ ap (λ b. outcome_next asked before (record { result = c.args.given; hinted = hinted; cancelled = b })) c.is_cancelled.ensures)
     (ap (λ m. at m (is_syncing t.state) (asks_hint c.fallback.new.self)) by.0 ∙ (ap (λ b. at next.moved b (asks_hint c.fallback.new.self)) by.1 ∙ ap (at next.moved next.switched) hint))
     (λ h. (and_parts (not (is_syncing s.state)) (asks_hint s.cache) h).1)

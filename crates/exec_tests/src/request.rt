@@ -1,24 +1,23 @@
 //! Requests from their making to their end, with the windows and answers that the original gave.
 
-use crate::buffers::WriteBuffers;
-use crate::cache::Cache;
-use crate::connect::{ConnectRequest, SockAddr};
-use crate::open_record::OpenRecord;
-use crate::output::{RequestOutput, RetiredResources};
-use crate::poll::PollRequest;
-use crate::read_at::ReadAtRequest;
-use crate::recv::RecvRequest;
-use crate::request::Request;
-use crate::results::WaiterState;
-use crate::send::SendRequest;
-use crate::sync::SyncRequest;
-use crate::window::{Opcode, Window};
-use crate::write_at::{WriteAtRequest, WriteAtState};
 use exec_base::error::{Cause, Error};
 use exec_bufs::buf::{IoBuf, IoBufMut};
 use exec_bufs::bufs::IoBufs;
 use exec_outcomes::outcome::OpResult::{self, Count, Errno};
-use exec_outcomes::outcome::Outcome::{self, Failure, Success};
+use exec_request::buffers::WriteBuffers;
+use exec_request::cache::Cache;
+use exec_request::connect::{ConnectRequest, SockAddr};
+use exec_request::open_record::OpenRecord;
+use exec_request::output::{RequestOutput, RetiredResources};
+use exec_request::poll::PollRequest;
+use exec_request::read_at::ReadAtRequest;
+use exec_request::recv::RecvRequest;
+use exec_request::request::Request;
+use exec_request::results::WaiterState;
+use exec_request::send::SendRequest;
+use exec_request::sync::SyncRequest;
+use exec_request::window::{Opcode, Window};
+use exec_request::write_at::{WriteAtRequest, WriteAtState};
 use std::alloc::Global;
 use std::process::Abort;
 use std::test::Fail;
@@ -27,15 +26,15 @@ use std::test::Fail;
 type Wanted = (Opcode, u64, u32, bool, bool, bool);
 
 /// An operation that is asked for, its result, and what the request answered.
-type Turn = (Wanted, OpResult, Option<Outcome>);
+type Turn = (Wanted, OpResult, Option<Result<(), Error>>);
 
 const ACTIVE: WaiterState = WaiterState::Active { target_tick: None };
 
 const CANCELLED: WaiterState = WaiterState::CancelRequested;
 
-const MORE: Option<Outcome> = None;
+const MORE: Option<Result<(), Error>> = None;
 
-const OK: Option<Outcome> = Some(Success);
+const OK: Option<Result<(), Error>> = Some(Ok(()));
 
 const SYNCS: Wanted = (Opcode::Sync, 0, 0, false, false, false);
 
@@ -43,8 +42,8 @@ const CONNECTS: Wanted = (Opcode::Connect, 0, 0, false, false, false);
 
 const POLLS: Wanted = (Opcode::Poll, 0, 0, false, false, false);
 
-fn fails(error: Error) -> Option<Outcome> {
-    Some(Failure(error))
+fn fails(error: Error) -> Option<Result<(), Error>> {
+    Some(Err(error))
 }
 
 fn sends(length: u32) -> Wanted {
@@ -81,6 +80,7 @@ fn play(
             target: _,
             offset,
             length,
+            chunks: _,
             hint,
             direct,
             dsync,
@@ -150,7 +150,7 @@ fn sends_of_ten_bytes(rt: HostRuntime) -> Result<(), Fail> {
         ),
         (Some(1_000), false, None)
     );
-    let (told, retired) = request.complete(Success, &mut none);
+    let (told, retired) = request.complete(Ok(()), &mut none);
     assert!(rt; matches!(told, RequestOutput::Send(Ok(()))));
     assert!(rt;
         matches!(
@@ -201,7 +201,7 @@ fn exact_receives_whose_deadline_passes(rt: HostRuntime) -> Result<(), Fail> {
         CANCELLED,
         &[(receives(5), Count(2), fails(Error::Timeout))],
     );
-    let (told, retired) = request.complete(Failure(Error::Timeout), &mut none);
+    let (told, retired) = request.complete(Err(Error::Timeout), &mut none);
     assert!(rt; matches!(told, RequestOutput::Recv(Err((_, Error::Timeout)))));
     assert!(rt; matches!(retired, RetiredResources::Socket { fd: 4 }));
     let mut request = fill(rt.alloc())?;
@@ -219,7 +219,7 @@ fn exact_receives_whose_deadline_passes(rt: HostRuntime) -> Result<(), Fail> {
         CANCELLED,
         &[(receives(5), Count(5), OK)],
     );
-    let (told, _) = request.complete(Success, &mut none);
+    let (told, _) = request.complete(Ok(()), &mut none);
     assert!(rt; matches!(told, RequestOutput::Recv(Ok((_, 8)))));
     Ok(())
 }
@@ -229,12 +229,12 @@ fn cancelled_connects_and_polls(rt: HostRuntime) {
     let mut none = None;
     let address = SockAddr::V4([127, 0, 0, 1], 80);
     let answers = [
-        (Count(0), Success),
-        (Errno(106), Success),
-        (Count(1), Failure(Error::ConnectionFailed)),
-        (Errno(114), Failure(Error::Timeout)),
-        (Errno(125), Failure(Error::Timeout)),
-        (Errno(111), Failure(Error::Io(Cause::Code(111)))),
+        (Count(0), Ok(())),
+        (Errno(106), Ok(())),
+        (Count(1), Err(Error::ConnectionFailed)),
+        (Errno(114), Err(Error::Timeout)),
+        (Errno(125), Err(Error::Timeout)),
+        (Errno(111), Err(Error::Io(Cause::Code(111)))),
     ];
     for (given, outcome) in answers {
         let mut request = Request::Connect(ConnectRequest::new(5, address, None));
@@ -263,7 +263,7 @@ fn cancelled_connects_and_polls(rt: HostRuntime) {
         CANCELLED,
         &[(POLLS, Count(1), OK)],
     );
-    let (told, retired) = request.complete(Success, &mut none);
+    let (told, retired) = request.complete(Ok(()), &mut none);
     assert!(rt; matches!(told, RequestOutput::Poll(Ok(()))));
     assert!(rt; matches!(retired, RetiredResources::Listener { fd: 6 }));
 }
@@ -285,7 +285,7 @@ fn direct_reads(rt: HostRuntime) -> Result<(), Fail> {
         ACTIVE,
         &[(reads_directly(4096, 4096), Count(3904), OK)],
     );
-    let (told, retired) = request.complete(Success, &mut open_);
+    let (told, retired) = request.complete(Ok(()), &mut open_);
     assert!(rt;
         matches!(
             retired,
@@ -384,7 +384,7 @@ fn reads_with_the_hint(rt: HostRuntime) -> Result<(), Fail> {
             (reads(0, 100, false), Errno(95), fails(Error::ReadFailed)),
         ],
     );
-    let (told, _) = request.complete(Failure(Error::ReadFailed), &mut open_);
+    let (told, _) = request.complete(Err(Error::ReadFailed), &mut open_);
     let RequestOutput::ReadAt(Err((buf, error))) = told else {
         panic!(rt; "no error");
     };
@@ -404,7 +404,7 @@ fn write(
         None => 0,
     };
     let write = WriteBuffers::from(chunks(alloc, 1, length)?);
-    if write.remaining_len() > 1 << 50 {
+    if write.remaining_len() > 1 << 50 || state.is_syncing() {
         return Err(Fail::from(Error::Full));
     }
     Ok(Request::WriteAt(WriteAtRequest::new(2, 0, write, state, Cache::Enabled, seen)))
@@ -412,9 +412,9 @@ fn write(
 
 #[test]
 fn writes_with_a_trailing_sync(rt: HostRuntime) -> Result<(), Fail> {
-    let io = Failure(Error::Io(Cause::Code(5)));
+    let io = Err(Error::Io(Cause::Code(5)));
     let kept = Error::BlobSyncFailed(2, Cause::Code(5));
-    for (last, outcome) in [(Count(0), Success), (Errno(5), io)] {
+    for (last, outcome) in [(Count(0), Ok(())), (Errno(5), io)] {
         let mut open_ = Some(OpenRecord::new());
         let mut request = write(rt.alloc(), 10, WriteAtState::WritingBeforeSync, &open_)?;
         assert_eq!(rt;
@@ -433,7 +433,7 @@ fn writes_with_a_trailing_sync(rt: HostRuntime) -> Result<(), Fail> {
             ],
         );
         let (told, _) = request.complete(outcome, &mut open_);
-        if outcome == Success {
+        if outcome.is_ok() {
             assert!(rt; matches!(told, RequestOutput::WriteAt(Ok(()))));
             shows(&rt, &open_, 0, false, true, None);
         } else {
@@ -446,7 +446,7 @@ fn writes_with_a_trailing_sync(rt: HostRuntime) -> Result<(), Fail> {
 
 #[test]
 fn durable_requests_after_a_failure(rt: HostRuntime) -> Result<(), Fail> {
-    let io = Failure(Error::Io(Cause::Code(5)));
+    let io = Err(Error::Io(Cause::Code(5)));
     let kept = Error::BlobSyncFailed(2, Cause::Code(5));
     let mut open_ = Some(OpenRecord::new());
     let mut first = write(rt.alloc(), 8, WriteAtState::WritingSync, &open_)?;
@@ -473,7 +473,7 @@ fn durable_requests_after_a_failure(rt: HostRuntime) -> Result<(), Fail> {
     if let Request::WriteAt(write) = &second {
         assert!(rt; write.state == WriteAtState::WritingSync);
     }
-    let (told, _) = second.complete(Failure(kept), &mut open_);
+    let (told, _) = second.complete(Err(kept), &mut open_);
     assert!(rt;
         matches!(
             told,
@@ -481,18 +481,16 @@ fn durable_requests_after_a_failure(rt: HostRuntime) -> Result<(), Fail> {
         )
     );
     shows(&rt, &open_, 2, true, true, Some(kept));
-    let mut sync = SyncRequest::new(2, 2);
     assert_eq!(rt;
-        Request::Sync(sync).prepare_durability(&open_),
-        Some(Failure(kept))
+        Request::Sync(SyncRequest::new(2, 2)).prepare_durability(&open_),
+        Some(Err(kept))
     );
     let clean = Some(OpenRecord::new());
     assert_eq!(rt;
-        Request::Sync(sync).prepare_durability(&clean),
-        Some(Success)
+        Request::Sync(SyncRequest::new(2, 2)).prepare_durability(&clean),
+        Some(Ok(()))
     );
-    sync.seen = 1;
-    let (told, _) = Request::Sync(sync).complete(Success, &mut open_);
+    let (told, _) = Request::Sync(SyncRequest::new(2, 1)).complete(Ok(()), &mut open_);
     assert!(rt; matches!(told, RequestOutput::Sync(Err(Error::BlobSyncFailed(2, _)))));
     Ok(())
 }

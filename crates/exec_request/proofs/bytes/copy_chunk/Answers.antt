@@ -1,0 +1,26 @@
+use Rattle.std.proofs.Common.{◌≡◌, ◌++◌, ◌+◌, List, ℕ, [], Option, None, length, take, drop, get_or, ap, sym, ◌∙◌, arith, unwrap_or}
+use Rattle.std.specs.Option.{option_copied}
+use Rattle.std.specs.List.{slice_get}
+use Rattle.std.proofs.lemmas.Option.{get_or_from_slice_get, unwrap_or-slice_get}
+use Rattle.exec_request.proofs.Moving.{copied}
+use Rattle.exec_request.proofs.bytes.copy_chunk.Goals as goal
+
+pub returns-in_default-clause-count : goal.returns-in_default-clause-count
+returns-in_default-clause-count c =
+    let none : slice_get c.args.bufs.now c.args.at ≡ None = sym c.chunk_at.ensures.chunk ∙ ap option_copied c.in_default.is in
+    let empty : length (get_or c.args.bufs.now c.args.at []) ≡ 0 = sym (ap length (unwrap_or-slice_get c.args.bufs.now c.args.at [])) ∙ ap (λ o. length (unwrap_or o [])) none in
+    omega (arith, empty)
+
+pub returns-clause-count : goal.returns-clause-count
+returns-clause-count c =
+    let same : get_or c.args.bufs.now c.args.at [] ≡ c.in-Some.bytes.now = get_or_from_slice_get c.args.bufs.now c.args.at c.in-Some.bytes.now [] (sym c.chunk_at.ensures.chunk ∙ ap option_copied c.in-Some.is) in
+    omega (arith, c.min-count.ensures, c.min-from.ensures, ap length same)
+
+pub returns-clause-into : goal.returns-clause-into
+returns-clause-into c =
+    let into = c.args.into.now in
+    let done = c.args.done in
+    let n = c.min-count.result in
+    let same : get_or c.args.bufs.now c.args.at [] ≡ c.in-Some.bytes.now = get_or_from_slice_get c.args.bufs.now c.args.at c.in-Some.bytes.now [] (sym c.chunk_at.ensures.chunk ∙ ap option_copied c.in-Some.is) in
+    copied into c.in-Some.bytes.now c.copy_from_slice.new.self done c.args.skip n c.min-from.result c.min-from.ensures c.copy_from_slice.ensures.after
+    ∙ ap (λ (b : List ℕ). take done into ++ (take n (drop c.args.skip b) ++ drop (done + n) into)) (sym same)
