@@ -42,7 +42,7 @@ too_long (Some bytes) p count known held (inr many) =
     omega (arith, many.more, many.counted, held.few)
 
 no_cause : (x : Complaint) (quiet : Bool) (p : Plan) (words : List (String Global)) (source : Option (List ℕ)) (read read' : ℕ) → AskForTrace quiet words → IsSome source → HasPlan source p → (Rose read read' → ⊥) → HasCause x words source read read' → ⊥
-no_cause Usage quiet p words source read read' ask known held read_well cause = cause (quiet, ask)
+no_cause Usage quiet p words source read read' ask known held read_well cause = cause.0 (quiet, ask)
 no_cause ReadFault quiet p words source read read' ask known held read_well cause = read_well cause.1
 no_cause (TooLong count) quiet p words source read read' ask known held read_well cause = too_long source p count known held cause.1
 no_cause (Syntax line) quiet p words source read read' ask known held read_well cause =
@@ -56,16 +56,16 @@ gave_log quiet other p words source old new known held one two log =
     let same : GaveLog quiet source old new = subst (λ (x : Bool). GaveLog x source old new) (one_quiet quiet other words one two) log in
     (same, one_plan source p held same.plan same.held.text known same.held.read same.held.spelled)
 
-only : (status : ℕ) (words : List (String Global)) (source : Option (List ℕ)) (read read' : ℕ) (old new : Option (List ℕ)) (written written' : ℕ) (quiet : Bool) (p : Plan) → AskForTrace quiet words → IsSome source → HasPlan source p → (Rose read read' → ⊥) → (Rose written written' → ⊥)
-    → Explains status words source read read' old new written written' → ((status ≡ 0) × (log : GaveLog quiet source old new) × (log.plan ≡ p)) ⊎ (status ≡ 7)
-only status words source read read' old new written written' quiet p ask known held read_well wrote_well (inl done) =
-    let log = gave_log quiet done.1.0 p words source old new known held ask done.1.1 done.1.2 in inl (done.0, log.0, log.1)
-only status words source read read' old new written written' quiet p ask known held read_well wrote_well (inr (inl complaint)) =
+only : (status : ℕ) (words : List (String Global)) (source : Option (List ℕ)) (read read' : ℕ) (old new passed : Option (List ℕ)) (written written' : ℕ) (quiet : Bool) (p : Plan) → AskForTrace quiet words → IsSome source → HasPlan source p → (Rose read read' → ⊥) → (Rose written written' → ⊥)
+    → Explains status words source read read' old new passed written written' → ((status ≡ 0) × (log : GaveLog quiet source old new) × (log.plan ≡ p) × (passed ≡ new)) ⊎ (status ≡ 7)
+only status words source read read' old new passed written written' quiet p ask known held read_well wrote_well (inl done) =
+    let log = gave_log quiet done.1.quiet p words source old new known held ask done.1.asked done.1.gave in inl (done.0, log.0, log.1, done.1.passes)
+only status words source read read' old new passed written written' quiet p ask known held read_well wrote_well (inr (inl complaint)) =
     absurd (no_cause complaint.0 quiet p words source read read' ask known held read_well complaint.2.cause)
-only status words source read read' old new written written' quiet p ask known held read_well wrote_well (inr (inr (inl fault))) = absurd (wrote_well fault.1)
-only status words source read read' old new written written' quiet p ask known held read_well wrote_well (inr (inr (inr memory))) = inr memory.0
+only status words source read read' old new passed written written' quiet p ask known held read_well wrote_well (inr (inr (inl fault))) = absurd (wrote_well fault.1)
+only status words source read read' old new passed written written' quiet p ask known held read_well wrote_well (inr (inr (inr memory))) = inr memory.0
 
 -- what a status says leaves no other answer
-pub completed : (status : ℕ) (words : List (String Global)) (source : Option (List ℕ)) (read read' : ℕ) (old new : Option (List ℕ)) (written written' : ℕ) → Explains status words source read read' old new written written' → Completes status words source read read' old new written written'
-completed status words source read read' old new written written' explains =
-    record { no_other = λ quiet p ask known held read_well wrote_well. only status words source read read' old new written written' quiet p ask known held read_well wrote_well explains }
+pub completed : (status : ℕ) (words : List (String Global)) (source : Option (List ℕ)) (read read' : ℕ) (old new passed : Option (List ℕ)) (written written' : ℕ) → Explains status words source read read' old new passed written written' → Completes status words source read read' old new passed written written'
+completed status words source read read' old new passed written written' explains =
+    record { no_other = λ quiet p ask known held read_well wrote_well. only status words source read read' old new passed written written' quiet p ask known held read_well wrote_well explains }

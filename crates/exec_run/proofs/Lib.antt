@@ -1,3 +1,4 @@
 pub mod Completeness
 pub mod StepLemmas
 pub mod RunLemmas
+pub mod ReadLemmas

@@ -22,10 +22,10 @@ use Rattle.exec_run.specs.declared.trace_error.TraceError.TheVariants.{ReadFault
 use Rattle.exec_base.specs.Io.{Rose}
 use Rattle.exec_run.specs.declared.complaint.Complaint.{Complaint}
 use Rattle.exec_run.specs.Refusal.{IsTextIn, HasCause}
-use Rattle.exec_run.specs.Reading.{CannotRun}
+use Rattle.exec_run.specs.Reading.{CannotRead, CannotRun}
 use Rattle.exec_run.specs.Explains.{IsCauseOf, Explains, complaint_line}
 use Rattle.exec_run.specs.Log.{Gave, GaveFront, AreTaken, GaveFrontOfLog}
-use Rattle.exec_run.specs.Steps.{standing, Leads, Breaks, Complains}
+use Rattle.exec_run.specs.Steps.{BrokeBy, standing, Leads, Breaks, Complains}
 use Rattle.exec_run.proofs.StepLemmas.{goes_done, lines_done, none_taken, all_taken, no_front, broke_between}
 
 -- a slice of one word that is this text
@@ -104,24 +104,46 @@ none_logged quiet p old =
     record { taken = []; are_taken = none_taken p.steps; lines = []; log = record { has_lines = refl; choices = []; runs = tt; solo = refl; rests = awake }; gave = no_front old (text_of_log (told_lines quiet [])) }
 
 -- why a text is not run is why the run ends
-pub cause_of : (e : TraceError) (source : Option (List ℕ)) (text : List ℕ) (read read' written written' : ℕ) → IsTextIn source text → CannotRun e text → IsCauseOf e source read read' written written'
-cause_of ReadFault source text read read' written written' is_text cannot = absurd cannot
-cause_of (TooLong count) source text read read' written written' is_text cannot =
-    inr (record { text = text; read = is_text; plan = cannot.0; spelled = cannot.1; counted = cannot.2; more = cannot.3 })
-cause_of (Syntax line) source text read read' written written' is_text cannot = record { text = text; read = is_text; fault = cannot }
-cause_of (Config it) source text read read' written written' is_text cannot = record { text = text; read = is_text; out = cannot }
-cause_of WriteFault source text read read' written written' is_text cannot = absurd cannot
-cause_of NoMemory source text read read' written written' is_text cannot = tt
+pub cause_of : (e : TraceError) (source : Option (List ℕ)) (text : List ℕ) (read read' written written' : ℕ) → IsTextIn source text → CannotRun e text → read' ≡ read → written' ≡ written → IsCauseOf e source read read' written written'
+cause_of ReadFault source text read read' written written' is_text cannot same_read same_written = absurd cannot
+cause_of (TooLong count) source text read read' written written' is_text cannot same_read same_written =
+    (inr (record { text = text; read = is_text; plan = cannot.0; spelled = cannot.1; counted = cannot.2; more = cannot.3 }), (same_read, same_written))
+cause_of (Syntax line) source text read read' written written' is_text cannot same_read same_written =
+    (record { text = text; read = is_text; fault = cannot }, (same_read, same_written))
+cause_of (Config it) source text read read' written written' is_text cannot same_read same_written =
+    (record { text = text; read = is_text; out = cannot }, (same_read, same_written))
+cause_of WriteFault source text read read' written written' is_text cannot same_read same_written = absurd cannot
+cause_of NoMemory source text read read' written written' is_text cannot same_read same_written = (same_read, same_written)
 
--- a count that rose later rose
-rose_before : (old mid new : ℕ) → old ≤ mid → Rose mid new → Rose old new
-rose_before old mid new never_falls rose = omega arith
+-- so is why the text was not read
+pub unread : (e : TraceError) (source : Option (List ℕ)) (read read' written : ℕ) → CannotRead e source read read' → IsCauseOf e source read read' written written
+unread ReadFault source read read' written cannot = (cannot, refl)
+unread (TooLong count) source read read' written cannot = (inl cannot.0, (cannot.1, refl))
+unread (Syntax line) source read read' written cannot = absurd cannot
+unread (Config it) source read read' written cannot = absurd cannot
+unread WriteFault source read read' written cannot = absurd cannot
+unread NoMemory source read read' written cannot = (cannot, refl)
+
+-- and why the run broke off
+pub broke : (e : TraceError) (source : Option (List ℕ)) (read read' written written' : ℕ) → BrokeBy e written written' → read' ≡ read → IsCauseOf e source read read' written written'
+broke ReadFault source read read' written written' by same = absurd by
+broke (TooLong count) source read read' written written' by same = absurd by
+broke (Syntax line) source read read' written written' by same = absurd by
+broke (Config it) source read read' written written' by same = absurd by
+broke WriteFault source read read' written written' by same = (same, by)
+broke NoMemory source read read' written written' by same = (same, by)
 
 -- what a complaint that there was cause for says
-pub explained : (x : Complaint) (status : ℕ) (words : List (String Global)) (source : Option (List ℕ)) (read read' : ℕ) (old mid new : Option (List ℕ)) (written at written' : ℕ) → HasCause x words source read read' → mid ≡ old → written ≤ at → Complains x status mid new at written' → Explains status words source read read' old new written written'
-explained x status words source read read' old mid new written at written' cause same never_falls (inl done) =
-    inr (inl (x, done.0, record { cause = cause; gave = subst (λ (m : Option (List ℕ)). Gave m new (complaint_line x)) same done.1 }))
-explained x status words source read read' old mid new written at written' cause same never_falls (inr (inl fault)) =
-    inr (inr (inl (fault.0, rose_before written at written' never_falls fault.1, inr (x, cause, subst (λ (m : Option (List ℕ)). GaveFront m new (complaint_line x)) same fault.2))))
-explained x status words source read read' old mid new written at written' cause same never_falls (inr (inr memory)) =
-    inr (inr (inr (memory.0, inr (inr (x, cause, subst (λ (m : Option (List ℕ)). GaveFront m new (complaint_line x)) same memory.1)))))
+pub explained : (x : Complaint) (status : ℕ) (words : List (String Global)) (source : Option (List ℕ)) (read read' : ℕ) (old mid new passed : Option (List ℕ)) (written at written' : ℕ) → HasCause x words source read read' → mid ≡ old → at ≡ written → Complains x status mid new passed at written' → Explains status words source read read' old new passed written written'
+explained x status words source read read' old mid new passed written at written' cause same well (inl done) =
+    inr (inl (
+      x,
+      done.0,
+      record { cause = cause; gave = subst (λ (m : Option (List ℕ)). Gave m new (complaint_line x)) same done.1; passes = done.2; well = done.3 ∙ well },
+    ))
+explained x status words source read read' old mid new passed written at written' cause same well (inr fault) =
+    inr (inr (inl (
+      fault.0,
+      subst (λ (n : ℕ). Rose n written') well fault.1,
+      inr (x, cause, subst (λ (m : Option (List ℕ)). GaveFront m new (complaint_line x)) same fault.2),
+    )))

@@ -9,14 +9,18 @@ use Rattle.exec_run.specs.declared.trace_error.TraceError.TheVariants.{ReadFault
 use Rattle.exec_run.specs.Refusal.{IsTooLong, HasFault, HasOutOfRange, HasCause, AskForTrace, status_of, text_of_complaint}
 use Rattle.exec_run.specs.Log.{HasPlan, Gave, GaveFront, GaveLog, BrokeOff}
 
+-- neither the count of faults of the source rose nor that of the sink
+abbrev pub NoneRose : ℕ → ℕ → ℕ → ℕ → Type 0
+NoneRose read read' written written' = (read' ≡ read) × (written' ≡ written)
+
 -- what is the case where a run ends with an error, by what the source held and the counts of faults
 abbrev pub IsCauseOf : TraceError → Option (List ℕ) → ℕ → ℕ → ℕ → ℕ → Type 0
-IsCauseOf ReadFault source read read' written written' = Rose read read'
-IsCauseOf (TooLong count) source read read' written written' = IsTooLong source count
-IsCauseOf (Syntax line) source read read' written written' = HasFault source line
-IsCauseOf (Config it) source read read' written written' = HasOutOfRange source it
-IsCauseOf WriteFault source read read' written written' = Rose written written'
-IsCauseOf NoMemory source read read' written written' = Unit {0}
+IsCauseOf ReadFault source read read' written written' = Rose read read' × (written' ≡ written)
+IsCauseOf (TooLong count) source read read' written written' = IsTooLong source count × NoneRose read read' written written'
+IsCauseOf (Syntax line) source read read' written written' = HasFault source line × NoneRose read read' written written'
+IsCauseOf (Config it) source read read' written written' = HasOutOfRange source it × NoneRose read read' written written'
+IsCauseOf WriteFault source read read' written written' = (read' ≡ read) × Rose written written'
+IsCauseOf NoMemory source read read' written written' = NoneRose read read' written written'
 
 -- What the sink was given where a run ends with an error: nothing, unless the run had begun.
 abbrev pub IsGivenAt : Bool → TraceError → Option (List ℕ) → Option (List ℕ) → Option (List ℕ) → Type 0
@@ -31,29 +35,42 @@ IsGivenAt quiet NoMemory source old new = (new ≡ old) ⊎ BrokeOff quiet sourc
 abbrev pub complaint_line : Complaint → List ℕ
 complaint_line x = text_of_complaint x ++ 10 ∷ []
 
--- There was cause for this complaint, and it was written.
-pub record Complained (x : Complaint) (words : List (String Global)) (source : Option (List ℕ)) (read read' : ℕ) (old new : Option (List ℕ)) : Type 0 where
+-- There was cause for this complaint, and it was written and passed on by a sink that didn't fail.
+pub record Complained (x : Complaint) (words : List (String Global)) (source : Option (List ℕ)) (read read' : ℕ) (old new passed : Option (List ℕ)) (written written' : ℕ) : Type 0 where
   pub cause : HasCause x words source read read'
   pub gave : Gave old new (complaint_line x)
+  pub passes : passed ≡ new
+  pub well : written' ≡ written
 
--- What was written broke off: it's a front of a log so far, or of a complaint that there was cause for.
-abbrev pub WroteFront : List (String Global) → Option (List ℕ) → ℕ → ℕ → Option (List ℕ) → Option (List ℕ) → Type 0
-WroteFront words source read read' old new =
-    ((quiet : Bool) × AskForTrace quiet words × BrokeOff quiet source old new)
-    ⊎ ((x : Complaint) × HasCause x words source read read' × GaveFront old new (complaint_line x))
+-- The words ask for a trace, its whole log was given, or its quiet one, and passed on, and neither end failed.
+pub record Logged (words : List (String Global)) (source : Option (List ℕ)) (read read' : ℕ) (old new passed : Option (List ℕ)) (written written' : ℕ) : Type 0 where
+  pub quiet : Bool
+  pub asked : AskForTrace quiet words
+  pub gave : GaveLog quiet source old new
+  pub passes : passed ≡ new
+  pub well : NoneRose read read' written written'
+
+-- a front of a log so far was given
+abbrev pub WroteFrontOfLog : List (String Global) → Option (List ℕ) → Option (List ℕ) → Option (List ℕ) → Type 0
+WroteFrontOfLog words source old new = (quiet : Bool) × AskForTrace quiet words × BrokeOff quiet source old new
+
+-- a front of a complaint that there was cause for was given
+abbrev pub WroteFrontOfComplaint : List (String Global) → Option (List ℕ) → ℕ → ℕ → Option (List ℕ) → Option (List ℕ) → Type 0
+WroteFrontOfComplaint words source read read' old new = (x : Complaint) × HasCause x words source read read' × GaveFront old new (complaint_line x)
 
 -- What a status says. 0: the words ask for a trace, and its whole log was written, or its quiet one. 1 to 5: a
--- complaint was written. 6: the sink failed while a log or a complaint was written. 7: there was no memory,
--- before anything was written or while that was. There is no other status.
-abbrev pub Explains : ℕ → List (String Global) → Option (List ℕ) → ℕ → ℕ → Option (List ℕ) → Option (List ℕ) → ℕ → ℕ → Type 0
-Explains status words source read read' old new written written' =
-    ((status ≡ 0) × ((quiet : Bool) × AskForTrace quiet words × GaveLog quiet source old new))
-    ⊎ ((x : Complaint) × (status ≡ status_of x) × Complained x words source read read' old new)
-    ⊎ ((status ≡ 6) × Rose written written' × WroteFront words source read read' old new)
-    ⊎ ((status ≡ 7) × ((new ≡ old) ⊎ WroteFront words source read read' old new))
+-- complaint was written. 6: the sink failed while a log or a complaint was written. 7: there was no memory, before
+-- a log was begun or while it was written, and neither end failed. There is no other status.
+abbrev pub Explains : ℕ → List (String Global) → Option (List ℕ) → ℕ → ℕ → Option (List ℕ) → Option (List ℕ) → Option (List ℕ) → ℕ → ℕ → Type 0
+Explains status words source read read' old new passed written written' =
+    ((status ≡ 0) × Logged words source read read' old new passed written written')
+    ⊎ ((x : Complaint) × (status ≡ status_of x) × Complained x words source read read' old new passed written written')
+    ⊎ ((status ≡ 6) × Rose written written' × (WroteFrontOfLog words source old new ⊎ WroteFrontOfComplaint words source read read' old new))
+    ⊎ ((status ≡ 7) × NoneRose read read' written written' × ((new ≡ old) ⊎ WroteFrontOfLog words source old new))
 
 -- Where the words ask for a trace, and the source is known to hold one that may be run: unless a fault of the source or
--- the sink rose, its whole log was given with status 0, or there was no memory, by status 7. There is no other answer.
-pub record Completes (status : ℕ) (words : List (String Global)) (source : Option (List ℕ)) (read read' : ℕ) (old new : Option (List ℕ)) (written written' : ℕ) : Type 0 where
+-- the sink rose, its whole log was given and passed on with status 0, or there was no memory, by status 7. There is no
+-- other answer.
+pub record Completes (status : ℕ) (words : List (String Global)) (source : Option (List ℕ)) (read read' : ℕ) (old new passed : Option (List ℕ)) (written written' : ℕ) : Type 0 where
   pub no_other : (quiet : Bool) (p : Plan) → AskForTrace quiet words → IsSome source → HasPlan source p → (Rose read read' → ⊥) → (Rose written written' → ⊥)
-      → ((status ≡ 0) × (log : GaveLog quiet source old new) × (log.plan ≡ p)) ⊎ (status ≡ 7)
+      → ((status ≡ 0) × (log : GaveLog quiet source old new) × (log.plan ≡ p) × (passed ≡ new)) ⊎ (status ≡ 7)

@@ -1,7 +1,7 @@
 -- What the functions that read and check a trace do.
 use Rattle.std.specs.Prelude.{◌≡◌, ℕ, ◌+◌, ◌<◌, ◌≤◌, List, [], ◌++◌, Option, Some, None, IfSome, length, sum_by}
 use Rattle.exec_machine.specs.declared.config.Trace.{Trace}
-use Rattle.exec_machine.specs.Grammar.{Plan, IsTraceOf, IsFirstFault, count_of, plan_of}
+use Rattle.exec_machine.specs.Grammar.{Plan, IsTraceOf, IsTrace, IsFirstFault, count_of, plan_of}
 use Rattle.exec_machine.specs.Ranges.{first_out_of_range}
 use Rattle.exec_base.specs.Io.{Rose}
 use Rattle.exec_run.specs.declared.trace_error.TraceError.{TraceError}
@@ -23,7 +23,7 @@ pub record ReadsPiece (old new : Option (List ℕ)) (text text' : List ℕ) (cou
 -- why a piece was not read
 abbrev pub CannotTake : TraceError → ℕ → ℕ → Type 0
 CannotTake ReadFault old new = Rose old new
-CannotTake NoMemory old new = Unit {0}
+CannotTake NoMemory old new = new ≡ old
 CannotTake (TooLong count) old new = ⊥
 CannotTake (Syntax line) old new = ⊥
 CannotTake (Config it) old new = ⊥
@@ -32,8 +32,8 @@ CannotTake WriteFault old new = ⊥
 -- why the text was not read
 abbrev pub CannotRead : TraceError → Option (List ℕ) → ℕ → ℕ → Type 0
 CannotRead ReadFault source old new = Rose old new
-CannotRead (TooLong count) source old new = HasTooManyBytes source count
-CannotRead NoMemory source old new = Unit {0}
+CannotRead (TooLong count) source old new = HasTooManyBytes source count × (new ≡ old)
+CannotRead NoMemory source old new = new ≡ old
 CannotRead (Syntax line) source old new = ⊥
 CannotRead (Config it) source old new = ⊥
 CannotRead WriteFault source old new = ⊥
@@ -49,6 +49,6 @@ abbrev pub CannotRun : TraceError → List ℕ → Type 0
 CannotRun (Syntax line) text = IsFirstFault text line
 CannotRun (TooLong count) text = (p : Plan) × IsTraceOf text p × (count ≡ sum_by count_of p.steps) × (most_steps < count)
 CannotRun (Config it) text = IsOutOfRange text it
-CannotRun NoMemory text = Unit {0}
+CannotRun NoMemory text = IsTrace text
 CannotRun ReadFault text = ⊥
 CannotRun WriteFault text = ⊥

@@ -72,13 +72,14 @@ AskForTrace quiet words = map string_bytes words ≡ words_of_trace quiet
 abbrev pub AskForSomeTrace : List (String Global) → Type 0
 AskForSomeTrace words = (quiet : Bool) × AskForTrace quiet words
 
--- what is the case where a complaint is made, by the words, the source and its counts of faults
+-- What is the case where a complaint is made, by the words, the source and its counts of faults: the source failed
+-- where that is what is complained of, and nowhere else.
 abbrev pub HasCause : Complaint → List (String Global) → Option (List ℕ) → ℕ → ℕ → Type 0
-HasCause Usage words source old new = AskForSomeTrace words → ⊥
+HasCause Usage words source old new = (AskForSomeTrace words → ⊥) × (new ≡ old)
 HasCause ReadFault words source old new = AskForSomeTrace words × Rose old new
-HasCause (TooLong count) words source old new = AskForSomeTrace words × IsTooLong source count
-HasCause (Syntax line) words source old new = AskForSomeTrace words × HasFault source line
-HasCause (Config it) words source old new = AskForSomeTrace words × HasOutOfRange source it
+HasCause (TooLong count) words source old new = AskForSomeTrace words × IsTooLong source count × (new ≡ old)
+HasCause (Syntax line) words source old new = AskForSomeTrace words × HasFault source line × (new ≡ old)
+HasCause (Config it) words source old new = AskForSomeTrace words × HasOutOfRange source it × (new ≡ old)
 
 -- the status that a complaint ends with
 abbrev pub status_of : Complaint → ℕ

@@ -19,10 +19,10 @@ use Rattle.exec_run.specs.Refusal.{status_of}
 use Rattle.exec_run.specs.Explains.{complaint_line}
 use Rattle.exec_run.specs.Log.{Gave, GaveFront, AreTaken}
 
--- why a run broke off
+-- why a run broke off: the sink failed, or it did not and there was no memory
 abbrev pub BrokeBy : TraceError → ℕ → ℕ → Type 0
 BrokeBy WriteFault old new = Rose old new
-BrokeBy NoMemory old new = Unit {0}
+BrokeBy NoMemory old new = new ≡ old
 BrokeBy ReadFault old new = ⊥
 BrokeBy (TooLong count) old new = ⊥
 BrokeBy (Syntax line) old new = ⊥
@@ -90,9 +90,8 @@ pub record GoesOn (old new : Core) : Type 0 where
   pub config : new.config ≡ old.config
   pub stands : Stands new
 
--- A complaint was written, or broke off.
-abbrev pub Complains : Complaint → ℕ → Option (List ℕ) → Option (List ℕ) → ℕ → ℕ → Type 0
-Complains x status old new written written' =
-    ((status ≡ status_of x) × Gave old new (complaint_line x))
+-- A complaint was written and passed on, or broke off where the sink failed.
+abbrev pub Complains : Complaint → ℕ → Option (List ℕ) → Option (List ℕ) → Option (List ℕ) → ℕ → ℕ → Type 0
+Complains x status old new passed written written' =
+    ((status ≡ status_of x) × Gave old new (complaint_line x) × (passed ≡ new) × (written' ≡ written))
     ⊎ ((status ≡ 6) × Rose written written' × GaveFront old new (complaint_line x))
-    ⊎ ((status ≡ 7) × GaveFront old new (complaint_line x))

@@ -1,4 +1,11 @@
 //! The text is read from its source and checked.
+//!
+//! The source is read in pieces up to its end, or up to one byte more than a text may have. Then the whole text is
+//! checked: first against the grammar, then for how many steps it asks, then for the ranges of its configuration.
+//! So of several faults the one that is told is the first in this order, and nothing runs before all is checked.
+//!
+//! A source that fails is `ReadFault`. Want of memory is told only of a source that hasn't failed, and where it
+//! comes in the reading of the grammar, only of a text that is a trace.
 
 ghost use Rattle.std.specs.Prelude.{◌≡◌, ◌<◌, ◌≤◌, [], Some, IfOk, IfErr, IfSome, OnOk, length};
 ghost use Rattle.exec_run.specs.Refusal.{IsTextIn};
@@ -26,6 +33,7 @@ fn read_piece<I: Input>(
 ) -> Result<usize, TraceError>
     requires { 0 < length buffer.old }
     ensures count { I.faults source.old ≤ I.faults source.new }
+    ensures well { OnOk result (I.faults source.new ≡ I.faults source.old) }
     ensures within { IfOk result (λ count. count ≤ length buffer.old) }
     ensures read { IfOk result (ReadsPiece (I.left source.old) (I.left source.new)
         text.old.items text.new.items) }
@@ -43,6 +51,7 @@ fn read_piece<I: Input>(
 /// All bytes of the source, unless these are too many.
 pub fn read_all<I: Input>(alloc: Global, source: &mut I) -> Result<Vec<u8>, TraceError>
     ensures whole { IfOk result (λ text. IsTextIn (I.left source.old) text.items) }
+    ensures well { OnOk result (I.faults source.new ≡ I.faults source.old) }
     ensures to_end { OnOk result (IfSome (I.left source.old) (λ _. I.left source.new ≡ Some [])) }
     ensures err { IfErr result (λ e. CannotRead e (I.left source.old)
         (I.faults source.old) (I.faults source.new)) }

@@ -1,9 +1,17 @@
 //! From the words and the source to the sink and the status.
+//!
+//! First the words are looked at, then the source is read and checked, then the trace is run and its log given, then
+//! the sink is flushed. Where one of these can't be done the rest is left out, and the status says which it was:
+//! words, text, configuration and source are complained of in one line of the sink, which is flushed as well; a
+//! sink that fails is told by the status alone.
+//!
+//! What a status means is said by the counts of faults: with 0 neither rose, with 5 that of the source did, with 6
+//! that of the sink, and with 7 neither did.
 
 ghost use Rattle.std.specs.Prelude.{◌≡◌, Bool, ◌≤◌, [], Some, IfErr, IfSome, IfNone, OnOk};
 ghost use Rattle.exec_run.specs.Refusal.{AskForTrace, AskForSomeTrace};
 ghost use Rattle.exec_run.specs.Log.{GaveLog};
-ghost use Rattle.exec_run.specs.Explains.{IsCauseOf, IsGivenAt, Explains, Completes};
+ghost use Rattle.exec_run.specs.Explains.{NoneRose, IsCauseOf, IsGivenAt, Explains, Completes};
 ghost use Rattle.exec_run.specs.Steps.{Complains};
 
 use crate::complaint::Complaint;
@@ -11,8 +19,13 @@ use crate::reading::{check, read_all};
 use crate::stepping::log_trace;
 use crate::trace_error::TraceError;
 use crate::writing::give_complaint;
-use exec_base::io::{Input, Output};
+use exec_base::io::{Failed, Input, Output};
 use std::alloc::Global;
+
+/// The status where the sink fails.
+const WRITE_FAULT: u8 = 6;
+/// The status where there is no memory.
+const NO_MEMORY: u8 = 7;
 
 /// Reads a trace from the source, runs it, and gives its log to the sink, line by line. A quiet log is the same
 /// without the lines whose event is `turn`, `serve` or `enter`.
@@ -30,6 +43,11 @@ pub fn run_trace<I: Input, O: Output>(
 ) -> Result<(), TraceError>
     // The source held a trace, and the sink was given a log of it.
     ensures ok { OnOk result (GaveLog quiet (I.left source.old) (O.given sink.old) (O.given sink.new)) }
+    // All of it was passed on.
+    ensures passes { OnOk result (O.passed sink.new ≡ O.given sink.new) }
+    // Neither end failed.
+    ensures well { OnOk result (NoneRose (I.faults source.old) (I.faults source.new)
+        (O.faults sink.old) (O.faults sink.new)) }
     // The counts of faults never fall.
     ensures count { O.faults sink.old ≤ O.faults sink.new }
     // The source was read to its end.
@@ -61,14 +79,13 @@ fn asked_quiet(words: &[String]) -> Option<bool>
 }
 
 /// Gives the complaint, and answers the status.
-fn complain<O: Output>(alloc: Global, sink: &mut O, complaint: Complaint) -> u8
-    ensures { Complains complaint result (O.given sink.old) (O.given sink.new)
+fn complain<O: Output>(sink: &mut O, complaint: Complaint) -> u8
+    ensures { Complains complaint result (O.given sink.old) (O.given sink.new) (O.passed sink.new)
         (O.faults sink.old) (O.faults sink.new) }
 {
-    match give_complaint(alloc, sink, complaint) {
+    match give_complaint(sink, complaint) {
         Ok(()) => complaint.status(),
-        Err(TraceError::WriteFault) => 6,
-        Err(_) => 7,
+        Err(Failed) => WRITE_FAULT,
     }
 }
 
@@ -82,24 +99,24 @@ pub fn run<I: Input, O: Output>(alloc: Global, words: &[String], source: &mut I,
     // The status says what happened.
     ensures explains { Explains result words.now (I.left source.old)
         (I.faults source.old) (I.faults source.new) (O.given sink.old) (O.given sink.new)
-        (O.faults sink.old) (O.faults sink.new) }
+        (O.passed sink.new) (O.faults sink.old) (O.faults sink.new) }
     // A trace that may be run has its whole log, unless there was no memory.
     ensures completes { Completes result words.now (I.left source.old)
         (I.faults source.old) (I.faults source.new) (O.given sink.old) (O.given sink.new)
-        (O.faults sink.old) (O.faults sink.new) }
+        (O.passed sink.new) (O.faults sink.old) (O.faults sink.new) }
     // The source was read to its end.
     ensures to_end { result ≡ 0 → IfSome (I.left source.old) (λ _. I.left source.new ≡ Some []) }
 {
     let Some(quiet) = asked_quiet(words) else {
-        return complain(alloc, sink, Complaint::Usage);
+        return complain(sink, Complaint::Usage);
     };
     match run_trace(alloc, source, sink, quiet) {
         Ok(()) => 0,
-        Err(TraceError::WriteFault) => 6,
-        Err(TraceError::NoMemory) => 7,
-        Err(TraceError::ReadFault) => complain(alloc, sink, Complaint::ReadFault),
-        Err(TraceError::TooLong(count)) => complain(alloc, sink, Complaint::TooLong(count)),
-        Err(TraceError::Syntax(line)) => complain(alloc, sink, Complaint::Syntax(line)),
-        Err(TraceError::Config(part)) => complain(alloc, sink, Complaint::Config(part)),
+        Err(TraceError::WriteFault) => WRITE_FAULT,
+        Err(TraceError::NoMemory) => NO_MEMORY,
+        Err(TraceError::ReadFault) => complain(sink, Complaint::ReadFault),
+        Err(TraceError::TooLong(count)) => complain(sink, Complaint::TooLong(count)),
+        Err(TraceError::Syntax(line)) => complain(sink, Complaint::Syntax(line)),
+        Err(TraceError::Config(part)) => complain(sink, Complaint::Config(part)),
     }
 }

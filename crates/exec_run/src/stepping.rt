@@ -1,4 +1,10 @@
 //! The steps of a trace are taken, and their lines given.
+//!
+//! A line of the trace asks for one step of a party, or for so many of a worker, of which the first that is
+//! refused is the last. Each step that is taken or refused has its line, which is told before the next step is
+//! taken. A run breaks off where the executor or a line finds no memory, or where the sink fails; then the
+//! executor is spent, and no further step is taken. What was given is a front of the log up to there, and all
+//! lines of the steps before are whole.
 
 ghost use Rattle.std.specs.Prelude.{◌≡◌, ◌≤◌, ◌⊎◌, List, [], ◌∷◌, None, IfOk, IfErr, OnOk, OnErr};
 ghost use Rattle.exec_machine.specs.declared.event.Line.{Line};
@@ -32,6 +38,7 @@ fn take_line<O: Output>(
 ) -> Result<Line, TraceError>
     requires { Stands core.old }
     ensures count { O.faults sink.old ≤ O.faults sink.new }
+    ensures well { OnOk result (O.faults sink.new ≡ O.faults sink.old) }
     ensures goes_on { OnOk result (GoesOn core.old core.new) }
     ensures takes { IfOk result (λ line. TakesLine quiet core.old.config (standing core.old) action line
         (standing core.new) (O.given sink.old) (O.given sink.new)) }
@@ -54,6 +61,7 @@ fn take_one<O: Output>(
 ) -> Result<(), TraceError>
     requires { Stands core.old }
     ensures count { O.faults sink.old ≤ O.faults sink.new }
+    ensures well { OnOk result (O.faults sink.new ≡ O.faults sink.old) }
     ensures goes_on { OnOk result (GoesOn core.old core.new) }
     ensures takes { OnOk result ((l : Line) × TakesLine quiet core.old.config (standing core.old) action l
         (standing core.new) (O.given sink.old) (O.given sink.new)) }
@@ -76,6 +84,7 @@ fn take_work<O: Output>(
 ) -> Result<(), TraceError>
     requires { Stands core.old }
     ensures count { O.faults sink.old ≤ O.faults sink.new }
+    ensures well { OnOk result (O.faults sink.new ≡ O.faults sink.old) }
     ensures goes_on { OnOk result (GoesOn core.old core.new) }
     ensures leads { OnOk result (Leads quiet core.old.config (standing core.old) (step.Work worker count ∷ [])
         (standing core.new) (O.given sink.old) (O.given sink.new)) }
@@ -103,6 +112,7 @@ fn take_step<O: Output>(
 ) -> Result<(), TraceError>
     requires { Stands core.old }
     ensures count { O.faults sink.old ≤ O.faults sink.new }
+    ensures well { OnOk result (O.faults sink.new ≡ O.faults sink.old) }
     ensures goes_on { OnOk result (GoesOn core.old core.new) }
     ensures leads { OnOk result (Leads quiet core.old.config (standing core.old) (step ∷ [])
         (standing core.new) (O.given sink.old) (O.given sink.new)) }
@@ -137,6 +147,7 @@ fn take_steps<O: Output>(
 ) -> Result<(), TraceError>
     requires { Stands core.old }
     ensures count { O.faults sink.old ≤ O.faults sink.new }
+    ensures well { OnOk result (O.faults sink.new ≡ O.faults sink.old) }
     ensures leads { OnOk result (Leads quiet core.old.config (standing core.old) steps.now
         (standing core.new) (O.given sink.old) (O.given sink.new)) }
     ensures why { IfErr result (λ e. BrokeBy e (O.faults sink.old) (O.faults sink.new)) }
@@ -149,7 +160,7 @@ fn take_steps<O: Output>(
     Ok(())
 }
 
-/// Runs the trace, and gives its log, or its quiet log.
+/// Runs the trace, gives its log, or its quiet log, and passes that on.
 pub fn log_trace<O: Output>(
     alloc: Global,
     sink: &mut O,
@@ -159,6 +170,8 @@ pub fn log_trace<O: Output>(
     requires plan { IsPlan (plan_of trace) }
     requires in_range { first_out_of_range trace.config ≡ None }
     ensures count { O.faults sink.old ≤ O.faults sink.new }
+    ensures well { OnOk result (O.faults sink.new ≡ O.faults sink.old) }
+    ensures passes { OnOk result (O.passed sink.new ≡ O.given sink.new) }
     ensures ok { OnOk result ((lines : List Line) × IsLogOf (plan_of trace) trace.steps.items lines
         × Gave (O.given sink.old) (O.given sink.new) (text_of_log (told_lines quiet lines))) }
     ensures why { IfErr result (λ e. BrokeBy e (O.faults sink.old) (O.faults sink.new)) }

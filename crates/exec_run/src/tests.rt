@@ -1,9 +1,8 @@
 use crate::complaint::Complaint;
-use crate::ranges::first_out_of_range;
 use crate::running::{run, run_trace};
 use crate::trace_error::TraceError;
 use exec_base::io::{MemInput, MemOutput};
-use exec_machine::config::{Configuration, Field, OutOfRange, Spin};
+use exec_machine::config::{Field, OutOfRange};
 use std::alloc::Global;
 use std::test::Fail;
 
@@ -58,83 +57,6 @@ files 0
 sockets 0
 ";
 
-/// The configuration that it spells.
-const CONFIGURATION: Configuration = Configuration {
-    workers: 1,
-    interval: 31,
-    ring: 16,
-    tick: 5_000_000,
-    connect: 10_000_000,
-    rw: 10_000_000,
-    spin: NO_SPIN,
-    files: 0,
-    sockets: 0,
-};
-
-/// No spin.
-const NO_SPIN: Spin = Spin {
-    budget: 0,
-    most: 0,
-    quick: 0,
-    iterations: 0,
-};
-
-/// The largest count of 32 bits.
-const MOST_COUNT: u64 = 4_294_967_295;
-
-/// The longest timeout, in nanoseconds.
-const LONGEST: u64 = 946_080_000_000_000_000;
-
-/// Its log: so often each line.
-const LOG: [(u32, &str); 34] = [
-    (5, "w 0 turn"),
-    (1, "w 0 begin 0"),
-    (1, "w 0 admit 0 send"),
-    (1, "w 0 wait 0"),
-    (1, "w 0 pend 0"),
-    (4, "w 0 turn"),
-    (3, "w 0 serve"),
-    (1, "w 0 enrol 0"),
-    (1, "w 0 stage 0"),
-    (3, "w 0 serve"),
-    (12, "w 0 turn"),
-    (1, "w 0 enter"),
-    (1, "w 0 sleep 10000000"),
-    (1, "w 0 refused"),
-    (1, "k 0 10 land"),
-    (11, "w 0 turn"),
-    (1, "w 0 serve"),
-    (1, "w 0 reap 0 10 ok"),
-    (4, "w 0 serve"),
-    (2, "w 0 turn"),
-    (1, "w 0 wake 0"),
-    (1, "w 0 release 0"),
-    (9, "w 0 turn"),
-    (1, "w 0 begin 0"),
-    (1, "w 0 got 0 ok"),
-    (1, "w 0 done 0"),
-    (1, "w 0 close"),
-    (2, "w 0 turn"),
-    (1, "w 0 stop"),
-    (8, "w 0 turn"),
-    (6, "w 0 serve"),
-    (1, "w 0 turn"),
-    (1, "w 0 end"),
-    (1, "w 0 refused"),
-];
-
-/// The bytes of the log.
-fn log_text(alloc: Global) -> Result<String, Fail> {
-    let mut text = String::new(alloc);
-    for (count, line) in LOG {
-        for _ in 0..count {
-            text.push_str(line)?;
-            text.push_str("\n")?;
-        }
-    }
-    Ok(text)
-}
-
 /// A source of the text that gives so many bytes a call, and fails at the calls with these numbers.
 fn source_of(alloc: Global, text: &str, failing: &[u64], most: usize) -> Result<MemInput, Fail> {
     let bytes = text.as_bytes().to_vec(alloc)?;
@@ -160,19 +82,11 @@ fn call(alloc: Global, text: &str, trace: &str) -> Result<(u8, MemOutput), Fail>
 }
 
 #[test]
-fn the_example_gives_its_log(rt: HostRuntime) -> Result<(), Fail> {
-    let (status, sink) = call(rt.alloc(), "trace", EXAMPLE)?;
-    assert_eq!(rt; status, 0);
-    let expected = log_text(rt.alloc())?;
-    assert_eq!(rt; sink.bytes(), expected.as_bytes());
-    Ok(())
-}
-
-#[test]
 fn the_example_gives_its_quiet_log(rt: HostRuntime) -> Result<(), Fail> {
     let (status, sink) = call(rt.alloc(), "trace quiet", EXAMPLE)?;
     assert_eq!(rt; status, 0);
     assert_eq!(rt; sink.bytes(), QUIET_LOG.as_bytes());
+    assert_eq!(rt; sink.passed(), QUIET_LOG.as_bytes());
     Ok(())
 }
 
@@ -279,6 +193,7 @@ fn other_words_are_a_usage_error(rt: HostRuntime) -> Result<(), Fail> {
         let (status, sink) = call(rt.alloc(), words, EXAMPLE)?;
         assert_eq!(rt; status, 1);
         assert_eq!(rt; sink.bytes(), b"error Usage\n".as_slice());
+        assert_eq!(rt; sink.passed(), b"error Usage\n".as_slice());
     }
     Ok(())
 }
@@ -308,6 +223,24 @@ fn a_part_out_of_range_is_a_configuration_error(rt: HostRuntime) -> Result<(), F
     for (part, bad, expected) in [
         ("workers 1", "workers 65", "error Config workers 65\n"),
         ("interval 31", "interval 0", "error Config interval 0\n"),
+        ("ring 16", "ring 32769", "error Config ring 32769\n"),
+        (
+            "interval 31",
+            "interval 4294967296",
+            "error Config interval 4294967296\n",
+        ),
+        (
+            "rw 10000000",
+            "rw 946080000000000001",
+            "error Config rw 946080000000000001\n",
+        ),
+        (
+            "spin 0 0 0 0",
+            "spin 0 0 0 4294967296",
+            "error Config spin 0\n",
+        ),
+        ("files 0", "files 65", "error Config files 65\n"),
+        ("sockets 0", "sockets 1025", "error Config sockets 1025\n"),
         (
             "spin 0 0 0 0",
             "spin 18446744073709551615 0 0 0",
@@ -345,189 +278,6 @@ fn the_grammar_and_the_steps_are_tested_before_the_ranges(rt: HostRuntime) -> Re
         assert_eq!(rt; sink.bytes(), expected.as_bytes());
     }
     Ok(())
-}
-
-/// The part that is out of its range.
-fn out(field: Field, value: u64) -> Option<OutOfRange> {
-    Some(OutOfRange { field, value })
-}
-
-#[test]
-fn each_part_has_its_range(rt: HostRuntime) {
-    let base = CONFIGURATION;
-    for (config, expected) in [
-        (base, None),
-        (Configuration { workers: 0, ..base }, out(Field::Workers, 0)),
-        (Configuration { workers: 2, ..base }, out(Field::Workers, 2)),
-        (
-            Configuration {
-                interval: 1,
-                ..base
-            },
-            None,
-        ),
-        (
-            Configuration {
-                interval: MOST_COUNT,
-                ..base
-            },
-            None,
-        ),
-        (
-            Configuration {
-                interval: MOST_COUNT + 1,
-                ..base
-            },
-            out(Field::Interval, MOST_COUNT + 1),
-        ),
-        (
-            Configuration {
-                interval: 0,
-                ring: 0,
-                ..base
-            },
-            out(Field::Interval, 0),
-        ),
-        (Configuration { ring: 0, ..base }, out(Field::Ring, 0)),
-        (Configuration { ring: 1, ..base }, None),
-        (
-            Configuration {
-                ring: 32_768,
-                ..base
-            },
-            None,
-        ),
-        (
-            Configuration {
-                ring: 32_769,
-                ..base
-            },
-            out(Field::Ring, 32_769),
-        ),
-        (
-            Configuration {
-                tick: 0,
-                connect: 0,
-                ..base
-            },
-            out(Field::Tick, 0),
-        ),
-        (
-            Configuration {
-                tick: LONGEST,
-                ..base
-            },
-            None,
-        ),
-        (
-            Configuration {
-                tick: LONGEST + 1,
-                ..base
-            },
-            out(Field::Tick, LONGEST + 1),
-        ),
-        (Configuration { connect: 0, ..base }, out(Field::Connect, 0)),
-        (
-            Configuration {
-                connect: u64::MAX,
-                ..base
-            },
-            out(Field::Connect, u64::MAX),
-        ),
-        (Configuration { rw: 0, ..base }, out(Field::Rw, 0)),
-        (
-            Configuration {
-                rw: LONGEST + 1,
-                ..base
-            },
-            out(Field::Rw, LONGEST + 1),
-        ),
-        (
-            Configuration {
-                files: 64,
-                sockets: 1024,
-                ..base
-            },
-            None,
-        ),
-        (Configuration { files: 65, ..base }, out(Field::Files, 65)),
-        (
-            Configuration {
-                sockets: 1025,
-                ..base
-            },
-            out(Field::Sockets, 1025),
-        ),
-    ] {
-        assert_eq!(rt; first_out_of_range(config), expected);
-    }
-}
-
-#[test]
-fn a_spin_has_no_budget_and_counts(rt: HostRuntime) {
-    for (spin, expected) in [
-        (
-            Spin {
-                budget: 1,
-                ..NO_SPIN
-            },
-            out(Field::Spin, 1),
-        ),
-        (
-            Spin {
-                most: MOST_COUNT,
-                quick: MOST_COUNT,
-                ..NO_SPIN
-            },
-            None,
-        ),
-        (
-            Spin {
-                most: MOST_COUNT + 1,
-                ..NO_SPIN
-            },
-            out(Field::Spin, 0),
-        ),
-        (
-            Spin {
-                quick: MOST_COUNT + 1,
-                ..NO_SPIN
-            },
-            out(Field::Spin, 0),
-        ),
-        (
-            Spin {
-                iterations: MOST_COUNT + 1,
-                ..NO_SPIN
-            },
-            out(Field::Spin, 0),
-        ),
-    ] {
-        let config = Configuration {
-            spin,
-            ..CONFIGURATION
-        };
-        assert_eq!(rt; first_out_of_range(config), expected);
-    }
-}
-
-#[test]
-fn a_wheel_has_a_most_of_slots(rt: HostRuntime) {
-    for (tick, connect, rw, expected) in [
-        (1, 1_048_574, 1, None),
-        (1, 1_048_575, 1, out(Field::Layout, 1)),
-        (1, 1, 1_048_575, out(Field::Layout, 1)),
-        (1, LONGEST, LONGEST, out(Field::Layout, 1)),
-        (LONGEST, LONGEST, LONGEST, None),
-    ] {
-        let config = Configuration {
-            tick,
-            connect,
-            rw,
-            ..CONFIGURATION
-        };
-        assert_eq!(rt; first_out_of_range(config), expected);
-    }
 }
 
 #[test]
@@ -572,6 +322,22 @@ fn a_sink_that_fails_ends_the_program(rt: HostRuntime) -> Result<(), Fail> {
     let status = run(rt.alloc(), words.as_slice(), &mut source, &mut sink);
     assert_eq!(rt; status, 6);
     assert_eq!(rt; sink.bytes(), b"error U".as_slice());
+    Ok(())
+}
+
+#[test]
+fn a_log_that_is_not_passed_on_ends_the_program(rt: HostRuntime) -> Result<(), Fail> {
+    let words = words_of(rt.alloc(), "trace quiet")?;
+    // The 19 lines are given by a call each, and the next call is the flush.
+    for (failing, expected) in [(20, 6), (21, 0)] {
+        let mut source = source_of(rt.alloc(), EXAMPLE, [].as_slice(), 4096)?;
+        let mut sink = MemOutput::new(rt.alloc(), vec![in rt.alloc(); failing]?, 4096);
+        let status = run(rt.alloc(), words.as_slice(), &mut source, &mut sink);
+        assert_eq!(rt; status, expected);
+        assert_eq!(rt; sink.bytes(), QUIET_LOG.as_bytes());
+        let passed = if expected == 0 { QUIET_LOG } else { "" };
+        assert_eq!(rt; sink.passed(), passed.as_bytes());
+    }
     Ok(())
 }
 

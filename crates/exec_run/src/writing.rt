@@ -1,6 +1,15 @@
 //! Lines are given to the sink.
+//!
+//! Each line is put together first, and then given by a call of its own, which is repeated only while less than
+//! the rest of it was taken. What was given is thus a front of the lines at each moment, whole lines but for the
+//! last. A log is flushed once, after its last line, and so is a complaint.
+//!
+//! A sink that fails is `WriteFault`, and nothing is given after it. A line of the log asks for memory for its
+//! text, before a byte of it is given; the line of a complaint doesn't, so that a fault is told also where there
+//! is no memory.
 
 ghost use Rattle.std.specs.Prelude.{◌≡◌, ◌≤◌, [], ◌∷◌, IfErr, OnOk, OnErr};
+ghost use Rattle.exec_base.specs.Io.{Rose};
 ghost use Rattle.exec_machine.specs.Text.{is_quiet_line};
 ghost use Rattle.exec_run.specs.Log.{Gave, GaveFront};
 ghost use Rattle.exec_run.specs.Explains.{complaint_line};
@@ -13,17 +22,18 @@ use exec_machine::event::{Event, Line, Said};
 use std::alloc::Global;
 
 /// Gives the bytes, again and again while less than the rest of them is taken.
-fn give_all<O: Output>(sink: &mut O, bytes: &[u8]) -> Result<(), TraceError>
+fn give_all<O: Output>(sink: &mut O, bytes: &[u8]) -> Result<(), Failed>
     ensures count { O.faults sink.old ≤ O.faults sink.new }
+    ensures well { OnOk result (O.faults sink.new ≡ O.faults sink.old) }
     ensures ok { OnOk result (Gave (O.given sink.old) (O.given sink.new) bytes.now) }
-    ensures why { IfErr result (λ e. BrokeBy e (O.faults sink.old) (O.faults sink.new)) }
+    ensures failed { OnErr result (Rose (O.faults sink.old) (O.faults sink.new)) }
     ensures front { OnErr result (GaveFront (O.given sink.old) (O.given sink.new) bytes.now) }
 {
     let mut at = 0;
     'rests: while at < bytes.len() {
         match sink.give(&bytes[at..]) {
             Ok(count) => at += count,
-            Err(Failed) => return Err(TraceError::WriteFault),
+            Err(failed) => return Err(failed),
         }
     }
     Ok(())
@@ -32,12 +42,16 @@ fn give_all<O: Output>(sink: &mut O, bytes: &[u8]) -> Result<(), TraceError>
 /// Gives the line and a line feed.
 fn give_line<O: Output>(alloc: Global, sink: &mut O, line: Line) -> Result<(), TraceError>
     ensures count { O.faults sink.old ≤ O.faults sink.new }
+    ensures well { OnOk result (O.faults sink.new ≡ O.faults sink.old) }
     ensures ok { OnOk result (Gave (O.given sink.old) (O.given sink.new) (whole_line line)) }
     ensures why { IfErr result (λ e. BrokeBy e (O.faults sink.old) (O.faults sink.new)) }
     ensures front { OnErr result (GaveFront (O.given sink.old) (O.given sink.new) (whole_line line)) }
 {
     let text = format!(in alloc; "{line}\n")?;
-    give_all(sink, text.as_bytes())
+    match give_all(sink, text.as_bytes()) {
+        Ok(()) => Ok(()),
+        Err(Failed) => Err(TraceError::WriteFault),
+    }
 }
 
 /// Whether nothing that others could see has happened.
@@ -58,6 +72,7 @@ pub fn tell_line<O: Output>(
     line: Line,
 ) -> Result<(), TraceError>
     ensures count { O.faults sink.old ≤ O.faults sink.new }
+    ensures well { OnOk result (O.faults sink.new ≡ O.faults sink.old) }
     ensures ok { OnOk result
         (Gave (O.given sink.old) (O.given sink.new) (told_text quiet (line ∷ []))) }
     ensures why { IfErr result (λ e. BrokeBy e (O.faults sink.old) (O.faults sink.new)) }
@@ -70,10 +85,12 @@ pub fn tell_line<O: Output>(
     give_line(alloc, sink, line)
 }
 
-/// Passes on what the sink may still hold back.
+/// Passes on all that the sink was given.
 pub fn flush_all<O: Output>(sink: &mut O) -> Result<(), TraceError>
     ensures count { O.faults sink.old ≤ O.faults sink.new }
+    ensures well { OnOk result (O.faults sink.new ≡ O.faults sink.old) }
     ensures same { O.given sink.new ≡ O.given sink.old }
+    ensures passes { OnOk result (O.passed sink.new ≡ O.given sink.new) }
     ensures why { IfErr result (λ e. BrokeBy e (O.faults sink.old) (O.faults sink.new)) }
 {
     match sink.flush() {
@@ -82,18 +99,15 @@ pub fn flush_all<O: Output>(sink: &mut O) -> Result<(), TraceError>
     }
 }
 
-/// Gives the complaint and a line feed, and nothing after it.
-pub fn give_complaint<O: Output>(
-    alloc: Global,
-    sink: &mut O,
-    complaint: Complaint,
-) -> Result<(), TraceError>
+/// Gives the line of the complaint and nothing after it, and passes it on.
+pub fn give_complaint<O: Output>(sink: &mut O, complaint: Complaint) -> Result<(), Failed>
+    ensures well { OnOk result (O.faults sink.new ≡ O.faults sink.old) }
     ensures ok { OnOk result (Gave (O.given sink.old) (O.given sink.new) (complaint_line complaint)) }
-    ensures why { IfErr result (λ e. BrokeBy e (O.faults sink.old) (O.faults sink.new)) }
+    ensures passes { OnOk result (O.passed sink.new ≡ O.given sink.new) }
+    ensures failed { OnErr result (Rose (O.faults sink.old) (O.faults sink.new)) }
     ensures front { OnErr result
         (GaveFront (O.given sink.old) (O.given sink.new) (complaint_line complaint)) }
 {
-    let text = format!(in alloc; "{complaint}\n")?;
-    give_all(sink, text.as_bytes())?;
-    flush_all(sink)
+    give_all(sink, complaint.line().as_str().as_bytes())?;
+    sink.flush()
 }

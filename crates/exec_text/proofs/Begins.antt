@@ -8,7 +8,7 @@ use Rattle.exec_machine.specs.declared.config.Word.TheVariants.{End}
 use Rattle.exec_machine.specs.declared.step.Step.{Step}
 use Rattle.exec_machine.specs.declared.step.Step.TheVariants.{Work}
 use Rattle.exec_machine.specs.Grammar.{Plan, HeaderFits, IsPlan, plan_lines, text_of_words, text_of_step, WordFits, StepFits, says_something, IsTraceOf}
-use Rattle.exec_text.specs.Reading.{header, IsRoot, IsTop, IsMarkedTop}
+use Rattle.exec_text.specs.Reading.{header, all_said, IsRoot, IsTop, IsMarkedTop}
 use Rattle.exec_text.proofs.Headers.{header_length, header_same, append_same}
 
 abbrev pub Begins : List (List ℕ) → Type 0
@@ -133,3 +133,9 @@ pub trace_from : (text : List ℕ) (said : List (List ℕ)) (c : Configuration) 
 trace_from text said c scripts root steps none m fit e =
     let P : List (List Word) → Type 0 = λ s. IsTraceOf text (record { config = c; scripts = s; root = root; steps = steps }) in
     subst P (sym none) (record { plan = steps_fit c said root steps m fit; spelled = e ∙ steps_spelled c said root steps m fit })
+
+-- and so it is where the top was read up to the mark, and then the steps
+pub spelled_trace : (text t : List ℕ) (before said : List (List ℕ)) (c : Configuration) (scripts : List (List Word)) (root : List Word) (steps : List Step) → scripts ≡ [] → t ≡ text → IsTop c before root → said ≡ before ++ codes "steps" ∷ [] → All StepFits steps → all_said t ≡ said ++ map text_of_step steps
+    → IsTraceOf text (record { config = c; scripts = scripts; root = root; steps = steps })
+spelled_trace text t before said c scripts root steps none same top marked fit all =
+    trace_from text said c scripts root steps none (subst (λ (x : List (List ℕ)). IsMarkedTop c x root) (sym marked) (mark_top c before root top)) fit (sym (ap all_said same) ∙ all)

@@ -7,9 +7,7 @@ use Rattle.exec_machine.specs.declared.config.Configuration.{Configuration}
 use Rattle.exec_machine.specs.declared.config.Word.{Word}
 use Rattle.exec_machine.specs.declared.step.Step.{Step}
 use Rattle.exec_machine.specs.Grammar.{Plan, HeaderFits, IsPlan, plan_lines, says_something, CanGoOn, IsTrace, IsFirstFault, text_of_step, StepFits}
-use Rattle.exec_text.specs.declared.read_error.ReadError.{ReadError}
-use Rattle.exec_text.specs.declared.read_error.ReadError.TheVariants.{Syntax, NoMemory}
-use Rattle.exec_text.specs.Reading.{OnSyntax, said_before, IsNextSaid, IsLastSaid, IsMissing, IsStuck, header, IsRoot, IsTop, IsMarkedTop, all_said}
+use Rattle.exec_text.specs.Reading.{said_before, IsNextSaid, IsLastSaid, IsMissing, IsStuck, header, IsRoot, IsTop, IsMarkedTop, all_said}
 use Rattle.exec_text.specs.Laws.{TraceHasNoFault, FaultIsOne}
 use Rattle.exec_text.proofs.Said.{said_all}
 use Rattle.exec_text.proofs.Headers.{header_length, config_of, config_fits}
@@ -81,9 +79,8 @@ stuck_at text old k line c Wrong fits small s over h =
     ]
 
 -- and these are its numbers so far
-pub header_stuck : (text t : List ℕ) (old k : ℕ) (ns : List ℕ) (Wrong : List ℕ → Type 0) (e : ReadError) → t ≡ text → AllSmall ns → k < 9 → said_before t old ≡ take k (header (config_of ns)) → ((l : List ℕ) → Wrong l → (d : Configuration) → HeaderFits d → l ≢ get_or (header d) k []) → OnSyntax e (IsStuck t old Wrong) → OnSyntax e (IsFirstFault text)
-header_stuck text t old k ns Wrong (Syntax line) same below small s over h = subst (λ (x : List ℕ). IsFirstFault x line) same (stuck_at t old k line (config_of ns) Wrong (config_fits ns below) small s over h)
-header_stuck text t old k ns Wrong NoMemory same below small s over h = tt
+pub header_stuck : (text t : List ℕ) (old k : ℕ) (ns : List ℕ) (Wrong : List ℕ → Type 0) (line : ℕ) → t ≡ text → AllSmall ns → k < 9 → said_before t old ≡ take k (header (config_of ns)) → ((l : List ℕ) → Wrong l → (d : Configuration) → HeaderFits d → l ≢ get_or (header d) k []) → IsStuck t old Wrong line → IsFirstFault text line
+header_stuck text t old k ns Wrong line same below small s over h = subst (λ (x : List ℕ). IsFirstFault x line) same (stuck_at t old k line (config_of ns) Wrong (config_fits ns below) small s over h)
 
 header_all : (c : Configuration) → take 9 (header c) ≡ header c
 header_all c = take_all 9 (header c) (omega (arith, header_length c))
@@ -92,10 +89,9 @@ header_all c = take_all 9 (header c) (omega (arith, header_length c))
 header_begins : (c : Configuration) → HeaderFits c → Begins (header c)
 header_begins c h = subst Begins (header_all c) (header_front c 9 h)
 
-pub root_missing : (text : List ℕ) (old : ℕ) (c : Configuration) (e : ReadError) → HeaderFits c → said_before text old ≡ header c → OnSyntax e (IsMissing text old) → OnSyntax e (IsFirstFault text)
-root_missing text old c (Syntax line) h s m =
+pub root_missing : (text : List ℕ) (old : ℕ) (c : Configuration) (line : ℕ) → HeaderFits c → said_before text old ≡ header c → IsMissing text old line → IsFirstFault text line
+root_missing text old c line h s m =
     fault_missing text old line m (subst Begins (sym s) (header_begins c h)) (λ p f q. header_short c 9 p (omega arith) f (q ∙ s ∙ sym (header_all c)))
-root_missing text old c NoMemory h s m = tt
 
 pub root_wrong : (text : List ℕ) (old next : ℕ) (line : List ℕ) (c : Configuration) → HeaderFits c → said_before text old ≡ header c → IsNextSaid text old next line → ((root : List Word) → IsRoot c line root → ⊥) → IsFirstFault text next
 root_wrong text old next line c h s n over =
@@ -106,10 +102,9 @@ pub root_right : (text : List ℕ) (old next : ℕ) (line : List ℕ) (c : Confi
 root_right text old next line c root h s n r = record { header_fits = h; line = line; spelled = n.said ∙ ap (λ (x : List (List ℕ)). x ++ line ∷ []) s; root_line = r }
 
 -- at the line `steps`
-pub mark_missing : (text : List ℕ) (old : ℕ) (c : Configuration) (root : List Word) (e : ReadError) → IsTop c (said_before text old) root → OnSyntax e (IsMissing text old) → OnSyntax e (IsFirstFault text)
-mark_missing text old c root (Syntax line) t m =
+pub mark_missing : (text : List ℕ) (old : ℕ) (c : Configuration) (root : List Word) (line : ℕ) → IsTop c (said_before text old) root → IsMissing text old line → IsFirstFault text line
+mark_missing text old c root line t m =
     fault_missing text old line m (top_begins c (said_before text old) root t) (λ p h q. top_short c (said_before text old) root p t h q)
-mark_missing text old c root NoMemory t m = tt
 
 pub mark_wrong : (text : List ℕ) (old next : ℕ) (line : List ℕ) (c : Configuration) (root : List Word) → IsTop c (said_before text old) root → IsNextSaid text old next line → line ≢ codes "steps" → IsFirstFault text next
 mark_wrong text old next line c root t n other =

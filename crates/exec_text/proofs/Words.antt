@@ -1,6 +1,6 @@
 -- The words of a script.
 use Rattle.std.proofs.Common.{◌≡◌, ◌≢◌, ℕ, ◌<◌, ◌≤◌, ◌^◌, suc, cond, ◌==◌, List, [], ◌∷◌, ◌++◌, All, codes, decimal, refl, sym, ap, ◌∙◌, subst, arith, length, get_or, drop, append_assoc}
-use Rattle.std.proofs.Common.{Option, Some, None, Result, Ok, Err, IfOk, IfSome, IfNone}
+use Rattle.std.proofs.Common.{Option, Some, None, IfSome, IfNone}
 use Rattle.std.proofs.lemmas.List.{flat_map_more, append-nil, append_cancel_left}
 use Rattle.std.proofs.lemmas.Fmt.{decimal_injective}
 use Rattle.exec_machine.specs.declared.config.Configuration.{Configuration}
@@ -286,12 +286,10 @@ root_is c line name rest root f e some s fit = record {
   fit = fit;
 }
 
-pub root_read : {V E : Type 0} (c : Configuration) (view : V → List Word) (r : Result (Option V) E) (line name rest : List ℕ) → IsField line name rest → name ≡ codes "root" → 0 < length rest → IfOk r (λ o. IfSome o (λ w. rest ≡ text_of_words (view w))) → IfOk r (λ o. IfSome o (λ w. AllFit c (view w))) → IfOk r (λ o. IfSome o (λ w. IsRoot c line (view w)))
-root_read c view (Ok (Some w)) line name rest f e some s fit = root_is c line name rest (view w) f e some s fit
-root_read c view (Ok None) line name rest f e some s fit = tt
-root_read c view (Err y) line name rest f e some s fit = tt
+pub root_read : {V : Type 0} (c : Configuration) (Keeps : V → List Word → Type 0) (r : Option V) (line name rest : List ℕ) → IsField line name rest → name ≡ codes "root" → 0 < length rest → IfSome r (λ v. (words : List Word) × (rest ≡ text_of_words words) × AllFit c words × Keeps v words) → IfSome r (λ v. (root : List Word) × IsRoot c line root × Keeps v root)
+root_read c Keeps (Some v) line name rest f e some h = (h.0, root_is c line name rest h.0 f e some h.1 h.2, h.3)
+root_read c Keeps None line name rest f e some h = tt
 
-pub root_unread : {V E : Type 0} (c : Configuration) (r : Result (Option V) E) (line name rest : List ℕ) → IsField line name rest → IfOk r (λ o. IfNone o ((words : List Word) → AllFit c words → rest ≢ text_of_words words)) → IfOk r (λ o. IfNone o ((root : List Word) → IsRoot c line root → ⊥))
-root_unread c (Ok (Some w)) line name rest f h = tt
-root_unread c (Ok None) line name rest f h = λ root r. h root r.fit (root_fields c line name rest root f r).1
-root_unread c (Err y) line name rest f h = tt
+pub root_unread : {V : Type 0} (c : Configuration) (r : Option V) (line name rest : List ℕ) → IsField line name rest → IfNone r ((words : List Word) → AllFit c words → rest ≢ text_of_words words) → IfNone r ((root : List Word) → IsRoot c line root → ⊥)
+root_unread c (Some v) line name rest f h = tt
+root_unread c None line name rest f h = λ root r. h root r.fit (root_fields c line name rest root f r).1

@@ -6,14 +6,14 @@ use Rattle.std.specs.Str.Lines.{lines}
 use Rattle.exec_machine.specs.declared.config.Configuration.{Configuration}
 use Rattle.exec_machine.specs.declared.config.Spin.{Spin}
 use Rattle.exec_machine.specs.declared.config.Word.{Word}
-use Rattle.exec_machine.specs.Grammar.{says_something, header_lines, HeaderFits, text_of_word, text_of_words, WordFits}
+use Rattle.exec_machine.specs.Grammar.{says_something, header_lines, HeaderFits, text_of_word, text_of_words, WordFits, IsTrace, IsFirstFault}
 use Rattle.exec_text.specs.declared.read_error.ReadError.{ReadError}
 use Rattle.exec_text.specs.declared.read_error.ReadError.TheVariants.{Syntax, NoMemory}
 
--- what holds of the line of a syntax error
-abbrev pub OnSyntax : ReadError → (ℕ → Type 0) → Type 0
-OnSyntax (Syntax line) P = P line
-OnSyntax NoMemory P = Unit {0}
+-- Why a text was not read: the line is the first at which it is no trace, or it is one, and there was no memory.
+abbrev pub IsUnread : ReadError → List ℕ → Type 0
+IsUnread (Syntax line) text = IsFirstFault text line
+IsUnread NoMemory text = IsTrace text
 
 -- The place before the byte `from` is the one before the line of this number, counted from 0.
 pub record IsBeforeLine (text : List ℕ) (from number : ℕ) : Type 0 where

@@ -3,20 +3,20 @@
 ghost use Rattle.std.specs.Prelude.{◌≡◌, ◌≢◌, ℕ, ◌<◌, ◌^◌, [], ◌∷◌, ◌++◌, decimal, IfOk, IfErr, IfSome, IfNone};
 ghost use Rattle.exec_machine.specs.declared.config.Spin.{Spin};
 ghost use Rattle.exec_machine.specs.Grammar.{HeaderFits, IsFirstFault};
-ghost use Rattle.exec_text.specs.Reading.{OnSyntax, IsStuck, said_before, header, text_of_spin, SpinFits};
+ghost use Rattle.exec_text.specs.Reading.{IsStuck, said_before, header, text_of_spin, SpinFits};
 
 use crate::line::Lines;
 use crate::number::{next_number, number};
-use crate::read_error::ReadError;
+use crate::read_error::FaultyLine;
 use exec_machine::config::{Configuration, Spin};
 
 /// Reads the header.
-pub(crate) fn read_header(lines: &mut Lines) -> Result<Configuration, ReadError>
+pub(crate) fn read_header(lines: &mut Lines) -> Result<Configuration, FaultyLine>
     requires { lines.old.number ≡ 0 }
     ensures text { lines.new.text.now ≡ lines.old.text.now }
     ensures ok { IfOk result (λ c. said_before lines.new.text.now lines.new.number ≡ header c) }
     ensures fits { IfOk result HeaderFits }
-    ensures fault { IfErr result (λ e. OnSyntax e (IsFirstFault lines.old.text.now)) }
+    ensures fault { IfErr result (λ e. IsFirstFault lines.old.text.now e.number) }
 {
     let workers = read_value(lines, "workers")?;
     let interval = read_value(lines, "interval")?;
@@ -41,15 +41,15 @@ pub(crate) fn read_header(lines: &mut Lines) -> Result<Configuration, ReadError>
 }
 
 /// Reads a line of the header that has one number behind this name.
-fn read_value(lines: &mut Lines, name: &str) -> Result<u64, ReadError>
+fn read_value(lines: &mut Lines, name: &str) -> Result<u64, FaultyLine>
     ensures text { lines.new.text.now ≡ lines.old.text.now }
     ensures ok { IfOk result (λ n. said_before lines.new.text.now lines.new.number ≡ said_before lines.old.text.now lines.old.number ++ (name.now ++ 32 ∷ decimal n) ∷ []) }
-    ensures fault { IfErr result (λ e. OnSyntax e (IsStuck lines.old.text.now lines.old.number (λ line. (n : ℕ) → n < 2 ^ 64 → line ≢ name.now ++ 32 ∷ decimal n))) }
+    ensures fault { IfErr result (λ e. IsStuck lines.old.text.now lines.old.number (λ line. (n : ℕ) → n < 2 ^ 64 → line ≢ name.now ++ 32 ∷ decimal n) e.number) }
 {
     let line = lines.expect_said()?;
     match value_of(line, name) {
         Some(value) => Ok(value),
-        None => Err(ReadError::Syntax(lines.number)),
+        None => Err(lines.fault()),
     }
 }
 
@@ -65,16 +65,16 @@ fn value_of(line: &[u8], name: &str) -> Option<u64>
 }
 
 /// Reads the line of the spin.
-fn read_spin(lines: &mut Lines) -> Result<Spin, ReadError>
+fn read_spin(lines: &mut Lines) -> Result<Spin, FaultyLine>
     ensures text { lines.new.text.now ≡ lines.old.text.now }
     ensures ok { IfOk result (λ s. said_before lines.new.text.now lines.new.number ≡ said_before lines.old.text.now lines.old.number ++ text_of_spin s ∷ []) }
     ensures fits { IfOk result SpinFits }
-    ensures fault { IfErr result (λ e. OnSyntax e (IsStuck lines.old.text.now lines.old.number (λ line. (s : Spin) → SpinFits s → line ≢ text_of_spin s))) }
+    ensures fault { IfErr result (λ e. IsStuck lines.old.text.now lines.old.number (λ line. (s : Spin) → SpinFits s → line ≢ text_of_spin s) e.number) }
 {
     let line = lines.expect_said()?;
     match spin_of(line) {
         Some(spin) => Ok(spin),
-        None => Err(ReadError::Syntax(lines.number)),
+        None => Err(lines.fault()),
     }
 }
 

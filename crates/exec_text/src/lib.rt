@@ -1,11 +1,17 @@
 //! The reader of traces.
 //!
 //! `exec_machine/specs/Grammar.antt` says which texts are traces and of which plan. [`read_trace`] gives the
-//! trace that a text spells, or the first line at which the text is no trace.
+//! trace that a text spells, or the first line at which the text is no trace. Want of memory is told only of a
+//! text that is a trace: `kept.rt` says how.
+//!
+//! The lines are read one after another (`line.rt`): the header by a table (`header.rt`), the root's words
+//! (`word.rt`), the mark `steps`, and the steps (`step.rt`). What can't want memory has a type that says so: its
+//! error is a `FaultyLine`.
 #![tactic(auto)]
 
 mod field;
 mod header;
+mod kept;
 mod line;
 mod number;
 mod read;

@@ -3,9 +3,9 @@
 ghost use Rattle.std.specs.Prelude.{◌≡◌, ◌≢◌, ℕ, ◌+◌, ◌-◌, ◌<◌, ◌≤◌, [], ◌∷◌, ◌==◌, not, length, drop, slice_index, slice_index_or, IfOk, IfErr, IfSome, IfNone};
 ghost use Rattle.std.specs.Str.Lines.{lines, strip_carriage_return};
 ghost use Rattle.exec_machine.specs.Grammar.{says_something};
-ghost use Rattle.exec_text.specs.Reading.{OnSyntax, IsBeforeLine, IsNextSaid, IsLastSaid, IsMissing};
+ghost use Rattle.exec_text.specs.Reading.{IsBeforeLine, IsNextSaid, IsLastSaid, IsMissing};
 
-use crate::read_error::ReadError;
+use crate::read_error::FaultyLine;
 
 /// A text and a place between two of its lines.
 #[derive(Drop)]
@@ -47,14 +47,25 @@ impl<'a> Lines<'a> {
     }
 
     /// The next line that says something. Where there is none, the line after the last is missing.
-    pub(crate) fn expect_said(&mut self) -> Result<&'a [u8], ReadError>
+    pub(crate) fn expect_said(&mut self) -> Result<&'a [u8], FaultyLine>
         ensures text { self.new.text.now ≡ self.old.text.now }
         ensures found { IfOk result (λ line. IsNextSaid self.old.text.now self.old.number self.new.number line.now) }
-        ensures missing { IfErr result (λ e. OnSyntax e (IsMissing self.old.text.now self.old.number)) }
+        ensures missing { IfErr result (λ e. IsMissing self.old.text.now self.old.number e.number) }
     {
         match self.next_said() {
             Some(line) => Ok(line),
-            None => Err(ReadError::Syntax(self.number + 1)),
+            None => Err(FaultyLine {
+                number: self.number + 1,
+            }),
+        }
+    }
+
+    /// That the line which was given last is at fault.
+    pub(crate) fn fault(&self) -> FaultyLine
+        ensures { result.number ≡ self.now.number }
+    {
+        FaultyLine {
+            number: self.number,
         }
     }
 

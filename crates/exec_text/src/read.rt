@@ -3,13 +3,16 @@
 ghost use Rattle.std.specs.Prelude.{◌≡◌, List, [], ◌∷◌, ◌++◌, All, codes, map, sum_by, OnOk, IfOk, IfErr};
 ghost use Rattle.exec_machine.specs.declared.config.Configuration.{Configuration};
 ghost use Rattle.exec_machine.specs.declared.config.Word.{Word};
+ghost use Rattle.exec_machine.specs.declared.step.Step.{Step};
 ghost use Rattle.exec_machine.specs.Grammar.{HeaderFits, text_of_step, StepFits, plan_of, IsTraceOf, IsFirstFault, count_of};
-ghost use Rattle.exec_text.specs.Reading.{OnSyntax, said_before, all_said, header, IsTop, IsMarkedTop};
+ghost use Rattle.exec_text.specs.Reading.{IsUnread, said_before, all_said, header, IsTop, IsMarkedTop};
+ghost use Rattle.exec_text.specs.Kept.{Keeps};
 ghost use Rattle.exec_text.specs.Laws.{TraceHasNoFault, FaultIsOne, PlanIsOne};
 
 use crate::header::read_header;
+use crate::kept::Kept;
 use crate::line::Lines;
-use crate::read_error::ReadError;
+use crate::read_error::{FaultyLine, ReadError};
 use crate::step::step_of;
 use crate::word::root_of;
 use exec_machine::config::{Configuration, Trace, Word};
@@ -20,14 +23,16 @@ use std::alloc::Global;
 pub fn read_trace(alloc: Global, text: &[u8]) -> Result<Trace, ReadError>
     // What is read is what the text spells.
     ensures ok { IfOk result (λ t. IsTraceOf text.now (plan_of t)) }
-    // A syntax error names the first line at which the text is no trace.
-    ensures fault { IfErr result (λ e. OnSyntax e (IsFirstFault text.now)) }
+    // A syntax error names the first line at which the text is no trace, and memory is wanted only of a trace.
+    ensures unread { IfErr result (λ e. IsUnread e text.now) }
 {
     let mut lines = Lines::new(text);
     let config = read_header(&mut lines)?;
-    let root = read_root(alloc, &config, &mut lines)?;
+    let kept_root = read_root(alloc, &config, &mut lines)?;
     read_mark(&mut lines)?;
-    let steps = read_steps(alloc, &mut lines)?;
+    let kept_steps = read_steps(alloc, &mut lines)?;
+    let root = kept_root.whole()?;
+    let steps = kept_steps.whole()?;
     Ok(Trace {
         config,
         scripts: Vec::new(alloc),
@@ -41,47 +46,49 @@ fn read_root(
     alloc: Global,
     config: &Configuration,
     lines: &mut Lines,
-) -> Result<Vec<Word>, ReadError>
+) -> Result<Kept<Word>, FaultyLine>
     requires said { said_before lines.old.text.now lines.old.number ≡ header config.now }
     requires fits { HeaderFits config.now }
     ensures text { lines.new.text.now ≡ lines.old.text.now }
-    ensures ok { IfOk result (λ root. IsTop config.now (said_before lines.new.text.now lines.new.number) root.items) }
-    ensures fault { IfErr result (λ e. OnSyntax e (IsFirstFault lines.old.text.now)) }
+    ensures ok { IfOk result (λ kept. (root : List Word)
+        × IsTop config.now (said_before lines.new.text.now lines.new.number) root × Keeps kept root) }
+    ensures fault { IfErr result (λ e. IsFirstFault lines.old.text.now e.number) }
 {
     let line = lines.expect_said()?;
-    match root_of(alloc, config, line)? {
+    match root_of(alloc, config, line) {
         Some(root) => Ok(root),
-        None => Err(ReadError::Syntax(lines.number)),
+        None => Err(lines.fault()),
     }
 }
 
 /// Reads the line `steps`.
-fn read_mark(lines: &mut Lines) -> Result<(), ReadError>
+fn read_mark(lines: &mut Lines) -> Result<(), FaultyLine>
     requires { (c : Configuration) × (root : List Word) × IsTop c (said_before lines.old.text.now lines.old.number) root }
     ensures text { lines.new.text.now ≡ lines.old.text.now }
     ensures ok { OnOk result (said_before lines.new.text.now lines.new.number ≡ said_before lines.old.text.now lines.old.number ++ codes "steps" ∷ []) }
-    ensures fault { IfErr result (λ e. OnSyntax e (IsFirstFault lines.old.text.now)) }
+    ensures fault { IfErr result (λ e. IsFirstFault lines.old.text.now e.number) }
 {
     let line = lines.expect_said()?;
     if line != b"steps".as_slice() {
-        return Err(ReadError::Syntax(lines.number));
+        return Err(lines.fault());
     }
     Ok(())
 }
 
 /// Reads the lines below `steps`.
-fn read_steps(alloc: Global, lines: &mut Lines) -> Result<Vec<Step>, ReadError>
+fn read_steps(alloc: Global, lines: &mut Lines) -> Result<Kept<Step>, FaultyLine>
     requires { (c : Configuration) × (root : List Word) × IsMarkedTop c (said_before lines.old.text.now lines.old.number) root }
-    ensures ok { IfOk result (λ steps. all_said lines.old.text.now ≡ said_before lines.old.text.now lines.old.number ++ map text_of_step steps.items) }
-    ensures fit { IfOk result (λ steps. All StepFits steps.items) }
-    ensures fault { IfErr result (λ e. OnSyntax e (IsFirstFault lines.old.text.now)) }
+    ensures ok { IfOk result (λ kept. (steps : List Step)
+        × (all_said lines.old.text.now ≡ said_before lines.old.text.now lines.old.number ++ map text_of_step steps)
+        × All StepFits steps × Keeps kept steps) }
+    ensures fault { IfErr result (λ e. IsFirstFault lines.old.text.now e.number) }
 {
-    let mut steps = Vec::new(alloc);
+    let mut steps = Kept::new(alloc);
     while let Some(line) = lines.next_said() {
         let Some(step) = step_of(line) else {
-            return Err(ReadError::Syntax(lines.number));
+            return Err(lines.fault());
         };
-        steps.push(step)?;
+        steps = steps.with(step);
     }
     Ok(steps)
 }

@@ -1,9 +1,7 @@
 //! Why a trace could not be read.
 
 ghost use Rattle.std.specs.Prelude.{◌≡◌};
-ghost use Rattle.exec_text.specs.declared.read_error.ReadError.TheVariants.{NoMemory};
-
-use std::alloc::{AllocError, AllocFailed};
+ghost use Rattle.exec_text.specs.declared.read_error.ReadError.TheVariants.{Syntax};
 
 /// Why a text was not read.
 #[derive(Clone, Copy, Debug, PartialEq, Eq)]
@@ -11,22 +9,20 @@ pub enum ReadError {
     /// This line, counted from 1, is the first at which the text is no trace. Where the text ends too
     /// early it's the line after the last.
     Syntax(usize),
-    /// There was no memory for the trace.
+    /// The text is a trace, and there was no memory for it.
     NoMemory,
 }
 
-impl From<AllocError> for ReadError {
-    ghost from_gives = { λ _ e. e ≡ NoMemory };
-
-    fn from(_error: AllocError) -> ReadError {
-        ReadError::NoMemory
-    }
+/// The first line at which a text is no trace, counted from 1.
+#[derive(Clone, Copy, Debug, PartialEq, Eq)]
+pub(crate) struct FaultyLine {
+    pub(crate) number: usize,
 }
 
-impl<T: Drop> From<AllocFailed<T>> for ReadError {
-    ghost from_gives = { λ _ e. e ≡ NoMemory };
+impl From<FaultyLine> for ReadError {
+    ghost from_gives = { λ fault e. e ≡ Syntax fault.number };
 
-    fn from(_error: AllocFailed<T>) -> ReadError {
-        ReadError::NoMemory
+    fn from(fault: FaultyLine) -> ReadError {
+        ReadError::Syntax(fault.number)
     }
 }

@@ -1,57 +1,48 @@
 //! The words of a script.
 
-ghost use Rattle.std.specs.Prelude.{◌≡◌, ◌≢◌, ℕ, ◌<◌, ◌^◌, List, ◌∷◌, ◌++◌, All, codes, decimal, IfOk, IfSome, IfNone};
+ghost use Rattle.std.specs.Prelude.{◌≡◌, ◌≢◌, ℕ, ◌<◌, ◌^◌, List, ◌∷◌, ◌++◌, All, codes, decimal, IfSome, IfNone};
 ghost use Rattle.exec_machine.specs.declared.config.Configuration.{Configuration};
 ghost use Rattle.exec_machine.specs.declared.config.Word.{Word};
 ghost use Rattle.exec_machine.specs.Grammar.{text_of_word, text_of_words, WordFits};
+ghost use Rattle.exec_text.specs.Kept.{Keeps};
 ghost use Rattle.exec_text.specs.Reading.{NoSpace, IsRoot, IsWord};
 
 use crate::field::{first_field, next_field};
+use crate::kept::Kept;
 use crate::number::next_number;
 use exec_machine::config::{Configuration, Word};
-use std::alloc::{AllocError, Global};
+use std::alloc::Global;
 
 /// The longest send.
 const MOST: u64 = 1048576;
 
 /// The words of the root line, of which there is at least one.
-pub(crate) fn root_of(
-    alloc: Global,
-    config: &Configuration,
-    line: &[u8],
-) -> Result<Option<Vec<Word>>, AllocError>
+pub(crate) fn root_of(alloc: Global, config: &Configuration, line: &[u8]) -> Option<Kept<Word>>
     requires { config.now.sockets < 2 ^ 64 }
-    ensures found { IfOk result (λ o. IfSome o (λ root. IsRoot config.now line.now root.items)) }
-    ensures none { IfOk result (λ o. IfNone o ((root : List Word) → IsRoot config.now line.now root → ⊥)) }
+    ensures found { IfSome result (λ kept. (root : List Word) × IsRoot config.now line.now root × Keeps kept root) }
+    ensures none { IfNone result ((root : List Word) → IsRoot config.now line.now root → ⊥) }
 {
     let (name, rest) = first_field(line);
     if name != b"root".as_slice() || rest.is_empty() {
-        return Ok(None);
+        return None;
     }
     words_of(alloc, config, rest)
 }
 
 /// The words that the bytes spell, a space before each.
-fn words_of(
-    alloc: Global,
-    config: &Configuration,
-    bytes: &[u8],
-) -> Result<Option<Vec<Word>>, AllocError>
+fn words_of(alloc: Global, config: &Configuration, bytes: &[u8]) -> Option<Kept<Word>>
     requires { config.now.sockets < 2 ^ 64 }
-    ensures found { IfOk result (λ o. IfSome o (λ words. bytes.now ≡ text_of_words words.items)) }
-    ensures fit { IfOk result (λ o. IfSome o (λ words. All (WordFits config.now) words.items)) }
-    ensures none { IfOk result (λ o. IfNone o ((words : List Word) → All (WordFits config.now) words → bytes.now ≢ text_of_words words)) }
+    ensures found { IfSome result (λ kept. (words : List Word) × (bytes.now ≡ text_of_words words) × All (WordFits config.now) words × Keeps kept words) }
+    ensures none { IfNone result ((words : List Word) → All (WordFits config.now) words → bytes.now ≢ text_of_words words) }
 {
-    let mut words = Vec::new(alloc);
+    let mut words = Kept::new(alloc);
     let mut rest = bytes;
     while !rest.is_empty() {
-        let Some((word, after)) = next_word(config, rest) else {
-            return Ok(None);
-        };
-        words.push(word)?;
+        let (word, after) = next_word(config, rest)?;
+        words = words.with(word);
         rest = after;
     }
-    Ok(Some(words))
+    Some(words)
 }
 
 /// The word behind the space at the front, and the rest.

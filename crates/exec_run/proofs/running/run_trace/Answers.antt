@@ -1,11 +1,17 @@
-use Rattle.std.proofs.Common.{List, ℕ, subst}
+use Rattle.std.proofs.Common.{List, ℕ, refl, subst}
 use Rattle.exec_run.specs.Reading.{CannotRun}
 use Rattle.std.proofs.lemmas.Result.{err_from_is_err_and}
-use Rattle.exec_run.proofs.RunLemmas.{cause_of}
+use Rattle.exec_run.proofs.RunLemmas.{cause_of, unread}
 use Rattle.exec_run.proofs.running.run_trace.Goals as goal
+
+pub returns-in_err-text-clause-err : goal.returns-in_err-text-clause-err
+returns-in_err-text-clause-err g c =
+    let p = err_from_is_err_and c.from_residual.result c.from_residual.ensures.1 in
+    rw (p.1, p.2) (unread c.in_err-text.field-0.0 _ _ _ _ c.in_err-text.ensures.err)
 
 pub returns-in_err-trace-clause-err : goal.returns-in_err-trace-clause-err
 returns-in_err-trace-clause-err g c =
     let p = err_from_is_err_and c.from_residual-in_err-trace.result c.from_residual-in_err-trace.ensures.1 in
     rw (p.1, p.2) (cause_of c.in_err-trace.field-0.0 _ c.in_ok-text.text.items _ _ _ _ c.in_ok-text.ensures.whole
-    (subst (λ (x : List ℕ). CannotRun c.in_err-trace.field-0.0 x) c.as_slice.ensures.value c.in_err-trace.ensures.err))
+    (subst (λ (x : List ℕ). CannotRun c.in_err-trace.field-0.0 x) c.as_slice.ensures.value c.in_err-trace.ensures.err)
+    c.in_ok-text.ensures.well refl)

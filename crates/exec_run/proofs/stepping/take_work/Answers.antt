@@ -6,7 +6,7 @@ use Rattle.exec_run.proofs.stepping.take_work.Goals as goal
 pub loop-init : goal.loop-init
 loop-init g c =
     record {
-      count = omega arith;
+      well = refl;
       goes_on = record { config = refl; stands = c.requires };
       works = works_none c.args.quiet c.args.core.now.config (standing c.args.core.now) c.args.worker (g.O.Output.given c.args.sink.now);
     }
@@ -25,7 +25,7 @@ returns-in-Refused-clause-leads g c =
 pub loop-preserved : goal.loop-preserved
 loop-preserved g c =
     record {
-      count = omega (arith, c.in_ok-line.ensures.count, c.loop.invariant.count);
+      well = c.in_ok-line.ensures.well ∙ c.loop.invariant.well;
       goes_on = record { config = c.in_ok-line.ensures.goes_on.config ∙ c.loop.invariant.goes_on.config; stands = c.in_ok-line.ensures.goes_on.stands };
       works = works_more c.args.quiet c.args.core.now.config (standing c.args.core.now) (standing c.loop.core) (standing c.take_line.new.core) c.args.worker c.loop.counter c.in_ok-line.line c.in-Did.field-0 _ _ _
           c.loop.invariant.works (takes_under c.args.quiet _ _ _ _ _ _ _ _ c.loop.invariant.goes_on.config c.in_ok-line.ensures.takes) c.in-Did.is;

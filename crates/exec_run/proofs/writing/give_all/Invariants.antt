@@ -1,4 +1,4 @@
-use Rattle.std.proofs.Common.{◌≤◌, ◌-◌, take, length}
+use Rattle.std.proofs.Common.{◌≡◌, ◌≤◌, ◌-◌, take, length}
 use Rattle.exec_run.specs.Log.{Gave}
 use Rattle.exec_run.proofs.writing.give_all.Given as goal
 
@@ -6,7 +6,7 @@ use Rattle.exec_run.proofs.writing.give_all.Given as goal
 abbrev pub invariant-rests : goal.invariant-rests
 invariant-rests g l = record {
   within : l.at ≤ length l.bytes;
-  count : g.O.Output.faults l.initial.sink ≤ g.O.Output.faults l.sink;
+  well : g.O.Output.faults l.sink ≡ g.O.Output.faults l.initial.sink;
   gave : Gave (g.O.Output.given l.initial.sink) (g.O.Output.given l.sink) (take l.at l.bytes);
 }
 

@@ -13,5 +13,6 @@ returns-in_err-line-clause-fault c =
 pub returns-then-ne-clause-fault : goal.returns-then-ne-clause-fault
 returns-then-ne-clause-fault c =
     let s = c.args.lines.now in
-    mark_wrong s.text.now s.number c.expect_said.new.self.number c.in_ok-line.line.now c.requires.0 c.requires.1 c.requires.2 c.in_ok-line.ensures.found
-    (told_other c.in_ok-line.line.now c.as_slice.result.now (codes "steps") c.ne.result c.ne.ensures c.as_slice.ensures c.if-ne.true)
+    rw c.fault.ensures
+    (mark_wrong s.text.now s.number c.expect_said.new.self.number c.in_ok-line.line.now c.requires.0 c.requires.1 c.requires.2 c.in_ok-line.ensures.found
+    (told_other c.in_ok-line.line.now c.as_slice.result.now (codes "steps") c.ne.result c.ne.ensures c.as_slice.ensures c.if-ne.true))

@@ -1,16 +1,57 @@
-use Rattle.std.proofs.Common.{◌≡◌, ℕ, List, map, sym, ap, ◌∙◌, subst}
-use Rattle.exec_text.specs.Reading.{said_before, all_said, IsMarkedTop}
-use Rattle.exec_text.proofs.Begins.{trace_from, mark_top}
+use Rattle.std.proofs.Common.{◌≡◌, ℕ, List, [], map, refl, sym, ap, ◌∙◌, subst}
+use Rattle.std.proofs.lemmas.Result.{err_from_is_err_and}
+use Rattle.exec_machine.specs.declared.config.Word.{Word}
+use Rattle.exec_machine.specs.declared.step.Step.{Step}
+use Rattle.exec_machine.specs.Grammar.{IsFirstFault}
+use Rattle.exec_text.proofs.Begins.{plan_from, spelled_trace}
 use Rattle.exec_text.proofs.read.read_trace.Goals as goal
+
+pub returns-in_err-config-clause-unread : goal.returns-in_err-config-clause-unread
+returns-in_err-config-clause-unread c =
+    let fault = c.in_err-config in
+    let p = err_from_is_err_and c.from_residual.result c.from_residual.ensures.1 in
+    rw (p.1, p.2) (subst (λ (t : List ℕ). IsFirstFault t fault.field-0.0.number) (c.new-lines.ensures.text) fault.ensures.fault)
+
+pub returns-in_err-kept_root-clause-unread : goal.returns-in_err-kept_root-clause-unread
+returns-in_err-kept_root-clause-unread c =
+    let fault = c.in_err-kept_root in
+    let p = err_from_is_err_and c.from_residual-in_err-kept_root.result c.from_residual-in_err-kept_root.ensures.1 in
+    rw (p.1, p.2) (subst (λ (t : List ℕ). IsFirstFault t fault.field-0.0.number) (c.in_ok-config.ensures.text ∙ c.new-lines.ensures.text) fault.ensures.fault)
+
+pub returns-in_err-read_mark-clause-unread : goal.returns-in_err-read_mark-clause-unread
+returns-in_err-read_mark-clause-unread c =
+    let fault = c.in_err-read_mark in
+    let p = err_from_is_err_and c.from_residual-in_err-read_mark.result c.from_residual-in_err-read_mark.ensures.1 in
+    rw (p.1, p.2) (subst (λ (t : List ℕ). IsFirstFault t fault.field-0.0.number) (c.in_ok-kept_root.ensures.text ∙ c.in_ok-config.ensures.text ∙ c.new-lines.ensures.text) fault.ensures.fault)
+
+pub returns-in_err-kept_steps-clause-unread : goal.returns-in_err-kept_steps-clause-unread
+returns-in_err-kept_steps-clause-unread c =
+    let fault = c.in_err-kept_steps in
+    let p = err_from_is_err_and c.from_residual-in_err-kept_steps.result c.from_residual-in_err-kept_steps.ensures.1 in
+    rw (p.1, p.2) (subst (λ (t : List ℕ). IsFirstFault t fault.field-0.0.number) (c.in_ok-read_mark.ensures.text ∙ c.in_ok-kept_root.ensures.text ∙ c.in_ok-config.ensures.text ∙ c.new-lines.ensures.text) fault.ensures.fault)
+
+pub returns-in_err-root-clause-unread : goal.returns-in_err-root-clause-unread
+returns-in_err-root-clause-unread c =
+    let r = c.in_ok-kept_root.ensures.ok in
+    let s = c.in_ok-kept_steps.ensures.ok in
+    let text : c.read_mark.new.lines.text.now ≡ c.args.text.now = c.in_ok-read_mark.ensures.text ∙ c.in_ok-kept_root.ensures.text ∙ c.in_ok-config.ensures.text ∙ c.new-lines.ensures.text in
+    let p = err_from_is_err_and c.from_residual-in_err-root.result c.from_residual-in_err-root.ensures.1 in
+    rw (p.1, p.2, c.in_err-root.ensures.err)
+    (plan_from c.in_ok-config.config r.0 s.0, spelled_trace c.args.text.now _ _ _ c.in_ok-config.config [] r.0 s.0 refl text r.1 c.in_ok-read_mark.ensures.ok s.2 s.1)
+
+pub returns-in_err-steps-clause-unread : goal.returns-in_err-steps-clause-unread
+returns-in_err-steps-clause-unread c =
+    let r = c.in_ok-kept_root.ensures.ok in
+    let s = c.in_ok-kept_steps.ensures.ok in
+    let text : c.read_mark.new.lines.text.now ≡ c.args.text.now = c.in_ok-read_mark.ensures.text ∙ c.in_ok-kept_root.ensures.text ∙ c.in_ok-config.ensures.text ∙ c.new-lines.ensures.text in
+    let p = err_from_is_err_and c.from_residual-in_err-steps.result c.from_residual-in_err-steps.ensures.1 in
+    rw (p.1, p.2, c.in_err-steps.ensures.err)
+    (plan_from c.in_ok-config.config r.0 s.0, spelled_trace c.args.text.now _ _ _ c.in_ok-config.config [] r.0 s.0 refl text r.1 c.in_ok-read_mark.ensures.ok s.2 s.1)
 
 pub returns-clause-ok : goal.returns-clause-ok
 returns-clause-ok c =
-    let config = c.in_ok-config.config in
-    let root = c.in_ok-root.root.items in
-    let steps = c.in_ok-steps.steps.items in
-    let before = c.read_root.new.lines in
-    let after = c.read_mark.new.lines in
-    let said = said_before after.text.now after.number in
-    let marked : IsMarkedTop config said root = subst (λ (x : List (List ℕ)). IsMarkedTop config x root) (sym c.in_ok-read_mark.ensures.ok) (mark_top config (said_before before.text.now before.number) root c.in_ok-root.ensures.ok) in
-    let text : after.text.now ≡ c.args.text.now = c.in_ok-read_mark.ensures.text ∙ c.in_ok-root.ensures.text ∙ c.in_ok-config.ensures.text ∙ c.new-lines.ensures.text in
-    trace_from c.args.text.now said config _ root steps (ap (map (λ script. script.items)) c.new.ensures.items) marked c.in_ok-steps.ensures.fit (sym (ap all_said text) ∙ c.in_ok-steps.ensures.ok)
+    let r = c.in_ok-kept_root.ensures.ok in
+    let s = c.in_ok-kept_steps.ensures.ok in
+    let text : c.read_mark.new.lines.text.now ≡ c.args.text.now = c.in_ok-read_mark.ensures.text ∙ c.in_ok-kept_root.ensures.text ∙ c.in_ok-config.ensures.text ∙ c.new-lines.ensures.text in
+    rw (c.in_ok-root.ensures.ok r.0 r.2, c.in_ok-steps.ensures.ok s.0 s.3)
+    (spelled_trace c.args.text.now _ _ _ c.in_ok-config.config _ r.0 s.0 (ap (map (λ script. script.items)) c.new.ensures.items) text r.1 c.in_ok-read_mark.ensures.ok s.2 s.1)

@@ -1,0 +1,9 @@
+-- What a list that may be lost stands for.
+use Rattle.std.specs.Prelude.{◌≡◌, List}
+use Rattle.exec_text.specs.declared.kept.Kept.{Kept}
+use Rattle.exec_text.specs.declared.kept.Kept.TheVariants.{All, Lost}
+
+-- it has all of these elements, or they are lost
+abbrev pub Keeps : {T : Type 0} → Kept T → List T → Type 0
+Keeps (All list) elements = list.items ≡ elements
+Keeps Lost elements = Unit {0}
