@@ -6,3 +6,4 @@ pub mod Passes
 pub mod Sizes
 pub mod Slumber
 pub mod Endings
+pub mod Stale

@@ -9,3 +9,4 @@ pub mod Firsts
 pub mod Sleep
 pub mod WheelExamples
 pub mod SleepExamples
+pub mod WheelRuns

@@ -29,7 +29,7 @@ heard (Ok (Some (Err e))) = Err e
 heard (Err _) = Err Closed
 
 -- and what it makes of the sleep
-abbrev pub after_hearing : SleepState → Result (Option (Result (Unit {0}) Error)) Error → State
+abbrev pub after_hearing : SleepState → Result (Option (Result (Unit {0}) Error)) Error → SleepState
 after_hearing state (Ok None) = state
 after_hearing state (Ok (Some _)) = Done
 after_hearing state (Err _) = Done

@@ -103,14 +103,28 @@ fn a_sleep_is_over_once_its_sleeper_fired(rt: HostRuntime) -> Result<(), Fail> {
     let (mut timers, mut notes) = (Timers::new(rt.alloc()), Notes::new(rt.alloc()));
     let (mut post, mut answer) = (open_post(rt.alloc())?, OneShot::new());
     let mut sleep = Sleep::new(10, 5);
-    let first = poll(&mut sleep, &rt, home(14), &mut timers, &mut post, &mut answer);
+    let first = poll(
+        &mut sleep,
+        &rt,
+        home(14),
+        &mut timers,
+        &mut post,
+        &mut answer,
+    );
     assert_eq!(rt; first, Ok(false));
     assert!(rt; matches!(sleep.state(), SleepState::Registered(3, FIRST)));
     assert_eq!(rt; (timers.len(), timers.next_deadline()), (1, Some(15)));
     notes.reserve(rt.alloc(), timers.len())?;
     timers.expire(15, &mut notes);
     assert_eq!(rt; notes.wakes.as_slice(), [TaskNo(1)].as_slice());
-    let last = poll(&mut sleep, &rt, home(15), &mut timers, &mut post, &mut answer);
+    let last = poll(
+        &mut sleep,
+        &rt,
+        home(15),
+        &mut timers,
+        &mut post,
+        &mut answer,
+    );
     assert_eq!(rt; last, Ok(true));
     assert!(rt; matches!(sleep.state(), SleepState::Done));
     Ok(())
@@ -121,18 +135,46 @@ fn a_sleep_that_is_polled_elsewhere_hears_of_its_end(rt: HostRuntime) -> Result<
     let mut timers = Timers::new(rt.alloc());
     let (mut post, mut answer) = (open_post(rt.alloc())?, OneShot::new());
     let mut sleep = Sleep::new(10, 5);
-    let first = poll(&mut sleep, &rt, home(5), &mut timers, &mut post, &mut answer);
+    let first = poll(
+        &mut sleep,
+        &rt,
+        home(5),
+        &mut timers,
+        &mut post,
+        &mut answer,
+    );
     assert_eq!(rt; first, Ok(false));
-    let asks = poll(&mut sleep, &rt, away(5), &mut timers, &mut post, &mut answer);
+    let asks = poll(
+        &mut sleep,
+        &rt,
+        away(5),
+        &mut timers,
+        &mut post,
+        &mut answer,
+    );
     assert_eq!(rt; asks, Ok(false));
     assert!(rt; matches!(sleep.state(), SleepState::Forwarded(3, FIRST)));
     assert!(rt; matches!(post.messages.as_slice(), [TimerMessage::Forward(FIRST, 7)]));
     post.messages.clear();
     assert_eq!(rt; answer.send(Err(Error::Full)), Ok(()));
-    let hears = poll(&mut sleep, &rt, home(5), &mut timers, &mut post, &mut answer);
+    let hears = poll(
+        &mut sleep,
+        &rt,
+        home(5),
+        &mut timers,
+        &mut post,
+        &mut answer,
+    );
     assert_eq!(rt; hears, Err(Error::Full));
     assert_eq!(rt; post.messages.len(), 0);
-    let again = poll(&mut sleep, &rt, home(5), &mut timers, &mut post, &mut answer);
+    let again = poll(
+        &mut sleep,
+        &rt,
+        home(5),
+        &mut timers,
+        &mut post,
+        &mut answer,
+    );
     assert_eq!(rt; again, Ok(true));
     Ok(())
 }
@@ -142,14 +184,35 @@ fn what_closes_ends_a_sleep(rt: HostRuntime) -> Result<(), Fail> {
     let mut timers = Timers::new(rt.alloc());
     let (mut post, mut answer) = (open_post(rt.alloc())?, OneShot::new());
     let mut new = Sleep::new(10, 5);
-    let refused = poll(&mut new, &rt, closes(home(5)), &mut timers, &mut post, &mut answer);
+    let refused = poll(
+        &mut new,
+        &rt,
+        closes(home(5)),
+        &mut timers,
+        &mut post,
+        &mut answer,
+    );
     assert_eq!(rt; refused, Err(Error::Closed));
     assert_eq!(rt; timers.len(), 0);
     let mut sleep = Sleep::until(15, 5);
-    let first = poll(&mut sleep, &rt, home(5), &mut timers, &mut post, &mut answer);
+    let first = poll(
+        &mut sleep,
+        &rt,
+        home(5),
+        &mut timers,
+        &mut post,
+        &mut answer,
+    );
     assert_eq!(rt; first, Ok(false));
     post.closed = true;
-    let shut = poll(&mut sleep, &rt, away(5), &mut timers, &mut post, &mut answer);
+    let shut = poll(
+        &mut sleep,
+        &rt,
+        away(5),
+        &mut timers,
+        &mut post,
+        &mut answer,
+    );
     assert_eq!(rt; shut, Err(Error::Closed));
     assert_eq!(rt; post.messages.len(), 0);
     assert!(rt; matches!(sleep.state(), SleepState::Done));

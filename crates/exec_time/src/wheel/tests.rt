@@ -28,7 +28,10 @@ fn wheel(rt: &HostRuntime) -> Result<TimeoutWheel, Fail> {
 #[test]
 fn a_deadline_comes_out_at_its_tick(rt: HostRuntime) -> Result<(), Fail> {
     let mut wheel = wheel(&rt)?;
-    assert_eq!(rt; (wheel.tick(), wheel.slots(), wheel.room()), (5 * MS, 32, 0));
+    assert_eq!(rt;
+        (wheel.tick(), wheel.slots(), wheel.room()),
+        (5 * MS, 32, 0)
+    );
     let refused = wheel.reserve(rt.alloc(), usize::MAX).is_err();
     assert!(rt; refused);
     wheel.reserve(rt.alloc(), 3)?;
