@@ -8,44 +8,44 @@ use Rattle.exec_driver.specs.declared.asked.Asked.TheVariants.{Send, Spent, Poll
 use Rattle.exec_machine.specs.World.{Operation}
 
 abbrev pub kind_of : Asked → Kind
-kind_of (Send s) = kind.Send
+kind_of (Send fd s) = kind.Send
 kind_of (Spent s) = kind.Send
-kind_of (Poll p) = kind.Poll
+kind_of (Poll fd p) = kind.Poll
 
 -- the socket or listener
 abbrev pub target_of : Asked → ℕ
-target_of (Send s) = s.fd
+target_of (Send fd s) = fd
 target_of (Spent s) = s.fd
-target_of (Poll p) = p.fd
+target_of (Poll fd p) = fd
 
 -- the bytes of a send; a poll asks for one event
 abbrev pub length_of : Asked → ℕ
-length_of (Send s) = buffers.length_of s.write
+length_of (Send fd s) = buffers.length_of s.write
 length_of (Spent s) = s.length
-length_of (Poll p) = 1
+length_of (Poll fd p) = 1
 
 abbrev pub deadline_of : Asked → ℕ
-deadline_of (Send s) = unwrap_or s.deadline 0
+deadline_of (Send fd s) = unwrap_or s.deadline 0
 deadline_of (Spent s) = s.deadline
-deadline_of (Poll p) = unwrap_or p.deadline 0
+deadline_of (Poll fd p) = unwrap_or p.deadline 0
 
 -- the bytes that were sent
 abbrev pub moved_of : Asked → ℕ
-moved_of (Send s) = buffers.moved_of s.write
+moved_of (Send fd s) = buffers.moved_of s.write
 moved_of (Spent s) = s.sent
-moved_of (Poll p) = 0
+moved_of (Poll fd p) = 0
 
 -- It still has the buffer that the kernel may use. A poll needs none.
 abbrev pub has_buffer : Asked → Bool
-has_buffer (Send s) = true
+has_buffer (Send fd s) = true
 has_buffer (Spent s) = false
-has_buffer (Poll p) = true
+has_buffer (Poll fd p) = true
 
 -- it owns nothing more
 abbrev pub owns_nothing : Asked → Bool
-owns_nothing (Send s) = false
+owns_nothing (Send fd s) = false
 owns_nothing (Spent s) = true
-owns_nothing (Poll p) = true
+owns_nothing (Poll fd p) = true
 
 -- what a request asks for, and how much of it is done
 abbrev pub operation_view : Asked → Operation

@@ -13,6 +13,7 @@ ghost use Rattle.exec_driver.specs.Operations.{operation_view, deadline_of, move
 use exec_bufs::buf::IoBuf;
 use exec_outcomes::outcome::{OpResult, Outcome};
 use exec_request::buffers::WriteBuffers;
+use exec_request::output::to_outcome;
 use exec_request::poll::PollRequest;
 use exec_request::results::{LARGEST_COUNT, LARGEST_ERRNO, LARGEST_WINDOW, WaiterState};
 use exec_request::send::SendRequest;
@@ -33,12 +34,27 @@ pub struct SpentSend {
 /// What a request asks for, with what it owns.
 #[derive(Drop)]
 pub enum Asked {
-    /// All bytes of a buffer go to a socket.
-    Send(SendRequest),
+    /// All bytes of a buffer go to a socket, which the driver numbers by more than a request can.
+    Send {
+        /// The socket.
+        fd: usize,
+        /// The send.
+        send: SendRequest,
+    },
     /// They went, or didn't, and were let go.
     Spent(SpentSend),
     /// One event of a listener is awaited.
-    Poll(PollRequest),
+    Poll {
+        /// The listener.
+        fd: usize,
+        /// The poll.
+        poll: PollRequest,
+    },
+}
+
+/// The number of a socket or a listener as a request has it; a driver's sockets are far fewer.
+fn number(fd: usize) -> u32 {
+    u32::try_from(fd).unwrap_or(u32::MAX)
 }
 
 impl Asked {
@@ -54,7 +70,10 @@ impl Asked {
             buf: IoBuf::from(bytes),
             offset: 0,
         };
-        Asked::Send(SendRequest::new(fd, write, Some(deadline)))
+        Asked::Send {
+            fd,
+            send: SendRequest::new(number(fd), write, Some(deadline)),
+        }
     }
 
     /// A poll of this listener.
@@ -65,7 +84,10 @@ impl Asked {
         ensures deadline { deadline_of result ≡ deadline }
         ensures owns { has_buffer result ≡ true }
     {
-        Asked::Poll(PollRequest::new(fd, Some(deadline)))
+        Asked::Poll {
+            fd,
+            poll: PollRequest::new(number(fd), Some(deadline)),
+        }
     }
 
     /// The moment in nanoseconds from which on the request is too late.
@@ -73,9 +95,9 @@ impl Asked {
         ensures { result ≡ deadline_of self.now }
     {
         match self {
-            Asked::Send(send) => send.deadline.unwrap_or(0),
+            Asked::Send { send, .. } => send.deadline.unwrap_or(0),
             Asked::Spent(spent) => spent.deadline,
-            Asked::Poll(poll) => poll.deadline.unwrap_or(0),
+            Asked::Poll { poll, .. } => poll.deadline.unwrap_or(0),
         }
     }
 
@@ -95,11 +117,12 @@ impl Asked {
         } else {
             WaiterState::Active { target_tick: None }
         };
-        match self {
-            Asked::Send(send) => send.on_cqe(state, given),
-            Asked::Poll(poll) => poll.on_cqe(state, given),
+        let ended = match self {
+            Asked::Send { send, .. } => send.on_cqe(state, given),
+            Asked::Poll { poll, .. } => poll.on_cqe(state, given),
             Asked::Spent(_) => unreachable!(),
-        }
+        };
+        ended.map(to_outcome)
     }
 
     /// Whether the kernel may give this result for the next operation.
@@ -107,11 +130,11 @@ impl Asked {
         ensures { result ≡ is_lawful (window_of (asked_of (operation_view self.now)) (cursor_of (operation_view self.now))) given }
     {
         let window = match self {
-            Asked::Send(send) => (send.write.remaining_len() as u64).min(LARGEST_WINDOW),
+            Asked::Send { send, .. } => (send.write.remaining_len() as u64).min(LARGEST_WINDOW),
             Asked::Spent(spent) => (spent.length.saturating_sub(spent.sent) as u64).min(
                 LARGEST_WINDOW,
             ),
-            Asked::Poll(_) => LARGEST_COUNT,
+            Asked::Poll { .. } => LARGEST_COUNT,
         };
         match given {
             OpResult::Count(count) => count <= window && count <= LARGEST_COUNT,
@@ -124,10 +147,10 @@ impl Asked {
         ensures released { owns_nothing self.new ≡ true }
         ensures view { operation_view self.new ≡ operation_view self.old }
     {
-        if let Asked::Send(send) = self {
+        if let Asked::Send { fd, send } = self {
             let length = send.write.total_len();
             let spent = SpentSend {
-                fd: send.fd,
+                fd: *fd,
                 length,
                 sent: length - send.write.remaining_len(),
                 deadline: send.deadline.unwrap_or(0),
