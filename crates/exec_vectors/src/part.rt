@@ -2,10 +2,8 @@
 
 use crate::fault::Fault;
 use crate::sleepers::Sleepers;
-use crate::slots;
-use crate::spins;
-use crate::ticks;
 use crate::words::{named, number};
+use crate::{slots, spins, ticks};
 use exec_base::slab::Slab;
 use exec_base::spinner::Spinner;
 use exec_time::wheel::TimeoutWheel;

@@ -116,7 +116,10 @@ impl Sleepers {
         for wake in &self.notes.wakes {
             given.push_str(format!(in alloc; " {}", wake.0)?.as_str())?;
         }
-        given.push_str(format!(in alloc; " completions {}", self.notes.completions.len())?.as_str())?;
+        given.push_str(format!(in alloc;
+            " completions {}",
+            self.notes.completions.len()
+        )?.as_str())?;
         for completion in &self.notes.completions {
             let word = match completion.result {
                 Ok(()) => "ok",

@@ -13,34 +13,51 @@ pub fn answer(
     operation: &str,
     words: &mut SplitWhitespace<'_>,
 ) -> Result<String, Fault> {
-    Ok(match operation {
-        "insert" => text_of_id(alloc, insert(slab, alloc, number(words)?)?)?,
-        "remove" => text_of(alloc, slab.remove(id(words)?))?,
-        "get" => text_of(alloc, slab.get(id(words)?).copied())?,
-        "set" => text_of(alloc, set(slab, id(words)?, number(words)?))?,
-        "len" => text_of(alloc, Some(slab.len() as u64))?,
-        "slots" => text_of(alloc, Some(slab.slots() as u64))?,
-        "idat" => match slab.id_at(number(words)? as usize) {
-            Some(id) => text_of_id(alloc, id)?,
-            None => text_of(alloc, None)?,
-        },
-        _ => return Err(Fault::Malformed),
-    })
+    match operation {
+        "insert" => insert(slab, alloc, number(words)?),
+        "remove" => remove(slab, alloc, id(words)?),
+        "get" => get(slab, alloc, id(words)?),
+        "set" => set(slab, alloc, id(words)?, number(words)?),
+        "len" => Ok(text_of(alloc, Some(slab.len() as u64))?),
+        "slots" => Ok(text_of(alloc, Some(slab.slots() as u64))?),
+        "idat" => id_at(slab, alloc, number(words)? as usize),
+        _ => Err(Fault::Malformed),
+    }
 }
 
-/// Inserts a value, and answers its id.
-fn insert(slab: &mut Slab<u64>, alloc: Global, value: u64) -> Result<Id, Fault> {
+/// Inserts a value: its id.
+fn insert(slab: &mut Slab<u64>, alloc: Global, value: u64) -> Result<String, Fault> {
     match slab.insert(alloc, value) {
-        Ok(id) => Ok(id),
+        Ok(id) => Ok(text_of_id(alloc, id)?),
         Err(InsertError::Full(_)) => Err(Fault::Condition),
         Err(InsertError::NoMemory(_)) => Err(Fault::Memory(AllocError)),
     }
 }
 
-/// Writes the value at a live id, and answers the one before.
-fn set(slab: &mut Slab<u64>, at: Id, value: u64) -> Option<u64> {
-    let place = slab.get_mut(at)?;
+/// Takes a value out.
+fn remove(slab: &mut Slab<u64>, alloc: Global, id: Id) -> Result<String, Fault> {
+    Ok(text_of(alloc, slab.remove(id))?)
+}
+
+/// The value of an id.
+fn get(slab: &Slab<u64>, alloc: Global, id: Id) -> Result<String, Fault> {
+    Ok(text_of(alloc, slab.get(id).copied())?)
+}
+
+/// The id of the value in a slot.
+fn id_at(slab: &Slab<u64>, alloc: Global, index: usize) -> Result<String, Fault> {
+    match slab.id_at(index) {
+        Some(id) => Ok(text_of_id(alloc, id)?),
+        None => Ok(text_of(alloc, None)?),
+    }
+}
+
+/// Writes the value at a live id: the one before.
+fn set(slab: &mut Slab<u64>, alloc: Global, at: Id, value: u64) -> Result<String, Fault> {
+    let Some(place) = slab.get_mut(at) else {
+        return Ok(text_of(alloc, None)?);
+    };
     let before = *place;
     *place = value;
-    Some(before)
+    Ok(text_of(alloc, Some(before))?)
 }

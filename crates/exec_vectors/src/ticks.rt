@@ -21,10 +21,12 @@ pub fn begin(alloc: Global, words: &mut SplitWhitespace<'_>) -> Result<TimeoutWh
 /// The slots of a layout, or that it is refused.
 pub fn layout(alloc: Global, words: &mut SplitWhitespace<'_>) -> Result<String, Fault> {
     let horizon = number(words)?;
-    Ok(match TimeoutWheel::validate_layout(horizon, number(words)?) {
-        Ok(slots) => format!(in alloc; "{slots}")?,
-        Err(Layout) => String::from_str(alloc, "refused")?,
-    })
+    Ok(
+        match TimeoutWheel::validate_layout(horizon, number(words)?) {
+            Ok(slots) => format!(in alloc; "{slots}")?,
+            Err(Layout) => String::from_str(alloc, "refused")?,
+        },
+    )
 }
 
 /// Makes a call on a wheel, and answers what it gave.
@@ -39,19 +41,21 @@ pub fn answer(
         "schedule" => schedule(wheel, alloc, id(words)?, number(words)?),
         "remove" => remove(wheel, alloc, number(words)?),
         "advance" => advance(wheel, alloc, number(words)?),
-        "next" if wheel.is_settled() => Ok(text_of(alloc, wheel.next_deadline())?),
-        "next" => Err(Fault::Condition),
+        "next" => next(wheel, alloc),
         _ => Err(Fault::Malformed),
     }
 }
 
+/// The next deadline.
+fn next(wheel: &TimeoutWheel, alloc: Global) -> Result<String, Fault> {
+    if !wheel.is_settled() {
+        return Err(Fault::Condition);
+    }
+    Ok(text_of(alloc, wheel.next_deadline())?)
+}
+
 /// The tick of a deadline.
-fn target(
-    wheel: &TimeoutWheel,
-    alloc: Global,
-    deadline: u64,
-    now: u64,
-) -> Result<String, Fault> {
+fn target(wheel: &TimeoutWheel, alloc: Global, deadline: u64, now: u64) -> Result<String, Fault> {
     Ok(match wheel.checked_target_tick(deadline, now) {
         Ok(tick) => text_of(alloc, tick)?,
         Err(_) => String::from_str(alloc, "span")?,
@@ -59,12 +63,7 @@ fn target(
 }
 
 /// Schedules an id.
-fn schedule(
-    wheel: &mut TimeoutWheel,
-    alloc: Global,
-    id: Id,
-    tick: Tick,
-) -> Result<String, Fault> {
+fn schedule(wheel: &mut TimeoutWheel, alloc: Global, id: Id, tick: Tick) -> Result<String, Fault> {
     wheel.reserve(alloc, 1)?;
     if wheel.room() == 0 || !wheel.is_settled() || !wheel.is_ahead(tick) {
         return Err(Fault::Condition);
