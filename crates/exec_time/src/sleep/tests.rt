@@ -87,7 +87,8 @@ const FIRST: TimerId = TimerId(Id {
 /// Polls a sleep for task 1, with sender 7.
 fn poll(
     sleep: &mut Sleep,
-    rt: &HostRuntime,
+    rt: &impl Abort,
+    alloc: Global,
     here: Here,
     timers: &mut Timers<u32>,
     post: &mut Inbox,
@@ -95,7 +96,7 @@ fn poll(
 ) -> Result<bool, Error> {
     let may = may_poll(sleep, timers, post);
     assert!(rt; may);
-    sleep.poll(rt.alloc(), TaskNo(1), here, timers, 7, post, answer)
+    sleep.poll(alloc, TaskNo(1), here, timers, 7, post, answer)
 }
 
 #[test]
@@ -106,6 +107,7 @@ fn a_sleep_is_over_once_its_sleeper_fired(rt: HostRuntime) -> Result<(), Fail> {
     let first = poll(
         &mut sleep,
         &rt,
+        rt.alloc(),
         home(14),
         &mut timers,
         &mut post,
@@ -120,6 +122,7 @@ fn a_sleep_is_over_once_its_sleeper_fired(rt: HostRuntime) -> Result<(), Fail> {
     let last = poll(
         &mut sleep,
         &rt,
+        rt.alloc(),
         home(15),
         &mut timers,
         &mut post,
@@ -138,6 +141,7 @@ fn a_sleep_that_is_polled_elsewhere_hears_of_its_end(rt: HostRuntime) -> Result<
     let first = poll(
         &mut sleep,
         &rt,
+        rt.alloc(),
         home(5),
         &mut timers,
         &mut post,
@@ -147,6 +151,7 @@ fn a_sleep_that_is_polled_elsewhere_hears_of_its_end(rt: HostRuntime) -> Result<
     let asks = poll(
         &mut sleep,
         &rt,
+        rt.alloc(),
         away(5),
         &mut timers,
         &mut post,
@@ -160,6 +165,7 @@ fn a_sleep_that_is_polled_elsewhere_hears_of_its_end(rt: HostRuntime) -> Result<
     let hears = poll(
         &mut sleep,
         &rt,
+        rt.alloc(),
         home(5),
         &mut timers,
         &mut post,
@@ -170,6 +176,7 @@ fn a_sleep_that_is_polled_elsewhere_hears_of_its_end(rt: HostRuntime) -> Result<
     let again = poll(
         &mut sleep,
         &rt,
+        rt.alloc(),
         home(5),
         &mut timers,
         &mut post,
@@ -187,6 +194,7 @@ fn what_closes_ends_a_sleep(rt: HostRuntime) -> Result<(), Fail> {
     let refused = poll(
         &mut new,
         &rt,
+        rt.alloc(),
         closes(home(5)),
         &mut timers,
         &mut post,
@@ -198,6 +206,7 @@ fn what_closes_ends_a_sleep(rt: HostRuntime) -> Result<(), Fail> {
     let first = poll(
         &mut sleep,
         &rt,
+        rt.alloc(),
         home(5),
         &mut timers,
         &mut post,
@@ -208,6 +217,7 @@ fn what_closes_ends_a_sleep(rt: HostRuntime) -> Result<(), Fail> {
     let shut = poll(
         &mut sleep,
         &rt,
+        rt.alloc(),
         away(5),
         &mut timers,
         &mut post,

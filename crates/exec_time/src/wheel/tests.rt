@@ -1,4 +1,5 @@
 use super::*;
+use std::process::Abort;
 use std::test::*;
 
 const MS: u64 = 1_000_000;
@@ -19,15 +20,15 @@ fn layouts(rt: HostRuntime) -> Result<(), Fail> {
 }
 
 /// A wheel of 100 ms, in ticks of 5 ms.
-fn wheel(rt: &HostRuntime) -> Result<TimeoutWheel, Fail> {
+fn wheel(rt: &impl Abort, alloc: Global) -> Result<TimeoutWheel, Fail> {
     let valid = TimeoutWheel::validate_layout(100 * MS, 5 * MS).is_ok();
     assert!(rt; valid);
-    Ok(TimeoutWheel::new(rt.alloc(), 100 * MS, 5 * MS, 0)?)
+    Ok(TimeoutWheel::new(alloc, 100 * MS, 5 * MS, 0)?)
 }
 
 #[test]
 fn a_deadline_comes_out_at_its_tick(rt: HostRuntime) -> Result<(), Fail> {
-    let mut wheel = wheel(&rt)?;
+    let mut wheel = wheel(&rt, rt.alloc())?;
     assert_eq!(rt;
         (wheel.tick(), wheel.slots(), wheel.room()),
         (5 * MS, 32, 0)
