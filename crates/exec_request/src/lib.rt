@@ -5,6 +5,7 @@ pub mod buffers;
 mod bytes;
 pub mod cache;
 pub mod connect;
+pub mod examples;
 mod judge;
 pub mod open_record;
 pub mod output;
