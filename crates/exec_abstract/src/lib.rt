@@ -1,0 +1,7 @@
+//! The abstract machine of an executor with many workers.
+#![tactic(auto)]
+
+pub mod config;
+pub mod event;
+pub mod state;
+pub mod step;
