@@ -1,3 +1,16 @@
 pub mod Choice
+pub mod Ranges
+pub mod Same
 pub mod World
+pub mod Tests
+pub mod Words
+pub mod Requests
+pub mod Deadlines
+pub mod Tasks
+pub mod Mail
+pub mod Closing
+pub mod Allowed
+pub mod After
+pub mod Callers
+pub mod Run
 pub mod Text
