@@ -16,7 +16,7 @@ use Rattle.exec_abstract.specs.declared.state.Sleeper.{Sleeper}
 use Rattle.exec_abstract.specs.Ranges.{horizon, wheel_slots}
 use Rattle.exec_abstract.specs.Same.{is_none, is_number, same_number, same_end}
 use Rattle.exec_abstract.specs.World.{Own, Seat, Task, Common, seat_of, task_of, request_of, sleeper_of}
-use Rattle.exec_abstract.specs.Tests.{is_at_large, is_open, is_queued, is_resolved, is_asleep, set_seat, set_task, set_request, set_sleeper}
+use Rattle.exec_abstract.specs.Tests.{all_numbered, is_at_large, is_open, is_queued, is_resolved, is_asleep, set_seat, set_task, set_request, set_sleeper}
 use Rattle.exec_abstract.specs.Words.{next_word, moved_on, polled_task, acts, sleep_asked}
 use Rattle.exec_abstract.specs.Requests.{resolved, outcome_if_late, joined_if_over}
 
@@ -105,11 +105,6 @@ abbrev pub is_told_before : Configuration → Own → Common → ℕ → ℕ →
 is_told_before c me s r q =
     nat_lt (order_on_wheel c me (request_of s r).timer) (order_on_wheel c me (request_of s q).timer)
     || ((order_on_wheel c me (request_of s r).timer == order_on_wheel c me (request_of s q).timer) && nat_lt r q)
-
--- each of the requests, by number from n on, passes the test
-abbrev pub all_numbered : (ℕ → Request → Bool) → ℕ → List Request → Bool
-all_numbered test n [] = true
-all_numbered test n (r ∷ rs) = test n r && all_numbered test (suc n) rs
 
 -- it is due, and no other that is due is told before it
 abbrev pub is_first_due : Configuration → Own → Common → ℕ → ℕ → Bool

@@ -14,3 +14,5 @@ pub mod After
 pub mod Callers
 pub mod Run
 pub mod Text
+pub mod Progress
+pub mod Credited

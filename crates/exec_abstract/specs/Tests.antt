@@ -1,5 +1,5 @@
 -- Tests of the parts of a state, and where they stand in it.
-use Rattle.std.specs.Prelude.{◌≡◌, ℕ, Bool, true, false, not, ◌==◌, ◌&&◌, ◌||◌, List, [], ◌∷◌, Option, Some, None, slice_index_or, slice_set}
+use Rattle.std.specs.Prelude.{◌≡◌, ℕ, suc, Bool, true, false, not, ◌==◌, ◌&&◌, ◌||◌, List, [], ◌∷◌, Option, Some, None, slice_index_or, slice_set}
 use Rattle.std.specs.List.{list_all}
 use Rattle.exec_outcomes.specs.declared.outcome.Kind.{Kind}
 use Rattle.exec_outcomes.specs.declared.outcome.Kind.TheVariants as kind
@@ -29,6 +29,11 @@ use Rattle.exec_abstract.specs.Same.{is_none, same_result, same_outcome}
 abbrev pub is_empty : {X : Type 0} → List X → Bool
 is_empty [] = true
 is_empty (x ∷ xs) = false
+
+-- each element, by number from n on, passes the test
+abbrev pub all_numbered : {X : Type 0} → (ℕ → X → Bool) → ℕ → List X → Bool
+all_numbered test n [] = true
+all_numbered test n (x ∷ xs) = test n x && all_numbered test (suc n) xs
 
 -- Each of the tests is passed.
 abbrev pub AllTrue : List Bool → Type 0
