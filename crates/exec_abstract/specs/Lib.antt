@@ -16,3 +16,4 @@ pub mod Run
 pub mod Text
 pub mod Progress
 pub mod Credited
+pub mod Results

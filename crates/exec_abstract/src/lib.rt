@@ -3,5 +3,6 @@
 
 pub mod config;
 pub mod event;
+pub mod laws;
 pub mod state;
 pub mod step;

@@ -1,0 +1,38 @@
+//! Laws of the machine, for every run.
+
+ghost use Rattle.std.specs.Prelude.{◌≡◌, ◌<◌, ℕ, true, false, List, [], ◌∷◌, ◌++◌, length, Option, Some, None};
+ghost use Rattle.exec_outcomes.specs.declared.outcome.OpResult.{OpResult};
+ghost use Rattle.exec_outcomes.specs.declared.outcome.Outcome.{Outcome};
+ghost use Rattle.exec_outcomes.specs.Outcomes.{HasCome, outcome_of};
+ghost use Rattle.exec_abstract.specs.declared.config.Configuration.{Configuration};
+ghost use Rattle.exec_abstract.specs.declared.step.Action.{Action};
+ghost use Rattle.exec_abstract.specs.declared.step.Action.TheVariants.{Work};
+ghost use Rattle.exec_abstract.specs.declared.event.Event.{Event};
+ghost use Rattle.exec_abstract.specs.declared.event.Said.{Said};
+ghost use Rattle.exec_abstract.specs.declared.event.Line.{Line};
+ghost use Rattle.exec_abstract.specs.declared.state.Phase.TheVariants.{Resolved};
+ghost use Rattle.exec_abstract.specs.Choice.{Choice};
+ghost use Rattle.exec_abstract.specs.World.{World, own_of, request_of};
+ghost use Rattle.exec_abstract.specs.Tests.{is_resolved};
+ghost use Rattle.exec_abstract.specs.Requests.{asked_of, cursor_of, judged_of, account_of_open, outcome_shown};
+ghost use Rattle.exec_abstract.specs.After.{after};
+ghost use Rattle.exec_abstract.specs.Run.{RunsBy, is_run, after_line, world_after};
+ghost use Rattle.exec_abstract.specs.Results.{results_of, reaps};
+ghost use Rattle.exec_abstract.specs.Progress.{Plan, Party, quiet_bound, no_stretch, begin, is_solo, IsRightlyAsleep, is_rightly_asleep, RightlyAsleepBy, is_always_rightly_asleep};
+ghost use Rattle.exec_abstract.specs.Credited.{Standing, Account, choices_of, GoesBy};
+
+/// What a run is, and that nobody sleeps on work in it, can be computed: the tests that compute say the same.
+pub fn runs_compute()
+    ensures sound { (c : Configuration) (w : World) (lines : List Line) (choices : List Choice) →
+        is_run c w lines choices ≡ true → RunsBy c w lines choices }
+    ensures complete { (c : Configuration) (w : World) (lines : List Line) (choices : List Choice) →
+        RunsBy c w lines choices → is_run c w lines choices ≡ true }
+{}
+
+/// An event of one worker leaves every other worker's own part, and so does a step of any other party.
+pub fn own_parts_are_apart()
+    ensures events { (c : Configuration) (w : World) (i j : ℕ) (event : Event) (choice : Choice) →
+        (i ≡ j → ⊥) → j < length w.workers → own_of (after c w i event choice) j ≡ own_of w j }
+    ensures lines { (c : Configuration) (w : World) (a : Action) (said : Said) (choice : Choice) (j : ℕ) →
+        (a ≡ Work j → ⊥) → j < length w.workers → own_of (after_line c w a said choice) j ≡ own_of w j }
+{}
