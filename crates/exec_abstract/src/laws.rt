@@ -36,3 +36,16 @@ pub fn own_parts_are_apart()
     ensures lines { (c : Configuration) (w : World) (a : Action) (said : Said) (choice : Choice) (j : ℕ) →
         (a ≡ Work j → ⊥) → j < length w.workers → own_of (after_line c w a said choice) j ≡ own_of w j }
 {}
+
+/// Where each line leaves every party a credit that is below the bound, and each quiet one its party less than there
+/// was, the lines are a run in which no stretch of quiet lines is as long as the bound. Where besides no worker sleeps
+/// on work, so it is in each state of the run.
+pub fn paid_lines_are_runs()
+    ensures runs { (c : Configuration) (s : Standing) (lines : List Line) (accounts : List Account) →
+        GoesBy c s lines accounts → RunsBy c s.world lines (choices_of accounts) }
+    ensures solo { (c : Configuration) (s : Standing) (lines : List Line) (accounts : List Account) →
+        ((p : Party) → s.credit p < quiet_bound c s.world) → GoesBy c s lines accounts →
+        is_solo c s.world no_stretch lines (choices_of accounts) ≡ true }
+    ensures asleep { (c : Configuration) (s : Standing) (lines : List Line) (accounts : List Account) →
+        IsRightlyAsleep c s.world → GoesBy c s lines accounts → RightlyAsleepBy c s.world lines (choices_of accounts) }
+{}
