@@ -1,3 +1,6 @@
 mod Computing
 mod Apart
 mod Paid
+mod SameIs
+mod Onward
+mod Lasting

@@ -89,21 +89,18 @@ own_after_letter me = if is_none me.polls then record me { owed = drop 1 me.owed
 abbrev pub awaiting : Common → ℕ → Task → Task
 awaiting s r t = if waits_for_nothing t.waiting then waits_for s t (waiting.Request r) else t
 
--- the polled task after it sent the message
-abbrev pub after_sending : Own → Common → Message → Common
-after_sending me s m = by_task s me.polls m
-  where
-    by_task : Common → Option ℕ → Message → Common
-    by_task s None m = s
-    by_task s (Some t) message.Root = set_task s t (moved_on s (task_of s t))
-    by_task s (Some t) (message.ForwardRequest r) =
-        record s {
-          tasks = slice_set s.tasks t (awaiting s r (task_of s t));
-          requests = slice_set s.requests r (record (request_of s r) { waiter = Some t; forwarding = Sent });
-        }
-    by_task s (Some t) (message.ForwardTimer z) = set_sleeper s z (record (sleeper_of s z) { forwarding = Sent })
-    by_task s (Some t) (message.CancelRequest r) = set_task s t (after_letting_go s (task_of s t))
-    by_task s (Some t) (message.CancelTimer z) = s
+-- after the message was sent in the poll of this task, or outside a poll
+abbrev pub after_sending : Common → Option ℕ → Message → Common
+after_sending s None m = s
+after_sending s (Some t) message.Root = set_task s t (moved_on s (task_of s t))
+after_sending s (Some t) (message.ForwardRequest r) =
+    record s {
+      tasks = slice_set s.tasks t (awaiting s r (task_of s t));
+      requests = slice_set s.requests r (record (request_of s r) { waiter = Some t; forwarding = Sent });
+    }
+after_sending s (Some t) (message.ForwardTimer z) = set_sleeper s z (record (sleeper_of s z) { forwarding = Sent })
+after_sending s (Some t) (message.CancelRequest r) = set_task s t (after_letting_go s (task_of s t))
+after_sending s (Some t) (message.CancelTimer z) = s
 
 abbrev pub is_left_out : Choice → Bool
 is_left_out (Posts payer left_out) = left_out
@@ -113,7 +110,7 @@ abbrev pub after_post : Common → ℕ → Message → Choice → Common
 after_post s to m choice = if is_root_message m && is_left_out choice then s else set_seat s to (posted m (seat_of s to))
 
 abbrev pub after_send : Own → Common → ℕ → Message → Choice → Common
-after_send me s to m choice = after_post (after_sending me s m) to m choice
+after_send me s to m choice = after_post (after_sending s me.polls m) to m choice
 
 -- CLOSED
 

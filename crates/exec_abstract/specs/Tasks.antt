@@ -318,16 +318,13 @@ wake s t = set_task s t (woken (task_of s t))
 abbrev pub after_waking_word : Common → Task → Task
 after_waking_word s t = if asks_yield (next_word s t) then waits_for s t waiting.Yielded else moved_on s t
 
-abbrev pub after_payment : Own → Common → Payer → Common
-after_payment me s (ByRequest r) = set_request s r (record (request_of s r) { wakes_paid = (request_of s r).wakes_paid + 1 })
-after_payment me s (BySleeper z) = set_sleeper s z (record (sleeper_of s z) { wakes_paid = (sleeper_of s z).wakes_paid + 1 })
-after_payment me s ByAct = by_act s me.polls
-  where
-    by_act : Common → Option ℕ → Common
-    by_act s None = s
-    by_act s (Some t) = set_task s t (after_waking_word s (task_of s t))
-after_payment me s ByStop = s
+abbrev pub after_payment : Common → Option ℕ → Payer → Common
+after_payment s polls (ByRequest r) = set_request s r (record (request_of s r) { wakes_paid = (request_of s r).wakes_paid + 1 })
+after_payment s polls (BySleeper z) = set_sleeper s z (record (sleeper_of s z) { wakes_paid = (sleeper_of s z).wakes_paid + 1 })
+after_payment s None ByAct = s
+after_payment s (Some t) ByAct = set_task s t (after_waking_word s (task_of s t))
+after_payment s polls ByStop = s
 
 abbrev pub after_wake : Own → Common → ℕ → Choice → Common
-after_wake me s t (Pays payer) = wake (after_payment me s payer) t
+after_wake me s t (Pays payer) = wake (after_payment s me.polls payer) t
 after_wake me s t _ = s

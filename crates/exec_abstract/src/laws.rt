@@ -49,3 +49,13 @@ pub fn paid_lines_are_runs()
     ensures asleep { (c : Configuration) (s : Standing) (lines : List Line) (accounts : List Account) →
         IsRightlyAsleep c s.world → GoesBy c s lines accounts → RightlyAsleepBy c s.world lines (choices_of accounts) }
 {}
+
+/// A request that is over stays so with its outcome, and one that is released stays released.
+pub fn ends_last()
+    ensures over { (c : Configuration) (w : World) (lines : List Line) (choices : List Choice) (r : ℕ) (outcome : Outcome) →
+        RunsBy c w lines choices → r < length w.common.requests → (request_of w.common r).phase ≡ Resolved outcome →
+        (request_of (world_after c w lines choices).common r).phase ≡ Resolved outcome }
+    ensures released { (c : Configuration) (w : World) (lines : List Line) (choices : List Choice) (r : ℕ) →
+        RunsBy c w lines choices → r < length w.common.requests → (request_of w.common r).released ≡ true →
+        (request_of (world_after c w lines choices).common r).released ≡ true }
+{}
