@@ -4,3 +4,4 @@ mod Paid
 mod SameIs
 mod Onward
 mod Lasting
+mod AllResults

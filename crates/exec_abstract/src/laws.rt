@@ -59,3 +59,28 @@ pub fn ends_last()
         RunsBy c w lines choices → r < length w.common.requests → (request_of w.common r).released ≡ true →
         (request_of (world_after c w lines choices).common r).released ≡ true }
 {}
+
+/// The machine keeps of a request's results only how far they brought it. In each run that stands for all results that
+/// the run shows of it, as long as the request isn't over; so wherever a result is judged, what is told is what all its
+/// results give, by the account of its open.
+pub fn outcomes_are_of_all_results()
+    ensures come { (p : Plan) (lines : List Line) (choices : List Choice) (r : ℕ) →
+        RunsBy p.config (begin p) lines choices →
+        let it = request_of (world_after p.config (begin p) lines choices).common r in
+        is_resolved it.phase ≡ false →
+        HasCome (asked_of it.operation) (cursor_of it.operation) (results_of p.config (begin p) r lines choices) }
+    ensures judged { (p : Plan) (lines later : List Line) (choices : List Choice) (i r : ℕ) (n : OpResult)
+        (outcome : Option Outcome) → RunsBy p.config (begin p) (lines ++ reaps i r n outcome ∷ later) choices →
+        let s = (world_after p.config (begin p) lines choices).common in
+        let it = request_of s r in
+        outcome ≡ outcome_shown (account_of_open s it) it.operation.kind
+        (outcome_of (asked_of it.operation) (results_of p.config (begin p) r lines choices ++ judged_of it n ∷ [])) }
+{}
+
+/// In each state of a run a task is polled by at most one worker.
+pub fn polls_are_apart()
+    ensures { (p : Plan) (lines : List Line) (choices : List Choice) (i j t : ℕ) →
+        RunsBy p.config (begin p) lines choices →
+        let w = world_after p.config (begin p) lines choices in
+        (own_of w i).polls ≡ Some t → (own_of w j).polls ≡ Some t → i ≡ j }
+{}
