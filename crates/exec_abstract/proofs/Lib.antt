@@ -5,3 +5,4 @@ mod SameIs
 mod Onward
 mod Lasting
 mod AllResults
+mod OnePoll
