@@ -19,7 +19,7 @@ use Rattle.exec_abstract.specs.declared.state.Message.{Message}
 use Rattle.exec_abstract.specs.declared.state.Message.TheVariants as message
 use Rattle.exec_abstract.specs.Choice.{Choice, Payer}
 use Rattle.exec_abstract.specs.Choice.Choice.{Plain, Passes, Pays, Posts}
-use Rattle.exec_abstract.specs.Choice.Payer.{ByRequest, BySleeper, ByAct, ByStop}
+use Rattle.exec_abstract.specs.Choice.Payer.{ByRequest, BySleeper, ByAct, ByCall, ByStop}
 use Rattle.exec_abstract.specs.World.{World, Own, Task, Common, own_of, task_of, request_of, sleeper_of, no_own, no_task}
 use Rattle.exec_abstract.specs.Tests.{is_ready, is_done, is_polled, waits_for_nothing}
 use Rattle.exec_abstract.specs.Words.{next_word, moved_on, asks_yield}
@@ -158,6 +158,7 @@ payment_on s polls (ByRequest r) = same_tasks
 payment_on s polls (BySleeper z) = same_tasks
 payment_on s None ByAct = same_tasks
 payment_on s (Some t) ByAct = same_phase s.tasks t (after_waking_word s (task_of s t)) (waking_phase s (task_of s t))
+payment_on s polls ByCall = same_tasks
 payment_on s polls ByStop = same_tasks
 
 wake_on : {j : ℕ} (me : Own) (s : Common) (t : ℕ) (choice : Choice) → PollsOn j s.tasks (after_wake me s t choice).tasks

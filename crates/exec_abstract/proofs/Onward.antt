@@ -23,7 +23,7 @@ use Rattle.exec_abstract.specs.declared.state.Operation.{Operation}
 use Rattle.exec_abstract.specs.declared.state.Request.{Request}
 use Rattle.exec_abstract.specs.Choice.{Choice, Payer}
 use Rattle.exec_abstract.specs.Choice.Choice.{Plain, Passes, Pays, Posts}
-use Rattle.exec_abstract.specs.Choice.Payer.{ByRequest, BySleeper, ByAct, ByStop}
+use Rattle.exec_abstract.specs.Choice.Payer.{ByRequest, BySleeper, ByAct, ByCall, ByStop}
 use Rattle.exec_abstract.specs.World.{World, Own, Common, own_of, task_of, request_of, no_request}
 use Rattle.exec_abstract.specs.Tests.{is_gated, is_queued, is_staged, is_flying, is_resolved, is_in_flight, is_kept}
 use Rattle.exec_abstract.specs.Requests.{asked_of, cursor_of, resolved, dropped, ends_by_drop, is_cancelled_by_drop, granted, staged, with_hint, asks_hint, account_of_open, flown}
@@ -239,6 +239,7 @@ by_payment s polls (ByRequest r) = one_changed s.requests r (record (request_of 
 by_payment s polls (BySleeper z) = none_changed
 by_payment s None ByAct = none_changed
 by_payment s (Some t) ByAct = none_changed
+by_payment s polls ByCall = none_changed
 by_payment s polls ByStop = none_changed
 
 by_wake : (me : Own) (s : Common) (t : ℕ) (choice : Choice) → AllOnward s.requests (after_wake me s t choice).requests

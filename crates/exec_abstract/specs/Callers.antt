@@ -16,7 +16,7 @@ use Rattle.exec_abstract.specs.declared.state.Call.TheVariants as call
 use Rattle.exec_abstract.specs.declared.state.Message.{Message}
 use Rattle.exec_abstract.specs.declared.state.Message.TheVariants as message
 use Rattle.exec_abstract.specs.Choice.{Payer, Choice}
-use Rattle.exec_abstract.specs.Choice.Payer.{ByRequest, BySleeper, ByAct, ByStop}
+use Rattle.exec_abstract.specs.Choice.Payer.{ByRequest, BySleeper, ByAct, ByCall, ByStop}
 use Rattle.exec_abstract.specs.Choice.Choice.{Plain, Passes, Pays, Posts}
 use Rattle.exec_abstract.specs.Ranges.{last_moment}
 use Rattle.exec_abstract.specs.Same.{is_none, is_number}
@@ -83,12 +83,22 @@ abbrev pub is_root_shut : Common → Option ℕ → Bool
 is_root_shut s None = false
 is_root_shut s (Some home) = (seat_of s home).mailbox_closed
 
+-- the call pays the wake
+abbrev pub is_call : Payer → Bool
+is_call ByCall = true
+is_call _ = false
+
+abbrev pub is_paid_by_call : Choice → Bool
+is_paid_by_call (Pays payer) = is_call payer
+is_paid_by_call (Posts payer left_out) = is_call payer
+is_paid_by_call _ = false
+
 -- a root is told by a message
 abbrev pub may_wake_by_call : Common → ℕ → Event → Choice → List Bool
-may_wake_by_call s t (event.Wake other) choice = (t == other) ∷ is_none (task_of s t).home ∷ []
+may_wake_by_call s t (event.Wake other) choice = (t == other) ∷ is_none (task_of s t).home ∷ is_paid_by_call choice ∷ []
 may_wake_by_call s t (event.Send to m) choice =
     is_root_message m ∷ is_number to (task_of s t).home ∷ not (seat_of s to).mailbox_closed
-    ∷ (not (is_left_out choice) || has_root_message (seat_of s to)) ∷ []
+    ∷ (not (is_left_out choice) || has_root_message (seat_of s to)) ∷ is_paid_by_call choice ∷ []
 may_wake_by_call s t event.Closed choice = is_root_shut s (task_of s t).home ∷ []
 may_wake_by_call s t _ choice = false ∷ []
 

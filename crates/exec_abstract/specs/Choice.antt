@@ -7,8 +7,10 @@ pub data Payer : Type 0 where
   ByRequest : ℕ → Payer
   -- this sleeper, which is over
   BySleeper : ℕ → Payer
-  -- the act of the polled task, or the call of a caller
+  -- the act of the polled task
   ByAct : Payer
+  -- the call of a caller
+  ByCall : Payer
   -- the stop of the pool
   ByStop : Payer
 

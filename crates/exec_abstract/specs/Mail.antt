@@ -11,7 +11,7 @@ use Rattle.exec_abstract.specs.declared.state.Message.{Message}
 use Rattle.exec_abstract.specs.declared.state.Message.TheVariants as message
 use Rattle.exec_abstract.specs.declared.state.Letter.{Letter}
 use Rattle.exec_abstract.specs.Choice.{Payer, Choice}
-use Rattle.exec_abstract.specs.Choice.Payer.{ByRequest, BySleeper, ByAct, ByStop}
+use Rattle.exec_abstract.specs.Choice.Payer.{ByRequest, BySleeper, ByAct, ByCall, ByStop}
 use Rattle.exec_abstract.specs.Choice.Choice.{Plain, Passes, Pays, Posts}
 use Rattle.exec_abstract.specs.Same.{is_none, is_number, same_message, is_letter}
 use Rattle.exec_abstract.specs.World.{Own, Seat, Task, Common, seat_of, task_of, request_of, sleeper_of}
@@ -47,6 +47,7 @@ abbrev pub is_root_paid : Own → Common → ℕ → Payer → Bool
 is_root_paid me s to (ByRequest r) = false
 is_root_paid me s to (BySleeper z) = false
 is_root_paid me s to ByAct = acts me s (asks_root_of s to)
+is_root_paid me s to ByCall = false
 is_root_paid me s to ByStop = is_first_owed me to message.Root
 
 -- It is left out only where the inbox has one already.

@@ -23,7 +23,7 @@ use Rattle.exec_abstract.specs.declared.state.Sleeper.{Sleeper}
 use Rattle.exec_abstract.specs.declared.state.Message.TheVariants.{CancelRequest, CancelTimer}
 use Rattle.exec_abstract.specs.declared.state.Letter.{Letter}
 use Rattle.exec_abstract.specs.Choice.{Payer, Choice}
-use Rattle.exec_abstract.specs.Choice.Payer.{ByRequest, BySleeper, ByAct, ByStop}
+use Rattle.exec_abstract.specs.Choice.Payer.{ByRequest, BySleeper, ByAct, ByCall, ByStop}
 use Rattle.exec_abstract.specs.Choice.Choice.{Plain, Passes, Pays, Posts}
 use Rattle.exec_abstract.specs.Same.{is_none, is_number}
 use Rattle.exec_abstract.specs.World.{Own, Seat, Task, Common, no_own, no_seat, seat_of, task_of, request_of, sleeper_of, no_request}
@@ -298,6 +298,7 @@ abbrev pub is_paid : Own → Common → ℕ → ℕ → Payer → Bool
 is_paid me s i t (ByRequest r) = is_at_large me && request_owes s i t (request_of s r)
 is_paid me s i t (BySleeper z) = is_at_large me && sleeper_owes s i t (sleeper_of s z)
 is_paid me s i t ByAct = acts me s (asks_wake t) || (acts me s asks_yield && is_number t me.polls)
+is_paid me s i t ByCall = false
 is_paid me s i t ByStop = false
 
 -- a root is woken on its own worker alone
@@ -323,6 +324,7 @@ after_payment s polls (ByRequest r) = set_request s r (record (request_of s r) {
 after_payment s polls (BySleeper z) = set_sleeper s z (record (sleeper_of s z) { wakes_paid = (sleeper_of s z).wakes_paid + 1 })
 after_payment s None ByAct = s
 after_payment s (Some t) ByAct = set_task s t (after_waking_word s (task_of s t))
+after_payment s polls ByCall = s
 after_payment s polls ByStop = s
 
 abbrev pub after_wake : Own → Common → ℕ → Choice → Common
