@@ -6,3 +6,5 @@ mod Onward
 mod Lasting
 mod AllResults
 mod OnePoll
+mod Elsewhere
+mod Resting

@@ -139,16 +139,16 @@ turn_same me s i (Posts payer left_out) = next_same s i me.next
 
 post_same : (s : Common) (to : ℕ) (m : Message) (choice : Choice) → (after_post s to m choice).tasks ≡ s.tasks
 post_same s to m choice =
-    elim (cases_Bool (is_root_message m && is_left_out choice)) [ | inl out ↦ rw out refl | inr in_it ↦ rw in_it refl ]
+    elim (cases_Bool (is_root_message m && is_left_out choice)) [ inl out ↦ rw out refl | inr in_it ↦ rw in_it refl ]
 
 taking_phase : (s : Common) (t : Task) → (after_taking s t).phase ≡ t.phase
-taking_phase s t = elim (cases_Bool (waits_for_nothing t.waiting)) [ | inl passed ↦ rw passed refl | inr failed ↦ rw failed refl ]
+taking_phase s t = elim (cases_Bool (waits_for_nothing t.waiting)) [ inl passed ↦ rw passed refl | inr failed ↦ rw failed refl ]
 
 awaiting_phase : (s : Common) (r : ℕ) (t : Task) → (awaiting s r t).phase ≡ t.phase
-awaiting_phase s r t = elim (cases_Bool (waits_for_nothing t.waiting)) [ | inl passed ↦ rw passed refl | inr failed ↦ rw failed refl ]
+awaiting_phase s r t = elim (cases_Bool (waits_for_nothing t.waiting)) [ inl passed ↦ rw passed refl | inr failed ↦ rw failed refl ]
 
 waking_phase : (s : Common) (t : Task) → (after_waking_word s t).phase ≡ t.phase
-waking_phase s t = elim (cases_Bool (asks_yield (next_word s t))) [ | inl passed ↦ rw passed refl | inr failed ↦ rw failed refl ]
+waking_phase s t = elim (cases_Bool (asks_yield (next_word s t))) [ inl passed ↦ rw passed refl | inr failed ↦ rw failed refl ]
 
 woken_on : {j : ℕ} (s : Common) (t : ℕ) → PollsOn j s.tasks (wake s t).tasks
 woken_on {j} s t = one_task s.tasks t (woken (task_of s t)) (woken_polled j (task_of s t).phase)
@@ -209,7 +209,7 @@ clear_on {j} s i t =
 
 reap_same : (s : Common) (i r : ℕ) (n : OpResult) (outcome : Option Outcome) → (after_reap s i r n outcome).tasks ≡ s.tasks
 reap_same s i r n outcome =
-    elim (cases_Bool (refuses_hint (judged_of (request_of s r) n))) [ | inl refused ↦ rw refused refl | inr other ↦ rw other refl ]
+    elim (cases_Bool (refuses_hint (judged_of (request_of s r) n))) [ inl refused ↦ rw refused refl | inr other ↦ rw other refl ]
 
 -- OWN PARTS
 
@@ -230,7 +230,7 @@ drops_same s i (r ∷ held) me =
 
 waking_up_same : (s : Common) (i : ℕ) (what : Waiting) (me : Own) → (own_after_waking_up s i what me).polls ≡ me.polls
 waking_up_same s i (waiting.Timer z) me =
-    elim (cases_Bool ((sleeper_of s z).worker == i)) [ | inl own ↦ rw own refl | inr other ↦ rw other refl ]
+    elim (cases_Bool ((sleeper_of s z).worker == i)) [ inl own ↦ rw own refl | inr other ↦ rw other refl ]
 waking_up_same s i what me = refl
 
 over_same : (me : Own) (s : Common) (i t : ℕ) → (own_after_over me s i t).polls ≡ me.polls
@@ -239,11 +239,11 @@ over_same me s i t =
 
 clear_same : (me : Own) (s : Common) (i t : ℕ) → (own_after_clear me s i t).polls ≡ me.polls
 clear_same me s i t =
-    elim (cases_Bool (ends_by_clear (task_of s t).phase)) [ | inl ends ↦ rw ends (over_same me s i t) | inr stays ↦ rw stays refl ]
+    elim (cases_Bool (ends_by_clear (task_of s t).phase)) [ inl ends ↦ rw ends (over_same me s i t) | inr stays ↦ rw stays refl ]
 
 admit_same : (o : Operation) (outcome : Option Outcome) (r : ℕ) (me : Own) → (own_after_admit o outcome r me).polls ≡ me.polls
 admit_same o (Some outcome) r me = refl
-admit_same o None r me = elim (cases_Bool (is_durable o.kind)) [ | inl durable ↦ rw durable refl | inr other ↦ rw other refl ]
+admit_same o None r me = elim (cases_Bool (is_durable o.kind)) [ inl durable ↦ rw durable refl | inr other ↦ rw other refl ]
 
 expire_same : (me : Own) (r : ℕ) (outcome : Option Outcome) → (own_after_expire me r outcome).polls ≡ me.polls
 expire_same me r None = refl
@@ -256,10 +256,10 @@ turn_own_same me (Pays payer) = refl
 turn_own_same me (Posts payer left_out) = refl
 
 sampled_same : (s : Common) (me : Own) → (sampled_now s me).polls ≡ me.polls
-sampled_same s me = elim (cases_Bool me.serving) [ | inl on ↦ rw on refl | inr off ↦ rw off refl ]
+sampled_same s me = elim (cases_Bool me.serving) [ inl on ↦ rw on refl | inr off ↦ rw off refl ]
 
 letter_same : (me : Own) → (own_after_letter me).polls ≡ me.polls
-letter_same me = elim (cases_Bool (is_none me.polls)) [ | inl out ↦ rw out refl | inr in_poll ↦ rw in_poll refl ]
+letter_same me = elim (cases_Bool (is_none me.polls)) [ inl out ↦ rw out refl | inr in_poll ↦ rw in_poll refl ]
 
 apply_same : (me : Own) (s : Common) (m : Message) → (own_after_apply me s m).polls ≡ me.polls
 apply_same me s (message.CancelRequest r) = refl

@@ -136,10 +136,10 @@ dropped_onward x =
     elim (cases_Bool (ends_by_drop x)) [
       | inl ends ↦ rw ends (moved (queued_open x.phase (and_parts (is_queued x.phase) (not (is_kept x.operation.kind)) ends).0) refl refl refl)
       | inr stays ↦ rw stays (
-        elim (cases_Bool (is_cancelled_by_drop x)) [
-          | inl cancelled ↦ rw cancelled (touched refl refl refl)
-          | inr kept ↦ rw kept (touched refl refl refl)
-        ])
+          elim (cases_Bool (is_cancelled_by_drop x)) [
+            | inl cancelled ↦ rw cancelled (touched refl refl refl)
+            | inr kept ↦ rw kept (touched refl refl refl)
+          ])
     ]
 
 granted_onward : (outcome : Option Outcome) (x : Request) → is_gated x.phase ≡ true → Onward x (granted outcome x)
@@ -232,7 +232,7 @@ turn_keeps me s i (Posts payer left_out) = next_keeps s i me.next
 
 post_keeps : (s : Common) (to : ℕ) (m : Message) (choice : Choice) → (after_post s to m choice).requests ≡ s.requests
 post_keeps s to m choice =
-    elim (cases_Bool (is_root_message m && is_left_out choice)) [ | inl out ↦ rw out refl | inr in_it ↦ rw in_it refl ]
+    elim (cases_Bool (is_root_message m && is_left_out choice)) [ inl out ↦ rw out refl | inr in_it ↦ rw in_it refl ]
 
 by_payment : (s : Common) (polls : Option ℕ) (payer : Payer) → AllOnward s.requests (after_payment s polls payer).requests
 by_payment s polls (ByRequest r) = one_changed s.requests r (record (request_of s r) { wakes_paid = (request_of s r).wakes_paid + 1 }) (touched refl refl refl)

@@ -15,7 +15,7 @@ use Rattle.exec_abstract.specs.declared.state.Request.{Request}
 use Rattle.exec_abstract.specs.declared.state.Sleeper.{Sleeper}
 use Rattle.exec_abstract.specs.Ranges.{horizon, wheel_slots}
 use Rattle.exec_abstract.specs.Same.{is_none, is_number, same_number, same_end}
-use Rattle.exec_abstract.specs.World.{Own, Seat, Task, Common, seat_of, task_of, request_of, sleeper_of}
+use Rattle.exec_abstract.specs.World.{Own, Seat, Task, Common, seat_of, task_of, request_of, sleeper_of, no_request}
 use Rattle.exec_abstract.specs.Tests.{all_numbered, is_at_large, is_open, is_queued, is_resolved, is_asleep, set_seat, set_task, set_request, set_sleeper}
 use Rattle.exec_abstract.specs.Words.{next_word, moved_on, polled_task, acts, sleep_asked}
 use Rattle.exec_abstract.specs.Requests.{resolved, outcome_if_late, joined_if_over}
@@ -100,22 +100,27 @@ abbrev pub order_on_wheel : Configuration → Own → Option ℕ → ℕ
 order_on_wheel c me timer =
     if went_round c me then tick_of c me (unwrap_or timer 0) % wheel_slots c else tick_of c me (unwrap_or timer 0)
 
--- request r is told before request q; those of one tick in the order in which they were made
-abbrev pub is_told_before : Configuration → Own → Common → ℕ → ℕ → Bool
-is_told_before c me s r q =
-    nat_lt (order_on_wheel c me (request_of s r).timer) (order_on_wheel c me (request_of s q).timer)
-    || ((order_on_wheel c me (request_of s r).timer == order_on_wheel c me (request_of s q).timer) && nat_lt r q)
+-- request r with this timer is told before request q with that one; those of one tick in the order of their making
+abbrev pub is_told_before : Configuration → Own → ℕ → Option ℕ → ℕ → Option ℕ → Bool
+is_told_before c me r timer q other =
+    nat_lt (order_on_wheel c me timer) (order_on_wheel c me other)
+    || ((order_on_wheel c me timer == order_on_wheel c me other) && nat_lt r q)
 
--- it is due, and no other that is due is told before it
-abbrev pub is_first_due : Configuration → Own → Common → ℕ → ℕ → Bool
-is_first_due c me s i r =
-    is_due i me.sampled (request_of s r) && all_numbered (λ q other. not (is_due i me.sampled other) || not (is_told_before c me s q r)) 0 s.requests
+-- it isn't due, or isn't told before request r with this timer
+abbrev pub is_told_after : Configuration → Own → ℕ → ℕ → Option ℕ → ℕ → Request → Bool
+is_told_after c me i r timer q other = not (is_due i me.sampled other) || not (is_told_before c me q other.timer r timer)
+
+-- of the requests it is due, and no other that is due is told before it
+abbrev pub is_first_due : Configuration → Own → ℕ → List Request → ℕ → Bool
+is_first_due c me i rs r =
+    let it = slice_index_or rs r no_request in
+    is_due i me.sampled it && all_numbered (is_told_after c me i r it.timer) 0 rs
 
 abbrev pub outcome_at_expiry : Request → Option Outcome
 outcome_at_expiry r = if is_queued r.phase then Some (Failure Timeout) else None
 
 abbrev pub may_expire : Configuration → Own → Common → ℕ → ℕ → Option Outcome → List Bool
-may_expire c me s i r outcome = is_at_large me ∷ is_first_due c me s i r ∷ same_end outcome (outcome_at_expiry (request_of s r)) ∷ []
+may_expire c me s i r outcome = is_at_large me ∷ is_first_due c me i s.requests r ∷ same_end outcome (outcome_at_expiry (request_of s r)) ∷ []
 
 -- over where the kernel doesn't have it, else cancelled
 abbrev pub expired : Option Outcome → Request → Request
@@ -142,11 +147,15 @@ after_timer s i z until t =
       sleepers = s.sleepers ++ new_sleeper until i t ∷ [];
     }
 
+-- no sleeper of worker i that is asleep is earlier than this moment
+abbrev pub is_none_earlier : ℕ → ℕ → List Sleeper → Bool
+is_none_earlier i until zs = list_all (λ z. not (is_asleep i z) || nat_le until z.until) zs
+
 -- due, and no other sleeper of the worker is earlier
 abbrev pub may_fire : Own → Common → ℕ → ℕ → List Bool
 may_fire me s i z =
     is_at_large me ∷ is_open (seat_of s i).phase ∷ is_asleep i (sleeper_of s z) ∷ nat_le (sleeper_of s z).until me.sampled
-    ∷ list_all (λ other. not (is_asleep i other) || nat_le (sleeper_of s z).until other.until) s.sleepers ∷ []
+    ∷ is_none_earlier i (sleeper_of s z).until s.sleepers ∷ []
 
 -- SLEEP
 

@@ -17,3 +17,4 @@ pub mod Text
 pub mod Progress
 pub mod Credited
 pub mod Results
+pub mod Unfinished

@@ -135,8 +135,8 @@ abbrev pub is_cancel_untold : Common → Own → Bool
 is_cancel_untold s me = list_any (λ r. not (is_resolved (request_of s r).phase)) me.untold
 
 -- a worker that is open though its root is over: it has to close
-abbrev pub has_to_close : World → ℕ → Own → Bool
-has_to_close w i me = is_open (seat_of w.common i).phase && is_done (task_of w.common me.root).phase
+abbrev pub has_to_close : World → ℕ → Seat → Bool
+has_to_close w i seat = is_open seat.phase && is_done (task_of w.common (own_of w i).root).phase
 
 -- Nothing is left to do.
 pub record NothingUnfinished (c : Configuration) (w : World) : Type 0 where
@@ -145,7 +145,7 @@ pub record NothingUnfinished (c : Configuration) (w : World) : Type 0 where
   pub requests : (r : ℕ) → is_request_unfinished c w r (request_of w.common r) ≡ false
   pub sleepers : (z : ℕ) → is_sleeper_unfinished w.common (sleeper_of w.common z) ≡ false
   pub cancels : (i : ℕ) → is_cancel_untold w.common (own_of w i) ≡ false
-  pub workers : (i : ℕ) → has_to_close w i (own_of w i) ≡ false
+  pub workers : (i : ℕ) → has_to_close w i (seat_of w.common i) ≡ false
 
 -- a closing worker that sleeps, though each of its requests is over
 abbrev pub sleeps_for_nothing : Common → ℕ → Seat → Bool
@@ -173,7 +173,7 @@ is_nothing_unfinished c w =
     && all_numbered (λ r it. not (is_request_unfinished c w r it)) 0 w.common.requests
     && list_all (λ z. not (is_sleeper_unfinished w.common z)) w.common.sleepers
     && list_all (λ me. not (is_cancel_untold w.common me)) w.workers
-    && all_numbered (λ i me. not (has_to_close w i me)) 0 w.workers
+    && all_numbered (λ i seat. not (has_to_close w i seat)) 0 w.common.seats
 
 abbrev pub is_rightly_asleep : Configuration → World → Bool
 is_rightly_asleep c w =

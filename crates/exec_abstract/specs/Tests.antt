@@ -42,6 +42,10 @@ AllTrue (test ∷ tests) = (test ≡ true) × AllTrue tests
 
 -- workers
 
+-- This number is another worker's.
+abbrev pub IsOther : ℕ → ℕ → Type 0
+IsOther i j = (j == i) ≡ false
+
 abbrev pub is_open : WorkerPhase → Bool
 is_open worker.Open = true
 is_open _ = false

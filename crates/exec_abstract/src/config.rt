@@ -40,45 +40,94 @@ pub struct Configuration {
 #[derive(Clone, Copy, Debug)]
 pub enum Word {
     /// Registers a readiness poll of this listener.
-    Poll { listener: usize },
+    Poll {
+        listener: usize,
+    },
     /// Registers a send to this socket of so many bytes.
-    Send { socket: usize, length: u64 },
+    Send {
+        socket: usize,
+        length: u64,
+    },
     /// Registers a receive from this socket of at most so many bytes.
-    Recv { socket: usize, length: u64 },
+    Recv {
+        socket: usize,
+        length: u64,
+    },
     /// Registers a receive from this socket of exactly so many bytes.
-    Fill { socket: usize, length: u64 },
+    Fill {
+        socket: usize,
+        length: u64,
+    },
     /// Registers a connect of this socket.
-    Connect { socket: usize },
+    Connect {
+        socket: usize,
+    },
     /// Registers a buffered read of so many bytes of this file.
-    Read { file: usize, offset: u64, length: u64 },
+    Read {
+        file: usize,
+        offset: u64,
+        length: u64,
+    },
     /// The same, with the hint to keep them out of the page cache.
-    Hint { file: usize, offset: u64, length: u64 },
+    Hint {
+        file: usize,
+        offset: u64,
+        length: u64,
+    },
     /// The same, past the page cache.
-    Direct { file: usize, offset: u64, length: u64 },
+    Direct {
+        file: usize,
+        offset: u64,
+        length: u64,
+    },
     /// Registers a write of so many bytes to this file.
-    Write { file: usize, offset: u64, length: u64 },
+    Write {
+        file: usize,
+        offset: u64,
+        length: u64,
+    },
     /// The same, each operation durable by itself.
-    Dsync { file: usize, offset: u64, length: u64 },
+    Dsync {
+        file: usize,
+        offset: u64,
+        length: u64,
+    },
     /// The same, made durable by one sync after all operations.
-    Many { file: usize, offset: u64, length: u64 },
+    Many {
+        file: usize,
+        offset: u64,
+        length: u64,
+    },
     /// Registers a sync of this file.
-    Sync { file: usize },
+    Sync {
+        file: usize,
+    },
     /// Waits for the newest held request, or with none held for a wake.
     Await,
     /// Lets the newest held request go. With none held it asks for nothing.
     Drop,
     /// Sleeps so many nanoseconds.
-    Sleep { time: u64 },
+    Sleep {
+        time: u64,
+    },
     /// Spawns a task of this script.
-    Spawn { script: usize },
+    Spawn {
+        script: usize,
+    },
     /// Spawns a task of this script with a worker of its own.
-    Dedicated { script: usize },
+    Dedicated {
+        script: usize,
+    },
     /// Wakes this task. Where there is none it asks for nothing.
-    Wake { task: usize },
+    Wake {
+        task: usize,
+    },
     /// Wakes the task itself, and lets others go first.
     Yield,
     /// Ends the task.
     End,
     /// Ends the task with a fault.
-    Fault { code: u64 },
+    Fault {
+        code: u64,
+    },
 }
