@@ -24,7 +24,8 @@ ghost use Rattle.exec_abstract.specs.Deadlines.{is_none_earlier};
 ghost use Rattle.exec_abstract.specs.After.{after};
 ghost use Rattle.exec_abstract.specs.Run.{RunsBy, is_run, after_line, world_after};
 ghost use Rattle.exec_abstract.specs.Results.{results_of, reaps};
-ghost use Rattle.exec_abstract.specs.Progress.{Plan, Party, quiet_bound, no_stretch, begin, is_solo};
+ghost use Rattle.exec_abstract.specs.Progress.{Plan, Party, quiet_bound, no_stretch, begin};
+ghost use Rattle.exec_abstract.specs.Progress.{is_solo};
 ghost use Rattle.exec_abstract.specs.Progress.{IsRightlyAsleep, is_rightly_asleep};
 ghost use Rattle.exec_abstract.specs.Progress.{RightlyAsleepBy, is_always_rightly_asleep};
 ghost use Rattle.exec_abstract.specs.Credited.{Standing, Account, choices_of, GoesBy};
@@ -103,9 +104,9 @@ pub fn ends_last()
         (request_of (world_after c w lines choices).common r).released ≡ true }
 {}
 
-/// The machine keeps of a request's results only how far they brought it. In each run that stands for
-/// all results that the run shows of it, as long as the request isn't over; so wherever a result is
-/// judged, what is told is what all its results give, by the account of its open.
+/// The machine keeps of a request's results only how far they brought it. In each run that stands
+/// for all results that the run shows of it, as long as the request isn't over; so wherever a
+/// result is judged, what is told is what all its results give, by the account of its open.
 pub fn outcomes_are_of_all_results()
     ensures come { (p : Plan) (lines : List Line) (choices : List Choice) (r : ℕ) →
         RunsBy p.config (begin p) lines choices →
@@ -123,13 +124,15 @@ pub fn outcomes_are_of_all_results()
         (results_of p.config (begin p) r lines choices ++ judged_of it n ∷ [])) }
 {}
 
-/// Where each line leaves every party a credit that is below the bound, and each quiet one its party
-/// less than there was, the lines are a run in which no stretch of quiet lines is as long as the
-/// bound. Where besides no worker sleeps on work, so it is in each state of the run.
+/// Where each line leaves every party a credit that is below the bound, and each quiet one its
+/// party less than there was, the lines are a run in which no stretch of quiet lines is as long as
+/// the bound. Where besides no worker sleeps on work, so it is in each state of the run.
 pub fn paid_lines_are_runs()
-    ensures runs { (c : Configuration) (s : Standing) (lines : List Line) (accounts : List Account) →
+    ensures runs { (c : Configuration) (s : Standing) (lines : List Line) (accounts : List Account)
+        →
         GoesBy c s lines accounts → RunsBy c s.world lines (choices_of accounts) }
-    ensures solo { (c : Configuration) (s : Standing) (lines : List Line) (accounts : List Account) →
+    ensures solo { (c : Configuration) (s : Standing) (lines : List Line) (accounts : List Account)
+        →
         ((p : Party) → s.credit p < quiet_bound c s.world) → GoesBy c s lines accounts →
         is_solo c s.world no_stretch lines (choices_of accounts) ≡ true }
     ensures asleep { (c : Configuration) (s : Standing) (lines : List Line)
