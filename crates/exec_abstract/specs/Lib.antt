@@ -17,3 +17,9 @@ pub mod Text
 pub mod Progress
 pub mod Credited
 pub mod Results
+pub mod Examples
+pub mod Logs
+pub mod MoreLogs
+pub mod Refusals
+pub mod RefusedLines
+pub mod MoreRefusedLines

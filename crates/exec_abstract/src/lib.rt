@@ -3,6 +3,7 @@
 
 pub mod config;
 pub mod event;
+pub mod examples;
 pub mod laws;
 pub mod state;
 pub mod step;
