@@ -18,3 +18,9 @@ pub mod Progress
 pub mod Credited
 pub mod Results
 pub mod Unfinished
+pub mod Examples
+pub mod Logs
+pub mod MoreLogs
+pub mod Refusals
+pub mod RefusedLines
+pub mod MoreRefusedLines

@@ -24,6 +24,7 @@
 
 pub mod config;
 pub mod event;
+pub mod examples;
 pub mod laws;
 pub mod state;
 pub mod step;
