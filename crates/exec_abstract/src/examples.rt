@@ -56,7 +56,8 @@ pub fn more_good_logs()
     ensures of_what_a_task_held { IsGood what_a_task_held }
 {}
 
-/// Lines that may not come, each for what is said above it: of tasks and requests of several workers.
+/// Lines that may not come, each for what is said above it: of tasks and requests of several
+/// workers.
 pub fn refused_lines()
     ensures in_a_send { AreRefused a_send refused_in_a_send }
     ensures in_durable_writes { AreRefused durable_writes refused_in_durable_writes }
@@ -71,9 +72,12 @@ pub fn refused_deadlines()
     ensures in_a_deadline { AreRefused a_deadline refused_in_a_deadline }
     ensures in_a_late_enrolment { AreRefused a_late_enrolment refused_in_a_late_enrolment }
     ensures in_deadlines_in_order { AreRefused deadlines_in_order refused_in_deadlines_in_order }
-    ensures in_the_wheel_goes_round { AreRefused the_wheel_goes_round refused_in_the_wheel_goes_round }
-    ensures in_a_clock_in_a_service { AreRefused a_clock_in_a_service refused_in_a_clock_in_a_service }
-    ensures in_a_clock_between_samples { AreRefused a_clock_between_samples refused_in_a_clock_between_samples }
+    ensures in_the_wheel_goes_round { AreRefused the_wheel_goes_round
+        refused_in_the_wheel_goes_round }
+    ensures in_a_clock_in_a_service { AreRefused a_clock_in_a_service
+        refused_in_a_clock_in_a_service }
+    ensures in_a_clock_between_samples { AreRefused a_clock_between_samples
+        refused_in_a_clock_between_samples }
     ensures in_a_cancel_in_time { AreRefused a_cancel_in_time refused_in_a_cancel_in_time }
     ensures in_parts { AreRefused parts refused_in_parts }
     ensures in_sleepers { AreRefused sleepers refused_in_sleepers }
@@ -88,8 +92,8 @@ pub fn refused_closings()
     ensures in_what_a_task_held { AreRefused what_a_task_held refused_in_what_a_task_held }
 {}
 
-/// A worker doesn't sleep rightly where a cancel was staged and the kernel wasn't told of it, where its root is over and
-/// it is still open, and where it closes and each of its requests is over.
+/// A worker doesn't sleep rightly where a cancel was staged and the kernel wasn't told of it, where
+/// its root is over and it is still open, and where it closes and each of its requests is over.
 pub fn sleeps_on_work()
     ensures untold { Sleeps a_deadline 52 (sleeps_on ∷ []) false }
     ensures told { Sleeps a_deadline 52 (does 0 Enter ∷ sleeps_on ∷ []) true }

@@ -49,7 +49,8 @@ pub fn unfinished_tasks()
         napping) ≡ false }
     ensures woken { is_right (with_root (record (waits waiting.Wake) { fresh = false }) napping) ≡
         false }
-    ensures resolved { is_right (with_root (waits (waiting.Request 0)) (with_one send_over)) ≡ false }
+    ensures resolved { is_right (with_root (waits (waiting.Request 0)) (with_one send_over)) ≡
+        false }
     ensures fired { is_right (with_sleeper (record until_five { fired = true }) napping) ≡ false }
     ensures message { is_right (with_seat (record (seat_of napping.common 0)
         { inbox = message.Root ∷ [] }) napping) ≡ false }
@@ -108,7 +109,8 @@ pub fn stretches()
     ensures refused { are_solo at_first (turns (action.Work 0) 2000
         ++ record { action = action.Work 0; said = Refused } ∷ turns (action.Work 0) 176) ≡ false }
     ensures clock { are_solo at_first (turns (action.Work 0) 2000
-        ++ record { action = action.Clock 1; said = Did Clock } ∷ turns (action.Work 0) 176) ≡ true }
+        ++ record { action = action.Clock 1; said = Did Clock } ∷
+        turns (action.Work 0) 176) ≡ true }
     ensures caller { are_solo at_first (turns (action.Work 0) 2000
         ++ turns (action.GoOn 0) 1 ++ turns (action.Work 0) 176) ≡ true }
     ensures a_caller_too { are_solo at_first (turns (action.GoOn 0) 2176) ≡ false }
