@@ -273,10 +273,9 @@ after_dedicated me s i =
 
 -- WAKE
 
--- One wake is owed by what is over; one more where it was forwarded and that was applied, or where its worker is not
--- open any more.
-abbrev pub is_unpaid : ℕ → Forwarding → Bool → Bool
-is_unpaid paid forwarding shut = (paid == 0) || ((paid == 1) && (is_applied forwarding || shut))
+-- One wake is owed by what is over; one more where it was forwarded and that was applied.
+abbrev pub is_unpaid : ℕ → Forwarding → Bool
+is_unpaid paid forwarding = (paid == 0) || ((paid == 1) && is_applied forwarding)
 
 -- a thing of this worker, or of one that is not open any more, is woken for here
 abbrev pub may_pay : ℕ → ℕ → Bool → Bool
@@ -286,13 +285,13 @@ may_pay i home shut = (home == i) || shut
 abbrev pub request_owes : Common → ℕ → ℕ → Request → Bool
 request_owes s i t r =
     let shut = not (is_open (seat_of s r.worker).phase) in
-    may_pay i r.worker shut && is_number t r.waiter && is_unpaid r.wakes_paid r.forwarding shut
+    may_pay i r.worker shut && is_number t r.waiter && is_unpaid r.wakes_paid r.forwarding
     && (is_resolved r.phase || shut || (not (is_unsent r.forwarding) && not r.observed))
 
 abbrev pub sleeper_owes : Common → ℕ → ℕ → Sleeper → Bool
 sleeper_owes s i t z =
     let shut = not (is_open (seat_of s z.worker).phase) in
-    may_pay i z.worker shut && (z.task == t) && is_unpaid z.wakes_paid z.forwarding shut && (z.fired || z.removed || shut)
+    may_pay i z.worker shut && (z.task == t) && is_unpaid z.wakes_paid z.forwarding && (z.fired || z.removed || shut)
 
 abbrev pub is_paid : Own → Common → ℕ → ℕ → Payer → Bool
 is_paid me s i t (ByRequest r) = is_at_large me && request_owes s i t (request_of s r)

@@ -206,7 +206,7 @@ no_request =
     }
 
 abbrev pub no_sleeper : Sleeper
-no_sleeper = record { until = 0; worker = 0; task = 0; fired = true; removed = true; wakes_paid = 1; forwarding = Unsent }
+no_sleeper = record { until = 0; worker = 0; task = 0; fired = true; removed = true; wakes_paid = 2; forwarding = Unsent }
 
 abbrev pub no_open : Open
 no_open = record { account = fresh_account; holder = None; waiting = [] }
