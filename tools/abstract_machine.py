@@ -29,8 +29,9 @@ class World(State, TaskEvents, RequestEvents):
         me = self.workers[i]
         kind = event[0]
         if kind == "turn":
-            closing = me.phase == CLOSING and me.pool and not me.left and self.stopped and not me.owed and me.polls is None
-            return [("plain",), ("passes",)] if closing else [("plain",)]
+            drains = me.phase == CLOSING and me.pool and not me.left and self.stopped
+            may_pass = drains and not me.owed and me.polls is None
+            return [("plain",), ("passes",)] if may_pass else [("plain",)]
         if kind == "wake":
             return self.wake_choices(i, event[1])
         if kind == "send":

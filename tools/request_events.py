@@ -103,8 +103,9 @@ class RequestEvents:
         need(due, "nothing is due")
         tick = lambda m: (m - me.start) // self.c["tick"]
         round_ = tick(me.sampled_before) + self.slots <= tick(me.sampled)
-        key = (lambda n: (tick(self.requests[n].timer) % self.slots, n)) if round_ else (lambda n: (self.requests[n].timer, n))
-        need(min(due, key=key) == e[1], "another is due first")
+        by_slot = lambda n: (tick(self.requests[n].timer) % self.slots, n)
+        by_tick = lambda n: (self.requests[n].timer, n)
+        need(min(due, key=by_slot if round_ else by_tick) == e[1], "another is due first")
         r = self.requests[e[1]]
         r.timer = None
         if r.phase == QUEUED:

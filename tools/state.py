@@ -212,7 +212,10 @@ class State:
         if kind == "c":
             return self.clock + a[1] <= LAST_MOMENT
         if kind == "k":
-            return a[1] < len(self.requests) and self.requests[a[1]].phase == FLYING and is_lawful(self.requests[a[1]], a[2])
+            if a[1] >= len(self.requests):
+                return False
+            r = self.requests[a[1]]
+            return r.phase == FLYING and is_lawful(r, a[2])
         if kind in "bm":
             return a[1] < len(self.workers) and self.workers[a[1]].phase != ENDED
         if kind == "e":

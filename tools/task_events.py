@@ -1,6 +1,7 @@
 """Events of tasks: polls, acts, wakes, and what a closing pool clears."""
 from outcomes import DISK, DURABLE, REGISTERS
-from state import CLOSING, DONE, GATED, IDLE, LONGEST, NOTED, OPEN, QUEUED, RESOLVED, RUNNING, Request, Sleeper, Task, Worker, need
+from state import CLOSING, DONE, GATED, IDLE, LONGEST, NOTED, OPEN, QUEUED, RESOLVED, RUNNING
+from state import Request, Sleeper, Task, Worker, need
 
 
 class TaskEvents:
@@ -31,16 +32,15 @@ class TaskEvents:
         me.polls = e[1]
 
     def may_pend(self, i, t):
-        kind = t.waiting[0]
-        if kind in ("wake", "yielded"):
-            return True
+        """Its poll may end: what it waits for isn't over here, or was forwarded."""
+        kind, *what = t.waiting
         if kind == "request":
-            r = self.requests[t.waiting[1]]
-            return r.forward != "unsent" or r.worker != i and self.workers[r.worker].mailbox_closed or r.phase != RESOLVED
+            r = self.requests[what[0]]
+            return r.forward != "unsent" or r.worker == i and r.phase != RESOLVED
         if kind == "timer":
-            z = self.sleepers[t.waiting[1]]
-            return z.forward != "unsent" or z.worker != i and self.workers[z.worker].mailbox_closed or not z.fired
-        return False
+            z = self.sleepers[what[0]]
+            return z.forward != "unsent" or z.worker == i and not z.fired and not z.removed
+        return kind in ("wake", "yielded")
 
     def on_pend(self, i, me, e, choice):
         need(me.polls == e[1], "not polled")

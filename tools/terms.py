@@ -2,8 +2,8 @@
 from abstract_machine import World
 from traces import line_of
 
-KINDS = {"poll": "Poll", "send": "Send", "recv": "Recv", "fill": "Fill", "conn": "Connect", "read": "Read", "hint": "Hint",
-         "direct": "Direct", "write": "Write", "dsync": "Dsync", "many": "Many", "sync": "Sync"}
+KINDS = {"poll": "Poll", "send": "Send", "recv": "Recv", "fill": "Fill", "conn": "Connect", "read": "Read",
+         "hint": "Hint", "direct": "Direct", "write": "Write", "dsync": "Dsync", "many": "Many", "sync": "Sync"}
 WORDS = dict(KINDS, **{"await": "Await", "drop": "Drop", "sleep": "Sleep", "spawn": "Spawn", "dedicated": "Dedicated",
                        "wake": "Wake", "yield": "Yield", "end": "End", "fault": "Fault"})
 MESSAGES = {"root": "Root", "forward": "ForwardRequest", "forward timer": "ForwardTimer", "cancel": "CancelRequest",
@@ -84,7 +84,9 @@ def action(a):
     if kind == "w":
         return apply("action.Work", a[1])
     if kind == "x":
-        return apply({"spawn": "action.Spawn", "wake": "action.Wake"}[a[2]], a[1], a[3]) if len(a) > 2 else apply("action.GoOn", a[1])
+        if len(a) == 2:
+            return apply("action.GoOn", a[1])
+        return apply({"spawn": "action.Spawn", "wake": "action.Wake"}[a[2]], a[1], a[3])
     if kind == "k":
         return apply("action.Land", a[1], result(a[2]))
     name = {"c": "Clock", "b": "SetBusy", "m": "EndPoll", "e": "Stir", "l": "Peer"}[kind]
@@ -123,7 +125,8 @@ def configuration(c):
     fields = [f"{k} = {c[k]}" for k in USUAL if k != "spin" and c[k] != USUAL[k]]
     if c["spin"] != USUAL["spin"]:
         budget, most, quick, iterations = c["spin"]
-        fields.append(f"spin = record {{ budget = {budget}; most = {most}; quick = {quick}; iterations = {iterations} }}")
+        spin = f"budget = {budget}; most = {most}; quick = {quick}; iterations = {iterations}"
+        fields.append(f"spin = record {{ {spin} }}")
     return "record usual { " + "; ".join(fields) + " }" if fields else "usual"
 
 
@@ -187,7 +190,9 @@ def scripts(scripts):
     """The scripts, each in a row of its own where they are long."""
     each = ["(" + words(ws) + ")" for ws in scripts]
     in_a_row = listed(each)
-    return " " + in_a_row if len(in_a_row) < 90 else "\n" + "".join(f"            {it} ∷\n" for it in each) + "            []"
+    if len(in_a_row) < 90:
+        return " " + in_a_row
+    return "\n" + "".join(f"            {it} ∷\n" for it in each) + "            []"
 
 
 def imports(module, names):
@@ -195,9 +200,9 @@ def imports(module, names):
 
 
 DECLARED = "exec_abstract.specs.declared"
-EVENTS = ("Turn Serve Begin Pend Done Fault Spawn Dedicated Closed Clear Admit Wait Got Drop Timer GotTimer Pass Grant Enrol "
-          "Stage Enter Busy Reap Expire Cancel Orphan Release Fire Send Apply Rouse Sleep Close Stop End Return Land Clock "
-          "Set Stir Peer").split()
+EVENTS = ("Turn Serve Begin Pend Done Fault Spawn Dedicated Closed Clear Admit Wait Got Drop Timer GotTimer Pass Grant "
+          "Enrol Stage Enter Busy Reap Expire Cancel Orphan Release Fire Send Apply Rouse Sleep Close Stop End Return "
+          "Land Clock Set Stir Peer").split()
 
 # what a file of examples brings in
 USES = "".join([

@@ -164,7 +164,7 @@ def options(world, lines, n):
 
 
 def by_what_follows(world, lines, n, found):
-    """Whether a turn passes the barrier: it does where the worker is held next. Else the worker next closes its mailbox,
+    """Whether a turn passes the barrier: it does where the worker is held next. Else the worker closes its mailbox,
     lets go of requests and sleepers, takes its callbacks and begins a service, each by so many turns."""
     i = lines[n][0][1]
     following = [event for action, event in lines[n + 1:] if action == ("w", i)]
