@@ -1,0 +1,10 @@
+mod Computing
+mod Apart
+mod Paid
+mod SameIs
+mod Onward
+mod Lasting
+mod AllResults
+mod OnePoll
+mod Elsewhere
+mod Resting
