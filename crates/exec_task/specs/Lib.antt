@@ -1,0 +1,5 @@
+pub mod Growth
+pub mod Phases
+pub mod Places
+pub mod Sight
+pub mod TaskSet

@@ -1,0 +1,8 @@
+//! Tasks: their phases, what they run, and the set of those that are live.
+#![tactic(auto)]
+
+pub mod body;
+pub mod place;
+pub mod runnable;
+pub mod task;
+pub mod tasks;
