@@ -2,7 +2,9 @@
 #![tactic(auto)]
 
 pub mod body;
+pub mod drain;
 pub mod place;
+pub mod poll;
 pub mod runnable;
 pub mod task;
 pub mod tasks;

@@ -11,9 +11,11 @@
 //! removed; that is the only way in which a removal finds nothing.
 
 ghost use Rattle.std.specs.Prelude.{◌≡◌, ◌<◌, ◌≤◌, ◌^◌, ◌⊎◌, ◌++◌, ◌∷◌, [], ℕ, true, false, length, replicate, IfOk, IfErr, IfNone, IfSome, OnOk, OnErr, IsSome, option_copied, None};
-ghost use Rattle.exec_task.specs.TaskSet.{Set, IsShardCount, IsRefused, shard_of, at_number, with_task, without_task, held, inserted, removed};
+ghost use Rattle.exec_task.specs.TaskSet.{IsShardCount, IsRefused, shard_of, shard_at, at_number, with_task, without_task, held, inserted, removed};
 ghost use Rattle.exec_task.specs.Places.{Spawns};
+ghost use Rattle.exec_task.specs.Drained.{TakesNewest, drain_of};
 
+use crate::drain::Drain;
 use crate::place::Place;
 use crate::runnable::Runnable;
 use exec_base::task_no::TaskNo;
@@ -254,6 +256,35 @@ impl<T> Tasks<T> {
     {
         let index = self.index(number);
         self.shards[index].take(number)
+    }
+
+    /// How many shards there are.
+    pub fn shard_count(&self) -> usize
+        ensures count { result ≡ length self.now.shards }
+        ensures some { 0 < result }
+    {
+        self.shards.len()
+    }
+
+    /// Takes the newest task out of this shard, with its number. None where the shard is empty.
+    pub fn take_newest(&mut self, shard: usize) -> Option<(TaskNo, T)>
+        requires { shard < length self.old.shards }
+        ensures taken { IfSome result (λ t. TakesNewest shard t self.old self.new) }
+        ensures empty { IfNone result (shard_at self.old shard ≡ []) }
+        ensures kept { IfNone result (self.new ≡ self.old) }
+    {
+        self.shards[shard].take_newest()
+    }
+
+    /// A drain of the set, which goes round all shards, from the one at four times the worker's number on.
+    ///
+    /// The set must be closed.
+    pub fn drain(&self, worker: u32) -> Drain
+        requires { self.now.closed ≡ true }
+        ensures { result ≡ drain_of self.now worker }
+    {
+        let count = self.shards.len();
+        Drain::new(worker as usize * SHARDS_PER_WORKER % count, count)
     }
 
     /// Closes the set. What it holds stays, until it is removed or drained.
