@@ -1,1 +1,4 @@
+pub mod Handed
+pub mod Meanwhiles
+pub mod Rights
 pub mod Rounds

@@ -3,6 +3,8 @@
 
 pub mod body;
 pub mod drain;
+pub mod examples;
+pub mod laws;
 pub mod place;
 pub mod poll;
 pub mod runnable;

@@ -19,11 +19,12 @@ returns-in-Waits g c =
     (Pends (18446744073709551615 - c.loop.counter) _ (record { worker = c.take_turn.new.worker; cell = c.take_turn.new.cell; body = c.take_turn.new.body }) c.loop.said c.pend.result c.pend.new.self (omega arith) c.in-Waits.ensures.turns c.pend.ensures)
 
 pub loop-preserved : goal.loop-preserved
-loop-preserved g c =
-    (c.take_turn.ensures.polled,
-      λ answer w k polls.
-        c.loop.invariant.1 answer w k
-        (GoesOn (18446744073709551615 - c.loop.counter) (18446744073709551615 - (c.loop.counter + 1)) _ (record { worker = c.take_turn.new.worker; cell = c.take_turn.new.cell; body = c.take_turn.new.body }) c.loop.said c.in-Told.told answer w k (omega arith) c.in-Told.ensures.turns polls))
+loop-preserved g c = (
+  c.take_turn.ensures.polled,
+  λ answer w k polls.
+      c.loop.invariant.1 answer w k
+      (GoesOn (18446744073709551615 - c.loop.counter) (18446744073709551615 - (c.loop.counter + 1)) _ (record { worker = c.take_turn.new.worker; cell = c.take_turn.new.cell; body = c.take_turn.new.body }) c.loop.said c.in-Told.told answer w k (omega arith) c.in-Told.ensures.turns polls),
+)
 
 pub done-requires-2 : goal.done-requires-2
 done-requires-2 g c = c.loop.invariant.0
