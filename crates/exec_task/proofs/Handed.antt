@@ -11,7 +11,7 @@ module _ {X : Type 0} (f : X → ℕ) where
   sum-reverse [] = refl
   sum-reverse (x ∷ xs) =
       let split : sum_by f (reverse (x ∷ xs)) ≡ sum_by f (reverse xs) + sum_by f (x ∷ []) =
-        ap (sum_by f) (reverse-append (x ∷ []) xs) ∙ sum_by-append f (reverse xs) (x ∷ []) in
+      ap (sum_by f) (reverse-append (x ∷ []) xs) ∙ sum_by-append f (reverse xs) (x ∷ []) in
       let one : sum_by f (x ∷ []) ≡ f x + 0 = sum_by-cons f x [] in
       let first : sum_by f (x ∷ xs) ≡ f x + sum_by f xs = sum_by-cons f x xs in
       let rest : sum_by f (reverse xs) ≡ sum_by f xs = sum-reverse xs in
@@ -40,32 +40,32 @@ module _ {T : Type 0} (kind : ℕ × T → Bool) where
   before_the_end shards at (suc zero) within = turn shards at 0 (next_shard (length shards) at) refl
   before_the_end shards at (suc (suc left)) within =
       elim (next_cases (length shards) at) [
-        inl e ↦ absurd (omega arith)
+        | inl e ↦ absurd (omega arith)
         | inr e ↦
-          turn shards at (suc left) (suc at) (e.1 ∙ omega arith)
-          ∙ ap (λ n. here shards at + n) (before_the_end shards (suc at) (suc left) (omega arith))
+            turn shards at (suc left) (suc at) (e.1 ∙ omega arith)
+            ∙ ap (λ n. here shards at + n) (before_the_end shards (suc at) (suc left) (omega arith))
       ]
 
   -- one that does: to the last shard, and from the first on
   round_the_end : (shards : List (List (ℕ × T))) (at left more : ℕ) → at + suc left ≡ length shards → more ≤ length shards → count_by kind (to_come shards at (suc (left + more))) ≡ straight shards at (suc left) + straight shards 0 more
   round_the_end shards at zero more last few =
       elim (next_cases (length shards) at) [
-        inl e ↦
-          turn shards at (0 + more) 0 e.1
-          ∙ ap (λ n. here shards at + count_by kind (to_come shards 0 n)) (zero-add more)
-          ∙ ap (λ n. here shards at + n) (before_the_end shards 0 more (omega arith))
-          ∙ omega arith
+        | inl e ↦
+            turn shards at (0 + more) 0 e.1
+            ∙ ap (λ n. here shards at + count_by kind (to_come shards 0 n)) (zero-add more)
+            ∙ ap (λ n. here shards at + n) (before_the_end shards 0 more (omega arith))
+            ∙ omega arith
         | inr e ↦ absurd (omega arith)
       ]
   round_the_end shards at (suc left) more last few =
       elim (next_cases (length shards) at) [
-        inl e ↦ absurd (omega arith)
+        | inl e ↦ absurd (omega arith)
         | inr e ↦
-          turn shards at (suc left + more) (suc at) (e.1 ∙ omega arith)
-          ∙ (let grows : suc left + more ≡ suc (left + more) = omega arith in
+            turn shards at (suc left + more) (suc at) (e.1 ∙ omega arith)
+            ∙ (let grows : suc left + more ≡ suc (left + more) = omega arith in
             ap (λ n. here shards at + count_by kind (to_come shards (suc at) n)) grows)
-          ∙ ap (λ n. here shards at + n) (round_the_end shards (suc at) left more (omega arith) few)
-          ∙ omega arith
+            ∙ ap (λ n. here shards at + n) (round_the_end shards (suc at) left more (omega arith) few)
+            ∙ omega arith
       ]
 
   straight-join : (shards : List (List (ℕ × T))) (at left more : ℕ) → straight shards at left + straight shards (left + at) more ≡ straight shards at (left + more)
@@ -93,7 +93,7 @@ module _ {T : Type 0} (kind : ℕ × T → Bool) where
   whole_by shards at left last =
       let all : length shards ≡ suc (left + at) = omega arith in
       let joined : straight shards 0 at + straight shards at (suc left) ≡ straight shards 0 (at + suc left) =
-        ap (λ n. straight shards 0 at + straight shards n (suc left)) (sym (add-zero at)) ∙ straight-join shards 0 at (suc left) in
+      ap (λ n. straight shards 0 at + straight shards n (suc left)) (sym (add-zero at)) ∙ straight-join shards 0 at (suc left) in
       ap (λ n. count_by kind (to_come shards at n)) all
       ∙ round_the_end shards at left at last (omega arith)
       ∙ add_comm (straight shards at (suc left)) (straight shards 0 at)

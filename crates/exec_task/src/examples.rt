@@ -3,8 +3,8 @@
 ghost use Rattle.std.specs.Prelude.{◌≡◌, ◌≢◌, [], ◌∷◌, Some, None, true, ℕ};
 ghost use Rattle.exec_task.specs.Phases.{is_idle, queued_body, body_of, woken, begun, pended, pend_answer, cleared, runnable_of, over};
 ghost use Rattle.exec_task.specs.TaskRuns.{AreCalls, after_all, after_pending_poll};
-ghost use Rattle.exec_task.specs.TaskRuns.Call as call;
-ghost use Rattle.exec_task.specs.TaskRuns.Meanwhile as meanwhile;
+ghost use Rattle.exec_task.specs.TaskRuns.Call.{Wake, Begin, Pend, Done, Clear};
+ghost use Rattle.exec_task.specs.TaskRuns.Meanwhile.{Wakes, Clears};
 ghost use Rattle.exec_task.specs.TaskSet.{held, shard_of, removed, IsRefused};
 ghost use Rattle.exec_task.specs.Drained.{to_come, drain_of, next_shard};
 ghost use Rattle.exec_task.specs.Growth.{grows};
@@ -18,24 +18,24 @@ ghost use Rattle.exec_task.specs.declared.tasks.Refusal.TheVariants as refusal;
 
 /// What a wake makes of each phase, and when it publishes a runnable.
 pub fn wakes()
-    ensures idle { woken (phase.Idle 7) ≡ phase.Queued 7 }
-    ensures queued { woken (phase.Queued 7) ≡ phase.Queued 7 }
+    ensures idle { woken {B = ℕ} (phase.Idle 7) ≡ phase.Queued 7 }
+    ensures queued { woken {B = ℕ} (phase.Queued 7) ≡ phase.Queued 7 }
     ensures running { woken {B = ℕ} phase.Running ≡ phase.Notified }
     ensures again { woken {B = ℕ} phase.Notified ≡ phase.Notified }
     ensures over { woken {B = ℕ} phase.Complete ≡ phase.Complete }
-    ensures publishes { is_idle (phase.Idle 7) ≡ true }
+    ensures publishes { is_idle {B = ℕ} (phase.Idle 7) ≡ true }
     ensures not_in_a_poll { is_idle {B = ℕ} phase.Running ≢ true }
     ensures not_lost { woken {B = ℕ} phase.Running ≢ phase.Running }
 {}
 
 /// A poll begins with the body of a queued task, and of no other.
 pub fn begins()
-    ensures body { queued_body (phase.Queued 7) ≡ Some 7 }
-    ensures begun { begun (phase.Queued 7) ≡ phase.Running }
+    ensures body { queued_body {B = ℕ} (phase.Queued 7) ≡ Some 7 }
+    ensures begun { begun {B = ℕ} (phase.Queued 7) ≡ phase.Running }
     ensures stale { queued_body {B = ℕ} phase.Complete ≡ None }
     ensures stays { begun {B = ℕ} phase.Complete ≡ phase.Complete }
-    ensures idle { queued_body (phase.Idle 7) ≡ None }
-    ensures not_twice { queued_body (begun (phase.Queued 7)) ≢ Some 7 }
+    ensures idle { queued_body {B = ℕ} (phase.Idle 7) ≡ None }
+    ensures not_twice { queued_body {B = ℕ} (begun {B = ℕ} (phase.Queued 7)) ≢ Some 7 }
 {}
 
 /// A poll that ends pending: with no wake, with one, and after a clear.
@@ -53,7 +53,7 @@ pub fn pends()
 /// A clear ends a task that nobody polls, and marks one that is polled.
 pub fn clears()
     ensures queued { cleared (in_phase (phase.Queued 7)) ≡ in_phase phase.Complete }
-    ensures body { body_of (phase.Queued 7) ≡ Some 7 }
+    ensures body { body_of {B = ℕ} (phase.Queued 7) ≡ Some 7 }
     ensures polled { cleared (in_phase phase.Running) ≡ cleared_in phase.Running }
     ensures over { cleared (in_phase phase.Complete) ≡ in_phase phase.Complete }
     ensures not_the_polled_body { body_of {B = ℕ} phase.Running ≢ Some 7 }
@@ -62,14 +62,14 @@ pub fn clears()
 
 /// Calls on a new task: two wakes in a poll give one runnable back; nobody polls it twice at once.
 pub fn calls()
-    ensures good { AreCalls fresh (call.Begin ∷ call.Wake ∷ call.Wake ∷ call.Pend 8 ∷ call.Begin ∷ call.Done ∷ []) }
-    ensures one { (after_all fresh (call.Begin ∷ call.Wake ∷ call.Wake ∷ call.Pend 8 ∷ [])).runnables ≡ 1 }
-    ensures none { (after_all fresh (call.Begin ∷ call.Wake ∷ call.Clear ∷ call.Pend 8 ∷ [])).runnables ≡ 0 }
-    ensures stale { (after_all fresh (call.Clear ∷ [])).runnables ≡ 1 }
-    ensures not_two_polls { AreCalls fresh (call.Begin ∷ call.Begin ∷ []) → ⊥ }
-    ensures not_unasked { AreCalls fresh (call.Pend 8 ∷ []) → ⊥ }
-    ensures meanwhile { after_pending_poll (in_phase phase.Running) (meanwhile.Wakes ∷ meanwhile.Wakes ∷ []) ≡ after.Requeue (runnable_of (in_phase phase.Running)) }
-    ensures cleared { after_pending_poll (in_phase phase.Running) (meanwhile.Wakes ∷ meanwhile.Clears ∷ []) ≡ after.Retire (no 5) ended.Closed }
+    ensures good { AreCalls fresh (Begin ∷ Wake ∷ Wake ∷ Pend 8 ∷ Begin ∷ Done ∷ []) }
+    ensures one { (after_all fresh (Begin ∷ Wake ∷ Wake ∷ Pend 8 ∷ [])).runnables ≡ 1 }
+    ensures none { (after_all fresh (Begin ∷ Wake ∷ Clear ∷ Pend 8 ∷ [])).runnables ≡ 0 }
+    ensures stale { (after_all fresh (Clear ∷ [])).runnables ≡ 1 }
+    ensures not_two_polls { AreCalls fresh (Begin ∷ Begin ∷ []) → ⊥ }
+    ensures not_unasked { AreCalls fresh (Pend 8 ∷ []) → ⊥ }
+    ensures meanwhile { after_pending_poll (in_phase phase.Running) (Wakes ∷ Wakes ∷ []) ≡ after.Requeue (runnable_of (in_phase phase.Running)) }
+    ensures cleared { after_pending_poll (in_phase phase.Running) (Wakes ∷ Clears ∷ []) ≡ after.Retire (no 5) ended.Closed }
 {}
 
 /// Tasks 0 to 4 in one shard, of which 2, 4 and 0 are removed: 3 and then 1 are drained.
@@ -97,7 +97,7 @@ pub fn shards()
 
 /// Which acts take memory, and which end the task.
 pub fn acts()
-    ensures spawns { grows (act.Spawn 7) ≡ true }
+    ensures spawns { grows {B = ℕ} (act.Spawn 7) ≡ true }
     ensures sleeps { grows {B = ℕ} (act.Sleep 5) ≢ true }
     ensures done { ended_by {B = ℕ} (act.Done 3) ≡ Some (ended.Done 3) }
     ensures fault { ended_by {B = ℕ} (act.Fault 3) ≡ Some (ended.Fault 3) }

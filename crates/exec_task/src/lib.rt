@@ -10,3 +10,5 @@ pub mod poll;
 pub mod runnable;
 pub mod task;
 pub mod tasks;
+#[cfg(test)]
+mod tests;

@@ -12,6 +12,9 @@
 ghost use Rattle.std.specs.Prelude.{◌≡◌, ◌-◌, ◌^◌, Bool, IsTrue, OnSome, Option};
 ghost use Rattle.exec_task.specs.Polls.{StepsTo, Turns, Polls, PollsTask};
 
+#[cfg(test)]
+mod tests;
+
 use crate::body::{Act, Around, Body, Ended, Said};
 use crate::runnable::{AfterPoll, Runnable};
 use crate::task::Task;

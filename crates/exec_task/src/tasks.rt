@@ -15,6 +15,9 @@ ghost use Rattle.exec_task.specs.TaskSet.{IsShardCount, IsRefused, shard_of, sha
 ghost use Rattle.exec_task.specs.Places.{Spawns};
 ghost use Rattle.exec_task.specs.Drained.{TakesNewest, drain_of};
 
+#[cfg(test)]
+mod tests;
+
 use crate::drain::Drain;
 use crate::place::Place;
 use crate::runnable::Runnable;
