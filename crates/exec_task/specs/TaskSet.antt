@@ -1,5 +1,5 @@
 -- What a contract sees of a task set and of a drain.
-use Rattle.std.specs.Prelude.{◌≡◌, ℕ, ◌+◌, ◌-◌, ◌*◌, ◌/◌, ◌%◌, ◌<◌, ◌≤◌, ◌==◌, Bool, true, false, IsTrue, List, [], ◌∷◌, ◌++◌, length, reverse, slice_set, slice_index_or, Option, Some, None, if◌then◌else◌}
+use Rattle.std.specs.Prelude.{◌≡◌, ◌≢◌, ℕ, ◌+◌, ◌-◌, ◌*◌, ◌/◌, ◌%◌, ◌<◌, ◌≤◌, ◌==◌, Bool, true, false, IsTrue, List, [], ◌∷◌, ◌++◌, length, reverse, slice_set, slice_index_or, Option, Some, None, if◌then◌else◌}
 use Rattle.std.specs.Ordering.{nat_cmp}
 use Rattle.std.specs.Int.{IsPowerOfTwo}
 use Rattle.std.specs.Map.{lookup, remove_entry}
@@ -18,6 +18,11 @@ module _ {T : Type 0} where
 
   abbrev pub without_task : List (ℕ × T) → ℕ → List (ℕ × T)
   without_task shard number = remove_entry (is_at (nat_cmp number)) shard
+
+  -- the new shard holds this under the number, and what the old one does under any other
+  pub record ShardChanges (old new : List (ℕ × T)) (number : ℕ) (task : Option T) : Type 0 where
+    pub changed : at_number new number ≡ task
+    pub others : (other : ℕ) → other ≢ number → at_number new other ≡ at_number old other
 
 -- the shards, whether the set is closed, and its identity
 pub record Set (T : Type 0) : Type 0 where
@@ -51,6 +56,11 @@ module _ {T : Type 0} where
 
   abbrev pub removed : Set T → TaskNo → Set T
   removed s number = record s { shards = slice_set s.shards (shard_of s number) (without_task (shard_at s (shard_of s number)) number.0) }
+
+  -- the new set holds this of the task of that number, and what the old one does of any other
+  pub record Changes (old new : Set T) (number : TaskNo) (task : Option T) : Type 0 where
+    pub changed : held new number ≡ task
+    pub others : (other : TaskNo) → other.0 ≢ number.0 → held new other ≡ held old other
 
   -- the set refuses for this reason, and hands this back
   abbrev pub IsRefused : Set T → T → Refusal T → Type 0

@@ -10,8 +10,8 @@
 //! that it still holds is handed out once, to be cleared. A task that ends meanwhile may be gone when it is to be
 //! removed; that is the only way in which a removal finds nothing.
 
-ghost use Rattle.std.specs.Prelude.{◌≡◌, ◌<◌, ◌≤◌, ◌^◌, ◌⊎◌, ◌++◌, ◌∷◌, [], ℕ, true, false, length, replicate, IfOk, IfErr, IfNone, IfSome, OnOk, OnErr, IsSome, option_copied, None};
-ghost use Rattle.exec_task.specs.TaskSet.{IsShardCount, IsRefused, shard_of, shard_at, at_number, with_task, without_task, held, inserted, removed};
+ghost use Rattle.std.specs.Prelude.{◌≡◌, ◌<◌, ◌≤◌, ◌^◌, ◌⊎◌, ◌++◌, ◌∷◌, [], ℕ, true, false, length, replicate, IfOk, IfErr, IfNone, IfSome, OnOk, OnErr, IsSome, option_copied, None, Some};
+ghost use Rattle.exec_task.specs.TaskSet.{IsShardCount, IsRefused, shard_of, shard_at, at_number, with_task, without_task, ShardChanges, Changes, held, inserted, removed};
 ghost use Rattle.exec_task.specs.Places.{Spawns};
 ghost use Rattle.exec_task.specs.Drained.{TakesNewest, drain_of};
 
@@ -70,6 +70,7 @@ impl<T> Model for Tasks<T> {
     ghost invariant = { λ s. 0 < length s.shards.items };
 }
 
+#[tactic(auto, using(crate::proofs::Maps::shard_changes))]
 impl<T> Shard<T> {
     /// An empty shard.
     pub fn new(alloc: Global) -> Self
@@ -87,6 +88,7 @@ impl<T> Shard<T> {
         T: Drop,
         requires { at_number self.old number.0 ≡ None }
         ensures put { OnOk result (self.new ≡ with_task self.old number.0 task) }
+        ensures map { OnOk result (ShardChanges self.old self.new number.0 (Some task)) }
         ensures back { IfErr result (λ back. back ≡ task) }
         ensures kept { OnErr result (self.new ≡ self.old) }
     {
@@ -107,6 +109,7 @@ impl<T> Shard<T> {
     pub fn take(&mut self, number: TaskNo) -> Option<T>
         ensures task { result ≡ at_number self.old number.0 }
         ensures taken { self.new ≡ without_task self.old number.0 }
+        ensures map { ShardChanges self.old self.new number.0 None }
         ensures kept { IfNone result (self.new ≡ self.old) }
     {
         self.tasks.remove(&number.0)
@@ -115,6 +118,8 @@ impl<T> Shard<T> {
     /// Takes the newest task out, with its number. None where the shard is empty.
     pub fn take_newest(&mut self) -> Option<(TaskNo, T)>
         ensures newest { IfSome result (λ t. self.old ≡ self.new ++ (t.0.0, t.1) ∷ []) }
+        ensures held { IfSome result (λ t. at_number self.old t.0.0 ≡ Some t.1) }
+        ensures map { IfSome result (λ t. ShardChanges self.old self.new t.0.0 None) }
         ensures empty { IfNone result (self.old ≡ []) }
         ensures kept { IfNone result (self.new ≡ self.old) }
     {
@@ -125,6 +130,7 @@ impl<T> Shard<T> {
     }
 }
 
+#[tactic(auto, using(crate::proofs::Maps::changes))]
 impl<T> Tasks<T> {
     /// An open set for a pool of so many workers: the next power of two of them, times 4, shards.
     pub fn new(alloc: Global, workers: usize) -> Result<Self, AllocError>
@@ -201,6 +207,7 @@ impl<T> Tasks<T> {
         T: Drop,
         requires { held self.old number ≡ None }
         ensures inserted { OnOk result (self.new ≡ inserted self.old number task) }
+        ensures map { OnOk result (Changes self.old self.new number (Some task)) }
         ensures open { OnOk result (self.old.closed ≡ false) }
         ensures queued { OnOk result ((reserved : P) × P.reserves place.old reserved
             × Spawns P.serving P.shows_empty P.workers_of P.enqueues P.pushes reserved runnable place.new) }
@@ -232,6 +239,7 @@ impl<T> Tasks<T> {
         T: Drop,
         requires { held self.old number ≡ None }
         ensures inserted { OnOk result (self.new ≡ inserted self.old number task) }
+        ensures map { OnOk result (Changes self.old self.new number (Some task)) }
         ensures open { OnOk result (self.old.closed ≡ false) }
         ensures refused { IfErr result (IsRefused self.old task) }
         ensures kept { OnErr result (self.new ≡ self.old) }
@@ -254,6 +262,7 @@ impl<T> Tasks<T> {
         requires { (self.old.closed ≡ true) ⊎ IsSome (held self.old number) }
         ensures task { result ≡ held self.old number }
         ensures removed { self.new ≡ removed self.old number }
+        ensures map { Changes self.old self.new number None }
         ensures kept { IfNone result (self.new ≡ self.old) }
         ensures closed { IfNone result (self.old.closed ≡ true) }
     {
