@@ -2,7 +2,7 @@
 use Rattle.std.specs.Prelude.{◌≡◌, ℕ, zero, suc, ◌+◌, ◌-◌, ◌*◌, ◌%◌, ◌<◌, ◌≤◌, ◌==◌, List, [], ◌∷◌, ◌++◌, length, reverse, slice_set, slice_index_or, Option, Some, None, if◌then◌else◌}
 use Rattle.exec_base.specs.declared.task_no.TaskNo.{TaskNo}
 use Rattle.exec_task.specs.declared.drain.Drain.{Drain}
-use Rattle.exec_task.specs.TaskSet.{Set, shard_at}
+use Rattle.exec_task.specs.TaskSet.{Set, shard_at, held, Changes}
 
 -- the shard after this one, round all of them
 abbrev pub next_shard : ℕ → ℕ → ℕ
@@ -34,5 +34,7 @@ module _ {T : Type 0} where
 
   -- the newest task of this shard is gone, and nothing else
   pub record TakesNewest (shard : ℕ) (t : TaskNo × T) (old new : Set T) : Type 0 where
+    pub was_held : held old t.0 ≡ Some t.1
     pub newest : shard_at old shard ≡ shard_at new shard ++ (t.0.0, t.1) ∷ []
     pub others : new ≡ record old { shards = slice_set old.shards shard (shard_at new shard) }
+    pub changes : Changes old new t.0 None

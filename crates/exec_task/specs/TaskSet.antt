@@ -24,6 +24,10 @@ module _ {T : Type 0} where
     pub changed : at_number new number ≡ task
     pub others : (other : ℕ) → other ≢ number → at_number new other ≡ at_number old other
 
+-- each task is in the shard of its number
+abbrev pub AreAtHome : {T : Type 0} → List (List (ℕ × T)) → Type 0
+AreAtHome shards = (index number : ℕ) → at_number (slice_index_or shards index []) number ≢ None → number % length shards ≡ index
+
 -- the shards, whether the set is closed, and its identity
 pub record Set (T : Type 0) : Type 0 where
   pub shards : List (List (ℕ × T))

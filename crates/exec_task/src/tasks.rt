@@ -61,13 +61,13 @@ pub struct Tasks<T> {
 
 impl<T> Model for Tasks<T> {
     ghost use Rattle.std.specs.Prelude.{◌<◌, length};
-    ghost use Rattle.exec_task.specs.TaskSet.{Set as Shards};
+    ghost use Rattle.exec_task.specs.TaskSet.{Set as Shards, AreAtHome};
 
     ghost Value = { Shards T };
 
     ghost view = { λ s. record { shards = s.shards.items; closed = s.closed; id = 1 } };
 
-    ghost invariant = { λ s. 0 < length s.shards.items };
+    ghost invariant = { λ s. (0 < length s.shards.items) × AreAtHome s.shards.items };
 }
 
 #[tactic(auto, using(crate::proofs::Maps::shard_changes))]
@@ -130,7 +130,7 @@ impl<T> Shard<T> {
     }
 }
 
-#[tactic(auto, using(crate::proofs::Maps::changes))]
+#[tactic(auto, using(crate::proofs::Maps::changes, crate::proofs::Maps::home_after, crate::proofs::Maps::home_at_first, crate::proofs::Maps::takes_newest))]
 impl<T> Tasks<T> {
     /// An open set for a pool of so many workers: the next power of two of them, times 4, shards.
     pub fn new(alloc: Global, workers: usize) -> Result<Self, AllocError>
