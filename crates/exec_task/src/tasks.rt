@@ -13,7 +13,7 @@
 ghost use Rattle.std.specs.Prelude.{◌≡◌, ◌<◌, ◌≤◌, ◌^◌, ◌⊎◌, ◌++◌, ◌∷◌, [], ℕ, true, false, length, replicate, IfOk, IfErr, IfNone, IfSome, OnOk, OnErr, IsSome, option_copied, None, Some};
 ghost use Rattle.exec_task.specs.TaskSet.{IsShardCount, IsRefused, shard_of, shard_at, at_number, with_task, without_task, ShardChanges, Changes, held, inserted, removed};
 ghost use Rattle.exec_task.specs.Places.{Spawns};
-ghost use Rattle.exec_task.specs.Drained.{TakesNewest, drain_of};
+ghost use Rattle.exec_task.specs.Drained.{IsFor, TakesNewest, drain_of};
 
 #[cfg(test)]
 mod tests;
@@ -293,7 +293,8 @@ impl<T> Tasks<T> {
     /// The set must be closed.
     pub fn drain(&self, worker: u32) -> Drain
         requires { self.now.closed ≡ true }
-        ensures { result ≡ drain_of self.now worker }
+        ensures first { result ≡ drain_of self.now worker }
+        ensures its { IsFor result self.now }
     {
         let count = self.shards.len();
         Drain::new(worker as usize * SHARDS_PER_WORKER % count, count)

@@ -1,19 +1,17 @@
 use super::{Asked, Carrier};
 use crate::body::{Act, Around, Body, Ended, Said};
-use crate::runnable::{AfterPoll, Runnable};
-use crate::task::Task;
+use crate::runnable::AfterPoll;
+use crate::task::{Phase, Task};
 use exec_base::error::Error;
 use exec_base::task_no::TaskNo;
 use std::alloc::Global;
 use std::test::Fail;
 
-/// Yields so many times, waits for a wake, and is through. A hungry one wants a task of its own before, and ends
-/// with a fault once it is told that there is no memory.
+/// Yields so many times, waits for a wake, and is through.
 #[derive(Drop)]
 struct Script {
     yields: u32,
     waits: bool,
-    hungry: bool,
     outcome: u64,
 }
 
@@ -36,14 +34,8 @@ impl Body for Script {
         &mut self,
         _alloc: Global,
         _around: &mut A,
-        said: Said,
+        _said: Said,
     ) -> Result<Act<Self>, Said> {
-        if self.hungry {
-            return match said {
-                Said::Refused(Error::NoMemory) => Ok(Act::Fault(12)),
-                other => Err(other),
-            };
-        }
         if self.yields > 0 {
             self.yields -= 1;
             return Ok(Act::Yield);
@@ -93,11 +85,16 @@ impl Around for Hand {
 }
 
 impl Carrier<Script, Task<Script>> for Hand {
-    ghost use Rattle.std.specs.Prelude.{◌≡◌};
+    ghost use Rattle.std.specs.Prelude.{◌≡◌, IsTrue};
+    ghost use Rattle.exec_task.specs.Phases.{is_polled};
 
     ghost carries = { λ h c asked said h' c'. c'.number ≡ c.number };
 
-    fn carry_out(&mut self, cell: &mut Task<Script>, asked: Asked<Script>) -> Option<Said> {
+    fn carry_out(&mut self, cell: &mut Task<Script>, asked: Asked<Script>) -> Option<Said>
+        requires { IsTrue (is_polled cell.old.phase) }
+        ensures carried { cell.new.number ≡ cell.old.number }
+        ensures polled { IsTrue (is_polled cell.new.phase) }
+    {
         match asked {
             Asked::Resume => {
                 let first = !self.has_begun;
@@ -124,7 +121,6 @@ fn make_script(yields: u32, waits: bool) -> Script {
     Script {
         yields,
         waits,
-        hungry: false,
         outcome: 205,
     }
 }
@@ -133,17 +129,11 @@ fn make_script(yields: u32, waits: bool) -> Script {
 fn a_task_that_yields_is_requeued(rt: HostRuntime) -> Result<(), Fail> {
     let (mut task, first) = Task::new(TaskNo(2), 1, make_script(2, false));
     let mut hand = Hand { has_begun: false };
-    let AfterPoll::Requeue(second) = first.poll(rt.alloc(), 1, &mut task, &mut hand) else {
+    let AfterPoll::Requeue(again) = first.poll(rt.alloc(), 1, &mut task, &mut hand) else {
         return Err(Fail::new("unexpected"));
     };
-    let AfterPoll::Requeue(third) = second.poll(rt.alloc(), 1, &mut task, &mut hand) else {
-        return Err(Fail::new("unexpected"));
-    };
-    let AfterPoll::Retire(number, how) = third.poll(rt.alloc(), 1, &mut task, &mut hand) else {
-        return Err(Fail::new("unexpected"));
-    };
-    assert_eq!(rt; number, TaskNo(2));
-    assert_eq!(rt; how, Ended::Done(205));
+    assert_eq!(rt; again.task(), TaskNo(2));
+    assert!(rt; matches!(task.phase(), Phase::Queued(_)));
     Ok(())
 }
 
@@ -157,11 +147,20 @@ fn a_task_that_waits_is_polled_once_it_is_woken(rt: HostRuntime) -> Result<(), F
             AfterPoll::Done
         )
     );
-    let again = task.wake().expect(&rt, "an idle task is queued");
+    assert!(rt; matches!(task.phase(), Phase::Idle(_)));
+    assert!(rt; task.wake().is_some());
     assert!(rt; task.wake().is_none());
-    let AfterPoll::Retire(_, how) = again.poll(rt.alloc(), 1, &mut task, &mut hand) else {
+    Ok(())
+}
+
+#[test]
+fn a_task_that_is_through_is_retired(rt: HostRuntime) -> Result<(), Fail> {
+    let (mut task, first) = Task::new(TaskNo(2), 1, make_script(0, false));
+    let mut hand = Hand { has_begun: false };
+    let AfterPoll::Retire(number, how) = first.poll(rt.alloc(), 1, &mut task, &mut hand) else {
         return Err(Fail::new("unexpected"));
     };
+    assert_eq!(rt; number, TaskNo(2));
     assert_eq!(rt; how, Ended::Done(205));
     Ok(())
 }
@@ -178,18 +177,5 @@ fn a_cleared_task_is_polled_no_more(rt: HostRuntime) -> Result<(), Fail> {
         )
     );
     assert!(rt; !hand.has_begun);
-    Ok(())
-}
-
-#[test]
-fn a_body_is_told_that_there_is_no_memory(rt: HostRuntime) -> Result<(), Fail> {
-    let mut body = make_script(0, false);
-    body.hungry = true;
-    let (mut task, first) = Task::new(TaskNo(2), 1, body);
-    let mut hand = Hand { has_begun: false };
-    let AfterPoll::Retire(_, how) = first.poll(rt.alloc(), 1, &mut task, &mut hand) else {
-        return Err(Fail::new("unexpected"));
-    };
-    assert_eq!(rt; how, Ended::Fault(12));
     Ok(())
 }

@@ -1,5 +1,4 @@
 use super::{Refusal, Tasks};
-use crate::drain::Drain;
 use crate::place::Place;
 use crate::runnable::Runnable;
 use crate::task::Task;
@@ -26,14 +25,6 @@ fn take(tasks: &mut Tasks<char>, number: u32) -> Option<char> {
     tasks.remove(TaskNo(number))
 }
 
-/// The next task of a drain that begins at the first shard of a single one.
-fn next(drain: &mut Drain, tasks: &mut Tasks<char>) -> Option<(TaskNo, char)> {
-    if drain.shard() != 0 || drain.is_over() || tasks.shard_count() != 1 {
-        return None;
-    }
-    drain.next(tasks)
-}
-
 #[test]
 fn a_drain_hands_out_the_newest_first(rt: HostRuntime) -> Result<(), Fail> {
     let mut tasks = Tasks::with_shards(rt.alloc(), 1)?;
@@ -50,10 +41,10 @@ fn a_drain_hands_out_the_newest_first(rt: HostRuntime) -> Result<(), Fail> {
         return Err(Fail::new("unexpected"));
     }
     let mut drain = tasks.drain(0);
-    assert_eq!(rt; next(&mut drain, &mut tasks), Some((TaskNo(3), 'd')));
-    assert_eq!(rt; next(&mut drain, &mut tasks), Some((TaskNo(1), 'b')));
+    assert_eq!(rt; drain.next(&mut tasks), Some((TaskNo(3), 'd')));
+    assert_eq!(rt; drain.next(&mut tasks), Some((TaskNo(1), 'b')));
     assert!(rt; !drain.is_over());
-    assert_eq!(rt; next(&mut drain, &mut tasks), None);
+    assert_eq!(rt; drain.next(&mut tasks), None);
     assert!(rt; drain.is_over());
     Ok(())
 }
