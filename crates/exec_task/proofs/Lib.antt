@@ -1,0 +1,5 @@
+pub mod Handed
+pub mod Maps
+pub mod Meanwhiles
+pub mod Rights
+pub mod Rounds

@@ -1,0 +1,99 @@
+-- What a contract sees of a task, and what each call makes of it.
+use Rattle.std.specs.Prelude.{ℕ, Bool, true, false, Option, Some, None, if◌then◌else◌}
+use Rattle.exec_base.specs.declared.task_no.TaskNo.{TaskNo}
+use Rattle.exec_task.specs.declared.body.Ended.{Ended}
+use Rattle.exec_task.specs.declared.body.Ended.TheVariants.{Closed}
+use Rattle.exec_task.specs.declared.task.Phase.{Phase}
+use Rattle.exec_task.specs.declared.task.Phase.TheVariants.{Idle, Queued, Running, Notified, Complete}
+use Rattle.exec_task.specs.declared.runnable.Runnable.{Runnable}
+use Rattle.exec_task.specs.declared.runnable.AfterPoll.{AfterPoll}
+use Rattle.exec_task.specs.declared.runnable.AfterPoll.TheVariants as after
+
+-- its number, the identity of its set, where it stands, and whether it was cleared while it is polled
+pub record Task (B : Type 0) : Type 0 where
+  pub number : TaskNo
+  pub owner : ℕ
+  pub phase : Phase B
+  pub cancelled : Bool
+
+module _ {B : Type 0} where
+  abbrev pub is_idle : Phase B → Bool
+  is_idle (Idle _) = true
+  is_idle (Queued _) = false
+  is_idle Running = false
+  is_idle Notified = false
+  is_idle Complete = false
+
+  abbrev pub is_polled : Phase B → Bool
+  is_polled (Idle _) = false
+  is_polled (Queued _) = false
+  is_polled Running = true
+  is_polled Notified = true
+  is_polled Complete = false
+
+  -- the body, where nobody polls it
+  abbrev pub body_of : Phase B → Option B
+  body_of (Idle body) = Some body
+  body_of (Queued body) = Some body
+  body_of Running = None
+  body_of Notified = None
+  body_of Complete = None
+
+  -- the body that a runnable may poll
+  abbrev pub queued_body : Phase B → Option B
+  queued_body (Idle _) = None
+  queued_body (Queued body) = Some body
+  queued_body Running = None
+  queued_body Notified = None
+  queued_body Complete = None
+
+  -- a wake
+  abbrev pub woken : Phase B → Phase B
+  woken (Idle body) = Queued body
+  woken (Queued body) = Queued body
+  woken Running = Notified
+  woken Notified = Notified
+  woken Complete = Complete
+
+  -- a poll begins, where there is one to begin
+  abbrev pub begun : Phase B → Phase B
+  begun (Idle body) = Idle body
+  begun (Queued _) = Running
+  begun Running = Running
+  begun Notified = Notified
+  begun Complete = Complete
+
+  -- a pending poll gives the body back
+  abbrev pub given_back : B → Phase B → Phase B
+  given_back body (Idle other) = Idle other
+  given_back body (Queued other) = Queued other
+  given_back body Running = Idle body
+  given_back body Notified = Queued body
+  given_back body Complete = Complete
+
+  -- the right to poll the task
+  abbrev pub runnable_of : Task B → Runnable
+  runnable_of t = record { task = t.number; owner = t.owner }
+
+  -- the task is over
+  abbrev pub over : Task B → Task B
+  over t = record t { phase = Complete; cancelled = false }
+
+  -- the task after a poll that ended pending
+  abbrev pub pended : Task B → B → Task B
+  pended t body = if t.cancelled then over t else record t { phase = given_back body t.phase }
+
+  -- what is left to do after it: a wake that came meanwhile requeues the one runnable
+  abbrev pub requeue_where : Runnable → Phase B → AfterPoll
+  requeue_where r (Idle _) = after.Done
+  requeue_where r (Queued _) = after.Done
+  requeue_where r Running = after.Done
+  requeue_where r Notified = after.Requeue r
+  requeue_where r Complete = after.Done
+
+  abbrev pub pend_answer : Task B → AfterPoll
+  pend_answer t = if t.cancelled then after.Retire t.number Closed else requeue_where (runnable_of t) t.phase
+
+  -- a cleared task is over, or is once its poll ends
+  abbrev pub cleared : Task B → Task B
+  cleared t = if is_polled t.phase then record t { cancelled = true } else record t { phase = Complete }

@@ -1,0 +1,107 @@
+-- Calls on a task, one after another, and the runnables that are about.
+use Rattle.std.specs.Prelude.{◌≡◌, ℕ, ◌+◌, ◌-◌, ◌<◌, ◌≤◌, Bool, true, false, ◌||◌, List, [], ◌∷◌, Option, Some, None, if◌then◌else◌, is_some}
+use Rattle.exec_base.specs.declared.task_no.TaskNo.{TaskNo}
+use Rattle.exec_task.specs.declared.body.Ended.TheVariants.{Closed}
+use Rattle.exec_task.specs.declared.task.Phase.{Phase}
+use Rattle.exec_task.specs.declared.task.Phase.TheVariants.{Idle, Queued, Running, Notified, Complete}
+use Rattle.exec_task.specs.declared.runnable.AfterPoll.{AfterPoll}
+use Rattle.exec_task.specs.declared.runnable.AfterPoll.TheVariants as after_poll
+use Rattle.exec_task.specs.Phases.{Task, is_idle, queued_body, woken, begun, pended, pend_answer, over, cleared, runnable_of}
+
+-- a call on a task
+pub data Call (B : Type 0) : Type 0 where
+  Wake : Call B
+  Begin : Call B
+  Pend : (body : B) → Call B
+  Done : Call B
+  Clear : Call B
+
+-- a task, how many of its runnables are in queues and hands, and how many polls of it run
+pub record Ledger (B : Type 0) : Type 0 where
+  pub task : Task B
+  pub runnables : ℕ
+  pub polls : ℕ
+
+-- the runnables that a wake publishes
+abbrev pub published : {B : Type 0} → Phase B → ℕ
+published phase = if is_idle phase then 1 else 0
+
+-- the polls that a runnable begins
+abbrev pub begins : {B : Type 0} → Phase B → ℕ
+begins phase = if is_some (queued_body phase) then 1 else 0
+
+-- the runnables that a poll gives back
+abbrev pub requeued : AfterPoll → ℕ
+requeued after_poll.Done = 0
+requeued (after_poll.Requeue _) = 1
+requeued (after_poll.Retire _ _) = 0
+
+module _ {B : Type 0} where
+  -- who begins a poll has a runnable, and who ends one polls; anybody wakes and clears
+  abbrev pub MayCall : Ledger B → Call B → Type 0
+  MayCall l Wake = Unit {0}
+  MayCall l Begin = 0 < l.runnables
+  MayCall l (Pend _) = 0 < l.polls
+  MayCall l Done = 0 < l.polls
+  MayCall l Clear = Unit {0}
+
+  -- what the call makes of task and runnables
+  abbrev pub after : Ledger B → Call B → Ledger B
+  after l Wake = record { task = record l.task { phase = woken l.task.phase }; runnables = l.runnables + published l.task.phase; polls = l.polls }
+  after l Begin = record { task = record l.task { phase = begun l.task.phase }; runnables = l.runnables - 1; polls = l.polls + begins l.task.phase }
+  after l (Pend body) = record { task = pended l.task body; runnables = l.runnables + requeued (pend_answer l.task); polls = l.polls - 1 }
+  after l Done = record { task = over l.task; runnables = l.runnables; polls = l.polls - 1 }
+  after l Clear = record { task = cleared l.task; runnables = l.runnables; polls = l.polls }
+
+  -- calls in whatever order, each by who may make it
+  abbrev pub AreCalls : Ledger B → List (Call B) → Type 0
+  AreCalls l [] = Unit {0}
+  AreCalls l (call ∷ rest) = MayCall l call × AreCalls (after l call) rest
+
+  abbrev pub after_all : Ledger B → List (Call B) → Ledger B
+  after_all l [] = l
+  after_all l (call ∷ rest) = after_all (after l call) rest
+
+  -- a new task, with its first runnable
+  abbrev pub new_task : TaskNo → ℕ → B → Ledger B
+  new_task number owner body =
+      record { task = record { number = number; owner = owner; phase = Queued body; cancelled = false }; runnables = 1; polls = 0 }
+
+  -- how many runnables and polls there must be: one where the task is queued or polled, none where it is idle
+  abbrev pub IsOneRight : Phase B → ℕ → ℕ → Type 0
+  IsOneRight (Idle _) runnables polls = (runnables ≡ 0) × (polls ≡ 0)
+  IsOneRight (Queued _) runnables polls = (runnables ≡ 1) × (polls ≡ 0)
+  IsOneRight Running runnables polls = (runnables ≡ 0) × (polls ≡ 1)
+  IsOneRight Notified runnables polls = (runnables ≡ 0) × (polls ≡ 1)
+  IsOneRight Complete runnables polls = (runnables ≤ 1) × (polls ≡ 0)
+
+-- what others do to a task while it is polled
+pub data Meanwhile : Type 0 where
+  Wakes : Meanwhile
+  Clears : Meanwhile
+
+abbrev pub some_wake : List Meanwhile → Bool
+some_wake [] = false
+some_wake (Wakes ∷ rest) = true
+some_wake (Clears ∷ rest) = some_wake rest
+
+abbrev pub some_clear : List Meanwhile → Bool
+some_clear [] = false
+some_clear (Wakes ∷ rest) = some_clear rest
+some_clear (Clears ∷ rest) = true
+
+module _ {B : Type 0} where
+  abbrev pub after_meanwhile : Task B → List Meanwhile → Task B
+  after_meanwhile t [] = t
+  after_meanwhile t (Wakes ∷ rest) = after_meanwhile (record t { phase = woken t.phase }) rest
+  after_meanwhile t (Clears ∷ rest) = after_meanwhile (cleared t) rest
+
+  -- a task whose poll has just begun
+  abbrev pub just_begun : TaskNo → ℕ → Task B
+  just_begun number owner = record { number = number; owner = owner; phase = Running; cancelled = false }
+
+  -- a pending poll gives its one runnable back where a wake came, however many did, and none where it was cleared
+  abbrev pub after_pending_poll : Task B → List Meanwhile → AfterPoll
+  after_pending_poll t meanwhile =
+      if some_clear meanwhile then after_poll.Retire t.number Closed
+      else (if some_wake meanwhile then after_poll.Requeue (runnable_of t) else after_poll.Done)
