@@ -184,6 +184,7 @@ impl Request {
         requires whole { length bytes.now ≤ count }
         ensures buffer { lent_of self.new ≡ filled_at (filled_of self.old + at) (resized count bytes.now) (lent_of self.old) }
         ensures kept { kept_of self.new ≡ record (kept_of self.old) { owned = owned_by self.new } }
+        ensures place { filled_of self.new ≡ filled_of self.old }
         ensures cursor { cursor_of self.new ≡ cursor_of self.old }
         ensures window { (hinted : Bool) → window_by hinted self.new ≡ window_by hinted self.old }
     {

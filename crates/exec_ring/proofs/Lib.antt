@@ -1,0 +1,4 @@
+pub mod Fillings
+pub mod Flights
+pub mod Pages
+pub mod Values

@@ -1,0 +1,12 @@
+pub mod Completions
+pub mod Rings
+pub mod Kernels
+pub mod Layout
+pub mod Sockets
+pub mod SocketLayout
+pub mod Fillings
+pub mod Pages
+pub mod Files
+pub mod Stores
+pub mod Landings
+pub mod Examples

@@ -1,0 +1,80 @@
+//! Landings: an operation of the ring in memory ends, and its bytes move.
+//!
+//! A landing moves exactly the bytes that its result counts, from the start of the operation's window on. A send
+//! appends them to what its socket sent; a receive takes them from what the socket was fed, with zeros after its end,
+//! and appends them to what the socket received; a read copies them from its file, with zeros where the file has no
+//! bytes; a write stores them in its file. A result that is an error number moves none, nor does a sync, a connect or
+//! a poll. Nothing here takes memory: `reserve` made the room.
+
+ghost use Rattle.std.specs.Prelude.{◌≡◌, ◌≤◌, IsTrue, OnOk, OnErr, Ok, Err, if◌then◌else◌};
+ghost use Rattle.exec_outcomes.specs.Lawful.{is_lawful};
+ghost use Rattle.exec_request.specs.Windows.{most_of};
+ghost use Rattle.exec_ring.specs.Kernels.{may_land, landed, flight_of};
+ghost use Rattle.exec_ring.specs.Landings.{IsReady, IsReadyFor, IsReadyBy, Moves, MovesBytes, MovesBy};
+
+use crate::completion::UserData;
+use crate::sim_ring::SimRing;
+use crate::store::Store;
+use exec_outcomes::outcome::OpResult;
+use exec_request::request::Request;
+use exec_request::window::{Opcode, Window};
+
+/// The operation with this user data can't end with this result: the kernel has no such operation, or the result is
+/// none that its window allows.
+#[derive(Clone, Copy, Debug, PartialEq, Eq)]
+pub struct Unlawful(pub UserData, pub OpResult);
+
+impl SimRing {
+    /// Ends the operation with this user data, and moves its bytes between the store and the request whose operation
+    /// it is. `Unlawful` where the kernel has no such operation, or where its window doesn't allow the result; then
+    /// nothing changes.
+    ///
+    /// The caller must lend that request, and have made room in the store for the bytes.
+    pub fn land(
+        &mut self,
+        user_data: UserData,
+        given: OpResult,
+        store: &mut Store,
+        request: &mut Request,
+    ) -> Result<(), Unlawful>
+        requires { IsTrue (may_land self.old user_data given) → IsReady (flight_of self.old user_data) given request.old store.old }
+        ensures answer { result ≡ (if may_land self.old user_data given then Ok tt else Err (record { 0 = user_data; 1 = given })) }
+        ensures after { self.new ≡ (if may_land self.old user_data given then landed self.old user_data given else self.old) }
+        ensures moved { OnOk result (Moves (flight_of self.old user_data) given request.old request.new store.old store.new) }
+        ensures request { OnErr result (request.new ≡ request.old) }
+        ensures store { OnErr result (store.new ≡ store.old) }
+    {
+        let Some(window) = self.allowed(user_data, given) else {
+            return Err(Unlawful(user_data, given));
+        };
+        move_counted(window, given, store, request);
+        self.end(user_data, given);
+        Ok(())
+    }
+}
+
+/// Moves the bytes of a window that this result counts.
+fn move_counted(window: Window, given: OpResult, store: &mut Store, request: &mut Request)
+    requires ready { IsReadyFor window given request.old store.old }
+    requires lawful { IsTrue (is_lawful (most_of window) given) }
+    ensures { MovesBytes window given request.old request.new store.old store.new }
+{
+    if let OpResult::Count(count) = given {
+        move_bytes(window, count as usize, store, request);
+    }
+}
+
+/// Moves so many bytes of a window.
+fn move_bytes(window: Window, count: usize, store: &mut Store, request: &mut Request)
+    requires ready { IsReadyBy window.kind window count request.old store.old }
+    requires within { count ≤ most_of window }
+    ensures { MovesBy window.kind window count request.old request.new store.old store.new }
+{
+    match window.kind {
+        Opcode::Send => store.send(window.target, count, request),
+        Opcode::Recv => store.receive(window.target, count, request),
+        Opcode::Read => store.read(window.target, window.offset, count, request),
+        Opcode::Write => store.write(window.target, window.offset, count, request),
+        _ => {}
+    }
+}
