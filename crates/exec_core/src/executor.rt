@@ -7,6 +7,7 @@
 use crate::place::Place;
 use crate::root::Root;
 use crate::sizes::{ring_size, wheel_slots};
+use exec_base::limits::LAST_MOMENT;
 use exec_driver::driver::Driver;
 use exec_driver::sleepers::Timers;
 use exec_machine::config::{Configuration, Word};
@@ -15,9 +16,6 @@ use exec_machine::state::{Phase, Rest, TaskPhase, Waiting, WorkerPhase};
 use exec_machine::step::Action;
 use exec_outcomes::outcome::OpResult;
 use std::alloc::{AllocError, Global};
-
-/// The clock never passes this moment, in nanoseconds.
-pub const LAST_MOMENT: u64 = 0x4000_0000_0000_0000;
 
 /// The wake word of a worker: in which of its two waits it is, and whether it was signalled.
 #[derive(Clone, Copy, Debug, PartialEq, Eq)]
@@ -98,7 +96,7 @@ pub struct Core {
 }
 
 impl Core {
-    ghost use Rattle.std.specs.Prelude.{◌≡◌, not, ◌&&◌, true, false, None, IfOk, OnOk};
+    ghost use Rattle.std.specs.Prelude.{◌≡◌, not, ◌&&◌, true, false, None, IfOk, OnOk, OnErr};
     ghost use Rattle.exec_machine.specs.declared.step.Action.TheVariants.{Land as landing, Clock as moving, Stir as stirring};
     ghost use Rattle.exec_machine.specs.Allowed.{is_enabled, is_awake, has_ended, is_flying};
     ghost use Rattle.exec_machine.specs.declared.event.Event.TheVariants.{Land as landed};
@@ -199,12 +197,13 @@ impl Core {
         matches!(entry.phase, Phase::Flying) && asked.may_give(given)
     }
 
-    /// Takes the step if it may be taken, and answers its line. After an `Err` the executor is spent: no step
-    /// may follow.
+    /// Takes the step if it may be taken, and answers its line. Only a step that may be taken can want memory.
+    /// After an `Err` the executor is spent: no step may follow.
     pub fn apply(&mut self, alloc: Global, action: Action) -> Result<Line, AllocError>
         requires { Stands self.old }
         ensures applies { IfOk result (λ line. Applies self.old action line self.new) }
         ensures goes { IfOk result (λ line. Goes self.old line self.new) }
+        ensures wants { OnErr result (is_enabled (world self.old) action ≡ true) }
     {
         if !self.enabled(action) {
             return Ok(Line {

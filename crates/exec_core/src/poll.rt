@@ -18,15 +18,13 @@ ghost use Rattle.exec_core.specs.Minds.{Minds, Proceeds};
 use crate::executor::Core;
 use crate::place::{AfterCallbacks, Place};
 use crate::root::Act;
+use exec_base::limits::LONGEST_TIMEOUT;
 use exec_driver::asked::Asked;
 use exec_machine::event::Event;
 use exec_machine::state::{Phase, TaskPhase, Waiting};
 use exec_outcomes::outcome::{Kind, Outcome};
 use std::alloc::{AllocError, Global};
 use std::mem;
-
-/// The longest sleep, in nanoseconds: 30 years of 365 days.
-const LONGEST_TIMEOUT: u64 = 946_080_000_000_000_000;
 
 impl Core {
     /// The poll of the root begins.
