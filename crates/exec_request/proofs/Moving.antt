@@ -1,10 +1,10 @@
 -- Lists whose parts are written over, and copied one after another.
-use Rattle.std.proofs.Common.{◌≡◌, ℕ, ◌+◌, ◌-◌, ◌≤◌, ◌<◌, ◌==◌, true, List, [], ◌∷◌, ◌++◌, length, take, drop, get_or, replicate, min, refl, sym, ap, ◌∙◌, arith, inl, inr, append_assoc, length-append, length-drop, length-take-le, zero-add, add-zero}
+use Rattle.std.proofs.Common.{◌≡◌, ℕ, ◌+◌, ◌-◌, ◌≤◌, ◌<◌, ◌==◌, true, List, [], ◌∷◌, ◌++◌, length, take, drop, get_or, replicate, min, refl, sym, ap, ◌∙◌, arith, inl, inr, append_assoc, length-append, length-drop, length-take-le}
 use Rattle.std.specs.List.{concat, flat_map}
 use borrow.Author.Tests.{eqb-true}
-use borrow.Rule.Slice.PartMut.{put_mid, same_len_mid}
+use borrow.Rule.Slice.PartMut.{put_mid}
 use Rattle.std.proofs.lemmas.Bool.{cases_lt, and_parts, leb-true}
-use Rattle.std.proofs.lemmas.List.{append-nil, drop-drop, take-append-le, drop-append-le, take_all, drop_all, take_at, drop_at, drop_more, drop-take, take-take, take_rest, take-append-drop, length-take, length-replicate, take-replicate, drop-replicate, take_min, drop_min, replicate-append-replicate}
+use Rattle.std.proofs.lemmas.List.{append-nil, drop-drop, take-append-le, drop-append-le, take_all, drop_all, take_at, drop_more, drop-take, take-take, take_rest, take-append-drop, length-take, length-replicate, take-replicate, take_min, drop_min}
 use Rattle.std.proofs.lemmas.Slice.{take-put_mid, drop-put_mid}
 use Rattle.std.proofs.Math.Seq.{take-append-add, drop-append-add}
 use Rattle.std.proofs.lemmas.List.Concat.{concat_is, length-flat_map, flat_map-append}

@@ -14,7 +14,7 @@ use Rattle.exec_request.specs.declared.recv.RecvRequest.{RecvRequest}
 use Rattle.exec_request.specs.declared.read_at.ReadAtRequest.{ReadAtRequest}
 use Rattle.exec_request.specs.declared.write_at.WriteAtRequest.{WriteAtRequest}
 use Rattle.exec_request.specs.declared.request.Request.{Request}
-use Rattle.exec_request.specs.declared.request.Request.TheVariants.{Send, Recv, ReadAt, WriteAt, Sync, Connect, Poll}
+use Rattle.exec_request.specs.declared.request.Request.TheVariants.{Send, Recv, ReadAt, WriteAt, Sync, Connect}
 
 -- bytes of which none has gone
 abbrev pub rewound : WriteBuffers → WriteBuffers

@@ -1,6 +1,5 @@
 use Rattle.std.proofs.Common.{◌≡◌, ℕ, Bool, true, false, ◌-◌, ap, sym, ◌∙◌, arith, Option, if◌then◌else◌}
 use Rattle.exec_outcomes.specs.declared.outcome.Outcome.{Outcome}
-use Rattle.exec_outcomes.specs.declared.outcome.Kind.{Kind}
 use Rattle.exec_outcomes.specs.declared.outcome.Kind.TheVariants.{Sync}
 use Rattle.exec_request.specs.Buffers.{length_of, moved_of}
 use Rattle.exec_request.specs.Hints.{asks_hint}
