@@ -1,0 +1,4 @@
+pub mod Reserved
+pub mod Head
+pub mod Queue
+pub mod QueueLayout
