@@ -1,4 +1,16 @@
-pub mod Reserved
+pub mod Batch
+pub mod Global
 pub mod Head
+pub mod Idle
+pub mod IdleRuns
+pub mod Inbox
+pub mod InboxLayout
+pub mod Message
+pub mod Push
 pub mod Queue
 pub mod QueueLayout
+pub mod Reserved
+pub mod SentWord
+pub mod Share
+pub mod Steal
+pub mod Word

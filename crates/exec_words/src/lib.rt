@@ -13,9 +13,14 @@
 //! - `inbox` and `mailbox`: messages for one worker, in batches.
 #![tactic(auto)]
 
+pub mod global;
 pub mod head;
+pub mod idle;
+pub mod inbox;
+pub mod mailbox;
 pub mod queue;
 pub mod reserved;
+pub mod word;
 
 /// How many values a run queue holds.
 pub const CAPACITY: usize = 256;
@@ -26,6 +31,8 @@ pub const STEALABLE: usize = 2;
 /// The most workers that a pool has.
 pub const MAX_WORKERS: usize = 64;
 /// The greatest number of a batch: they are counted modulo 2^29.
-pub const SUBMISSION_SEQ_MASK: u32 = 536870911;
+pub const SUBMISSION_SEQ_MASK: u32 = BATCHES - 1;
+/// How many numbers of batches there are.
+const BATCHES: u32 = 1 << 29;
 /// The count of values from which on a run queue takes no more.
-pub const SPENT: u64 = 36028797018963456;
+pub const SPENT: u64 = (1 << 55) - 512;

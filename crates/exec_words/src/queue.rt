@@ -6,8 +6,8 @@
 //! its party saw, fails where the head has changed since, and then tells the head that it found.
 //!
 //! - The owner pops by an exchange (`pop_exchange`). The last value without a claim it takes by a store of the
-//!   head (`pop_last`): no thief can take a lone value. In a queue without thieves a pop is one action (`pop_alone`).
-//! - The owner publishes by a store of the tail: one value (`push`), or a batch (`publish`). It must have room.
+//!   head (`pop_last`): no thief can take a lone value. In a queue without thieves a pop is one action (`pop`).
+//! - The owner publishes by a store of the tail: one value (`push_fitting`), or a batch (`publish`). It must have room.
 //! - A thief loads head and tail and claims half of what is between them (`claim_exchange`): no claim is held, and
 //!   there are two values at least. The values are in its hand then. While it moves them their places aren't free:
 //!   the gap counts them, and those of the owner's pops past them. The release (`release_exchange`) frees both.
@@ -24,11 +24,35 @@ ghost use Rattle.std.specs.Prelude.{◌≡◌, ◌+◌, ◌-◌, ◌^◌, ◌<�
 #[cfg(test)]
 mod tests;
 
-use super::head::Head;
+use super::head::{Fit, Head};
 use super::reserved::Reserved;
 use super::{CAPACITY, HALF};
 use std::alloc::{AllocError, Global};
 use std::marker::Model;
+
+/// What a push answers.
+#[derive(Debug, PartialEq, Eq, Drop)]
+pub enum PushAnswer<T> {
+    /// The value was published; the queue had so many then.
+    Pushed(usize),
+    /// The queue was full: its newest half went into the owner's hand, and this value goes behind it.
+    Overflow(T),
+    /// No place was free beside a claim: only this value goes elsewhere.
+    Claimed(T),
+    /// The queue is spent: this value goes elsewhere.
+    Spent(T),
+}
+
+/// What one try of a steal answers.
+#[derive(Clone, Copy, Debug, PartialEq, Eq)]
+pub enum Steal {
+    /// So many values moved into the thief's queue.
+    Moved(usize),
+    /// There was nothing to take, a claim was held, or the thief's queue had fewer than 128 places free.
+    Nothing,
+    /// The head has changed since it was loaded: this one was found.
+    Again(Head),
+}
 
 /// A run queue. No call but a maker takes memory.
 #[derive(Drop)]
@@ -53,7 +77,9 @@ impl<T> Model for PureQueue<T> {
 
 impl<T> PureQueue<T> {
     ghost use Rattle.exec_words.specs.Head.{claim_at, is_spent};
-    ghost use Rattle.exec_words.specs.Queue.{head_of, tail_of, room_of, popped, claimed, released, published, overflowed, newest, restored};
+    ghost use Rattle.exec_words.specs.Queue.{head_of, tail_of, room_of, fit_of, popped, claimed, released, published, overflowed, newest, restored};
+    ghost use Rattle.exec_words.specs.Push.{push_answer, after_push, handed_out};
+    ghost use Rattle.exec_words.specs.Steal.{steal_answer, stolen_from, stolen_into};
     ghost use Rattle.exec_words.specs.Reserved.{spare};
 
     /// An empty queue whose first value gets the count 0.
@@ -85,7 +111,8 @@ impl<T> PureQueue<T> {
 
     /// Loads the head.
     pub fn head(&self) -> Head
-        ensures { result ≡ head_of self.now }
+        ensures head { result ≡ head_of self.now }
+        ensures within { length self.now.values + self.now.gap ≤ 256 }
     {
         Head {
             real: self.real,
@@ -102,10 +129,8 @@ impl<T> PureQueue<T> {
 
     /// How many values there are, those of a claim not among them.
     pub fn len(&self) -> usize
-        ensures count { result ≡ length self.now.values }
-        ensures within { length self.now.values + self.now.gap ≤ 256 }
+        ensures { result ≡ length self.now.values }
     {
-        let _gap = self.gap;
         self.values.len()
     }
 
@@ -164,10 +189,9 @@ impl<T> PureQueue<T> {
         self.pop_front()
     }
 
-    /// The owner's pop in a queue without thieves, in one action. None where the queue is empty, and nothing
-    /// changes then.
-    pub fn pop_alone(&mut self) -> Option<T>
-        requires { self.old.gap ≡ 0 }
+    /// The owner's pop in one action, in a queue without thieves or where none acts. None where the queue is
+    /// empty, and nothing changes then.
+    pub fn pop(&mut self) -> Option<T>
         ensures value { result ≡ slice_get self.old.values 0 }
         ensures popped { OnSome result (self.new ≡ popped self.old) }
         ensures kept { IfNone result (self.new ≡ self.old) }
@@ -178,8 +202,56 @@ impl<T> PureQueue<T> {
         Some(self.pop_front())
     }
 
-    /// The owner's push by a store of the tail. The caller must have room, and be in the middle of no overflow.
-    pub fn push(&mut self, value: T)
+    /// The owner's push in one action, where nobody acts in between. What an overflow hands out goes into the
+    /// owner's hand, the oldest first. The caller must have 128 places there, and be in the middle of no overflow.
+    pub fn push(&mut self, value: T, hand: &mut Reserved<T>) -> PushAnswer<T>
+        requires whole { self.old.held ≡ [] }
+        requires places { 128 ≤ spare hand.old }
+        ensures answer { result ≡ push_answer (fit_of self.old) value }
+        ensures after { self.new ≡ after_push (fit_of self.old) self.old value }
+        ensures handed_out { hand.new ≡ record hand.old { values = hand.old.values ++ handed_out (fit_of self.old) self.old } }
+    {
+        match self.head().fit(self.tail()) {
+            Fit::Room(len) => {
+                self.push_fitting(value);
+                PushAnswer::Pushed(len)
+            }
+            Fit::Overflow => {
+                self.flow_over(hand);
+                self.restore();
+                PushAnswer::Overflow(value)
+            }
+            Fit::Claimed => PushAnswer::Claimed(value),
+            Fit::Spent => PushAnswer::Spent(value),
+        }
+    }
+
+    /// A whole steal in one action, where nobody acts in between: half of the values go to the end of `into`, by
+    /// way of the thief's hand. `Again` doesn't come here. The caller must have an empty hand of 128 places, and
+    /// `into` must be in the middle of no overflow.
+    pub fn steal_once(&mut self, into: &mut PureQueue<T>, hand: &mut Reserved<T>) -> Steal
+        requires whole { into.old.held ≡ [] }
+        requires empty { hand.old.values ≡ [] }
+        requires places { 128 ≤ hand.old.places }
+        ensures answer { result ≡ steal_answer self.old into.old }
+        ensures source { self.new ≡ stolen_from (steal_answer self.old into.old) self.old }
+        ensures thief { into.new ≡ stolen_into (steal_answer self.old into.old) self.old into.old }
+        ensures hand { hand.new ≡ hand.old }
+    {
+        let head = self.head();
+        let tail = self.tail();
+        if into.room() < HALF || !head.is_stealable(tail) {
+            return Steal::Nothing;
+        }
+        let count = self.claim(head.len(tail) / 2, hand);
+        self.gap = 0;
+        into.publish(hand);
+        Steal::Moved(count)
+    }
+
+    /// The owner's push of a value that fits, by a store of the tail. The caller must have room, and be in the
+    /// middle of no overflow.
+    pub fn push_fitting(&mut self, value: T)
         requires room { 0 < room_of self.old }
         requires whole { self.old.held ≡ [] }
         ensures { self.new ≡ published self.old (value ∷ []) }
@@ -196,6 +268,18 @@ impl<T> PureQueue<T> {
         ensures taken { batch.new ≡ record batch.old { values = [] } }
     {
         batch.move_front(batch.len(), &mut self.values);
+    }
+
+    /// Publishes the first `count` values of a list as `publish` does. The caller must have so many there, and
+    /// room for them.
+    pub fn publish_front(&mut self, count: usize, from: &mut Reserved<T>)
+        requires has { count ≤ length from.old.values }
+        requires room { count ≤ room_of self.old }
+        requires whole { self.old.held ≡ [] }
+        ensures published { self.new ≡ published self.old (take count from.old.values) }
+        ensures left { from.new ≡ record from.old { values = drop count from.old.values } }
+    {
+        from.move_front(count, &mut self.values);
     }
 
     /// A thief's claim by an exchange of the head: half of the values up to the tail that it saw, rounded down,
@@ -225,11 +309,22 @@ impl<T> PureQueue<T> {
         if self.head() != seen {
             return Err(self.head());
         }
-        let count = seen.len(tail) / 2;
+        Ok(self.claim(seen.len(tail) / 2, hand))
+    }
+
+    // Claims the first `count` values, and answers how many.
+    fn claim(&mut self, count: usize, hand: &mut Reserved<T>) -> usize
+        requires unclaimed { self.old.gap ≡ 0 }
+        requires half { count + count ≤ length self.old.values }
+        requires places { 128 ≤ spare hand.old }
+        ensures answer { result ≡ count }
+        ensures claimed { self.new ≡ claimed self.old count }
+        ensures moved { hand.new ≡ record hand.old { values = hand.old.values ++ take count self.old.values } }
+    {
         self.values.move_front(count, hand);
         self.real += count as u64;
         self.gap = count;
-        Ok(count)
+        count
     }
 
     /// The release of a claim by an exchange of the head: its places are free again, and those of the pops past
