@@ -9,7 +9,7 @@ subtracted count a w c rest = grind (arith, nat_tests)
 
 -- one exchange
 exchanged :
-  (count a w c : ℕ) → a + w ≡ (if count == 0 then 1 else count) + c → a + (0 + w) ≡ count + ((if count == 0 then 1 else 0) + c)
+    (count a w c : ℕ) → a + w ≡ (if count == 0 then 1 else count) + c → a + (0 + w) ≡ count + ((if count == 0 then 1 else 0) + c)
 exchanged count a w c rest = grind (arith, nat_tests)
 
 pub count_is_a_sum : (count : ℕ) (changes : List Change) → count_after count changes + went_out count changes ≡ count + came_in count changes

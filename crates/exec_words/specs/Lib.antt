@@ -6,9 +6,11 @@ pub mod IdleRuns
 pub mod Inbox
 pub mod InboxLayout
 pub mod Message
+pub mod Order
 pub mod Push
 pub mod Queue
 pub mod QueueLayout
+pub mod QueueRuns
 pub mod Reserved
 pub mod SentWord
 pub mod Share

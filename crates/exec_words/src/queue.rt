@@ -19,14 +19,16 @@
 //! `specs/Queue.antt`. Ports the `Queue` and `Owner` of `commonware_runtime`'s `iouring::queue`, each of whose loops
 //! makes these steps.
 
-ghost use Rattle.std.specs.Prelude.{◌≡◌, ◌+◌, ◌-◌, ◌^◌, ◌<◌, ◌≤◌, ◌↔◌, ◌==◌, [], ◌∷◌, ◌++◌, length, take, drop, slice_get, IsOk, IfOk, OnOk, IfErr, OnErr, IfNone, OnSome, Some, false, if◌then◌else◌};
+ghost use Rattle.std.specs.Prelude.{◌≡◌, ◌+◌, ◌-◌, ◌^◌, ◌<◌, ◌≤◌, ◌↔◌, ◌==◌, [], ◌∷◌, ◌++◌, length, take, drop, slice_get, IsOk, IfOk, OnOk, IfErr, OnErr, IfNone, OnSome, Some, false, IsTrue, if◌then◌else◌};
 
+mod laws;
 #[cfg(test)]
 mod tests;
 
 use super::head::{Fit, Head};
 use super::reserved::Reserved;
 use super::{CAPACITY, HALF};
+pub use laws::{each_value_leaves_once, values_leave_in_order};
 use std::alloc::{AllocError, Global};
 use std::marker::Model;
 
@@ -139,6 +141,13 @@ impl<T> PureQueue<T> {
         ensures { result ≡ (length self.now.values == 0) }
     {
         self.values.is_empty()
+    }
+
+    /// Whether its owner is in the middle of no overflow.
+    pub fn is_whole(&self) -> bool
+        ensures { IsTrue result ↔ (self.now.held ≡ []) }
+    {
+        self.held.is_empty()
     }
 
     /// How many more values fit. 0 where the queue is spent.
