@@ -2,8 +2,8 @@
 use Rattle.std.specs.Prelude.{ℕ, List, [], ◌∷◌}
 use Rattle.exec_words.specs.declared.head.Fit.{Fit}
 use Rattle.exec_words.specs.declared.head.Fit.TheVariants as fit
-use Rattle.exec_words.specs.declared.queue.PushAnswer.{PushAnswer}
-use Rattle.exec_words.specs.declared.queue.PushAnswer.TheVariants as answer
+use Rattle.exec_words.specs.declared.queue.whole.PushAnswer.{PushAnswer}
+use Rattle.exec_words.specs.declared.queue.whole.PushAnswer.TheVariants as answer
 use Rattle.exec_words.specs.Queue.{Queue, published, overflowed, restored, newest}
 
 module _ {T : Type 0} where

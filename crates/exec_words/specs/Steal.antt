@@ -1,8 +1,8 @@
 -- What a steal answers and does, where nobody acts in between.
 use Rattle.std.specs.Prelude.{ℕ, take, drop, nat_lt, ◌||◌, not, if◌then◌else◌}
 use Rattle.exec_words.specs.declared.head.Head.{Head}
-use Rattle.exec_words.specs.declared.queue.Steal.{Steal}
-use Rattle.exec_words.specs.declared.queue.Steal.TheVariants.{Moved, Nothing, Again}
+use Rattle.exec_words.specs.declared.queue.whole.Steal.{Steal}
+use Rattle.exec_words.specs.declared.queue.whole.Steal.TheVariants.{Moved, Nothing, Again}
 use Rattle.exec_words.specs.Head.{is_stealable_at, claim_at}
 use Rattle.exec_words.specs.Queue.{Queue, head_of, tail_of, room_of, claimed, released, published}
 

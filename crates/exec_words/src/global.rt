@@ -71,6 +71,13 @@ impl<T> GlobalQueue<T> {
         self.mirror
     }
 
+    /// How many more values have a place.
+    pub fn spare(&self) -> usize
+        ensures { result ≡ spare_places self.now }
+    {
+        self.values.spare()
+    }
+
     /// Whether it takes nothing more.
     pub fn is_closed(&self) -> bool
         ensures { result ≡ self.now.closed }

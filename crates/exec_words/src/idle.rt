@@ -16,8 +16,6 @@ ghost use Rattle.std.specs.Prelude.{◌≡◌, ◌+◌, ◌-◌, ◌<◌, ◌^�
 ghost use Rattle.exec_words.specs.Idle.{is_in, lowest_of};
 
 mod laws;
-#[cfg(test)]
-mod tests;
 
 use super::MAX_WORKERS;
 pub use laws::the_count_is_a_sum;

@@ -11,9 +11,6 @@
 ghost use Rattle.std.specs.Prelude.{◌≡◌, ◌<◌, ◌^◌, [], length, max, false, true, not, ◌&&◌, IsOk, IfOk, OnOk, IfErr, OnErr, ◌↔◌};
 ghost use Rattle.exec_words.specs.declared.inbox.Message.{Message as Mail};
 
-#[cfg(test)]
-mod tests;
-
 use super::reserved::Reserved;
 use super::word::{PureWord, next_batch};
 use std::alloc::{AllocError, Global};

@@ -20,6 +20,8 @@ pub mod inbox;
 pub mod mailbox;
 pub mod queue;
 pub mod reserved;
+#[cfg(test)]
+mod tests;
 pub mod word;
 
 /// How many values a run queue holds.

@@ -15,6 +15,8 @@
 //!   hand, and the oldest half is kept aside until the owner's next store of the tail (`restore`). In between the
 //!   queue is empty to thieves. Each position is counted once more, so no head comes again.
 //!
+//! Where nobody acts in between, `push`, `pop` and `steal_once` are whole calls of these steps.
+//!
 //! A queue counts its values: from 2^55 - 512 on it takes no more, and is spent. What a contract sees is in
 //! `specs/Queue.antt`. Ports the `Queue` and `Owner` of `commonware_runtime`'s `iouring::queue`, each of whose loops
 //! makes these steps.
@@ -24,37 +26,15 @@ ghost use Rattle.std.specs.Prelude.{◌≡◌, ◌+◌, ◌-◌, ◌^◌, ◌<�
 mod laws;
 #[cfg(test)]
 mod tests;
+mod whole;
 
-use super::head::{Fit, Head};
+use super::head::Head;
 use super::reserved::Reserved;
 use super::{CAPACITY, HALF};
 pub use laws::{each_value_leaves_once, values_leave_in_order};
 use std::alloc::{AllocError, Global};
 use std::marker::Model;
-
-/// What a push answers.
-#[derive(Debug, PartialEq, Eq, Drop)]
-pub enum PushAnswer<T> {
-    /// The value was published; the queue had so many then.
-    Pushed(usize),
-    /// The queue was full: its newest half went into the owner's hand, and this value goes behind it.
-    Overflow(T),
-    /// No place was free beside a claim: only this value goes elsewhere.
-    Claimed(T),
-    /// The queue is spent: this value goes elsewhere.
-    Spent(T),
-}
-
-/// What one try of a steal answers.
-#[derive(Clone, Copy, Debug, PartialEq, Eq)]
-pub enum Steal {
-    /// So many values moved into the thief's queue.
-    Moved(usize),
-    /// There was nothing to take, a claim was held, or the thief's queue had fewer than 128 places free.
-    Nothing,
-    /// The head has changed since it was loaded: this one was found.
-    Again(Head),
-}
+pub use whole::{PushAnswer, Steal};
 
 /// A run queue. No call but a maker takes memory.
 #[derive(Drop)]
@@ -79,9 +59,7 @@ impl<T> Model for PureQueue<T> {
 
 impl<T> PureQueue<T> {
     ghost use Rattle.exec_words.specs.Head.{claim_at, is_spent};
-    ghost use Rattle.exec_words.specs.Queue.{head_of, tail_of, room_of, fit_of, popped, claimed, released, published, overflowed, newest, restored};
-    ghost use Rattle.exec_words.specs.Push.{push_answer, after_push, handed_out};
-    ghost use Rattle.exec_words.specs.Steal.{steal_answer, stolen_from, stolen_into};
+    ghost use Rattle.exec_words.specs.Queue.{head_of, tail_of, room_of, popped, claimed, released, published, overflowed, newest, restored};
     ghost use Rattle.exec_words.specs.Reserved.{spare};
 
     /// An empty queue whose first value gets the count 0.
@@ -209,53 +187,6 @@ impl<T> PureQueue<T> {
             return None;
         }
         Some(self.pop_front())
-    }
-
-    /// The owner's push in one action, where nobody acts in between. What an overflow hands out goes into the
-    /// owner's hand, the oldest first. The caller must have 128 places there, and be in the middle of no overflow.
-    pub fn push(&mut self, value: T, hand: &mut Reserved<T>) -> PushAnswer<T>
-        requires whole { self.old.held ≡ [] }
-        requires places { 128 ≤ spare hand.old }
-        ensures answer { result ≡ push_answer (fit_of self.old) value }
-        ensures after { self.new ≡ after_push (fit_of self.old) self.old value }
-        ensures handed_out { hand.new ≡ record hand.old { values = hand.old.values ++ handed_out (fit_of self.old) self.old } }
-    {
-        match self.head().fit(self.tail()) {
-            Fit::Room(len) => {
-                self.push_fitting(value);
-                PushAnswer::Pushed(len)
-            }
-            Fit::Overflow => {
-                self.flow_over(hand);
-                self.restore();
-                PushAnswer::Overflow(value)
-            }
-            Fit::Claimed => PushAnswer::Claimed(value),
-            Fit::Spent => PushAnswer::Spent(value),
-        }
-    }
-
-    /// A whole steal in one action, where nobody acts in between: half of the values go to the end of `into`, by
-    /// way of the thief's hand. `Again` doesn't come here. The caller must have an empty hand of 128 places, and
-    /// `into` must be in the middle of no overflow.
-    pub fn steal_once(&mut self, into: &mut PureQueue<T>, hand: &mut Reserved<T>) -> Steal
-        requires whole { into.old.held ≡ [] }
-        requires empty { hand.old.values ≡ [] }
-        requires places { 128 ≤ hand.old.places }
-        ensures answer { result ≡ steal_answer self.old into.old }
-        ensures source { self.new ≡ stolen_from (steal_answer self.old into.old) self.old }
-        ensures thief { into.new ≡ stolen_into (steal_answer self.old into.old) self.old into.old }
-        ensures hand { hand.new ≡ hand.old }
-    {
-        let head = self.head();
-        let tail = self.tail();
-        if into.room() < HALF || !head.is_stealable(tail) {
-            return Steal::Nothing;
-        }
-        let count = self.claim(head.len(tail) / 2, hand);
-        self.gap = 0;
-        into.publish(hand);
-        Steal::Moved(count)
     }
 
     /// The owner's push of a value that fits, by a store of the tail. The caller must have room, and be in the
