@@ -13,6 +13,7 @@
 //! - `inbox` and `mailbox`: messages for one worker, in batches.
 #![tactic(auto)]
 
+pub mod examples;
 pub mod global;
 pub mod head;
 pub mod idle;
