@@ -1,5 +1,5 @@
 -- How a full queue is taken apart.
-use Rattle.std.proofs.Common.{◌≡◌, ℕ, ◌+◌, ◌-◌, ◌^◌, ◌≤◌, ◌<◌, List, [], ◌++◌, length, take, drop, false, ap, ◌∙◌, arith, length-append}
+use Rattle.std.proofs.Common.{◌≡◌, ℕ, ◌+◌, ◌-◌, ◌^◌, ◌<◌, List, [], ◌++◌, length, take, drop, false, ap, ◌∙◌, arith, length-append}
 use Rattle.std.proofs.lemmas.List.{length-drop, length-take}
 use Rattle.std.proofs.lemmas.Bool.Decides.{nat_tests}
 use Rattle.exec_words.specs.Head.{is_spent}
@@ -21,11 +21,11 @@ module _ {T : Type 0} where
   -- the lists once the oldest half was moved aside and the rest into the hand
   pub taken_apart :
       (values held first kept second : Reserved T) (real gap rest : ℕ) → IsLaidOut values held real gap → length values.values ≡ 256
-      → held.values ≡ [] → is_spent (real + 256) ≡ false
+      → gap ≡ 0 → held.values ≡ [] → is_spent (real + 256) ≡ false
       → first ≡ record { values = drop 128 values.values; places = values.places }
       → kept ≡ record { values = held.values ++ take 128 values.values; places = held.places } → rest ≡ length first.values
-      → second ≡ record { values = drop rest first.values; places = first.places } → IsLaidOut second kept (real + 256) 0
-  taken_apart values held first kept second real gap rest sound full none unspent first-is kept-is rest-is second-is =
+      → second ≡ record { values = drop rest first.values; places = first.places } → IsLaidOut second kept (real + 256) gap
+  taken_apart values held first kept second real gap rest sound full unclaimed none unspent first-is kept-is rest-is second-is =
       let second-length : length second.values ≡ 0 =
       ap (λ (r : Reserved T). length r.values) second-is ∙ omega (arith, length-drop rest first.values) in
       let kept-values : kept.values ≡ held.values ++ take 128 values.values = ap (λ (r : Reserved T). r.values) kept-is in

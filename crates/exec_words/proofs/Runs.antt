@@ -1,10 +1,9 @@
 -- What any calls on a run queue keep.
-use Rattle.std.proofs.Common.{◌≡◌, ℕ, ◌+◌, ◌/◌, Bool, true, false, cond, List, [], ◌∷◌, ◌++◌, length, take, drop, refl, sym, ap, subst, ◌∙◌, arith, append_assoc, count_by}
+use Rattle.std.proofs.Common.{◌≡◌, ℕ, ◌+◌, ◌/◌, Bool, true, false, cond, List, [], ◌∷◌, ◌++◌, take, drop, refl, sym, ap, subst, ◌∙◌, arith, append_assoc, count_by}
 use Rattle.std.proofs.lemmas.List.{take-append-drop, append-nil, length-take, drop_all}
 use Rattle.std.proofs.lemmas.List.Sums.{sum_by-append, sum_by-take-drop}
 use Rattle.exec_words.specs.Order.{IsWithin}
-use Rattle.exec_words.specs.Queue.{Queue}
-use Rattle.exec_words.specs.QueueRuns.{Change, Push, Pop, Claim, Release, Overflow, Restore, History, begun, leave, put_in, flow_over, come_back, after, after_all}
+use Rattle.exec_words.specs.QueueRuns.{Change, Push, Pop, Claim, Release, Overflow, Restore, History, begun, put_in, flow_over, come_back, after, after_all}
 use Rattle.exec_words.proofs.Within.{nothing_within, within_itself, within_trans, within_append, take_within, drop_more_within, drop_suffix_within}
 
 module _ {T : Type 0} where

@@ -1,13 +1,12 @@
 -- Queues, words and inboxes to look at.
-use Rattle.std.specs.Prelude.{ℕ, zero, suc, ◌+◌, ◌-◌, ◌^◌, Bool, true, false, List, [], ◌∷◌}
+use Rattle.std.specs.Prelude.{ℕ, zero, suc, ◌+◌, ◌-◌, ◌^◌, Bool, false, List, [], ◌∷◌}
 use Rattle.exec_words.specs.declared.head.Head.{Head}
-use Rattle.exec_words.specs.declared.inbox.Message.{Message}
 use Rattle.exec_words.specs.declared.inbox.Message.TheVariants.{WakeRoot, Cancel}
 use Rattle.exec_words.specs.declared.word.WaitTarget.{WaitTarget}
 use Rattle.exec_words.specs.declared.word.PureWord.{PureWord}
-use Rattle.exec_words.specs.Inbox.{Inbox, sent, batch_taken}
+use Rattle.exec_words.specs.Inbox.{Inbox, sent}
 use Rattle.exec_words.specs.Queue.{Queue, claimed, popped}
-use Rattle.exec_words.specs.QueueRuns.{Change, Push, Pop, Claim, Release, History, begun, after_all}
+use Rattle.exec_words.specs.QueueRuns.{Push, Pop, Claim, Release, History, begun, after_all}
 
 -- so many numbers from this one on
 abbrev pub numbers : ℕ → ℕ → List ℕ

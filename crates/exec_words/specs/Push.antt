@@ -1,5 +1,5 @@
 -- What a push answers and does, where nobody acts in between.
-use Rattle.std.specs.Prelude.{ℕ, List, [], ◌∷◌}
+use Rattle.std.specs.Prelude.{List, [], ◌∷◌}
 use Rattle.exec_words.specs.declared.head.Fit.{Fit}
 use Rattle.exec_words.specs.declared.head.Fit.TheVariants as fit
 use Rattle.exec_words.specs.declared.queue.whole.PushAnswer.{PushAnswer}

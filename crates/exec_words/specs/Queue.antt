@@ -1,9 +1,8 @@
 -- What a contract sees of a run queue, and its transitions.
-use Rattle.std.specs.Prelude.{◌≡◌, ℕ, ◌+◌, ◌-◌, ◌<◌, ◌≤◌, ◌==◌, nat_lt, Bool, true, false, List, [], ◌∷◌, ◌++◌, length, take, drop, Option, Some, None, slice_get, if◌then◌else◌}
+use Rattle.std.specs.Prelude.{ℕ, ◌+◌, List, [], ◌++◌, length, take, drop}
 use Rattle.exec_words.specs.declared.head.Head.{Head}
 use Rattle.exec_words.specs.declared.head.Fit.{Fit}
-use Rattle.exec_words.specs.declared.head.Fit.TheVariants as fit
-use Rattle.exec_words.specs.Head.{popped_head, claimed_head, released_head, overflowed_head, room_at, fit_at, claim_at, is_spent}
+use Rattle.exec_words.specs.Head.{popped_head, claimed_head, released_head, overflowed_head, room_at, fit_at}
 
 -- the count of the front value, the places before it that are not free yet, the values, and those that the owner
 -- keeps in the middle of an overflow

@@ -1,6 +1,5 @@
 -- What a steal answers and does, where nobody acts in between.
-use Rattle.std.specs.Prelude.{ℕ, take, drop, nat_lt, ◌||◌, not, if◌then◌else◌}
-use Rattle.exec_words.specs.declared.head.Head.{Head}
+use Rattle.std.specs.Prelude.{take, nat_lt, ◌||◌, not, if◌then◌else◌}
 use Rattle.exec_words.specs.declared.queue.whole.Steal.{Steal}
 use Rattle.exec_words.specs.declared.queue.whole.Steal.TheVariants.{Moved, Nothing, Again}
 use Rattle.exec_words.specs.Head.{is_stealable_at, claim_at}

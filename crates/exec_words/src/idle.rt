@@ -132,9 +132,9 @@ impl PureIdle {
             return Err(self.set);
         }
         match seen.lowest() {
-            Some(worker) => {
-                self.set.has[worker] = false;
-                Ok(worker)
+            Some(lowest) => {
+                self.set.has[lowest] = false;
+                Ok(lowest)
             }
             None => unreachable!(),
         }

@@ -310,6 +310,7 @@ impl<T> PureQueue<T> {
     // Takes a full queue apart: the oldest half is kept, the newest half goes into the hand.
     fn flow_over(&mut self, hand: &mut Reserved<T>)
         requires full { length self.old.values ≡ 256 }
+        requires unclaimed { self.old.gap ≡ 0 }
         requires unspent { is_spent (self.old.real + 256) ≡ false }
         requires whole { self.old.held ≡ [] }
         requires places { 128 ≤ spare hand.old }
@@ -320,7 +321,6 @@ impl<T> PureQueue<T> {
         let rest = self.values.len();
         self.values.move_front(rest, hand);
         self.real += CAPACITY as u64;
-        self.gap = 0;
     }
 
     /// The end of an overflow: publishes the half that was kept, by one store of the tail. The caller must be in

@@ -1,4 +1,4 @@
-use Rattle.std.proofs.Common.{◌≡◌, refl, sym, ap, ◌∙◌}
+use Rattle.std.proofs.Common.{refl, sym, ap, ◌∙◌}
 use Rattle.exec_words.specs.Idle.{Idle, lowest_of}
 use Rattle.exec_words.proofs.Sets.{same_sets, other_sets}
 use Rattle.exec_words.proofs.idle.PureIdle.claim_exchange.Goals as goal

@@ -1,5 +1,5 @@
 use Rattle.exec_words.proofs.Counts.{count_is_a_sum}
-use Rattle.std.proofs.Common.{arith, ◌∙◌}
+use Rattle.std.proofs.Common.{arith}
 use Rattle.exec_words.proofs.idle.laws.the_count_is_a_sum.Goals as goal
 
 pub returns : goal.returns

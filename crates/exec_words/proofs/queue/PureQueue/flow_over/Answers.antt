@@ -1,4 +1,4 @@
-use Rattle.std.proofs.Common.{◌≡◌, ◌-◌, ◌≤◌, ℕ, length, ap, ◌∙◌, sym, arith}
+use Rattle.std.proofs.Common.{◌≡◌, length, ap, ◌∙◌, arith}
 use Rattle.exec_words.specs.Queue.{Queue}
 use Rattle.exec_words.specs.Reserved.{Reserved}
 use Rattle.exec_words.proofs.Overflow.{half_left, taken_apart}
@@ -15,6 +15,7 @@ invariant_of-self g c =
     taken_apart c.self.inside.values c.self.inside.held c.move_front.new.self c.move_front.new.into c.move_front-2.new.self
     c.self.inside.real c.self.inside.gap c.len-rest.result c.self.invariant
     (ap (λ (q : Queue _). length q.values) c.self.view_is ∙ c.requires.full)
+    (ap (λ (q : Queue _). q.gap) c.self.view_is ∙ c.requires.unclaimed)
     (ap (λ (q : Queue _). q.held) c.self.view_is ∙ c.requires.whole)
     (rw (← c.self.view_is) at c.requires.unspent) c.move_front.ensures.left c.move_front.ensures.moved c.len-rest.ensures.count
     c.move_front-2.ensures.left
