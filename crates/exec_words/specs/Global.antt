@@ -1,5 +1,6 @@
 -- What a contract sees of the global queue.
-use Rattle.std.specs.Prelude.{ℕ, ◌-◌, Bool, List, ◌++◌, length}
+use Rattle.std.specs.Prelude.{ℕ, ◌-◌, Bool, List, ◌++◌, length, take, drop}
+use Rattle.exec_words.specs.Share.{share_of}
 
 -- the values, the oldest first; for how many values there are places; and whether it takes nothing more
 pub record Global (T : Type 0) : Type 0 where
@@ -15,3 +16,11 @@ module _ {T : Type 0} where
   -- these values came behind the others
   abbrev pub appended : Global T → List T → Global T
   appended q more = record q { values = q.values ++ more }
+
+  -- the queue once a worker took its share
+  abbrev pub share_taken : Global T → ℕ → ℕ → ℕ → Global T
+  share_taken q workers room held = record q { values = drop (share_of (length q.values) workers room held) q.values }
+
+  -- what of the share goes into the worker's run queue: all but the oldest value
+  abbrev pub share_queued : Global T → ℕ → ℕ → ℕ → List T
+  share_queued q workers room held = drop 1 (take (share_of (length q.values) workers room held) q.values)

@@ -16,9 +16,15 @@ ghost use Rattle.exec_words.specs.Share.{share_of};
 ghost use Rattle.exec_words.specs.Steal.{steal_answer, stolen_from, stolen_into};
 ghost use Rattle.exec_words.specs.Word.{asks_signal, is_idle_at};
 
-/// Five values, of which a thief claims two. The owner pops past the claim, and the release frees all four places.
+/// Five values, of which a thief claims two. The owner pops past the claim, and the release frees
+/// all four places.
 pub fn a_claim_and_its_release()
-    ensures claimed { claimed five 2 ≡ record { real = 2; gap = 2; values = numbers 3 3; held = [] } }
+    ensures claimed { claimed five 2 ≡ record {
+      real = 2;
+      gap = 2;
+      values = numbers 3 3;
+      held = [];
+    } }
     ensures popped { popped_past ≡ record { real = 4; gap = 4; values = 5 ∷ []; held = [] } }
     ensures room { room_of popped_past ≡ 251 }
     ensures released { released popped_past ≡ queue_at 4 (5 ∷ []) }
@@ -27,12 +33,18 @@ pub fn a_claim_and_its_release()
     ensures last { popped (released popped_past) ≡ queue_at 5 [] }
 {}
 
-/// A full queue flows over: the oldest half stays, under new counts, and the newest half is handed out. In between a
-/// thief finds nothing.
+/// A full queue flows over: the oldest half stays, under new counts, and the newest half is handed
+/// out. In between a thief finds nothing.
 pub fn an_overflow()
     ensures overflow { fit_of full ≡ fit.Overflow }
-    ensures between { overflowed full ≡ record { real = 256; gap = 0; values = []; held = numbers 0 128 } }
-    ensures nothing { is_stealable_at (head_of (overflowed full)) (tail_of (overflowed full)) ≡ false }
+    ensures between { overflowed full ≡ record {
+      real = 256;
+      gap = 0;
+      values = [];
+      held = numbers 0 128;
+    } }
+    ensures nothing { is_stealable_at (head_of (overflowed full)) (tail_of (overflowed full))
+        ≡ false }
     ensures after { restored (overflowed full) ≡ queue_at 256 (numbers 0 128) }
     ensures tail { tail_of (restored (overflowed full)) ≡ 384 }
     ensures handed_out { newest full ≡ numbers 128 128 }
@@ -58,13 +70,14 @@ pub fn steals()
     ensures claimed { is_stealable_at (head 7 1) 20 ≡ false }
     ensures half { steal_answer five (queue_at 0 []) ≡ steal.Moved 2 }
     ensures rest { stolen_from (steal.Moved 2) five ≡ queue_at 2 (numbers 3 3) }
-    ensures behind { stolen_into (steal.Moved 2) five (queue_at 9 (8 ∷ [])) ≡ queue_at 9 (8 ∷ 1 ∷ 2 ∷ []) }
+    ensures behind { stolen_into (steal.Moved 2) five (queue_at 9 (8 ∷ []))
+        ≡ queue_at 9 (8 ∷ 1 ∷ 2 ∷ []) }
     ensures no_room { steal_answer five (queue_at 0 (numbers 0 129)) ≡ steal.Nothing }
     ensures not_rounded_up { steal_answer five (queue_at 0 []) ≢ steal.Moved 3 }
 {}
 
-/// Shares of the global queue: of 8 for one of four workers; for a lone worker; for one that holds 100 already; for one
-/// without room; and of nothing.
+/// Shares of the global queue: of 8 for one of four workers; for a lone worker; for one that holds
+/// 100 already; for one without room; and of nothing.
 pub fn shares()
     ensures of_four { share_of 8 4 256 0 ≡ 3 }
     ensures alone { share_of 130 1 256 0 ≡ 129 }
@@ -100,8 +113,10 @@ pub fn batches()
     ensures in_order { two_letters.messages ≡ mail.WakeRoot ∷ mail.Cancel 7 ∷ [] }
     ensures dropped { sent two_letters mail.WakeRoot ≡ two_letters }
     ensures not_the_cancel { sent two_letters (mail.Cancel 7) ≢ two_letters }
-    ensures taken { batch_taken two_letters (record { values = []; places = 2 }) ≡ record no_mail { published = 1; taken = 1 } }
-    ensures next { (sent (record no_mail { published = 1; taken = 1 }) mail.WakeRoot).published ≡ 2 }
+    ensures taken { batch_taken two_letters (record { values = []; places = 2 })
+        ≡ record no_mail { published = 1; taken = 1 } }
+    ensures next { (sent (record no_mail { published = 1; taken = 1 }) mail.WakeRoot).published
+        ≡ 2 }
     ensures nothing { has_mail no_mail ≡ false }
 {}
 

@@ -1,9 +1,10 @@
 //! The queue that all workers of a pool take from, with the mirror of its length.
 //!
-//! Every worker may append, and so may anyone outside of the pool. A worker takes a share: one value more than an
-//! even split between the workers, the oldest first, but no more than its own run queue has room for below half.
-//! It polls the first itself, and the others go into its run queue. All this is done under one lock. The mirror is
-//! read without the lock: it is stored with each change, and equals the length. A closed queue takes nothing more.
+//! Every worker may append, and so may anyone outside of the pool. A worker takes a share: one
+//! value more than an even split between the workers, the oldest first, but no more than its own
+//! run queue has room for below half. It polls the first itself, and the others go into its run
+//! queue. All this is done under one lock. The mirror is read without the lock: it is stored with
+//! each change, and equals the length. A closed queue takes nothing more.
 //!
 //! Ports the global queue of `commonware_runtime`'s `iouring::pool`.
 
@@ -34,13 +35,17 @@ impl<T> Model for GlobalQueue<T> {
 
     ghost Value = { Global T };
 
-    ghost view = { λ q. record { values = q.values.values; places = q.values.places; closed = q.closed } };
+    ghost view = { λ q. record {
+      values = q.values.values;
+      places = q.values.places;
+      closed = q.closed;
+    } };
 
     ghost invariant = { λ q. q.mirror ≡ length q.values.values };
 }
 
 impl<T> GlobalQueue<T> {
-    ghost use Rattle.exec_words.specs.Global.{appended, spare_places};
+    ghost use Rattle.exec_words.specs.Global.{appended, share_queued, share_taken, spare_places};
     ghost use Rattle.exec_words.specs.Queue.{room_of, published};
 
     /// An open queue without values and places.
@@ -58,7 +63,8 @@ impl<T> GlobalQueue<T> {
     ///
     /// Where there is no memory the queue stays as it is.
     pub fn reserve(&mut self, alloc: Global, n: usize) -> Result<(), AllocError>
-        ensures places { OnOk result (self.new ≡ record self.old { places = max self.old.places n }) }
+        ensures places { OnOk result (self.new
+            ≡ record self.old { places = max self.old.places n }) }
         ensures kept { OnErr result (self.new ≡ self.old) }
     {
         self.values.reserve(alloc, n)
@@ -85,8 +91,8 @@ impl<T> GlobalQueue<T> {
         self.closed
     }
 
-    /// Appends a value. Gives it back exactly where the queue is closed, and nothing changes then. The caller must
-    /// have reserved its place.
+    /// Appends a value. Gives it back exactly where the queue is closed, and nothing changes then.
+    /// The caller must have reserved its place.
     pub fn push(&mut self, value: T) -> Result<(), T>
         requires { self.old.closed ≡ false → 0 < spare_places self.old }
         ensures closed { IsOk result ↔ (self.old.closed ≡ false) }
@@ -102,8 +108,8 @@ impl<T> GlobalQueue<T> {
         Ok(())
     }
 
-    /// Appends a batch, the oldest first. False exactly where the queue is closed, and nothing changes then. The
-    /// caller must have reserved the places.
+    /// Appends a batch, the oldest first. False exactly where the queue is closed, and nothing
+    /// changes then. The caller must have reserved the places.
     pub fn append(&mut self, batch: &mut Reserved<T>) -> bool
         requires { self.old.closed ≡ false → length batch.old.values ≤ spare_places self.old }
         ensures answer { result ≡ not self.old.closed }
@@ -120,12 +126,12 @@ impl<T> GlobalQueue<T> {
         true
     }
 
-    /// Takes a share for a worker of a pool with so many workers: answers the oldest value, and publishes the
-    /// others in the worker's run queue. None exactly where there is no value.
+    /// Takes a share for a worker of a pool with so many workers: answers the oldest value, and
+    /// publishes the others in the worker's run queue. None exactly where there is no value.
     ///
-    /// `room` and `held` are the free places and the values of that run queue, by the head that its owner loaded.
-    /// The caller must have a worker, and be in the middle of no overflow; the room of a run queue doesn't shrink
-    /// while its owner waits.
+    /// `room` and `held` are the free places and the values of that run queue, by the head that its
+    /// owner loaded. The caller must have a worker, and be in the middle of no overflow; the room
+    /// of a run queue doesn't shrink while its owner waits.
     pub fn take(
         &mut self,
         workers: usize,
@@ -137,8 +143,8 @@ impl<T> GlobalQueue<T> {
         requires room { room ≤ room_of into.old }
         requires whole { into.old.held ≡ [] }
         ensures first { result ≡ slice_get self.old.values 0 }
-        ensures left { self.new ≡ record self.old { values = drop (share_of (length self.old.values) workers room held) self.old.values } }
-        ensures rest { into.new ≡ published into.old (drop 1 (take (share_of (length self.old.values) workers room held) self.old.values)) }
+        ensures left { self.new ≡ share_taken self.old workers room held }
+        ensures rest { into.new ≡ published into.old (share_queued self.old workers room held) }
     {
         let len = self.values.len();
         let share = share(len, workers, room, held);

@@ -1,13 +1,14 @@
 //! Which workers of a pool are about to sleep, and how many search for work.
 //!
-//! A worker that finds nothing to do publishes itself: its number goes into the set. From then on whoever has work
-//! for it may claim it: an exchange of the set for one without its lowest number. A claim hands a search count to
-//! the worker that it took. When the worker runs again it withdraws: where its number is gone, it was claimed, and
-//! holds the claimer's count.
+//! A worker that finds nothing to do publishes itself: its number goes into the set. From then on
+//! whoever has work for it may claim it: an exchange of the set for one without its lowest number.
+//! A claim hands a search count to the worker that it took. When the worker runs again it
+//! withdraws: where its number is gone, it was claimed, and holds the claimer's count.
 //!
-//! A search count is the duty to look for work, or to hand that duty on. The count is how many there are: a worker
-//! that begins a search adds one, a wake reserves one before its claim, and who is done subtracts one and is told
-//! whether it was the last. A worker that would wake only the first searcher exchanges the count 0 to 1.
+//! A search count is the duty to look for work, or to hand that duty on. The count is how many
+//! there are: a worker that begins a search adds one, a wake reserves one before its claim, and who
+//! is done subtracts one and is told whether it was the last. A worker that would wake only the
+//! first searcher exchanges the count 0 to 1.
 //!
 //! Set and count are two words, and each call is one operation on one of them. Ports the `Idle` of
 //! `commonware_runtime`'s `iouring::idle`, whose loops make these steps.
@@ -94,17 +95,19 @@ impl PureIdle {
     /// Publishes a worker: the or of its bit into the set. The caller must name a number below 64.
     pub fn publish(&mut self, worker: usize)
         requires { worker < 64 }
-        ensures { self.new ≡ record self.old { published = slice_set self.old.published worker true } }
+        ensures { self.new
+            ≡ record self.old { published = slice_set self.old.published worker true } }
     {
         self.set.has[worker] = true;
     }
 
-    /// Withdraws a worker: the and of its bit out of the set. Answers whether it was still there; where it was
-    /// gone, a claim took it. The caller must name a number below 64.
+    /// Withdraws a worker: the and of its bit out of the set. Answers whether it was still there;
+    /// where it was gone, a claim took it. The caller must name a number below 64.
     pub fn withdraw(&mut self, worker: usize) -> bool
         requires { worker < 64 }
         ensures found { result ≡ is_in self.old.published worker }
-        ensures withdrawn { self.new ≡ record self.old { published = slice_set self.old.published worker false } }
+        ensures withdrawn { self.new
+            ≡ record self.old { published = slice_set self.old.published worker false } }
     {
         let found = self.set.has[worker];
         self.set.has[worker] = false;
@@ -118,13 +121,15 @@ impl PureIdle {
         self.set
     }
 
-    /// A claim: exchanges the set for one without its lowest worker, and answers that worker. Err with the set
-    /// that was found where it isn't `seen`, and nothing changes then. The caller must have seen a worker.
+    /// A claim: exchanges the set for one without its lowest worker, and answers that worker. Err
+    /// with the set that was found where it isn't `seen`, and nothing changes then. The caller must
+    /// have seen a worker.
     pub fn claim_exchange(&mut self, seen: &WorkerSet) -> Result<usize, WorkerSet>
         requires { IsSome (lowest_of seen.now.has) }
         ensures same { IsOk result ↔ (self.old.published ≡ seen.now.has) }
         ensures lowest { IfOk result (λ worker. lowest_of self.old.published ≡ Some worker) }
-        ensures claimed { IfOk result (λ worker. self.new ≡ record self.old { published = slice_set self.old.published worker false }) }
+        ensures claimed { IfOk result (λ worker. self.new
+            ≡ record self.old { published = slice_set self.old.published worker false }) }
         ensures found { IfErr result (λ set. set.has ≡ self.old.published) }
         ensures kept { OnErr result (self.new ≡ self.old) }
     {
@@ -147,8 +152,8 @@ impl PureIdle {
         self.count
     }
 
-    /// Adds a search count. The caller must know that the count isn't at its type's end: it is at most the number of
-    /// those that hold one.
+    /// Adds a search count. The caller must know that the count isn't at its type's end: it is at
+    /// most the number of those that hold one.
     pub fn add(&mut self)
         requires { self.old.count + 1 < 2 ^ 64 }
         ensures { self.new ≡ record self.old { count = self.old.count + 1 } }
@@ -156,8 +161,8 @@ impl PureIdle {
         self.count += 1;
     }
 
-    /// Subtracts a search count, and answers the count that it found: 1 where this was the last. The caller must
-    /// hold one.
+    /// Subtracts a search count, and answers the count that it found: 1 where this was the last.
+    /// The caller must hold one.
     pub fn subtract(&mut self) -> usize
         requires { 0 < self.old.count }
         ensures found { result ≡ self.old.count }
@@ -168,7 +173,8 @@ impl PureIdle {
         found
     }
 
-    /// Exchanges the count 0 to 1. Err with the count that was found where it isn't 0, and nothing changes then.
+    /// Exchanges the count 0 to 1. Err with the count that was found where it isn't 0, and nothing
+    /// changes then.
     pub fn count_exchange(&mut self) -> Result<(), usize>
         ensures none { IsOk result ↔ (self.old.count ≡ 0) }
         ensures first { OnOk result (self.new ≡ record self.old { count = 1 }) }

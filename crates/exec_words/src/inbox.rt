@@ -1,10 +1,11 @@
 //! The messages that wait for one worker, in batches.
 //!
-//! Anyone sends, under a lock; the worker takes all that is there at once, as one batch, and applies it in order.
-//! The first message of a batch publishes it in the worker's wake word, so batches published less batches taken is
-//! 1 where an open inbox holds a message, and else 0. That the worker's root is to be woken stands at most once in
-//! a batch: a second such message is dropped. A closed inbox gives each message back, and what stood in it when it
-//! closed counts as taken.
+//! Anyone sends, under a lock; the worker takes all that is there at once, as one batch, and
+//! applies it in order. The first message of a batch publishes it in the worker's wake word, so
+//! batches published less batches taken is 1 where an open inbox holds a message, and else 0. That
+//! the worker's root is to be woken stands at most once in a batch: a second such message is
+//! dropped. A closed inbox gives each message back, and what stood in it when it closed counts as
+//! taken.
 //!
 //! Ports the `Inbox` and `Message` of `commonware_runtime`'s `iouring::mailbox`.
 
@@ -73,7 +74,13 @@ impl<F, C> Inbox<F, C> {
 
     /// An open inbox without messages and places.
     pub fn new(alloc: Global) -> Self
-        ensures { result ≡ record { messages = []; places = 0; closed = false; published = 0; taken = 0 } }
+        ensures { result ≡ record {
+          messages = [];
+          places = 0;
+          closed = false;
+          published = 0;
+          taken = 0;
+        } }
     {
         Inbox {
             messages: Reserved::new(alloc),
@@ -88,7 +95,8 @@ impl<F, C> Inbox<F, C> {
     ///
     /// Where there is no memory the inbox stays as it is.
     pub fn reserve(&mut self, alloc: Global, n: usize) -> Result<(), AllocError>
-        ensures places { OnOk result (self.new ≡ record self.old { places = max self.old.places n }) }
+        ensures places { OnOk result (self.new
+            ≡ record self.old { places = max self.old.places n }) }
         ensures kept { OnErr result (self.new ≡ self.old) }
     {
         self.messages.reserve(alloc, n)
@@ -118,9 +126,9 @@ impl<F, C> Inbox<F, C> {
         self.taken
     }
 
-    /// Appends a message, and publishes the batch that it begins in the worker's wake word. Answers whether a signal
-    /// must follow. A second wake of the root beside one that isn't taken is dropped. Gives the message back
-    /// exactly where the inbox is closed, and nothing changes then.
+    /// Appends a message, and publishes the batch that it begins in the worker's wake word. Answers
+    /// whether a signal must follow. A second wake of the root beside one that isn't taken is
+    /// dropped. Gives the message back exactly where the inbox is closed, and nothing changes then.
     ///
     /// The caller must have reserved the message's place.
     pub fn send(
@@ -131,9 +139,11 @@ impl<F, C> Inbox<F, C> {
     where
         F: Drop,
         C: Drop,
-        requires { self.old.closed ≡ false → is_dropped self.old message ≡ false → 0 < spare_places self.old }
+        requires { self.old.closed ≡ false → is_dropped self.old message ≡ false
+            → 0 < spare_places self.old }
         ensures closed { IsOk result ↔ (self.old.closed ≡ false) }
-        ensures asks { IfOk result (λ asks. asks ≡ (opens_batch self.old message && asks_signal word.old)) }
+        ensures asks { IfOk result (λ asks. asks ≡ (opens_batch self.old message
+            && asks_signal word.old)) }
         ensures sent { OnOk result (self.new ≡ sent self.old message) }
         ensures word { OnOk result (word.new ≡ word_after self.old message word.old) }
         ensures back { IfErr result (λ m. m ≡ message) }
@@ -157,8 +167,9 @@ impl<F, C> Inbox<F, C> {
         Ok(word.publish())
     }
 
-    /// Takes all messages as one batch into `batch`, whose places stay here in exchange. False exactly where there is
-    /// none, and nothing changes then. The caller must have applied the batch before: `batch` is empty.
+    /// Takes all messages as one batch into `batch`, whose places stay here in exchange. False
+    /// exactly where there is none, and nothing changes then. The caller must have applied the
+    /// batch before: `batch` is empty.
     pub fn take(&mut self, batch: &mut Reserved<Message<F, C>>) -> bool
         requires { batch.old.values ≡ [] }
         ensures answer { result ≡ has_mail self.old }
@@ -174,8 +185,9 @@ impl<F, C> Inbox<F, C> {
         true
     }
 
-    /// Closes the inbox. What stood in it counts as a batch that was taken, and goes into `batch`, for the worker to
-    /// let go; the answer is whether there was one. The caller must have let go of the batch before.
+    /// Closes the inbox. What stood in it counts as a batch that was taken, and goes into `batch`,
+    /// for the worker to let go; the answer is whether there was one. The caller must have let go
+    /// of the batch before.
     pub fn close(&mut self, batch: &mut Reserved<Message<F, C>>) -> bool
         requires { batch.old.values ≡ [] }
         ensures answer { result ≡ has_mail self.old }

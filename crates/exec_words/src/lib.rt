@@ -1,10 +1,10 @@
 //! What the workers of a pool share, as plain data: each call is one atomic step.
 //!
-//! A pool of workers shares five kinds of thing. Each is a value here, and each operation that an executor
-//! makes on it in one step is one call: a load, a store, an exchange that may fail and then tells what it
-//! found, or what is done under one lock. Nothing here waits, and no call but a maker or a `reserve` takes
-//! memory. So an executor in one thread makes its steps of these calls in any order, and what runs in threads
-//! is proved to make the same transitions.
+//! A pool of workers shares five kinds of thing. Each is a value here, and each operation that an
+//! executor makes on it in one step is one call: a load, a store, an exchange that may fail and
+//! then tells what it found, or what is done under one lock. Nothing here waits, and no call but a
+//! maker or a `reserve` takes memory. So an executor in one thread makes its steps of these calls
+//! in any order, and what runs in threads is proved to make the same transitions.
 //!
 //! - `queue`: the run queue of a worker, which pushes and pops there, and from which others steal.
 //! - `global`: the queue that all workers take from, with the mirror of its length.
@@ -29,7 +29,8 @@ pub mod word;
 pub const CAPACITY: usize = 256;
 /// How many values an overflow keeps, and the most that a steal takes: half the capacity.
 pub const HALF: usize = 128;
-/// The fewest values that an unclaimed queue holds for a steal to take any. Half of them is taken, rounded down.
+/// The fewest values that an unclaimed queue holds for a steal to take any. Half of them is taken,
+/// rounded down.
 pub const STEALABLE: usize = 2;
 /// The most workers that a pool has.
 pub const MAX_WORKERS: usize = 64;

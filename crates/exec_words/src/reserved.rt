@@ -1,8 +1,9 @@
 //! A list with places that were reserved before.
 //!
-//! A push takes no memory, since it goes into a place that is there: who may push has reserved the place. So what
-//! is sent or woken is never lost for want of memory. What a contract sees is in `specs/Reserved.antt`: the
-//! values, the oldest first, and how many places there are for values in all.
+//! A push takes no memory, since it goes into a place that is there: who may push has reserved the
+//! place. So what is sent or woken is never lost for want of memory. What a contract sees is in
+//! `specs/Reserved.antt`: the values, the oldest first, and how many places there are for values in
+//! all.
 
 ghost use Rattle.std.specs.Prelude.{◌≡◌, ◌+◌, ◌-◌, ◌<◌, ◌≤◌, ◌==◌, [], ◌∷◌, ◌++◌, length, take, drop, max, slice_get, IfOk, OnOk, OnErr};
 ghost use Rattle.std.specs.VecDeque.{deque_capacity};
@@ -15,7 +16,8 @@ use std::collections::VecDeque;
 use std::marker::Model;
 use std::mem;
 
-/// Values in order, in places that were reserved before. Only `with_places` and `reserve` take memory.
+/// Values in order, in places that were reserved before. Only `with_places` and `reserve` take
+/// memory.
 #[derive(Drop)]
 pub struct Reserved<T> {
     values: VecDeque<T>,
@@ -32,11 +34,12 @@ impl<T> Model for Reserved<T> {
 
     ghost view = { λ r. record { values = r.values.items; places = r.places } };
 
-    ghost invariant = { λ r. (length r.values.items ≤ r.places) × (r.places ≤ deque_capacity r.values) };
+    ghost invariant = { λ r. (length r.values.items ≤ r.places)
+        × (r.places ≤ deque_capacity r.values) };
 }
 
 impl<T> Reserved<T> {
-    ghost use Rattle.exec_words.specs.Reserved.{spare};
+    ghost use Rattle.exec_words.specs.Reserved.{extended, spare};
 
     /// No values and no places.
     pub fn new(alloc: Global) -> Self
@@ -60,7 +63,8 @@ impl<T> Reserved<T> {
     ///
     /// Where there is no memory the list stays as it is.
     pub fn reserve(&mut self, _alloc: Global, n: usize) -> Result<(), AllocError>
-        ensures places { OnOk result (self.new ≡ record self.old { places = max self.old.places n }) }
+        ensures places { OnOk result (self.new
+            ≡ record self.old { places = max self.old.places n }) }
         ensures kept { OnErr result (self.new ≡ self.old) }
     {
         self.values.reserve(n.saturating_sub(self.values.len()))?;
@@ -94,7 +98,7 @@ impl<T> Reserved<T> {
     /// Appends a value. The caller must have a place for it.
     pub fn push(&mut self, value: T)
         requires { 0 < spare self.old }
-        ensures { self.new ≡ record self.old { values = self.old.values ++ value ∷ [] } }
+        ensures { self.new ≡ extended self.old (value ∷ []) }
     {
         self.values.push_back_reserved(value);
     }
@@ -107,13 +111,13 @@ impl<T> Reserved<T> {
         self.values.pop_front()
     }
 
-    /// Moves the oldest `count` values to the end of `into`, in order. The caller must have so many values here,
-    /// and places for them there.
+    /// Moves the oldest `count` values to the end of `into`, in order. The caller must have so many
+    /// values here, and places for them there.
     pub fn move_front(&mut self, count: usize, into: &mut Reserved<T>)
         requires has { count ≤ length self.old.values }
         requires places { count ≤ spare into.old }
         ensures left { self.new ≡ record self.old { values = drop count self.old.values } }
-        ensures moved { into.new ≡ record into.old { values = into.old.values ++ take count self.old.values } }
+        ensures moved { into.new ≡ extended into.old (take count self.old.values) }
     {
         pour(&mut self.values, count, &mut into.values);
     }

@@ -1,15 +1,18 @@
-//! The wake word of a worker: how it waits, whether it is to wake, and how many batches of mail were published.
+//! The wake word of a worker: how it waits, whether it is to wake, and how many batches of mail
+//! were published.
 //!
-//! A worker that is about to wait arms its word: it is going to sleep, or to wait on its ring. What it finds there
-//! decides in the same step: it waits only where no latch stands and no batch was published that it hasn't taken.
-//! Whoever has something for the worker sets the latch. The first one to do so while a wait is armed rouses the
-//! worker; a latch that comes earlier keeps the next wait from beginning. The end of a wait takes wait and latch out.
+//! A worker that is about to wait arms its word: it is going to sleep, or to wait on its ring. What
+//! it finds there decides in the same step: it waits only where no latch stands and no batch was
+//! published that it hasn't taken. Whoever has something for the worker sets the latch. The first
+//! one to do so while a wait is armed rouses the worker; a latch that comes earlier keeps the next
+//! wait from beginning. The end of a wait takes wait and latch out.
 //!
-//! Mail is published before it is signalled: the first message of a batch raises the batch number, and a signal
-//! must follow exactly where a wait is armed and no latch stands. Where none is armed, the worker sees the number.
+//! Mail is published before it is signalled: the first message of a batch raises the batch number,
+//! and a signal must follow exactly where a wait is armed and no latch stands. Where none is armed,
+//! the worker sees the number.
 //!
-//! Each call that changes the word is one operation on it, and answers what it found where that decides. Ports the
-//! state of `commonware_runtime`'s `iouring::waker`.
+//! Each call that changes the word is one operation on it, and answers what it found where that
+//! decides. Ports the state of `commonware_runtime`'s `iouring::waker`.
 
 ghost use Rattle.std.specs.Prelude.{◌≡◌, ◌≢◌, ◌<◌, ◌^◌, ◌&&◌, ◌||◌, ◌==◌, not, true, false};
 ghost use Rattle.exec_words.specs.declared.word.WaitTarget.TheVariants as wait;
@@ -54,7 +57,8 @@ impl PureWord {
         PureWord::at(0)
     }
 
-    /// The same, with this number of published batches. The caller must name one of at most `SUBMISSION_SEQ_MASK`.
+    /// The same, with this number of published batches. The caller must name one of at most
+    /// `SUBMISSION_SEQ_MASK`.
     pub fn at(batch: u32) -> Self
         requires { batch < 2 ^ 29 }
         ensures target { result.target ≡ wait.None }
@@ -68,8 +72,8 @@ impl PureWord {
         }
     }
 
-    /// Arms a wait: the or of its bit into the word. Answers the word that it found. The caller must not wait
-    /// already.
+    /// Arms a wait: the or of its bit into the word. Answers the word that it found. The caller
+    /// must not wait already.
     pub fn arm(&mut self, target: WaitTarget) -> PureWord
         requires { self.old.target ≡ wait.None }
         ensures found { result ≡ self.old }
@@ -80,8 +84,8 @@ impl PureWord {
         found
     }
 
-    /// Signals the worker: the or of the latch into the word. Answers the word that it found: the worker is to be
-    /// roused where that was armed, without a latch.
+    /// Signals the worker: the or of the latch into the word. Answers the word that it found: the
+    /// worker is to be roused where that was armed, without a latch.
     pub fn wake(&mut self) -> PureWord
         ensures found { result ≡ self.old }
         ensures latched { self.new ≡ record self.old { latch = true } }
@@ -91,7 +95,8 @@ impl PureWord {
         found
     }
 
-    /// Publishes a batch. Answers whether a signal must follow: exactly where a wait is armed and no latch stands.
+    /// Publishes a batch. Answers whether a signal must follow: exactly where a wait is armed and
+    /// no latch stands.
     pub fn publish(&mut self) -> bool
         ensures asks { result ≡ asks_signal self.old }
         ensures published { self.new ≡ record self.old { batch = next_batch self.old.batch } }
@@ -112,7 +117,8 @@ impl PureWord {
         found
     }
 
-    /// Takes the latch alone out of the word, after a look that found it. Answers the word that it found.
+    /// Takes the latch alone out of the word, after a look that found it. Answers the word that it
+    /// found.
     pub fn consume_signal(&mut self) -> PureWord
         ensures found { result ≡ self.old }
         ensures consumed { self.new ≡ record self.old { latch = false } }
@@ -136,8 +142,8 @@ impl PureWord {
         self.latch
     }
 
-    /// Whether a batch was published that isn't among the processed ones. The caller must name a number of at most
-    /// `SUBMISSION_SEQ_MASK`.
+    /// Whether a batch was published that isn't among the processed ones. The caller must name a
+    /// number of at most `SUBMISSION_SEQ_MASK`.
     pub fn pending(&self, processed: u32) -> bool
         requires { processed < 2 ^ 29 }
         ensures { result ≡ not (self.now.batch == processed) }
@@ -145,8 +151,8 @@ impl PureWord {
         self.batch != processed
     }
 
-    /// Whether a wait that found this word may begin: no latch stands, and all batches are processed. The caller
-    /// must name a number of at most `SUBMISSION_SEQ_MASK`.
+    /// Whether a wait that found this word may begin: no latch stands, and all batches are
+    /// processed. The caller must name a number of at most `SUBMISSION_SEQ_MASK`.
     pub fn still_idle(&self, processed: u32) -> bool
         requires { processed < 2 ^ 29 }
         ensures { result ≡ is_idle_at self.now processed }

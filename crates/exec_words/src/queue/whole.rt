@@ -12,7 +12,8 @@ use crate::reserved::Reserved;
 pub enum PushAnswer<T> {
     /// The value was published; the queue had so many then.
     Pushed(usize),
-    /// The queue was full: its newest half went into the owner's hand, and this value goes behind it.
+    /// The queue was full: its newest half went into the owner's hand, and this value goes behind
+    /// it.
     Overflow(T),
     /// No place was free beside a claim: only this value goes elsewhere.
     Claimed(T),
@@ -25,7 +26,8 @@ pub enum PushAnswer<T> {
 pub enum Steal {
     /// So many values moved into the thief's queue.
     Moved(usize),
-    /// There was nothing to take, a claim was held, or the thief's queue had fewer than 128 places free.
+    /// There was nothing to take, a claim was held, or the thief's queue had fewer than 128 places
+    /// free.
     Nothing,
     /// The head has changed since it was loaded: this one was found.
     Again(Head),
@@ -35,16 +37,17 @@ impl<T> PureQueue<T> {
     ghost use Rattle.exec_words.specs.Queue.{fit_of};
     ghost use Rattle.exec_words.specs.Push.{push_answer, after_push, handed_out};
     ghost use Rattle.exec_words.specs.Steal.{steal_answer, stolen_from, stolen_into};
-    ghost use Rattle.exec_words.specs.Reserved.{spare};
+    ghost use Rattle.exec_words.specs.Reserved.{extended, spare};
 
-    /// The owner's push in one action, where nobody acts in between. What an overflow hands out goes into the
-    /// owner's hand, the oldest first. The caller must have 128 places there, and be in the middle of no overflow.
+    /// The owner's push in one action, where nobody acts in between. What an overflow hands out
+    /// goes into the owner's hand, the oldest first. The caller must have 128 places there, and be
+    /// in the middle of no overflow.
     pub fn push(&mut self, value: T, hand: &mut Reserved<T>) -> PushAnswer<T>
         requires whole { self.old.held ≡ [] }
         requires places { 128 ≤ spare hand.old }
         ensures answer { result ≡ push_answer (fit_of self.old) value }
         ensures after { self.new ≡ after_push (fit_of self.old) self.old value }
-        ensures handed_out { hand.new ≡ record hand.old { values = hand.old.values ++ handed_out (fit_of self.old) self.old } }
+        ensures handed_out { hand.new ≡ extended hand.old (handed_out (fit_of self.old) self.old) }
     {
         match self.head().fit(self.tail()) {
             Fit::Room(len) => {
@@ -61,9 +64,9 @@ impl<T> PureQueue<T> {
         }
     }
 
-    /// A whole steal in one action, where nobody acts in between: half of the values go to the end of `into`, by
-    /// way of the thief's hand. `Again` doesn't come here. The caller must have an empty hand of 128 places, and
-    /// `into` must be in the middle of no overflow.
+    /// A whole steal in one action, where nobody acts in between: half of the values go to the end
+    /// of `into`, by way of the thief's hand. `Again` doesn't come here. The caller must have an
+    /// empty hand of 128 places, and `into` must be in the middle of no overflow.
     pub fn steal_once(&mut self, into: &mut PureQueue<T>, hand: &mut Reserved<T>) -> Steal
         requires whole { into.old.held ≡ [] }
         requires empty { hand.old.values ≡ [] }
