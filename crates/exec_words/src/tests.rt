@@ -1,5 +1,7 @@
 //! Steps of several workers, and the run queue that tests of other files use.
 
+ghost use Rattle.std.specs.Prelude.{◌-◌, ◌^◌, ◌<◌};
+
 use crate::HALF;
 use crate::global::GlobalQueue;
 use crate::idle::{Park, PureIdle};
@@ -143,7 +145,7 @@ fn a_backlog_makes_a_searcher(rt: HostRuntime) -> Result<(), Fail> {
 }
 
 /// A whole steal.
-fn steal(rt: &impl Abort, from: &mut Local, into: &mut Local) -> Steal {
+pub fn steal(rt: &impl Abort, from: &mut Local, into: &mut Local) -> Steal {
     assert!(rt; into.queue.is_whole() && into.hand.is_empty() && into.hand.spare() >= HALF);
     from.queue.steal_once(&mut into.queue, &mut into.hand)
 }

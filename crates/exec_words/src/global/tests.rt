@@ -1,3 +1,5 @@
+ghost use Rattle.std.specs.Prelude.{◌<◌};
+
 use super::GlobalQueue;
 use crate::reserved::Reserved;
 use crate::tests::Local;

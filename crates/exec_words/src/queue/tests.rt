@@ -1,6 +1,6 @@
-use super::PushAnswer;
+use super::{PushAnswer, Steal};
 use crate::head::Head;
-use crate::tests::Local;
+use crate::tests::{Local, steal};
 use Line::*;
 use std::process::Abort;
 use std::test::Fail;
@@ -36,8 +36,7 @@ fn a_spent_queue_takes_no_more(rt: HostRuntime) -> Result<(), Fail> {
     assert_eq!(rt; local.push(&rt, 2), PushAnswer::Spent(2));
     assert_eq!(rt; local.queue.room(), 0);
     other.batch(&rt, 3, 4);
-    assert!(rt; local.queue.is_whole() && local.hand.is_empty() && local.hand.spare() >= 128);
-    other.queue.steal_once(&mut local.queue, &mut local.hand);
+    assert_eq!(rt; steal(&rt, &mut other, &mut local), Steal::Nothing);
     assert_eq!(rt; local.queue.len(), 1);
     assert_eq!(rt; other.queue.len(), 4);
     assert_eq!(rt; local.pop(&rt), Some(1));
@@ -49,6 +48,7 @@ fn a_failed_exchange_changes_nothing(rt: HostRuntime) -> Result<(), Fail> {
     let mut local = Local::at(rt.alloc(), 7)?;
     local.batch(&rt, 1, 3);
     let seen = Head { real: 6, gap: 0 };
+    assert!(rt; seen.real < local.queue.tail());
     assert_eq!(rt;
         local.queue.pop_exchange(seen),
         Err(Head { real: 7, gap: 0 })
