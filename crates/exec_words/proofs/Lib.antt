@@ -1,0 +1,5 @@
+pub mod Counts
+pub mod Overflow
+pub mod Runs
+pub mod Sets
+pub mod Within

@@ -1,0 +1,18 @@
+-- What is read off a wake word.
+use Rattle.std.specs.Prelude.{ℕ, ◌==◌, Bool, true, false, not, ◌&&◌}
+use Rattle.exec_words.specs.declared.word.WaitTarget.{WaitTarget}
+use Rattle.exec_words.specs.declared.word.WaitTarget.TheVariants as target
+use Rattle.exec_words.specs.declared.word.PureWord.{PureWord}
+
+abbrev pub is_armed : WaitTarget → Bool
+is_armed target.None = false
+is_armed target.Sleeping = true
+is_armed target.Ring = true
+
+-- a publication must be followed by a signal: a wait is armed, and nobody has signalled it
+abbrev pub asks_signal : PureWord → Bool
+asks_signal w = is_armed w.target && not w.latch
+
+-- a wait that found this word may begin
+abbrev pub is_idle_at : PureWord → ℕ → Bool
+is_idle_at w processed = not w.latch && w.batch == processed

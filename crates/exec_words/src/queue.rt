@@ -1,0 +1,355 @@
+//! The run queue of a worker, as transitions.
+//!
+//! A run queue holds up to 256 values, the oldest first. One worker owns it: only the owner pushes
+//! and pops. Others are thieves: a thief claims the oldest half, moves those values away, and
+//! releases the claim. What happens between two steps of one party is seen by the next one: each
+//! exchange of the head names the head that its party saw, fails where the head has changed since,
+//! and then tells the head that it found.
+//!
+//! - The owner pops by an exchange (`pop_exchange`). The last value without a claim it takes by a
+//!   store of the head (`pop_last`): no thief can take a lone value. In a queue without thieves a
+//!   pop is one action (`pop`).
+//! - The owner publishes by a store of the tail: one value (`push_fitting`), or a batch
+//!   (`publish`). It must have room.
+//! - A thief loads head and tail and claims half of what is between them (`claim_exchange`): no
+//!   claim is held, and there are two values at least. The values are in its hand then. While it
+//!   moves them their places aren't free: the gap counts them, and those of the owner's pops past
+//!   them. The release (`release_exchange`) frees both.
+//! - A push into a full queue without a claim flows over (`overflow_exchange`): the newest half
+//!   goes to the owner's hand, and the oldest half is kept aside until the owner's next store of
+//!   the tail (`restore`). In between the queue is empty to thieves. Each position is counted once
+//!   more, so no head comes again.
+//!
+//! Where nobody acts in between, `push`, `pop` and `steal_once` are whole calls of these steps.
+//!
+//! A queue counts its values: from 2^55 - 512 on it takes no more, and is spent. What a contract
+//! sees is in `specs/Queue.antt`. Ports the `Queue` and `Owner` of `commonware_runtime`'s
+//! `iouring::queue`, each of whose loops makes these steps.
+
+ghost use Rattle.std.specs.Prelude.{◌≡◌, ◌+◌, ◌-◌, ◌^◌, ◌<◌, ◌≤◌, ◌↔◌, ◌==◌, [], ◌∷◌, ◌++◌, length, take, drop, slice_get, IsOk, IfOk, OnOk, IfErr, OnErr, IfNone, OnSome, Some, false, IsTrue, if◌then◌else◌};
+
+mod laws;
+#[cfg(test)]
+mod tests;
+mod whole;
+
+use super::head::Head;
+use super::reserved::Reserved;
+use super::{CAPACITY, HALF};
+pub use laws::{each_value_leaves_once, values_leave_in_order};
+use std::alloc::{AllocError, Global};
+use std::marker::Model;
+pub use whole::{PushAnswer, Steal};
+
+/// A run queue. No call but a maker takes memory.
+#[derive(Drop)]
+pub struct PureQueue<T> {
+    values: Reserved<T>,
+    // What the owner keeps aside in the middle of an overflow.
+    held: Reserved<T>,
+    real: u64,
+    gap: usize,
+}
+
+impl<T> Model for PureQueue<T> {
+    ghost use Rattle.exec_words.specs.Queue.{Queue};
+    ghost use Rattle.exec_words.specs.QueueLayout.{IsLaidOut};
+
+    ghost Value = { Queue T };
+
+    ghost view = { λ q. record {
+      real = q.real;
+      gap = q.gap;
+      values = q.values.values;
+      held = q.held.values;
+    } };
+
+    ghost invariant = { λ q. IsLaidOut q.values q.held q.real q.gap };
+}
+
+impl<T> PureQueue<T> {
+    ghost use Rattle.exec_words.specs.Head.{claim_at, is_spent};
+    ghost use Rattle.exec_words.specs.Queue.{head_of, tail_of, room_of, popped, claimed, released, published, overflowed, newest, restored};
+    ghost use Rattle.exec_words.specs.Reserved.{extended, spare};
+
+    /// An empty queue whose first value gets the count 0.
+    pub fn new(alloc: Global) -> Result<Self, AllocError>
+    where
+        T: Drop,
+        ensures { IfOk result (λ q. q ≡ record { real = 0; gap = 0; values = []; held = [] }) }
+    {
+        PureQueue::at(alloc, 0)
+    }
+
+    /// An empty queue whose first value gets the count `real`. The caller must take one that isn't
+    /// past the count at which a queue is spent.
+    pub fn at(alloc: Global, real: u64) -> Result<Self, AllocError>
+    where
+        T: Drop,
+        requires { real ≤ 2 ^ 55 - 512 }
+        ensures { IfOk result (λ q. q ≡ record { real = real; gap = 0; values = []; held = [] }) }
+    {
+        let values = Reserved::with_places(alloc, CAPACITY)?;
+        let held = Reserved::with_places(alloc, CAPACITY)?;
+        Ok(PureQueue {
+            values,
+            held,
+            real,
+            gap: 0,
+        })
+    }
+
+    /// Loads the head.
+    pub fn head(&self) -> Head
+        ensures head { result ≡ head_of self.now }
+        ensures within { length self.now.values + self.now.gap ≤ 256 }
+    {
+        Head {
+            real: self.real,
+            gap: self.gap,
+        }
+    }
+
+    /// Loads the tail: the count one past the last value.
+    pub fn tail(&self) -> u64
+        ensures { result ≡ tail_of self.now }
+    {
+        self.real + self.values.len() as u64
+    }
+
+    /// How many values there are, those of a claim not among them.
+    pub fn len(&self) -> usize
+        ensures { result ≡ length self.now.values }
+    {
+        self.values.len()
+    }
+
+    /// Whether there is none.
+    pub fn is_empty(&self) -> bool
+        ensures { result ≡ (length self.now.values == 0) }
+    {
+        self.values.is_empty()
+    }
+
+    /// Whether its owner is in the middle of no overflow.
+    pub fn is_whole(&self) -> bool
+        ensures { IsTrue result ↔ (self.now.held ≡ []) }
+    {
+        self.held.is_empty()
+    }
+
+    /// How many more values fit. 0 where the queue is spent.
+    pub fn room(&self) -> usize
+        ensures { result ≡ room_of self.now }
+    {
+        self.head().room(self.tail())
+    }
+
+    /// The owner's pop by an exchange of the head. Err with the head that was found where it isn't
+    /// `seen`, and nothing changes then. The caller must have seen a value: the tail is past the
+    /// head that it saw.
+    pub fn pop_exchange(&mut self, seen: Head) -> Result<T, Head>
+        requires { seen.real < tail_of self.old }
+        ensures same { IsOk result ↔ (head_of self.old ≡ seen) }
+        ensures value { IfOk result (λ x. slice_get self.old.values 0 ≡ Some x) }
+        ensures popped { OnOk result (self.new ≡ popped self.old) }
+        ensures found { IfErr result (λ head. head ≡ head_of self.old) }
+        ensures kept { OnErr result (self.new ≡ self.old) }
+    {
+        if self.head() != seen {
+            return Err(self.head());
+        }
+        Ok(self.pop_front())
+    }
+
+    // Takes the front value.
+    fn pop_front(&mut self) -> T
+        requires { 0 < length self.old.values }
+        ensures value { slice_get self.old.values 0 ≡ Some result }
+        ensures popped { self.new ≡ popped self.old }
+    {
+        self.real += 1;
+        self.gap = gap_after_pop(self.gap);
+        match self.values.pop() {
+            Some(value) => value,
+            None => unreachable!(),
+        }
+    }
+
+    /// The owner's pop of a lone value by a store of the head. The caller must know that there is
+    /// one value, and no claim.
+    pub fn pop_last(&mut self) -> T
+        requires lone { length self.old.values ≡ 1 }
+        requires unclaimed { self.old.gap ≡ 0 }
+        ensures value { slice_get self.old.values 0 ≡ Some result }
+        ensures popped { self.new ≡ popped self.old }
+    {
+        self.pop_front()
+    }
+
+    /// The owner's pop in one action, in a queue without thieves or where none acts. None where the
+    /// queue is empty, and nothing changes then.
+    pub fn pop(&mut self) -> Option<T>
+        ensures value { result ≡ slice_get self.old.values 0 }
+        ensures popped { OnSome result (self.new ≡ popped self.old) }
+        ensures kept { IfNone result (self.new ≡ self.old) }
+    {
+        if self.values.is_empty() {
+            return None;
+        }
+        Some(self.pop_front())
+    }
+
+    /// The owner's push of a value that fits, by a store of the tail. The caller must have room,
+    /// and be in the middle of no overflow.
+    pub fn push_fitting(&mut self, value: T)
+        requires room { 0 < room_of self.old }
+        requires whole { self.old.held ≡ [] }
+        ensures { self.new ≡ published self.old (value ∷ []) }
+    {
+        self.values.push(value);
+    }
+
+    /// Publishes a batch behind the other values by one store of the tail. The caller must have
+    /// room for all of it, and be in the middle of no overflow.
+    pub fn publish(&mut self, batch: &mut Reserved<T>)
+        requires room { length batch.old.values ≤ room_of self.old }
+        requires whole { self.old.held ≡ [] }
+        ensures published { self.new ≡ published self.old batch.old.values }
+        ensures taken { batch.new ≡ record batch.old { values = [] } }
+    {
+        batch.move_front(batch.len(), &mut self.values);
+    }
+
+    /// Publishes the first `count` values of a list as `publish` does. The caller must have so many
+    /// there, and room for them.
+    pub fn publish_front(&mut self, count: usize, from: &mut Reserved<T>)
+        requires has { count ≤ length from.old.values }
+        requires room { count ≤ room_of self.old }
+        requires whole { self.old.held ≡ [] }
+        ensures published { self.new ≡ published self.old (take count from.old.values) }
+        ensures left { from.new ≡ record from.old { values = drop count from.old.values } }
+    {
+        from.move_front(count, &mut self.values);
+    }
+
+    /// A thief's claim by an exchange of the head: half of the values up to the tail that it saw,
+    /// rounded down, go into its hand, the oldest first. Answers how many. Err with the head that
+    /// was found where it isn't `seen`, and nothing changes then.
+    ///
+    /// The caller must have loaded `tail` from this queue after `seen`, have seen no claim and at
+    /// least two values, and have 128 places in its hand.
+    pub fn claim_exchange(
+        &mut self,
+        seen: Head,
+        tail: u64,
+        hand: &mut Reserved<T>,
+    ) -> Result<usize, Head>
+        requires unclaimed { seen.gap ≡ 0 }
+        requires stealable { seen.real + 2 ≤ tail }
+        requires past { tail ≤ tail_of self.old }
+        requires places { 128 ≤ spare hand.old }
+        ensures same { IsOk result ↔ (head_of self.old ≡ seen) }
+        ensures half { IfOk result (λ count. count ≡ claim_at seen tail) }
+        ensures claimed { OnOk result (self.new ≡ claimed self.old (claim_at seen tail)) }
+        ensures moved { OnOk result (hand.new
+            ≡ extended hand.old (take (claim_at seen tail) self.old.values)) }
+        ensures found { IfErr result (λ head. head ≡ head_of self.old) }
+        ensures kept { OnErr result (self.new ≡ self.old) }
+        ensures hand_kept { OnErr result (hand.new ≡ hand.old) }
+    {
+        if self.head() != seen {
+            return Err(self.head());
+        }
+        Ok(self.claim(seen.len(tail) / 2, hand))
+    }
+
+    // Claims the first `count` values, and answers how many.
+    fn claim(&mut self, count: usize, hand: &mut Reserved<T>) -> usize
+        requires unclaimed { self.old.gap ≡ 0 }
+        requires half { count + count ≤ length self.old.values }
+        requires places { 128 ≤ spare hand.old }
+        ensures answer { result ≡ count }
+        ensures claimed { self.new ≡ claimed self.old count }
+        ensures moved { hand.new ≡ extended hand.old (take count self.old.values) }
+    {
+        self.values.move_front(count, hand);
+        self.real += count as u64;
+        self.gap = count;
+        count
+    }
+
+    /// The release of a claim by an exchange of the head: its places are free again, and those of
+    /// the pops past it. Err with the head that was found where it isn't `seen`, and nothing
+    /// changes then.
+    pub fn release_exchange(&mut self, seen: Head) -> Result<(), Head>
+        ensures same { IsOk result ↔ (head_of self.old ≡ seen) }
+        ensures released { OnOk result (self.new ≡ released self.old) }
+        ensures found { IfErr result (λ head. head ≡ head_of self.old) }
+        ensures kept { OnErr result (self.new ≡ self.old) }
+    {
+        if self.head() != seen {
+            return Err(self.head());
+        }
+        self.gap = 0;
+        Ok(())
+    }
+
+    /// The beginning of an overflow by an exchange of the head: the newest half goes into the
+    /// owner's hand, the oldest first, and the oldest half is kept aside until `restore`. Err with
+    /// the head that was found where it isn't `seen`, and nothing changes then.
+    ///
+    /// The caller must have seen a full queue without a claim that isn't spent, be in the middle of
+    /// no other overflow, and have 128 places in its hand.
+    pub fn overflow_exchange(&mut self, seen: Head, hand: &mut Reserved<T>) -> Result<(), Head>
+        requires full { seen.real + 256 ≡ tail_of self.old }
+        requires unspent { is_spent (tail_of self.old) ≡ false }
+        requires whole { self.old.held ≡ [] }
+        requires places { 128 ≤ spare hand.old }
+        ensures same { IsOk result ↔ (head_of self.old ≡ seen) }
+        ensures overflowed { OnOk result (self.new ≡ overflowed self.old) }
+        ensures handed_out { OnOk result (hand.new ≡ extended hand.old (newest self.old)) }
+        ensures found { IfErr result (λ head. head ≡ head_of self.old) }
+        ensures kept { OnErr result (self.new ≡ self.old) }
+        ensures hand_kept { OnErr result (hand.new ≡ hand.old) }
+    {
+        if self.head() != seen {
+            return Err(self.head());
+        }
+        self.flow_over(hand);
+        Ok(())
+    }
+
+    // Takes a full queue apart: the oldest half is kept, the newest half goes into the hand.
+    fn flow_over(&mut self, hand: &mut Reserved<T>)
+        requires full { length self.old.values ≡ 256 }
+        requires unclaimed { self.old.gap ≡ 0 }
+        requires unspent { is_spent (self.old.real + 256) ≡ false }
+        requires whole { self.old.held ≡ [] }
+        requires places { 128 ≤ spare hand.old }
+        ensures overflowed { self.new ≡ overflowed self.old }
+        ensures handed_out { hand.new ≡ extended hand.old (newest self.old) }
+    {
+        self.values.move_front(HALF, &mut self.held);
+        let rest = self.values.len();
+        self.values.move_front(rest, hand);
+        self.real += CAPACITY as u64;
+    }
+
+    /// The end of an overflow: publishes the half that was kept, by one store of the tail. The
+    /// caller must be in the middle of an overflow, where the queue has no other values.
+    pub fn restore(&mut self)
+        requires { self.old.values ≡ [] }
+        ensures { self.new ≡ restored self.old }
+    {
+        self.values.swap(&mut self.held);
+    }
+}
+
+// A pop beside a claim raises the gap.
+fn gap_after_pop(gap: usize) -> usize
+    requires { gap < 256 }
+    ensures { result ≡ (if gap == 0 then 0 else gap + 1) }
+{
+    if gap == 0 { 0 } else { gap + 1 }
+}

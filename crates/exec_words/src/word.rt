@@ -1,0 +1,170 @@
+//! The wake word of a worker: how it waits, whether it is to wake, and how many batches of mail
+//! were published.
+//!
+//! A worker that is about to wait arms its word: it is going to sleep, or to wait on its ring. What
+//! it finds there decides in the same step: it waits only where no latch stands and no batch was
+//! published that it hasn't taken. Whoever has something for the worker sets the latch. The first
+//! one to do so while a wait is armed rouses the worker; a latch that comes earlier keeps the next
+//! wait from beginning. The end of a wait takes wait and latch out.
+//!
+//! Mail is published before it is signalled: the first message of a batch raises the batch number,
+//! and a signal must follow exactly where a wait is armed and no latch stands. Where none is armed,
+//! the worker sees the number.
+//!
+//! Each call that changes the word is one operation on it, and answers what it found where that
+//! decides. Ports the state of `commonware_runtime`'s `iouring::waker`.
+
+ghost use Rattle.std.specs.Prelude.{◌≡◌, ◌≢◌, ◌<◌, ◌^◌, ◌&&◌, ◌||◌, ◌==◌, not, true, false};
+ghost use Rattle.exec_words.specs.declared.word.WaitTarget.TheVariants as wait;
+ghost use Rattle.exec_words.specs.Batch.{next_batch};
+
+#[cfg(test)]
+mod tests;
+
+use super::BATCHES;
+
+/// How a worker waits.
+#[derive(Clone, Copy, Debug, PartialEq, Eq)]
+pub enum WaitTarget {
+    /// It doesn't.
+    None,
+    /// It sleeps on its wake word.
+    Sleeping,
+    /// It waits on its ring.
+    Ring,
+}
+
+/// The wake word of a worker. What it shows is a copy of the whole word.
+#[derive(Clone, Copy, Debug, PartialEq, Eq)]
+pub struct PureWord {
+    /// How the worker waits.
+    pub target: WaitTarget,
+    /// Whether it is to wake.
+    pub latch: bool,
+    /// How many batches were published, modulo 2^29.
+    pub batch: u32,
+}
+
+impl PureWord {
+    ghost use Rattle.exec_words.specs.Word.{asks_signal, is_idle_at};
+
+    /// Nobody waits, no latch stands, and no batch was published.
+    pub fn new() -> Self
+        ensures target { result.target ≡ wait.None }
+        ensures latch { result.latch ≡ false }
+        ensures batch { result.batch ≡ 0 }
+    {
+        PureWord::at(0)
+    }
+
+    /// The same, with this number of published batches. The caller must name one of at most
+    /// `SUBMISSION_SEQ_MASK`.
+    pub fn at(batch: u32) -> Self
+        requires { batch < 2 ^ 29 }
+        ensures target { result.target ≡ wait.None }
+        ensures latch { result.latch ≡ false }
+        ensures batch { result.batch ≡ batch }
+    {
+        PureWord {
+            target: WaitTarget::None,
+            latch: false,
+            batch,
+        }
+    }
+
+    /// Arms a wait: the or of its bit into the word. Answers the word that it found. The caller
+    /// must not wait already.
+    pub fn arm(&mut self, target: WaitTarget) -> PureWord
+        requires { self.old.target ≡ wait.None }
+        ensures found { result ≡ self.old }
+        ensures armed { self.new ≡ record self.old { target = target } }
+    {
+        let found = *self;
+        self.target = target;
+        found
+    }
+
+    /// Signals the worker: the or of the latch into the word. Answers the word that it found: the
+    /// worker is to be roused where that was armed, without a latch.
+    pub fn wake(&mut self) -> PureWord
+        ensures found { result ≡ self.old }
+        ensures latched { self.new ≡ record self.old { latch = true } }
+    {
+        let found = *self;
+        self.latch = true;
+        found
+    }
+
+    /// Publishes a batch. Answers whether a signal must follow: exactly where a wait is armed and
+    /// no latch stands.
+    pub fn publish(&mut self) -> bool
+        ensures asks { result ≡ asks_signal self.old }
+        ensures published { self.new ≡ record self.old { batch = next_batch self.old.batch } }
+    {
+        let asks = self.asks_signal();
+        self.batch = next_batch(self.batch);
+        asks
+    }
+
+    /// Ends a wait: the and of wait bits and latch out of the word. Answers the word that it found.
+    pub fn disarm(&mut self) -> PureWord
+        ensures found { result ≡ self.old }
+        ensures disarmed { self.new ≡ record self.old { target = wait.None; latch = false } }
+    {
+        let found = *self;
+        self.target = WaitTarget::None;
+        self.latch = false;
+        found
+    }
+
+    /// Takes the latch alone out of the word, after a look that found it. Answers the word that it
+    /// found.
+    pub fn consume_signal(&mut self) -> PureWord
+        ensures found { result ≡ self.old }
+        ensures consumed { self.new ≡ record self.old { latch = false } }
+    {
+        let found = *self;
+        self.latch = false;
+        found
+    }
+
+    /// Whether a signal must follow a publication: a wait is armed, and no latch stands.
+    pub fn asks_signal(&self) -> bool
+        ensures { result ≡ asks_signal self.now }
+    {
+        self.target != WaitTarget::None && !self.latch
+    }
+
+    /// Whether a latch stands.
+    pub fn signalled(&self) -> bool
+        ensures { result ≡ self.now.latch }
+    {
+        self.latch
+    }
+
+    /// Whether a batch was published that isn't among the processed ones. The caller must name a
+    /// number of at most `SUBMISSION_SEQ_MASK`.
+    pub fn pending(&self, processed: u32) -> bool
+        requires { processed < 2 ^ 29 }
+        ensures { result ≡ not (self.now.batch == processed) }
+    {
+        self.batch != processed
+    }
+
+    /// Whether a wait that found this word may begin: no latch stands, and all batches are
+    /// processed. The caller must name a number of at most `SUBMISSION_SEQ_MASK`.
+    pub fn still_idle(&self, processed: u32) -> bool
+        requires { processed < 2 ^ 29 }
+        ensures { result ≡ is_idle_at self.now processed }
+    {
+        !self.latch && self.batch == processed
+    }
+}
+
+/// The number of the batch after this one, modulo 2^29.
+pub fn next_batch(batch: u32) -> u32
+    ensures next { result ≡ next_batch batch }
+    ensures in_range { result < 2 ^ 29 }
+{
+    batch.wrapping_add(1) % BATCHES
+}
