@@ -163,13 +163,13 @@ fn land(
     } else {
         WaiterState::Active { target_tick: None }
     };
-    if !request.may_give(given) {
-        return Err(Fault::Condition);
-    }
     if let OpResult::Count(count) = given {
         known.moved = known
             .moved
             .saturating_add(move_bytes(request, alloc, known.moved, count)?);
+    }
+    if !request.may_give(given) {
+        return Err(Fault::Condition);
     }
     match request.on_cqe(state, given, record) {
         Some(ended) => {
