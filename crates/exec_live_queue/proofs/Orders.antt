@@ -1,0 +1,86 @@
+-- The numbers of a run queue after each step.
+use Rattle.std.proofs.Common.{◌≡◌, ℕ, ◌+◌, ◌-◌, ◌*◌, ◌/◌, ◌%◌, ◌^◌, ◌<◌, ◌≤◌, ◌⊎◌, List, sym, refl, ap, ◌∙◌, subst, inl, inr, ⊎_elim, le_refl, arith}
+use mathlib.Core.Logic.{dite}
+use native.Mathlib.Decide.{dec_le}
+use Rattle.std.proofs.Common.{lt_of_not-le}
+use Rattle.exec_live_queue.specs.declared.view.Own.{Own}
+use Rattle.exec_live_queue.specs.Numbers.{head_word, Outside, BesideClaim, InOrder}
+use Rattle.exec_live_queue.specs.Plays.{room}
+
+-- no label is out where none is
+pub outside_none : (at n l : ℕ) → n ≡ 0 → Outside at n l
+outside_none at n l e = dite (dec_le at l) (λ le. inr (omega arith)) (λ ne. inl (lt_of_not-le ne))
+
+module _ {T : Type 0} where
+  -- the gap fits below the count in the head's word
+  pub gap_fits : (d : Own T) (real gap claimed : ℕ) → InOrder d real gap claimed → gap < 512
+  gap_fits d real gap claimed o = let a : d.tail + gap ≤ real + 256 = o.within in let b : real ≤ d.tail = o.behind in omega arith
+
+  -- the owner sees this head, and n free slots behind the tail go out with it
+  pub laid_order : (d : Own T) (real gap claimed n : ℕ) → InOrder d real gap claimed → d.aside ≡ 0 → n ≤ room d.tail real gap
+      → InOrder record d { saw_real = real; saw_gap = gap; out_at = d.tail; out_len = n } real gap claimed
+  laid_order d real gap claimed n o whole small = let t : ℕ = d.tail in let w : t + gap ≤ real + 256 = o.within in let z : d.aside ≡ 0 = whole in let free : n ≤ real + 256 - (t + gap) = small in
+      let fits : t + n + gap ≤ real + 256 = omega arith in let inside : t + n ≤ real + 256 = omega arith in let from : t + d.aside ≤ t = omega arith in record {
+        begun = o.begun;
+        behind = o.behind;
+        within = o.within;
+        counted = o.counted;
+        claim = o.claim;
+        aside = o.aside;
+        out_free = inr (from, inside);
+        out_beside = inr (inr (inl fits));
+        saw_before = le_refl real;
+        saw_room = le_refl (real + gap);
+        saw_still = λ _. inl refl;
+        saw_lone = λ e _. (refl, e);
+      }
+
+  -- the owner sees this head, and nothing is out with it any more
+  pub returned_order : (d : Own T) (real gap claimed : ℕ) → InOrder d real gap claimed → InOrder record d { saw_real = real; saw_gap = gap; out_at = d.tail; out_len = 0 } real gap claimed
+  returned_order d real gap claimed o = record {
+    begun = o.begun;
+    behind = o.behind;
+    within = o.within;
+    counted = o.counted;
+    claim = o.claim;
+    aside = o.aside;
+    out_free = inl refl;
+    out_beside = inl refl;
+    saw_before = le_refl real;
+    saw_room = le_refl (real + gap);
+    saw_still = λ _. inl refl;
+    saw_lone = λ e _. (refl, e);
+  }
+
+  -- the owner shows the n values that it carries behind the others
+  pub published_order : (d : Own T) (real gap claimed n : ℕ) (log : List T) → InOrder d real gap claimed → d.aside ≡ 0 → d.out_at ≡ d.tail → d.out_len ≡ n → d.tail + n + 256 ≤ 2 ^ 55
+      → (d.tail + n + gap ≤ real + 256) × InOrder record d { tail = d.tail + n; log = log; out_len = 0 } real gap claimed
+  published_order d real gap claimed n log o whole place many room =
+      let t : ℕ = d.tail in let z : d.aside ≡ 0 = whole in let p : d.out_at ≡ t = place in let m : d.out_len ≡ n = many in let w : t + gap ≤ real + 256 = o.within in let b : real ≤ t = o.behind in
+      let fits : t + n + gap ≤ real + 256 = ⊎_elim
+      (λ (none_out : d.out_len ≡ 0). omega arith)
+      (λ (lies : (d.tail + d.aside ≤ d.out_at) × (d.out_at + d.out_len ≤ real + 256)). let top : d.out_at + d.out_len ≤ real + 256 = lies.1 in ⊎_elim
+      (λ (none_out : d.out_len ≡ 0). omega arith)
+      (λ (beside : (gap ≡ 0) ⊎ ((d.out_at + d.out_len + gap ≤ real + 256) ⊎ (real + 256 + claimed ≤ d.out_at + gap))). ⊎_elim
+      (λ (free : gap ≡ 0). omega arith)
+      (λ (side : (d.out_at + d.out_len + gap ≤ real + 256) ⊎ (real + 256 + claimed ≤ d.out_at + gap)). ⊎_elim
+      (λ (before : d.out_at + d.out_len + gap ≤ real + 256). omega arith)
+      (λ (after : real + 256 + claimed ≤ d.out_at + gap). ⊎_elim
+      (λ (no_claim : (gap ≡ 0) × (claimed ≡ 0)). let e : gap ≡ 0 = no_claim.0 in omega arith)
+      (λ (one : (0 < claimed) × (claimed ≤ 128) × (claimed ≤ gap)). let pos : 0 < claimed = one.0 in absurd (omega arith)) o.claim) side) beside) o.out_beside) o.out_free in (
+        fits,
+        record {
+          begun = o.begun;
+          behind = omega arith;
+          within = fits;
+          counted = omega arith;
+          claim = o.claim;
+          aside = inl whole;
+          out_free = inl refl;
+          out_beside = inl refl;
+          saw_before = o.saw_before;
+          saw_room = o.saw_room;
+          saw_still = o.saw_still;
+          saw_lone = λ e (lone : t + n ≤ d.saw_real + 1). o.saw_lone e (omega arith);
+        },
+      )

@@ -1,0 +1,67 @@
+-- The owner's load of the head at which it gives its empty slots back keeps the rule.
+use Rattle.std.proofs.Common.{◌≡◌, ◌≢◌, ℕ, zero, suc, ◌+◌, ◌-◌, ◌*◌, ◌/◌, ◌%◌, ◌<◌, ◌≤◌, ◌⊎◌, List, [], ◌∷◌, ◌++◌, length, set, replicate, sym, refl, ap, ◌∙◌, subst, inl, inr, ⊎_elim, le_refl, lt_of_not-le, arith}
+use Rattle.std.proofs.lemmas.List.{length-replicate}
+use mathlib.Core.Option.{none, some}
+use mathlib.Core.Logic.{dite}
+use native.Mathlib.Decide.{dec_le}
+use lib.ListN.{get_elem?}
+use Rattle.std.specs.Prelude.{Option, Some, None, slice_index}
+use Rattle.atomic_table.specs.Table.{State, Me, Act, step, Valid, carried_after, homes_after, Allows}
+use Rattle.exec_live_queue.specs.declared.view.Own.{Own}
+use Rattle.exec_live_queue.specs.declared.view.View.{View}
+use Rattle.exec_live_queue.specs.declared.view.Stage.TheVariants.{Owns}
+use Rattle.exec_live_queue.specs.Numbers.{head_word, filled, Outside, BesideClaim, InOrder}
+use Rattle.exec_live_queue.specs.Live.{Homes, HomeAt, FullAt, Kept, LiveQueue}
+use Rattle.exec_live_queue.specs.Plays.{Sat, hand, give_all, saw, out, returned}
+use Rattle.exec_live_queue.proofs.Hands.{give_before, give_behind, give_here, give_valid, give_carried, give_length, free_at}
+use Rattle.exec_live_queue.proofs.Orders.{gap_fits, returned_order}
+use Rattle.exec_live_queue.proofs.Rebuild.{as_owner, rebuilt}
+use Rattle.exec_live_queue.proofs.Looks.{count_of_word, gap_of_word}
+
+module _ {T : Type 0} where
+  abbrev Empty : ℕ → List (Option T)
+  Empty n = replicate n None
+
+  -- where the slots that are out with the owner lie
+  out_lies : (d : Own T) (real gap claimed : ℕ) → InOrder d real gap claimed → 0 < d.out_len → (d.tail + d.aside ≤ d.out_at) × (d.out_at + d.out_len ≤ real + 256)
+  out_lies d real gap claimed o pos = ⊎_elim (λ (e : d.out_len ≡ 0). absurd (omega arith)) (λ (lies : (d.tail + d.aside ≤ d.out_at) × (d.out_at + d.out_len ≤ real + 256)). lies) o.out_free
+
+  -- the rule after a load at which n empty slots came home from the owner
+  returned_kept : (start : ℕ) (s : State (Option T) (View T)) (v : View T) (k : Kept start v s) (n : ℕ) → get_elem? s.views 0 ≡ some v → v.stage ≡ Owns → v.own.out_len ≡ n → 0 < n
+      → LiveQueue start record { words = s.words; homes = homes_after s.homes (hand v.own.out_at (Empty n)) (give_all (Empty n)); views = set s.views 0 (out (saw v k.real k.gap) v.own.tail 0) }
+  returned_kept start s v k n at owns is pos =
+      let a : ℕ = v.own.out_at in let real : ℕ = k.real in let gap : ℕ = k.gap in let o = k.order in let len : length (Empty n) ≡ n = length-replicate n None in
+      let p : 0 < v.own.out_len = omega arith in let lies = out_lies v.own real gap k.claimed o p in let low : filled v.own ≤ a = lies.0 in let top : a + v.own.out_len ≤ real + 256 = lies.1 in
+      let top' : a + n ≤ real + 256 = omega arith in let below : real ≤ v.own.tail = o.behind in let room : n ≤ 256 = omega arith in
+      let homes' : Homes T = homes_after s.homes (hand a (Empty n)) (give_all (Empty n)) in let small : length (Empty n) ≤ 256 = omega (arith, len) in
+      let here = give_here (Empty n) s.homes a small k.slots in
+      rebuilt start s v (out (saw v real gap) v.own.tail 0) k s.words homes' real gap at owns owns k.from (give_length (Empty n) s.homes a ∙ k.slots) k.words
+      (returned_order v.own real gap k.claimed o) k.long (le_refl v.own.tail) (le_refl real) (λ q. (q, refl)) (λ q. q)
+      (λ l le lt. let f = k.full l le lt in let lt' : l < a = omega arith in (f.0, f.1, give_before (Empty n) s.homes a l lt' (omega (arith, len)) ∙ f.2))
+      (λ l le lt beside outside. dite (dec_le a l)
+      (λ (ge : a ≤ l). dite (dec_le (a + n) l)
+      (λ (far : a + n ≤ l). give_behind (Empty n) s.homes a l (omega (arith, len)) (omega arith) ∙ k.free l le lt beside (inr (omega arith)))
+      (λ ne. free_at n homes' a l here ge (lt_of_not-le ne)))
+      (λ ne. let lt' : l < a = lt_of_not-le ne in give_before (Empty n) s.homes a l lt' (omega (arith, len)) ∙ k.free l le lt beside (inl lt')))
+      refl (λ l x e. e) (λ weight. refl)
+
+  pub returns : (start id : ℕ) (me : Sat T) (n : ℕ) → me.0.stage ≡ Owns → me.0.own.out_len ≡ n → 0 < n → me.1 ≡ hand me.0.own.out_at (replicate n None)
+      → Allows (LiveQueue start) 256 id me 0 (λ x. x) (returned (step 256 0 0 0 none) me)
+  returns start id me n owns is pos carries s q wide at lt =
+      let own = as_owner start s id me.0 q at owns in let k = own.1 in let real : ℕ = k.real in let gap : ℕ = k.gap in let v : View T = me.0 in let t : ℕ = v.own.tail in
+      let at0 : get_elem? s.views 0 ≡ some v = subst (λ (i : ℕ). get_elem? s.views i ≡ some v) own.0 at in let small : gap < 512 = gap_fits v.own real gap k.claimed k.order in
+      let c : head_word real gap / 512 ≡ real = count_of_word real gap small in let g : head_word real gap % 512 ≡ gap = gap_of_word real gap small in
+      let told : (R H : ℕ) → R ≡ real → H ≡ gap → ((claimed : ℕ) × InOrder v.own R H claimed) × (out (saw v real gap) t 0 ≡ out (saw v R H) t 0)
+      = λ R H e h. subst (λ (R' : ℕ). ((claimed : ℕ) × InOrder v.own R' H claimed) × (out (saw v real gap) t 0 ≡ out (saw v R' H) t 0)) (sym e)
+      (subst (λ (H' : ℕ). ((claimed : ℕ) × InOrder v.own real H' claimed) × (out (saw v real gap) t 0 ≡ out (saw v real H') t 0)) (sym h) ((k.claimed, k.order), refl)) in
+      let G : List ℕ → List (ℕ × Option T) → ℕ → Type 0 = λ ws h i. (w : View T) × (a : Act (Option T)) × Valid s.homes h a
+      × LiveQueue start record { words = set ws 0 (slice_index ws 0); homes = homes_after s.homes h a; views = set s.views i w } × returned (step 256 0 0 0 none) me (slice_index ws 0) (w, carried_after h a) in
+      let got = told (head_word real gap / 512) (head_word real gap % 512) c g in let back : List (ℕ × Option T) = hand v.own.out_at (Empty n) in
+      let body : G (head_word real gap ∷ t ∷ []) back 0 = (
+        out (saw v real gap) t 0,
+        give_all (Empty n),
+        give_valid (Empty n) s.homes back,
+        subst (λ (ws : List ℕ). LiveQueue start record { words = ws; homes = homes_after s.homes back (give_all (Empty n)); views = set s.views 0 (out (saw v real gap) t 0) }) k.words (returned_kept start s v k n at0 owns is pos),
+        (got.0, λ j. (got.1 j, give_carried (Empty n) v.own.out_at j)),
+      ) in
+      subst (λ (ws : List ℕ). G ws me.1 id) (sym k.words) (subst (λ (h : List (ℕ × Option T)). G (head_word real gap ∷ t ∷ []) h id) (sym carries) (subst (G (head_word real gap ∷ t ∷ []) back) (sym own.0) body))

@@ -1,0 +1,4 @@
+pub mod Live
+pub mod Numbers
+pub mod Plays
+pub mod Seats
