@@ -1,6 +1,8 @@
 pub mod Hands
+pub mod Labels
 pub mod Looks
 pub mod Orders
+pub mod Pops
 pub mod Publishes
 pub mod Rebuild
 pub mod Returns

@@ -14,7 +14,7 @@ use Rattle.exec_live_queue.specs.Live.{Homes, HomeAt, FullAt, Kept, LiveQueue}
 use Rattle.exec_live_queue.specs.Plays.{Sat, Told, room, hand, take_all, saw, out, Found, laid}
 use Rattle.exec_live_queue.proofs.Hands.{take_before, take_behind, take_valid, take_carried, take_length, all_free}
 use Rattle.exec_live_queue.proofs.Orders.{outside_none, gap_fits, laid_order}
-use Rattle.exec_live_queue.proofs.Rebuild.{as_owner, rebuilt}
+use Rattle.exec_live_queue.proofs.Rebuild.{Gives, rebuilt, owner_steps}
 
 -- the head that was found is taken apart again
 pub count_of_word : (real gap : ℕ) → gap < 512 → head_word real gap / 512 ≡ real
@@ -55,26 +55,25 @@ module _ {T : Type 0} where
   Laid v R G f m = m ≡ (out (saw v R G) v.own.tail (f (room v.own.tail R G)), hand v.own.tail (Vacant (f (room v.own.tail R G))))
 
   -- `f` says how many slots to take of those that are free
-  pub lays : (start : ℕ) (id : ℕ) (me : Sat T) (f : ℕ → ℕ) → ((r : ℕ) → f r ≤ r) → me.0.stage ≡ Owns → me.0.own.aside ≡ 0 → me.0.own.out_len ≡ 0 → me.1 ≡ []
-      → Allows (LiveQueue start) 256 id me 0 (λ n. n) (laid f (step 256 0 0 0 none) me)
-  lays start id me f most owns aside none_out empty s q wide at lt =
-      let own = as_owner start s id me.0 q at owns in let k = own.1 in let real : ℕ = k.real in let gap : ℕ = k.gap in let v : View T = me.0 in let t : ℕ = v.own.tail in
-      let at0 : get_elem? s.views 0 ≡ some v = subst (λ (i : ℕ). get_elem? s.views i ≡ some v) own.0 at in let small : gap < 512 = gap_fits v.own real gap k.claimed k.order in
-      let n : ℕ = f (room t real gap) in let slots : List (Option T) = Vacant n in
-      let c : head_word real gap / 512 ≡ real = count_of_word real gap small in let g : head_word real gap % 512 ≡ gap = gap_of_word real gap small in
-      let told : (R G : ℕ) → R ≡ real → G ≡ gap → ((claimed : ℕ) × InOrder v.own R G claimed) × Laid v R G f (out (saw v real gap) t n, hand t slots)
-      = λ R G e h. subst (λ (R' : ℕ). ((claimed : ℕ) × InOrder v.own R' G claimed) × Laid v R' G f (out (saw v real gap) t n, hand t slots)) (sym e)
-      (subst (λ (G' : ℕ). ((claimed : ℕ) × InOrder v.own real G' claimed) × Laid v real G' f (out (saw v real gap) t n, hand t slots)) (sym h)
-      ((k.claimed, k.order), refl)) in
-      let G : List ℕ → List (ℕ × Option T) → ℕ → Type 0 = λ ws c i. (w : View T) × (a : Act (Option T)) × Valid s.homes c a
-      × LiveQueue start record { words = set ws 0 (slice_index ws 0); homes = homes_after s.homes c a; views = set s.views i w } × laid f (step 256 0 0 0 none) me (slice_index ws 0) (w, carried_after c a) in
-      let got = told (head_word real gap / 512) (head_word real gap % 512) c g in
-      let body : G (head_word real gap ∷ t ∷ []) [] 0 = (
+  pub lays_here : (start : ℕ) (me : Sat T) (f : ℕ → ℕ) → ((r : ℕ) → f r ≤ r) → me.0.stage ≡ Owns → me.0.own.aside ≡ 0 → me.0.own.out_len ≡ 0
+      → (s : State (Option T) (View T)) (k : Kept start me.0 s) → get_elem? s.views 0 ≡ some me.0
+      → Gives start s 0 (λ n. n) (laid f (step 256 0 0 0 none) me) (head_word k.real k.gap ∷ me.0.own.tail ∷ []) [] 0
+  lays_here start me f most owns aside none_out s k at0 =
+      let real : ℕ = k.real in let gap : ℕ = k.gap in let v : View T = me.0 in let t : ℕ = v.own.tail in let small : gap < 512 = gap_fits v.own real gap k.claimed k.order in
+      let n : ℕ = f (room t real gap) in let slots : List (Option T) = Vacant n in let hw : ℕ = head_word real gap in
+      let c : real ≡ hw / 512 = sym (count_of_word real gap small) in let g : gap ≡ hw % 512 = sym (gap_of_word real gap small) in
+      let told : (R G : ℕ) → real ≡ R → gap ≡ G → ((claimed : ℕ) × InOrder v.own R G claimed) × Laid v R G f (out (saw v real gap) t n, hand t slots)
+      = λ R G e h. subst (λ (R' : ℕ). ((claimed : ℕ) × InOrder v.own R' G claimed) × Laid v R' G f (out (saw v real gap) t n, hand t slots)) e
+      (subst (λ (G' : ℕ). ((claimed : ℕ) × InOrder v.own real G' claimed) × Laid v real G' f (out (saw v real gap) t n, hand t slots)) h ((k.claimed, k.order), refl)) in
+      let got = told (hw / 512) (hw % 512) c g in let carried : hand t slots ++ [] ≡ hand t slots = append-nil (hand t slots) in (
         out (saw v real gap) t n,
         take_all t slots,
         laid_valid start s v k n aside none_out (most (room t real gap)),
         subst (λ (ws : List ℕ). LiveQueue start record { words = ws; homes = homes_after s.homes [] (take_all t slots); views = set s.views 0 (out (saw v real gap) t n) }) k.words
             (laid_kept start s v k n at0 owns aside none_out (most (room t real gap))),
-        (got.0, ap (λ (c' : List (ℕ × Option T)). (out (saw v real gap) t n, c')) (take_carried slots [] t ∙ append-nil (hand t slots)) ∙ got.1),
-      ) in
-      subst (λ (ws : List ℕ). G ws me.1 id) (sym k.words) (subst (λ (c' : List (ℕ × Option T)). G (head_word real gap ∷ t ∷ []) c' id) (sym empty) (subst (G (head_word real gap ∷ t ∷ []) []) (sym own.0) body))
+        (got.0, ap (λ (c' : List (ℕ × Option T)). (out (saw v real gap) t n, c')) (take_carried slots [] t ∙ carried) ∙ got.1),
+      )
+
+  pub lays : (start : ℕ) (id : ℕ) (me : Sat T) (f : ℕ → ℕ) → ((r : ℕ) → f r ≤ r) → me.0.stage ≡ Owns → me.0.own.aside ≡ 0 → me.0.own.out_len ≡ 0 → me.1 ≡ []
+      → Allows (LiveQueue start) 256 id me 0 (λ n. n) (laid f (step 256 0 0 0 none) me)
+  lays start id me f most owns aside none_out empty = owner_steps start id 0 me [] (λ n. n) (laid f (step 256 0 0 0 none) me) owns empty (λ s k at0. lays_here start me f most owns aside none_out s k at0)

@@ -1,11 +1,11 @@
 -- The numbers of a run queue after each step.
-use Rattle.std.proofs.Common.{◌≡◌, ℕ, ◌+◌, ◌-◌, ◌*◌, ◌/◌, ◌%◌, ◌^◌, ◌<◌, ◌≤◌, ◌⊎◌, List, sym, refl, ap, ◌∙◌, subst, inl, inr, ⊎_elim, le_refl, arith}
+use Rattle.std.proofs.Common.{◌≡◌, ℕ, zero, suc, ◌+◌, ◌-◌, ◌*◌, ◌/◌, ◌%◌, ◌^◌, ◌<◌, ◌≤◌, ◌⊎◌, List, sym, refl, ap, ◌∙◌, subst, inl, inr, ⊎_elim, le_refl, arith}
 use mathlib.Core.Logic.{dite}
-use native.Mathlib.Decide.{dec_le}
-use Rattle.std.proofs.Common.{lt_of_not-le}
+use native.Mathlib.Decide.{dec_le, ℕ_discrete}
+use Rattle.std.proofs.Common.{lt_of_not-le, Bool, cond, ne_eqb}
 use Rattle.exec_live_queue.specs.declared.view.Own.{Own}
 use Rattle.exec_live_queue.specs.Numbers.{head_word, Outside, BesideClaim, InOrder}
-use Rattle.exec_live_queue.specs.Plays.{room}
+use Rattle.exec_live_queue.specs.Plays.{room, after_pop}
 
 -- no label is out where none is
 pub outside_none : (at n l : ℕ) → n ≡ 0 → Outside at n l
@@ -84,3 +84,31 @@ module _ {T : Type 0} where
           saw_lone = λ e (lone : t + n ≤ d.saw_real + 1). o.saw_lone e (omega arith);
         },
       )
+
+-- the gap after a pop
+pub pop_gap : (real gap : ℕ) → ((gap ≡ 0) × ((after_pop real gap).gap ≡ 0)) ⊎ ((0 < gap) × ((after_pop real gap).gap ≡ gap + 1))
+pop_gap real gap = dite (ℕ_discrete gap 0) (λ e. inl (e, ap (λ (g : ℕ). (after_pop real g).gap) e)) (λ ne. inr (omega arith, ap (λ (b : Bool). cond b 0 (gap + 1)) (ne_eqb gap 0 ne)))
+
+module _ {T : Type 0} where
+  -- the owner pops the front label
+  pub popped_order : (d : Own T) (real gap gap' claimed : ℕ) (popped : List ℕ) → InOrder d real gap claimed → d.aside ≡ 0 → real < d.tail
+      → ((gap ≡ 0) × (gap' ≡ 0)) ⊎ ((0 < gap) × (gap' ≡ gap + 1))
+      → InOrder record d { out_at = real + 256; out_len = 1; saw_real = real + 1; saw_gap = gap'; popped = popped } (real + 1) gap' claimed
+  popped_order d real gap gap' claimed popped o whole some wide =
+      let t : ℕ = d.tail in let w : t + gap ≤ real + 256 = o.within in let b : d.start ≤ real = o.begun in let z : d.aside ≡ 0 = whole in
+      let grows : gap' ≤ gap + 1 = omega (arith, wide) in let from : t + d.aside ≤ real + 256 = omega arith in record {
+        begun = omega arith;
+        behind = omega arith;
+        within = omega arith;
+        counted = o.counted;
+        claim = ⊎_elim (λ (e : (gap ≡ 0) × (claimed ≡ 0)). inl (omega (arith, wide, e.0), e.1)) (λ (c : (0 < claimed) × (claimed ≤ 128) × (claimed ≤ gap)). inr (c.0, c.1, omega (arith, wide, c.0, c.2))) o.claim;
+        aside = inl whole;
+        out_free = inr (from, omega arith);
+        out_beside = inr (⊎_elim (λ (e : (gap ≡ 0) × (gap' ≡ 0)). inl e.1) (λ (g : (0 < gap) × (gap' ≡ gap + 1)). inr (inr (⊎_elim
+            (λ (e : (gap ≡ 0) × (claimed ≡ 0)). absurd (omega (arith, e.0, g.0)))
+            (λ (c : (0 < claimed) × (claimed ≤ 128) × (claimed ≤ gap)). omega (arith, c.2, g.1)) o.claim))) wide);
+        saw_before = le_refl (real + 1);
+        saw_room = le_refl (real + 1 + gap');
+        saw_still = λ _. inl refl;
+        saw_lone = λ e _. (refl, e);
+      }

@@ -2,11 +2,13 @@
 use Rattle.std.proofs.Common.{◌≡◌, ◌≢◌, ℕ, zero, suc, ◌+◌, ◌-◌, ◌%◌, ◌<◌, ◌≤◌, ◌⊎◌, List, [], ◌∷◌, length, set, sym, refl, ap, ◌∙◌, subst, inl, inr, ⊎_elim, arith}
 use mathlib.Core.Option.{none, some, some-injective, some-ne-none}
 use lib.ListN.{get_elem?}
-use Rattle.std.specs.Prelude.{Option, Some, None}
+use Rattle.std.specs.Prelude.{Option, Some, None, slice_index}
 use Rattle.std.specs.List.{sum_by}
 use Rattle.std.proofs.lemmas.List.Sums.{sum_by-cons}
-use Rattle.atomic_table.specs.Table.{State}
-use Rattle.atomic_table.proofs.Lists.{at_set, set_here, set_else}
+use Rattle.atomic_table.specs.Table.{State, Act, Valid, carried_after, homes_after, Allows}
+use prog.Atomic.{either}
+use Rattle.std.proofs.Common.{eqb}
+use Rattle.atomic_table.proofs.Lists.{at_set, set_here, set_else, exchanged}
 use Rattle.exec_live_queue.specs.declared.view.Own.{Own}
 use Rattle.exec_live_queue.specs.declared.view.Theft.{Theft}
 use Rattle.exec_live_queue.specs.declared.view.View.{View}
@@ -14,6 +16,7 @@ use Rattle.exec_live_queue.specs.declared.view.Stage.{Stage}
 use Rattle.exec_live_queue.specs.declared.view.Stage.TheVariants.{Owns, Idle, SawHead, SawTail, Claimed}
 use Rattle.exec_live_queue.specs.Numbers.{head_word, filled, Outside, BesideClaim, InOrder}
 use Rattle.exec_live_queue.specs.Live.{labels, Homes, HomeAt, FullAt, weight_of, Knows, AsLogged, Kept, LiveQueue}
+use Rattle.exec_live_queue.specs.Plays.{Sat}
 
 -- one item of a sum is another
 pub sum_set : {X : Type 0} (f : X → ℕ) (xs : List X) (i : ℕ) (x y : X) → get_elem? xs i ≡ some x → sum_by f (set xs i y) + f x ≡ sum_by f xs + f y
@@ -44,7 +47,7 @@ module _ {T : Type 0} where
 
   -- a longer log of the same start says the same of what was taken
   logged_on : (d d' : Own T) (t : Theft T) → d'.start ≡ d.start → ((l : ℕ) (x : T) → get_elem? d.log l ≡ some x → get_elem? d'.log l ≡ some x) → AsLogged d t → AsLogged d' t
-  logged_on d d' t starts longer old i l e = let o = old i l e in (o.0, o.1, subst (λ (a : ℕ). get_elem? d'.log (l - a) ≡ some o.0) (sym starts) (longer (l - d.start) o.0 o.2))
+  logged_on d d' t starts longer old = (old.0, λ i l e. let o = old.1 i l e in (o.0, o.1, subst (λ (a : ℕ). get_elem? d'.log (l - a) ≡ some o.0) (sym starts) (longer (l - d.start) o.0 o.2)))
 
   -- the owner's view becomes v', and what the owner must show of its own numbers, slots and labels
   pub rebuilt : (start : ℕ) (s : State (Option T) (View T)) (v v' : View T) (k : Kept start v s) (ws : List ℕ) (homes : Homes T) (real gap : ℕ)
@@ -89,3 +92,35 @@ module _ {T : Type 0} where
           told = λ w. let a = sum_set (weight_of w) s.views 0 v v' at in let b = k.told w in let c = told w in omega (arith, a, b, c);
         };
       }
+
+  -- what a step must give that writes x, where the words are these, the seat carries these slots and has this number
+  abbrev pub Puts : ℕ → State (Option T) (View T) → ℕ → ℕ → (Sat T → Type 0) → List ℕ → List (ℕ × Option T) → ℕ → Type 0
+  Puts start s i x then ws c id = (w : View T) × (a : Act (Option T)) × Valid s.homes c a
+      × LiveQueue start record { words = set ws i x; homes = homes_after s.homes c a; views = set s.views id w } × then (w, carried_after c a)
+
+  abbrev pub Gives : ℕ → State (Option T) (View T) → ℕ → (ℕ → ℕ) → (ℕ → Sat T → Type 0) → List ℕ → List (ℕ × Option T) → ℕ → Type 0
+  Gives start s i f then ws c id = Puts start s i (f (slice_index ws i)) (then (slice_index ws i)) ws c id
+
+  -- an exchange that hits or misses
+  pub exchanges : (start : ℕ) (s : State (Option T) (View T)) (ws : List ℕ) (c : List (ℕ × Option T)) (id found old new : ℕ) (hit miss : Sat T → Type 0)
+      → (found ≡ old → Puts start s 0 new hit ws c id) → (found ≢ old → Puts start s 0 found miss ws c id)
+      → Puts start s 0 (either (eqb found old) new found) (λ m. (found ≡ old → hit m) × (found ≢ old → miss m)) ws c id
+  exchanges start s ws c id found old new hit miss on_hit on_miss = exchanged found old new (λ x. Puts start s 0 x (λ m. (found ≡ old → hit m) × (found ≢ old → miss m)) ws c id)
+      (λ e. let p = on_hit e in (p.0, p.1, p.2, p.3, ((λ _. p.4), (λ ne. absurd (ne e)))))
+      (λ ne. let p = on_miss ne in (p.0, p.1, p.2, p.3, ((λ e. absurd (ne e)), (λ _. p.4))))
+
+  -- what a step of the owner must show
+  pub owner_steps : (start id i : ℕ) (me : Sat T) (c : List (ℕ × Option T)) (f : ℕ → ℕ) (then : ℕ → Sat T → Type 0) → me.0.stage ≡ Owns → me.1 ≡ c
+      → ((s : State (Option T) (View T)) (k : Kept start me.0 s) → get_elem? s.views 0 ≡ some me.0 → Gives start s i f then (head_word k.real k.gap ∷ me.0.own.tail ∷ []) c 0)
+      → Allows (LiveQueue start) 256 id me i f then
+  owner_steps start id i me c f then owns carries step s q wide at lt =
+      let own = as_owner start s id me.0 q at owns in let k = own.1 in let ws : List ℕ = head_word k.real k.gap ∷ me.0.own.tail ∷ [] in
+      let at0 : get_elem? s.views 0 ≡ some me.0 = subst (λ (j : ℕ). get_elem? s.views j ≡ some me.0) own.0 at in
+      subst (λ (l : List ℕ). Gives start s i f then l me.1 id) (sym k.words) (subst (λ (c' : List (ℕ × Option T)). Gives start s i f then ws c' id) (sym carries) (subst (Gives start s i f then ws c) (sym own.0) (step s k at0)))
+
+  -- what a step of a thief must show
+  pub thief_steps : (start id i : ℕ) (me : Sat T) (c : List (ℕ × Option T)) (f : ℕ → ℕ) (then : ℕ → Sat T → Type 0) → me.1 ≡ c
+      → ((s : State (Option T) (View T)) (q : LiveQueue start s) → get_elem? s.views id ≡ some me.0 → Gives start s i f then (head_word q.kept.real q.kept.gap ∷ q.view.own.tail ∷ []) c id)
+      → Allows (LiveQueue start) 256 id me i f then
+  thief_steps start id i me c f then carries step s q wide at lt =
+      subst (λ (l : List ℕ). Gives start s i f then l me.1 id) (sym q.kept.words) (subst (λ (c' : List (ℕ × Option T)). Gives start s i f then (head_word q.kept.real q.kept.gap ∷ q.view.own.tail ∷ []) c' id) (sym carries) (step s q at))

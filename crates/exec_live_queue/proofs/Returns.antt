@@ -15,7 +15,7 @@ use Rattle.exec_live_queue.specs.Live.{Homes, HomeAt, FullAt, Kept, LiveQueue}
 use Rattle.exec_live_queue.specs.Plays.{Sat, hand, give_all, saw, out, returned}
 use Rattle.exec_live_queue.proofs.Hands.{give_before, give_behind, give_here, give_valid, give_carried, give_length, free_at}
 use Rattle.exec_live_queue.proofs.Orders.{gap_fits, returned_order}
-use Rattle.exec_live_queue.proofs.Rebuild.{as_owner, rebuilt}
+use Rattle.exec_live_queue.proofs.Rebuild.{rebuilt, owner_steps}
 use Rattle.exec_live_queue.proofs.Looks.{count_of_word, gap_of_word}
 
 module _ {T : Type 0} where
@@ -47,21 +47,16 @@ module _ {T : Type 0} where
 
   pub returns : (start id : ℕ) (me : Sat T) (n : ℕ) → me.0.stage ≡ Owns → me.0.own.out_len ≡ n → 0 < n → me.1 ≡ hand me.0.own.out_at (replicate n None)
       → Allows (LiveQueue start) 256 id me 0 (λ x. x) (returned (step 256 0 0 0 none) me)
-  returns start id me n owns is pos carries s q wide at lt =
-      let own = as_owner start s id me.0 q at owns in let k = own.1 in let real : ℕ = k.real in let gap : ℕ = k.gap in let v : View T = me.0 in let t : ℕ = v.own.tail in
-      let at0 : get_elem? s.views 0 ≡ some v = subst (λ (i : ℕ). get_elem? s.views i ≡ some v) own.0 at in let small : gap < 512 = gap_fits v.own real gap k.claimed k.order in
-      let c : head_word real gap / 512 ≡ real = count_of_word real gap small in let g : head_word real gap % 512 ≡ gap = gap_of_word real gap small in
-      let told : (R H : ℕ) → R ≡ real → H ≡ gap → ((claimed : ℕ) × InOrder v.own R H claimed) × (out (saw v real gap) t 0 ≡ out (saw v R H) t 0)
-      = λ R H e h. subst (λ (R' : ℕ). ((claimed : ℕ) × InOrder v.own R' H claimed) × (out (saw v real gap) t 0 ≡ out (saw v R' H) t 0)) (sym e)
-      (subst (λ (H' : ℕ). ((claimed : ℕ) × InOrder v.own real H' claimed) × (out (saw v real gap) t 0 ≡ out (saw v real H') t 0)) (sym h) ((k.claimed, k.order), refl)) in
-      let G : List ℕ → List (ℕ × Option T) → ℕ → Type 0 = λ ws h i. (w : View T) × (a : Act (Option T)) × Valid s.homes h a
-      × LiveQueue start record { words = set ws 0 (slice_index ws 0); homes = homes_after s.homes h a; views = set s.views i w } × returned (step 256 0 0 0 none) me (slice_index ws 0) (w, carried_after h a) in
-      let got = told (head_word real gap / 512) (head_word real gap % 512) c g in let back : List (ℕ × Option T) = hand v.own.out_at (Empty n) in
-      let body : G (head_word real gap ∷ t ∷ []) back 0 = (
+  returns start id me n owns is pos carries = owner_steps start id 0 me (hand me.0.own.out_at (replicate n None)) (λ x. x) (returned (step 256 0 0 0 none) me) owns carries (λ s k at0.
+      let real : ℕ = k.real in let gap : ℕ = k.gap in let v : View T = me.0 in let t : ℕ = v.own.tail in let small : gap < 512 = gap_fits v.own real gap k.claimed k.order in
+      let hw : ℕ = head_word real gap in let c : real ≡ hw / 512 = sym (count_of_word real gap small) in let g : gap ≡ hw % 512 = sym (gap_of_word real gap small) in
+      let told : (R H : ℕ) → real ≡ R → gap ≡ H → ((claimed : ℕ) × InOrder v.own R H claimed) × (out (saw v real gap) t 0 ≡ out (saw v R H) t 0)
+      = λ R H e h. subst (λ (R' : ℕ). ((claimed : ℕ) × InOrder v.own R' H claimed) × (out (saw v real gap) t 0 ≡ out (saw v R' H) t 0)) e
+      (subst (λ (H' : ℕ). ((claimed : ℕ) × InOrder v.own real H' claimed) × (out (saw v real gap) t 0 ≡ out (saw v real H') t 0)) h ((k.claimed, k.order), refl)) in
+      let got = told (hw / 512) (hw % 512) c g in let back : List (ℕ × Option T) = hand v.own.out_at (Empty n) in (
         out (saw v real gap) t 0,
         give_all (Empty n),
         give_valid (Empty n) s.homes back,
         subst (λ (ws : List ℕ). LiveQueue start record { words = ws; homes = homes_after s.homes back (give_all (Empty n)); views = set s.views 0 (out (saw v real gap) t 0) }) k.words (returned_kept start s v k n at0 owns is pos),
         (got.0, λ j. (got.1 j, give_carried (Empty n) v.own.out_at j)),
-      ) in
-      subst (λ (ws : List ℕ). G ws me.1 id) (sym k.words) (subst (λ (h : List (ℕ × Option T)). G (head_word real gap ∷ t ∷ []) h id) (sym carries) (subst (G (head_word real gap ∷ t ∷ []) back) (sym own.0) body))
+      ))

@@ -1,4 +1,5 @@
 pub mod Live
 pub mod Numbers
 pub mod Plays
+pub mod Pure
 pub mod Seats

@@ -43,7 +43,7 @@ use Rattle.exec_live_queue.specs.declared.view.Stage.TheVariants.{Owns, Idle, Sa
 use Rattle.exec_live_queue.specs.Numbers.{head_word, filled, Outside, BesideClaim, InOrder}
 
 -- the n labels from a on, and what they weigh
-abbrev pub labels : ℕ → ℕ → List ℕ
+unfoldable pub labels : ℕ → ℕ → List ℕ
 labels a zero = []
 labels a (suc n) = a ∷ labels (suc a) n
 
@@ -73,7 +73,7 @@ module _ {T : Type 0} where
 
   -- the values that a seat took from the queue are those that the owner put there
   abbrev pub AsLogged : Own T → Theft T → Type 0
-  AsLogged d t = (i l : ℕ) → get_elem? t.claims i ≡ some l → (x : T) × (get_elem? t.lot i ≡ some x) × (get_elem? d.log (l - d.start) ≡ some x)
+  AsLogged d t = (length t.lot ≡ length t.claims) × ((i l : ℕ) → get_elem? t.claims i ≡ some l → (x : T) × (get_elem? t.lot i ≡ some x) × (get_elem? d.log (l - d.start) ≡ some x))
 
   abbrev pub unread : Theft T
   unread = record { at = 0; gap = 0; upto = 0; claims = []; lot = [] }
