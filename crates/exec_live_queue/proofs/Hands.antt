@@ -1,5 +1,6 @@
 -- The slots of a run of labels: taken out all at once, and given back all at once.
-use Rattle.std.proofs.Common.{◌≡◌, ◌≢◌, ℕ, zero, suc, ◌+◌, ◌%◌, ◌<◌, ◌≤◌, List, [], ◌∷◌, ◌++◌, length, set, replicate, sym, refl, ap, ◌∙◌, subst, mod-lt, length-set, arith}
+use Rattle.std.proofs.Common.{◌≡◌, ◌≢◌, ℕ, zero, suc, ◌+◌, ◌-◌, ◌%◌, ◌<◌, ◌≤◌, List, [], ◌∷◌, ◌++◌, length, map, set, replicate, sym, refl, ap, ap₂, ◌∙◌, subst, mod-lt, length-set, arith}
+use Rattle.std.proofs.Math.Nat.{add-mod_right}
 use mathlib.Core.Option.{none, some}
 use mathlib.Core.Logic.{dite}
 use native.Mathlib.Decide.{ℕ_discrete}
@@ -8,7 +9,7 @@ use Rattle.std.specs.Prelude.{Option, Some, None}
 use Rattle.atomic_table.specs.Table.{Valid, carried_after, homes_after}
 use Rattle.atomic_table.proofs.Lists.{set_here, set_else, one_turn}
 use Rattle.exec_live_queue.specs.Live.{Homes, HomeAt}
-use Rattle.exec_live_queue.specs.Plays.{hand, take_all, give_all}
+use Rattle.exec_live_queue.specs.Plays.{hand, take_all, give_all, values_of}
 
 -- two labels less than 256 apart have slots of their own
 pub apart : (a b : ℕ) → a < b → b < a + 256 → a % 256 ≢ b % 256
@@ -87,3 +88,38 @@ module _ {T : Type 0} where
   pub free_at : (n : ℕ) (hs : Homes T) (a l : ℕ) → AllHome hs a (replicate n None) → a ≤ l → l < a + n → HomeAt hs l None
   free_at zero hs a l home le lt = absurd (omega arith)
   free_at (suc n) hs a l home le lt = dite (ℕ_discrete l a) (λ e. subst (λ (k : ℕ). HomeAt hs k None) (sym e) home.0) (λ ne. free_at n hs (suc a) l home.1 (omega arith) (omega arith))
+
+  -- the same slots serve the labels one turn further on
+  pub hand_turn : (a : ℕ) (xs : List (Option T)) → hand (a + 256) xs ≡ hand a xs
+  hand_turn a [] = refl
+  hand_turn a (x ∷ xs) = let next : suc (a + 256) ≡ suc a + 256 = omega arith in
+      ap₂ (λ (n : ℕ) (l : List (ℕ × Option T)). (n, x) ∷ l) (add-mod_right a 256) (ap (λ (n : ℕ). hand n xs) next ∙ hand_turn (suc a) xs)
+
+  -- the second part of a run that is home
+  pub home_behind : (xs ys : List (Option T)) (hs : Homes T) (a : ℕ) → AllHome hs a (xs ++ ys) → AllHome hs (a + length xs) ys
+  home_behind [] ys hs a home = let e : a ≡ a + zero = omega arith in subst (λ (n : ℕ). AllHome hs n ys) e home
+  home_behind (x ∷ xs) ys hs a home = let e : suc a + length xs ≡ a + suc (length xs) = omega arith in subst (λ (n : ℕ). AllHome hs n ys) e (home_behind xs ys hs (suc a) home.1)
+
+  -- a run of values that are home
+  pub all_full : (ys : List T) (hs : Homes T) (a : ℕ) → ((j : ℕ) (x : T) → get_elem? ys j ≡ some x → HomeAt hs (a + j) (Some x)) → AllHome hs a (map Some ys)
+  all_full [] hs a full = tt
+  all_full (y ∷ ys) hs a full = let here : a + zero ≡ a = omega arith in (
+    subst (λ (n : ℕ). HomeAt hs n (Some y)) here (full zero y refl),
+    all_full ys hs (suc a) (λ j x e. let next : a + suc j ≡ suc a + j = omega arith in subst (λ (n : ℕ). HomeAt hs n (Some x)) next (full (suc j) x e)),
+  )
+
+  -- one of a run of values that are home
+  pub some_at : (xs : List T) (ys : List (Option T)) (hs : Homes T) (a l : ℕ) → AllHome hs a (map Some xs ++ ys) → a ≤ l → l < a + length xs → (x : T) × (get_elem? xs (l - a) ≡ some x) × HomeAt hs l (Some x)
+  some_at [] ys hs a l home le lt = absurd (omega arith)
+  some_at (x ∷ xs) ys hs a l home le lt = dite (ℕ_discrete l a)
+      (λ e. let first : 0 ≡ l - a = omega arith in (x, subst (λ (k : ℕ). get_elem? (x ∷ xs) k ≡ some x) first refl, subst (λ (k : ℕ). HomeAt hs k (Some x)) (sym e) home.0))
+      (λ ne. let r = some_at xs ys hs (suc a) l home.1 (omega arith) (omega arith) in let next : suc (l - suc a) ≡ l - a = omega arith in (r.0, subst (λ (k : ℕ). get_elem? (x ∷ xs) k ≡ some r.0) next r.1, r.2))
+
+  -- the values in the slots of a run, and of empty slots behind it
+  pub no_values : (r a : ℕ) → values_of (hand a (replicate {A = Option T} r None)) ≡ []
+  no_values zero a = refl
+  no_values (suc r) a = no_values r (suc a)
+
+  pub values_in : (xs : List T) (r a : ℕ) → values_of (hand a (map Some xs ++ replicate r None)) ≡ xs
+  values_in [] r a = no_values r a
+  values_in (x ∷ xs) r a = ap (λ (l : List T). x ∷ l) (values_in xs r (suc a))

@@ -2,6 +2,7 @@ pub mod Hands
 pub mod Labels
 pub mod Looks
 pub mod Orders
+pub mod Overflows
 pub mod Pops
 pub mod Publishes
 pub mod Rebuild

@@ -53,11 +53,11 @@ module _ {T : Type 0} where
   }
 
   -- the owner shows the n values that it carries behind the others
-  pub published_order : (d : Own T) (real gap claimed n : ℕ) (log : List T) → InOrder d real gap claimed → d.aside ≡ 0 → d.out_at ≡ d.tail → d.out_len ≡ n → d.tail + n + 256 ≤ 2 ^ 55
-      → (d.tail + n + gap ≤ real + 256) × InOrder record d { tail = d.tail + n; log = log; out_len = 0 } real gap claimed
-  published_order d real gap claimed n log o whole place many room =
-      let t : ℕ = d.tail in let z : d.aside ≡ 0 = whole in let p : d.out_at ≡ t = place in let m : d.out_len ≡ n = many in let w : t + gap ≤ real + 256 = o.within in let b : real ≤ t = o.behind in
-      let fits : t + n + gap ≤ real + 256 = ⊎_elim
+  pub published_order : (d : Own T) (real gap claimed n r : ℕ) (log : List T) → InOrder d real gap claimed → d.aside ≡ 0 → d.out_at ≡ d.tail → d.out_len ≡ n + r → d.tail + n + 256 ≤ 2 ^ 55
+      → (d.tail + (n + r) + gap ≤ real + 256) × InOrder record d { tail = d.tail + n; log = log; out_len = 0 } real gap claimed
+  published_order d real gap claimed n r log o whole place many room =
+      let t : ℕ = d.tail in let z : d.aside ≡ 0 = whole in let p : d.out_at ≡ t = place in let m : d.out_len ≡ n + r = many in let w : t + gap ≤ real + 256 = o.within in let b : real ≤ t = o.behind in
+      let fits : t + (n + r) + gap ≤ real + 256 = ⊎_elim
       (λ (none_out : d.out_len ≡ 0). omega arith)
       (λ (lies : (d.tail + d.aside ≤ d.out_at) × (d.out_at + d.out_len ≤ real + 256)). let top : d.out_at + d.out_len ≤ real + 256 = lies.1 in ⊎_elim
       (λ (none_out : d.out_len ≡ 0). omega arith)
@@ -72,7 +72,7 @@ module _ {T : Type 0} where
         record {
           begun = o.begun;
           behind = omega arith;
-          within = fits;
+          within = omega arith;
           counted = omega arith;
           claim = o.claim;
           aside = inl whole;
@@ -112,3 +112,42 @@ module _ {T : Type 0} where
         saw_still = λ _. inl refl;
         saw_lone = λ e _. (refl, e);
       }
+
+  -- a full queue flows over
+  pub overflowed_order : (d : Own T) (real claimed : ℕ) (log : List T) (exported relabelled : List ℕ) → InOrder d real 0 claimed → real ≤ d.tail → d.tail + 128 + 256 ≤ 2 ^ 55
+      → InOrder record d { aside = 128; log = log; out_at = d.tail + 128; out_len = 128; saw_real = d.tail; saw_gap = 0; exported = exported; relabelled = relabelled } d.tail 0 claimed
+  overflowed_order d real claimed log exported relabelled o le room =
+      let t : ℕ = d.tail in let b : d.start ≤ real = o.begun in record {
+        begun = omega arith;
+        behind = le_refl t;
+        within = omega arith;
+        counted = room;
+        claim = o.claim;
+        aside = inr (refl, refl, refl);
+        out_free = inr (le_refl (t + 128), omega arith);
+        out_beside = inr (inl refl);
+        saw_before = le_refl t;
+        saw_room = le_refl (t + 0);
+        saw_still = λ _. inl refl;
+        saw_lone = λ _ _. (refl, refl);
+      }
+
+  -- the half that was kept aside is in sight again
+  pub restored_order : (d : Own T) (real gap claimed : ℕ) → InOrder d real gap claimed → d.aside ≡ 128 → InOrder record d { tail = d.tail + d.aside; aside = 0 } real gap claimed
+  restored_order d real gap claimed o half = ⊎_elim (λ (e : d.aside ≡ 0). absurd (omega arith))
+      (λ (kept : (d.aside ≡ 128) × (real ≡ d.tail) × (gap ≡ 0)).
+      let t : ℕ = d.tail in let h : d.aside ≡ 128 = half in let r : real ≡ t = kept.1 in let g : gap ≡ 0 = kept.2 in let b : d.start ≤ real = o.begun in let before : d.saw_real ≤ real = o.saw_before in
+      let top : t + d.aside + 256 ≤ 2 ^ 55 = o.counted in record {
+        begun = o.begun;
+        behind = omega arith;
+        within = omega arith;
+        counted = omega arith;
+        claim = o.claim;
+        aside = inl refl;
+        out_free = ⊎_elim (λ (e : d.out_len ≡ 0). inl e) (λ (lies : (d.tail + d.aside ≤ d.out_at) × (d.out_at + d.out_len ≤ real + 256)). let low : d.tail + d.aside ≤ d.out_at = lies.0 in inr (omega arith, lies.1)) o.out_free;
+        out_beside = o.out_beside;
+        saw_before = o.saw_before;
+        saw_room = o.saw_room;
+        saw_still = o.saw_still;
+        saw_lone = λ _ (lone : t + d.aside ≤ d.saw_real + 1). absurd (omega arith);
+      }) o.aside
