@@ -1,5 +1,5 @@
 -- Runs of labels, and what they weigh; and lists.
-use Rattle.std.proofs.Common.{◌≡◌, ℕ, zero, suc, ◌+◌, ◌-◌, ◌<◌, ◌≤◌, ◌⊎◌, List, [], ◌∷◌, ◌++◌, length, take, drop, sym, refl, ap, ◌∙◌, subst, inl, inr, drop-drop, length-drop, length-append, arith}
+use Rattle.std.proofs.Common.{◌≡◌, ℕ, zero, suc, ◌+◌, ◌-◌, ◌<◌, ◌≤◌, ◌⊎◌, List, [], ◌∷◌, ◌++◌, length, take, drop, sym, refl, ap, ◌∙◌, subst, inl, inr, ⊎_elim, drop-drop, length-drop, length-append, arith}
 use Rattle.std.proofs.lemmas.List.{drop-take, take_all, drop_at, drop-append-le, length-take-le}
 use mathlib.Core.Option.{some, some-injective, some-ne-none}
 use lib.ListN.{get_elem?}
@@ -70,3 +70,10 @@ module _ {X : Type 0} where
 
   pub window_length : (xs : List X) (a m : ℕ) → a + m ≤ length xs → length (take m (drop a xs)) ≡ m
   window_length xs a m le = length-take-le m (drop a xs) (omega (arith, length-drop a xs))
+
+  -- what stands in two lists, one behind the other
+  pub at_either : (xs ys : List X) (i : ℕ) (x : X) → get_elem? (xs ++ ys) i ≡ some x → (get_elem? xs i ≡ some x) ⊎ ((length xs ≤ i) × (get_elem? ys (i - length xs) ≡ some x))
+  at_either [] ys i x e = let same : i ≡ i - 0 = omega arith in inr (omega arith, subst (λ (k : ℕ). get_elem? ys k ≡ some x) same e)
+  at_either (z ∷ xs) ys zero x e = inl e
+  at_either (z ∷ xs) ys (suc i) x e = ⊎_elim (λ (h : get_elem? xs i ≡ some x). inl h)
+      (λ (h : (length xs ≤ i) × (get_elem? ys (i - length xs) ≡ some x)). let same : i - length xs ≡ suc i - suc (length xs) = omega arith in inr (omega (arith, h.0), subst (λ (k : ℕ). get_elem? ys k ≡ some x) same h.1)) (at_either xs ys i x e)

@@ -1,3 +1,4 @@
+pub mod Claims
 pub mod Hands
 pub mod Labels
 pub mod Looks
@@ -6,5 +7,6 @@ pub mod Overflows
 pub mod Pops
 pub mod Publishes
 pub mod Rebuild
+pub mod Releases
 pub mod Returns
 pub mod Thieves

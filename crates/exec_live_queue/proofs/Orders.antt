@@ -151,3 +151,39 @@ module _ {T : Type 0} where
         saw_still = o.saw_still;
         saw_lone = λ _ (lone : t + d.aside ≤ d.saw_real + 1). absurd (omega arith);
       }) o.aside
+
+  -- a thief claims k values
+  pub claimed_order : (d : Own T) (real claimed k : ℕ) → InOrder d real 0 claimed → d.aside ≡ 0 → 0 < k → k ≤ 128 → real + k + k ≤ d.tail → InOrder d (real + k) k k
+  claimed_order d real claimed k o whole pos small few =
+      let t : ℕ = d.tail in let a : d.start ≤ real = o.begun in let w : t + 0 ≤ real + 256 = o.within in let before : d.saw_real ≤ real = o.saw_before in let room : d.saw_real + 0 ≤ real + d.saw_gap = o.saw_room in record {
+        begun = omega arith;
+        behind = omega arith;
+        within = omega arith;
+        counted = o.counted;
+        claim = inr (pos, small, le_refl k);
+        aside = inl whole;
+        out_free = ⊎_elim (λ (e : d.out_len ≡ 0). inl e) (λ (lies : (d.tail + d.aside ≤ d.out_at) × (d.out_at + d.out_len ≤ real + 256)). let top : d.out_at + d.out_len ≤ real + 256 = lies.1 in inr (lies.0, omega arith)) o.out_free;
+        out_beside = ⊎_elim (λ (e : d.out_len ≡ 0). inl e) (λ (lies : (d.tail + d.aside ≤ d.out_at) × (d.out_at + d.out_len ≤ real + 256)). let top : d.out_at + d.out_len ≤ real + 256 = lies.1 in inr (inr (inl (omega arith)))) o.out_free;
+        saw_before = omega arith;
+        saw_room = omega arith;
+        saw_still = λ same. absurd (omega arith);
+        saw_lone = λ _ lone. absurd (omega arith);
+      }
+
+  -- a claim is released
+  pub released_order : (d : Own T) (real gap claimed : ℕ) → InOrder d real gap claimed → 0 < gap → InOrder d real 0 0
+  released_order d real gap claimed o pos =
+      let w : d.tail + gap ≤ real + 256 = o.within in let b : real ≤ d.tail = o.behind in let room : d.saw_real + gap ≤ real + d.saw_gap = o.saw_room in record {
+        begun = o.begun;
+        behind = o.behind;
+        within = omega arith;
+        counted = o.counted;
+        claim = inl (refl, refl);
+        aside = ⊎_elim (λ (e : d.aside ≡ 0). inl e) (λ (kept : (d.aside ≡ 128) × (real ≡ d.tail) × (gap ≡ 0)). inr (kept.0, kept.1, refl)) o.aside;
+        out_free = o.out_free;
+        out_beside = inr (inl refl);
+        saw_before = o.saw_before;
+        saw_room = omega arith;
+        saw_still = λ _. inr refl;
+        saw_lone = λ e lone. ((o.saw_lone e lone).0, refl);
+      }

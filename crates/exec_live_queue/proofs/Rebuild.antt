@@ -24,7 +24,7 @@ sum_set f [] i x y e = absurd (some-ne-none x (sym e))
 sum_set f (z ∷ xs) zero x y e = let is : f z ≡ f x = ap f (some-injective z x e) in let a = sum_by-cons f y xs in let b = sum_by-cons f z xs in omega (arith, a, b, is)
 sum_set f (z ∷ xs) (suc i) x y e = let h = sum_set f xs i x y e in let a = sum_by-cons f z (set xs i y) in let b = sum_by-cons f z xs in omega (arith, a, b, h)
 
-there : {X : Type 0} (xs : List X) (i : ℕ) (x : X) → get_elem? xs i ≡ some x → i < length xs
+pub there : {X : Type 0} (xs : List X) (i : ℕ) (x : X) → get_elem? xs i ≡ some x → i < length xs
 there [] i x e = absurd (some-ne-none x (sym e))
 there (y ∷ xs) zero x e = omega arith
 there (y ∷ xs) (suc i) x e = let h = there xs i x e in omega (arith, h)
