@@ -19,6 +19,7 @@
 
 pub mod head;
 pub mod plays;
+pub mod slots;
 pub mod steps;
 pub mod thief;
 pub mod view;
