@@ -6,7 +6,7 @@ use mathlib.Core.Logic.{dite}
 use native.Mathlib.Decide.{ℕ_discrete}
 use lib.ListN.{get_elem?}
 use Rattle.std.specs.Prelude.{Option, Some, None}
-use Rattle.atomic_table.specs.Table.{Valid, carried_after, homes_after}
+use Rattle.atomic_table.specs.Table.{Valid, carried_after, homes_after, rest}
 use Rattle.atomic_table.proofs.Lists.{set_here, set_else, one_turn}
 use Rattle.exec_live_queue.specs.Live.{Homes, HomeAt}
 use Rattle.exec_live_queue.specs.Plays.{hand, take_all, give_all, values_of}
@@ -123,3 +123,7 @@ module _ {T : Type 0} where
   pub values_in : (xs : List T) (r a : ℕ) → values_of (hand a (map Some xs ++ replicate r None)) ≡ xs
   values_in [] r a = no_values r a
   values_in (x ∷ xs) r a = ap (λ (l : List T). x ∷ l) (values_in xs r (suc a))
+
+  -- the first of a list, and the rest of it
+  pub fronted : (c r : List (ℕ × Option T)) (k : ℕ) (x : Option T) → c ≡ (k, x) ∷ r → c ≡ (k, x) ∷ rest c
+  fronted c r k x e = e ∙ (λ i. (k, x) ∷ rest (sym e i))

@@ -4,6 +4,7 @@ pub mod Labels
 pub mod Looks
 pub mod Orders
 pub mod Overflows
+pub mod Owners
 pub mod Pops
 pub mod Publishes
 pub mod Rebuild

@@ -1,3 +1,4 @@
+pub mod Calls
 pub mod Live
 pub mod Numbers
 pub mod Plays

@@ -10,7 +10,7 @@ use Rattle.exec_live_queue.specs.declared.view.View.{View}
 use Rattle.exec_live_queue.specs.declared.view.Live.{Live}
 use Rattle.exec_live_queue.specs.declared.view.Stage.TheVariants.{Owns, SawTail, Claimed}
 use Rattle.exec_live_queue.specs.Numbers.{head_word}
-use Rattle.exec_live_queue.specs.Plays.{hand, laid, returned, pops, pops_last, flows_over, publishes, restores, saw_head, saw_tail, claims, releases}
+use Rattle.exec_live_queue.specs.Plays.{Sat, hand, laid, returned, pops, pops_last, flows_over, publishes, restores, saw_head, saw_tail, claims, releases}
 
 abbrev pub Place : Type 0 → Type 0
 Place T = Seat (Option T) (View T)
@@ -20,6 +20,10 @@ module _ {T : Type 0} where
   abbrev pub IsSeen : Own T → ℕ → Type 0
   IsSeen d word = (word / 512 ≡ d.saw_real) × (word % 512 ≡ d.saw_gap) × (d.start ≤ d.saw_real) × (d.saw_real ≤ d.tail) × (d.tail + d.saw_gap ≤ d.saw_real + 256)
 
+  -- this is the owner's, and nothing is out with it
+  abbrev pub AtRest : Sat T → Type 0
+  AtRest m = (m.0.stage ≡ Owns) × (m.0.own.out_len ≡ 0) × (m.0.own.aside ≡ 0) × (m.1 ≡ []) × (m.0.own.tail + 256 ≤ 2 ^ 55)
+
 module _ {T P : Type 0} where
   -- the seat is one at the queue's table, which has two words and 256 slots
   abbrev pub IsAt : Shared (Option T) (View T) ℕ P → Place T → Type 0
@@ -27,7 +31,7 @@ module _ {T P : Type 0} where
 
   -- it is the owner's, in the middle of no push, pop or overflow
   abbrev pub Rests : Shared (Option T) (View T) ℕ P → Place T → Type 0
-  Rests words seat = IsAt words seat × (seat.me.0.stage ≡ Owns) × (seat.me.0.own.out_len ≡ 0) × (seat.me.0.own.aside ≡ 0) × (seat.me.1 ≡ []) × (seat.me.0.own.tail + 256 ≤ 2 ^ 55)
+  Rests words seat = IsAt words seat × AtRest seat.me
 
   -- it is the owner's, and the slots that are out with it are empty
   abbrev pub HasEmptied : Shared (Option T) (View T) ℕ P → Place T → Type 0

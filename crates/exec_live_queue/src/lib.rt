@@ -17,8 +17,11 @@
 //! - `thief`: the steps of a thief.
 #![tactic(auto)]
 
+pub mod answers;
 pub mod head;
 pub mod plays;
+pub mod pop;
+pub mod push;
 pub mod slots;
 pub mod steps;
 pub mod thief;
@@ -26,6 +29,10 @@ pub mod view;
 
 /// How many slots a queue has.
 pub const SLOTS: u64 = 256;
+/// How many values an overflow keeps, and how many it hands out: half the slots.
+pub const HALF: u64 = 128;
+/// The count of values from which on a queue takes no more.
+pub const SPENT: u64 = (1 << 55) - 512;
 /// The word of a table that is the head.
 pub const HEAD: usize = 0;
 /// The word of a table that is the tail.

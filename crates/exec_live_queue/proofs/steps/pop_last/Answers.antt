@@ -15,5 +15,5 @@ store-requires g c = let q = c.requires.rests in let seen = c.requires.seen in l
       q.0.0,
       subst (λ (n : ℕ). 0 < n) (sym q.0.1) (omega arith),
       subst (λ (n : ℕ). Allows (LiveQueue key) n id me 0 (λ _. new) (λ _. pops_last (step n 0 new 0 none) me new)) (sym q.0.2)
-          (pops_last_rule key id me new q.1 q.3 q.2 q.4 c.requires.unclaimed c.requires.lone (c.head_of.ensures ∙ ap (λ (n : ℕ). head_word (n + 1) 0) real)),
+          (pops_last_rule key id me new q.1.0 q.1.2 q.1.1 q.1.3 c.requires.unclaimed c.requires.lone (c.head_of.ensures ∙ ap (λ (n : ℕ). head_word (n + 1) 0) real)),
     )

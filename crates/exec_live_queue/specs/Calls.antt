@@ -1,0 +1,71 @@
+-- What the calls of an owner and of a thief do, as their seats know it.
+use Rattle.std.specs.Prelude.{◌≡◌, ℕ, ◌+◌, ◌-◌, ◌*◌, ◌^◌, ◌<◌, ◌≤◌, ◌⊎◌, List, [], ◌∷◌, ◌++◌, length, map, take, drop, replicate, Option, Some, None}
+use mathlib.Core.Option.{some}
+use lib.ListN.{get_elem?}
+use Rattle.atomic_table.specs.declared.shared.Shared.{Shared}
+use Rattle.exec_live_queue.specs.declared.view.Own.{Own}
+use Rattle.exec_live_queue.specs.declared.view.View.{View}
+use Rattle.exec_live_queue.specs.declared.view.Stage.TheVariants.{Owns}
+use Rattle.exec_live_queue.specs.declared.answers.Push.{Push}
+use Rattle.exec_live_queue.specs.declared.answers.Push.TheVariants as answer
+use Rattle.exec_live_queue.specs.declared.answers.Try.{Try}
+use Rattle.exec_live_queue.specs.declared.answers.Try.TheVariants as tried
+use Rattle.exec_live_queue.specs.Live.{labels}
+use Rattle.exec_live_queue.specs.Plays.{hand}
+use Rattle.exec_live_queue.specs.Pure.{queue_at}
+use Rattle.exec_live_queue.specs.Seats.{Place, IsAt, Rests}
+
+module _ {T : Type 0} where
+  -- what an owner knows once it has looked: as before, but for the head that it saw and for where slots were out
+  abbrev pub looked : Own T → Own T → Own T
+  looked d d' = record d { out_at = d'.out_at; out_len = d'.out_len; saw_real = d'.saw_real; saw_gap = d'.saw_gap }
+
+  -- nothing but that, and no older head
+  abbrev pub HasLooked : Own T → Own T → Type 0
+  HasLooked d d' = (d' ≡ looked d d') × (d.saw_real ≤ d'.saw_real)
+
+  -- x was popped: the log's value at its label, which comes after all that were popped before
+  abbrev pub HasPopped : Own T → T → Own T → Type 0
+  HasPopped d x d' = (label : ℕ) × (get_elem? d.log (label - d.start) ≡ some x) × (d.saw_real ≤ label) × (label < d'.saw_real) × (d' ≡ record (looked d d') { popped = d.popped ++ label ∷ [] })
+
+  -- the queue was seen empty
+  abbrev pub WasEmpty : Own T → Own T → Type 0
+  WasEmpty d d' = HasLooked d d' × (d'.saw_real ≡ d.tail)
+
+  -- these values were published behind the others
+  abbrev pub HasPublished : Own T → List T → Own T → Type 0
+  HasPublished d xs d' = (d' ≡ record (looked d d') { tail = d.tail + length xs; log = d.log ++ xs }) × (d.saw_real ≤ d'.saw_real)
+
+  -- the values of a full queue
+  abbrev pub fully : Own T → List T
+  fully d = (queue_at d (d.tail - 256) 0).values
+
+  -- the queue was full without a claim: the oldest half has new labels, and the newest half is handed out
+  abbrev pub HasOverflowed : Own T → Own T → Type 0
+  HasOverflowed d d' = (d.saw_real + 256 ≤ d.tail) × (d'.saw_real ≡ d.tail)
+      × (d' ≡ record (looked d d') { tail = d.tail + 128; log = d.log ++ take 128 (fully d); exported = d.exported ++ labels (d.tail - 128) 128; relabelled = d.relabelled ++ labels (d.tail - 256) 128 })
+
+  -- what a push of x answers and does
+  abbrev pub AfterPush : Own T → T → Own T → Push T → Type 0
+  AfterPush d x d' (answer.Pushed len) = (d.tail < 2 ^ 55 - 512) × HasPublished d (x ∷ []) d' × (d'.saw_real + len ≡ d.tail + 1)
+  AfterPush d x d' (answer.Overflow y) = (d.tail < 2 ^ 55 - 512) × (y ≡ x) × HasOverflowed d d'
+  AfterPush d x d' (answer.Claimed y) = (d.tail < 2 ^ 55 - 512) × (y ≡ x) × HasLooked d d' × (0 < d'.saw_gap) × (d.tail + d'.saw_gap ≡ d'.saw_real + 256)
+  AfterPush d x d' (answer.Spent y) = (2 ^ 55 - 512 ≤ d.tail) × (y ≡ x) × (d' ≡ d)
+
+module _ {T P : Type 0} where
+  -- the seat is the owner's in the middle of an overflow: these of its values are still to be handed out, and j of them were
+  abbrev pub HandsOut : Shared (Option T) (View T) ℕ P → Place T → ℕ → List T → Type 0
+  HandsOut words seat j xs = IsAt words seat × (seat.me.0.stage ≡ Owns) × (seat.me.0.own.aside ≡ 0) × (seat.me.0.own.tail + 256 ≤ 2 ^ 55)
+      × (seat.me.0.own.out_at ≡ seat.me.0.own.tail) × (seat.me.0.own.out_len ≡ length xs + j) × (seat.me.1 ≡ hand (seat.me.0.own.tail + j) (map Some xs) ++ hand seat.me.0.own.tail (replicate j None))
+
+  -- how a push leaves the seat
+  abbrev pub PushLeaves : Shared (Option T) (View T) ℕ P → Place T → Own T → Push T → Type 0
+  PushLeaves words seat d (answer.Pushed len) = Rests words seat
+  PushLeaves words seat d (answer.Overflow y) = HandsOut words seat 0 (drop 128 (fully d))
+  PushLeaves words seat d (answer.Claimed y) = Rests words seat
+  PushLeaves words seat d (answer.Spent y) = Rests words seat
+
+  -- what one try of a push of x answers and does
+  abbrev pub AfterTry : Shared (Option T) (View T) ℕ P → Own T → T → Place T → Try T → Type 0
+  AfterTry words d x seat (tried.Done push) = AfterPush d x seat.me.0.own push × PushLeaves words seat d push
+  AfterTry words d x seat (tried.Missed y) = (y ≡ x) × HasLooked d seat.me.0.own × (d.saw_real + 256 ≤ d.tail) × (d.tail < seat.me.0.own.saw_real + 256) × Rests words seat
