@@ -37,7 +37,7 @@ module _ {T : Type 0} where
   at_whole : (d : Own T) (j : ℕ) → d.saw_real + 256 ≡ d.tail → j < 256 → get_elem? (whole d) j ≡ get_elem? d.log (d.saw_real - d.start + j)
   at_whole d j full lt = let h : d.saw_real + 256 ≡ d.tail = full in at_take (drop (d.saw_real - d.start) d.log) (d.tail - d.saw_real) j (omega arith) ∙ at_drop d.log (d.saw_real - d.start) j
 
-  whole_length : (d : Own T) → d.start ≤ d.saw_real → d.start + length d.log ≡ d.tail → d.saw_real + 256 ≡ d.tail → length (whole d) ≡ 256
+  pub whole_length : (d : Own T) → d.start ≤ d.saw_real → d.start + length d.log ≡ d.tail → d.saw_real + 256 ≡ d.tail → length (whole d) ≡ 256
   whole_length d begun long full = let a : d.start ≤ d.saw_real = begun in let b : d.start + length d.log ≡ d.tail = long in let c : d.saw_real + 256 ≡ d.tail = full in
       let e : 256 ≡ d.tail - d.saw_real = omega arith in window_length d.log (d.saw_real - d.start) (d.tail - d.saw_real) (omega arith) ∙ sym e
 

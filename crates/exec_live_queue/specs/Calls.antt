@@ -11,7 +11,7 @@ use Rattle.exec_live_queue.specs.declared.answers.Push.TheVariants as answer
 use Rattle.exec_live_queue.specs.declared.answers.Try.{Try}
 use Rattle.exec_live_queue.specs.declared.answers.Try.TheVariants as tried
 use Rattle.exec_live_queue.specs.Live.{labels}
-use Rattle.exec_live_queue.specs.Plays.{hand}
+use Rattle.exec_live_queue.specs.Plays.{Sat, hand}
 use Rattle.exec_live_queue.specs.Pure.{queue_at}
 use Rattle.exec_live_queue.specs.Seats.{Place, IsAt, Rests}
 
@@ -52,11 +52,14 @@ module _ {T : Type 0} where
   AfterPush d x d' (answer.Claimed y) = (d.tail < 2 ^ 55 - 512) × (y ≡ x) × HasLooked d d' × (0 < d'.saw_gap) × (d.tail + d'.saw_gap ≡ d'.saw_real + 256)
   AfterPush d x d' (answer.Spent y) = (2 ^ 55 - 512 ≤ d.tail) × (y ≡ x) × (d' ≡ d)
 
+  -- this is the owner's in the middle of an overflow: these of its values are still to be handed out, and j of them were
+  abbrev pub AtHand : Sat T → ℕ → List T → Type 0
+  AtHand m j xs = (m.0.stage ≡ Owns) × (m.0.own.aside ≡ 0) × (m.0.own.tail + 256 ≤ 2 ^ 55) × (m.0.own.start + length m.0.own.log ≡ m.0.own.tail)
+      × (m.0.own.out_at ≡ m.0.own.tail) × (m.0.own.out_len ≡ length xs + j) × (m.1 ≡ hand (m.0.own.tail + j) (map Some xs) ++ hand m.0.own.tail (replicate j None))
+
 module _ {T P : Type 0} where
-  -- the seat is the owner's in the middle of an overflow: these of its values are still to be handed out, and j of them were
   abbrev pub HandsOut : Shared (Option T) (View T) ℕ P → Place T → ℕ → List T → Type 0
-  HandsOut words seat j xs = IsAt words seat × (seat.me.0.stage ≡ Owns) × (seat.me.0.own.aside ≡ 0) × (seat.me.0.own.tail + 256 ≤ 2 ^ 55)
-      × (seat.me.0.own.out_at ≡ seat.me.0.own.tail) × (seat.me.0.own.out_len ≡ length xs + j) × (seat.me.1 ≡ hand (seat.me.0.own.tail + j) (map Some xs) ++ hand seat.me.0.own.tail (replicate j None))
+  HandsOut words seat j xs = IsAt words seat × AtHand seat.me j xs
 
   -- how a push leaves the seat
   abbrev pub PushLeaves : Shared (Option T) (View T) ℕ P → Place T → Own T → Push T → Type 0

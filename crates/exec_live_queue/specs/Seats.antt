@@ -22,7 +22,7 @@ module _ {T : Type 0} where
 
   -- this is the owner's, and nothing is out with it
   abbrev pub AtRest : Sat T → Type 0
-  AtRest m = (m.0.stage ≡ Owns) × (m.0.own.out_len ≡ 0) × (m.0.own.aside ≡ 0) × (m.1 ≡ []) × (m.0.own.tail + 256 ≤ 2 ^ 55)
+  AtRest m = (m.0.stage ≡ Owns) × (m.0.own.out_len ≡ 0) × (m.0.own.aside ≡ 0) × (m.1 ≡ []) × (m.0.own.tail + 256 ≤ 2 ^ 55) × (m.0.own.start + length m.0.own.log ≡ m.0.own.tail)
 
 module _ {T P : Type 0} where
   -- the seat is one at the queue's table, which has two words and 256 slots
