@@ -1,5 +1,5 @@
 -- The slots of a run of labels: taken out all at once, and given back all at once.
-use Rattle.std.proofs.Common.{◌≡◌, ◌≢◌, ℕ, zero, suc, ◌+◌, ◌-◌, ◌%◌, ◌<◌, ◌≤◌, List, [], ◌∷◌, ◌++◌, length, map, set, replicate, sym, refl, ap, ap₂, ◌∙◌, subst, mod-lt, length-set, arith}
+use Rattle.std.proofs.Common.{◌≡◌, ◌≢◌, ℕ, zero, suc, ◌+◌, ◌-◌, ◌%◌, ◌<◌, ◌≤◌, List, [], ◌∷◌, ◌++◌, length, map, set, replicate, sym, refl, ap, ap₂, ◌∙◌, subst, mod-lt, length-set, append_assoc, arith}
 use Rattle.std.proofs.Math.Nat.{add-mod_right}
 use mathlib.Core.Option.{none, some}
 use mathlib.Core.Logic.{dite}
@@ -127,3 +127,18 @@ module _ {T : Type 0} where
   -- the first of a list, and the rest of it
   pub fronted : (c r : List (ℕ × Option T)) (k : ℕ) (x : Option T) → c ≡ (k, x) ∷ r → c ≡ (k, x) ∷ rest c
   fronted c r k x e = e ∙ (λ i. (k, x) ∷ rest (sym e i))
+
+  -- a run of slots, and one more behind it
+  hand_snoc : (b : ℕ) (ys : List (Option T)) (y : Option T) → hand b ys ++ ((b + length ys) % 256, y) ∷ [] ≡ hand b (ys ++ y ∷ [])
+  hand_snoc b [] y = let e : b + zero ≡ b = omega arith in ap (λ (n : ℕ). (n % 256, y) ∷ []) e
+  hand_snoc b (z ∷ ys) y = let e : b + suc (length ys) ≡ suc b + length ys = omega arith in ap (λ (l : List (ℕ × Option T)). (b % 256, z) ∷ l) (ap (λ (n : ℕ). hand (suc b) ys ++ (n % 256, y) ∷ []) e ∙ hand_snoc (suc b) ys y)
+
+  pub hand_append : (a : ℕ) (xs ys : List (Option T)) → hand a xs ++ hand (a + length xs) ys ≡ hand a (xs ++ ys)
+  hand_append a [] ys = let e : a + zero ≡ a = omega arith in ap (λ (n : ℕ). hand n ys) e
+  hand_append a (x ∷ xs) ys = let e : a + suc (length xs) ≡ suc a + length xs = omega arith in ap (λ (l : List (ℕ × Option T)). (a % 256, x) ∷ l) (ap (λ (n : ℕ). hand (suc a) xs ++ hand n ys) e ∙ hand_append (suc a) xs ys)
+
+  -- the slot in front is written, and turned behind the others
+  pub turned_on : (l : List (ℕ × Option T)) (a b : ℕ) (x y : Option T) (xs ys : List (Option T)) → l ≡ hand a (x ∷ xs) ++ hand b ys → a ≡ b + length ys
+      → rest l ++ (a % 256, y) ∷ [] ≡ hand (a + 1) xs ++ hand b (ys ++ y ∷ [])
+  turned_on l a b x y xs ys e is = let next : suc a ≡ a + 1 = omega arith in
+      ap (λ (c : List (ℕ × Option T)). rest c ++ (a % 256, y) ∷ []) e ∙ append_assoc (hand (suc a) xs) (hand b ys) ((a % 256, y) ∷ []) ∙ ap (λ (n : ℕ). hand (suc a) xs ++ (hand b ys ++ (n % 256, y) ∷ [])) is ∙ ap (λ (c : List (ℕ × Option T)). hand (suc a) xs ++ c) (hand_snoc b ys y) ∙ ap (λ (n : ℕ). hand n xs ++ hand b (ys ++ y ∷ [])) next

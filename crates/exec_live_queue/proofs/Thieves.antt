@@ -1,5 +1,5 @@
 -- The loads of a thief keep the rule, and one lemma for all steps of a thief that leave the head as it is.
-use Rattle.std.proofs.Common.{◌≡◌, ◌≢◌, ℕ, zero, suc, ◌+◌, ◌-◌, ◌*◌, ◌/◌, ◌%◌, ◌<◌, ◌≤◌, ◌⊎◌, List, [], ◌∷◌, length, set, sym, refl, ap, ◌∙◌, subst, inl, inr, ⊎_elim, le_refl, arith}
+use Rattle.std.proofs.Common.{◌≡◌, ◌≢◌, ℕ, zero, suc, ◌+◌, ◌-◌, ◌*◌, ◌/◌, ◌%◌, ◌^◌, ◌<◌, ◌≤◌, ◌⊎◌, List, [], ◌∷◌, length, set, sym, refl, ap, ◌∙◌, subst, inl, inr, ⊎_elim, le_refl, arith}
 use mathlib.Core.Option.{none, some, some-injective, some-ne-none}
 use lib.ListN.{get_elem?}
 use Rattle.std.specs.Prelude.{Option, None, slice_index}
@@ -103,7 +103,7 @@ module _ {T : Type 0} where
         keeps,
         tt,
         subst (λ (ws : List ℕ). LiveQueue start record { words = ws; homes = s.homes; views = set s.views id w }) k.words (stands start s q id me.0 w at thief free (λ _. refl) (k.each_lot id me.0 at) (knew, le_refl tail)),
-        refl,
+        ((let top : tail + q.view.own.aside + 256 ≤ 2 ^ 55 = k.order.counted in omega arith), refl),
       ))
 
   -- any seat may be split: the new one is a thief's

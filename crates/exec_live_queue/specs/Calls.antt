@@ -1,9 +1,12 @@
 -- What the calls of an owner and of a thief do, as their seats know it.
-use Rattle.std.specs.Prelude.{◌≡◌, ℕ, ◌+◌, ◌-◌, ◌*◌, ◌^◌, ◌<◌, ◌≤◌, ◌⊎◌, List, [], ◌∷◌, ◌++◌, length, map, take, drop, replicate, Option, Some, None}
+use Rattle.std.specs.Prelude.{◌≡◌, ◌≢◌, ℕ, ◌+◌, ◌-◌, ◌*◌, ◌^◌, ◌<◌, ◌≤◌, ◌⊎◌, List, [], ◌∷◌, ◌++◌, length, map, take, drop, replicate, Option, Some, None}
 use mathlib.Core.Option.{some}
 use lib.ListN.{get_elem?}
 use Rattle.atomic_table.specs.declared.shared.Shared.{Shared}
+use Rattle.exec_words.specs.declared.queue.whole.Steal.{Steal}
+use Rattle.exec_words.specs.declared.queue.whole.Steal.TheVariants as steal
 use Rattle.exec_live_queue.specs.declared.view.Own.{Own}
+use Rattle.exec_live_queue.specs.declared.view.Theft.{Theft}
 use Rattle.exec_live_queue.specs.declared.view.View.{View}
 use Rattle.exec_live_queue.specs.declared.view.Stage.TheVariants.{Owns}
 use Rattle.exec_live_queue.specs.declared.answers.Push.{Push}
@@ -51,6 +54,32 @@ module _ {T : Type 0} where
   AfterPush d x d' (answer.Overflow y) = (d.tail < 2 ^ 55 - 512) × (y ≡ x) × HasOverflowed d d'
   AfterPush d x d' (answer.Claimed y) = (d.tail < 2 ^ 55 - 512) × (y ≡ x) × HasLooked d d' × (0 < d'.saw_gap) × (d.tail + d'.saw_gap ≡ d'.saw_real + 256)
   AfterPush d x d' (answer.Spent y) = (2 ^ 55 - 512 ≤ d.tail) × (y ≡ x) × (d' ≡ d)
+
+  -- the numbers and lists that a thief keeps, but for what it saw
+  abbrev pub HasTaken : Theft T → ℕ → List T → Theft T → Type 0
+  HasTaken t n xs t' = (t'.claims ≡ t.claims ++ labels t'.at n) × (t'.lot ≡ t.lot ++ xs)
+
+  abbrev pub HasKept : Theft T → Theft T → Type 0
+  HasKept t t' = (t'.claims ≡ t.claims) × (t'.lot ≡ t.lot)
+
+  -- why a thief takes nothing: its own queue is spent, or has fewer than 128 places free by the head that it loaded; or a
+  -- gap stood in the head that it loaded; or the tail that it loaded was fewer than 2 past the front
+  abbrev pub MayTakeNothing : Own T → Own T → Theft T → Type 0
+  MayTakeNothing d d' t' = (2 ^ 55 - 512 ≤ d.tail) ⊎ ((128 < d.tail - d'.saw_real + d'.saw_gap) ⊎ ((0 < t'.gap) ⊎ (t'.upto < t'.at + 2)))
+
+  -- what one try of a steal does: with the queue of the thief, and with what it keeps of the other queue
+  abbrev pub AfterSteal : Own T → Theft T → Own T → Theft T → Steal → Type 0
+  AfterSteal d t d' t' (steal.Moved n) = (xs : List T) × (length xs ≡ n) × (0 < n) × (n ≤ 128) × HasPublished d xs d' × HasTaken t n xs t'
+  AfterSteal d t d' t' steal.Nothing = HasLooked d d' × HasKept t t' × MayTakeNothing d d' t'
+  AfterSteal d t d' t' (steal.Again head) = HasLooked d d' × HasKept t t' × (head.real ≡ t'.at) × (head.gap ≡ t'.gap) × ((head.real ≢ t'.was) ⊎ (0 < head.gap))
+
+  -- the values that were put so far into the slots behind this label, and r more slots that are empty
+  abbrev pub Fills : Sat T → View T → ℕ → ℕ → List T → Type 0
+  Fills m v tail r done = m ≡ (v, hand (tail + length done) (replicate r None) ++ hand tail (map Some done))
+
+  -- the values that are still in the slots of a claim, of which n were taken
+  abbrev pub Empties : Sat T → View T → ℕ → ℕ → List T → Type 0
+  Empties m v at n xs = m ≡ (v, hand (at + n) (map Some xs) ++ hand at (replicate n None))
 
   -- this is the owner's in the middle of an overflow: these of its values are still to be handed out, and j of them were
   abbrev pub AtHand : Sat T → ℕ → List T → Type 0

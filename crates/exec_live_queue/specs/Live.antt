@@ -76,7 +76,7 @@ module _ {T : Type 0} where
   AsLogged d t = (length t.lot ≡ length t.claims) × ((i l : ℕ) → get_elem? t.claims i ≡ some l → (x : T) × (get_elem? t.lot i ≡ some x) × (get_elem? d.log (l - d.start) ≡ some x))
 
   abbrev pub unread : Theft T
-  unread = record { at = 0; gap = 0; upto = 0; claims = []; lot = [] }
+  unread = record { was = 0; at = 0; gap = 0; upto = 0; claims = []; lot = [] }
 
   -- the owner's view is v
   pub record Kept (start : ℕ) (v : View T) (s : State (Option T) (View T)) : Type 0 where

@@ -1,5 +1,5 @@
 -- What each step of a run queue tells the seat that makes it.
-use Rattle.std.specs.Prelude.{◌≡◌, ◌≢◌, ℕ, zero, suc, ◌+◌, ◌-◌, ◌*◌, ◌/◌, ◌%◌, ◌<◌, ◌≤◌, List, [], ◌∷◌, ◌++◌, length, map, take, drop, replicate, min, Option, Some, None}
+use Rattle.std.specs.Prelude.{◌≡◌, ◌≢◌, ℕ, zero, suc, ◌+◌, ◌-◌, ◌*◌, ◌/◌, ◌%◌, ◌^◌, ◌<◌, ◌≤◌, List, [], ◌∷◌, ◌++◌, length, map, take, drop, replicate, min, Option, Some, None}
 use Rattle.atomic_table.specs.Table.{State, Me, Step, Act, keeps, takes, gives, chain}
 use Rattle.exec_live_queue.specs.declared.view.Own.{Own}
 use Rattle.exec_live_queue.specs.declared.view.Theft.{Theft}
@@ -149,13 +149,13 @@ module _ {T : Type 0} where
 
   -- a thief saw the head, and then the tail
   abbrev pub at_head : View T → ℕ → View T
-  at_head v n = record v { stage = SawHead; theft = record v.theft { at = n / 512; gap = n % 512 } }
+  at_head v n = record v { stage = SawHead; theft = record v.theft { was = v.theft.at; at = n / 512; gap = n % 512 } }
 
   abbrev pub saw_head : Told T
   saw_head st m n m' = m' ≡ (at_head m.0 n, m.1)
 
   abbrev pub saw_tail : Told T
-  saw_tail st m n m' = m' ≡ (record m.0 { stage = SawTail; theft = record m.0.theft { upto = n } }, m.1)
+  saw_tail st m n m' = (n + 256 ≤ 2 ^ 55) × (m' ≡ (record m.0 { stage = SawTail; theft = record m.0.theft { upto = n } }, m.1))
 
   -- a thief claimed the first half of the values that it saw, and carries them
   abbrev pub claimed_view : View T → List T → View T
@@ -187,5 +187,5 @@ module _ {T : Type 0} where
   newcomer = record {
     stage = Idle;
     own = record { start = 0; tail = 0; aside = 0; log = []; out_at = 0; out_len = 0; saw_real = 0; saw_gap = 0; popped = []; exported = []; relabelled = [] };
-    theft = record { at = 0; gap = 0; upto = 0; claims = []; lot = [] };
+    theft = record { was = 0; at = 0; gap = 0; upto = 0; claims = []; lot = [] };
   }

@@ -92,10 +92,13 @@ module _ {T : Type 0} where
   abbrev pub releases_by : ℕ → Place T → ℕ → Place T → Type 0
   releases_by seen old n new = releases (step 256 0 seen 0 none) old.me n new.me
 
+  -- the seat carries the slot of this label first
+  abbrev pub FrontHas : Place T → ℕ → Option T → Type 0
+  FrontHas seat label x = seat.me.1 ≡ (label % 256, x) ∷ rest seat.me.1
+
+  abbrev pub Fronted : Place T → ℕ → Type 0
+  Fronted seat label = (x : Option T) × FrontHas seat label x
+
   -- the slot of this label, which the seat carried first, had x; it has y, and is the last that the seat carries
   abbrev pub Swapped : Place T → Place T → ℕ → Option T → Option T → Type 0
-  Swapped old new label x y = (old.me.1 ≡ (label % 256, x) ∷ rest old.me.1) × (new.me ≡ (old.me.0, rest old.me.1 ++ (label % 256, y) ∷ []))
-
-  -- the seat carries the slot of this label first
-  abbrev pub Fronted : Place T → ℕ → Type 0
-  Fronted seat label = (x : Option T) × (seat.me.1 ≡ (label % 256, x) ∷ rest seat.me.1)
+  Swapped old new label x y = FrontHas old label x × (new.me ≡ (old.me.0, rest old.me.1 ++ (label % 256, y) ∷ []))

@@ -8,7 +8,7 @@ ghost use Rattle.exec_live_queue.specs.declared.view.Stage.TheVariants.{Owns};
 
 use crate::SLOTS;
 use crate::head::{gap_of, real_of};
-use crate::slots::swap;
+use crate::slots::take;
 use crate::steps::{give_back, look, pop_exchange, pop_last};
 use crate::view::{Place, Words};
 
@@ -23,9 +23,9 @@ fn carry_off<T>(words: &Words<T>, seat: &mut Place<T>, real: u64) -> T
     ensures value { seat.old.me.1 ≡ hand (real + 256) (Some result ∷ []) }
     ensures returned { (n : _) × IsSeen seat.new.me.0.own n × returned_by seat.old n seat.new }
 {
-    let value = swap(words, seat, real + SLOTS, None);
+    let value = take(words, seat, real + SLOTS);
     give_back(words, seat);
-    value.unwrap()
+    value
 }
 
 /// The value at the front, or None where the queue was empty at its step. Each time that a thief

@@ -8,7 +8,7 @@ ghost use Rattle.exec_live_queue.specs.declared.view.Stage.TheVariants.{Owns};
 
 use crate::answers::{Push, Try};
 use crate::head::{gap_of, real_of};
-use crate::slots::swap;
+use crate::slots::put;
 use crate::steps::{flow_over, publish, restore, take_one};
 use crate::view::{Place, Words};
 use crate::{HALF, SLOTS, SPENT};
@@ -68,10 +68,6 @@ fn publish_one<T>(words: &Words<T>, seat: &mut Place<T>, tail: u64, value: T)
     ensures same { SameSeat seat.old seat.new }
     ensures published { seat.new.me ≡ (published_view seat.old.me.0 (value ∷ []), []) }
 {
-    let old = swap(words, seat, tail, Some(value));
+    put(words, seat, tail, value);
     publish(words, seat, tail + 1);
-    match old {
-        None => {}
-        Some(_) => unreachable!(),
-    }
 }

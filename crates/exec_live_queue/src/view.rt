@@ -47,6 +47,8 @@ pub struct Own<T> {
 
 /// What a thief keeps.
 pub struct Theft<T> {
+    /// The count that it saw in the head before the last one.
+    pub was: u64,
     /// The count that it saw in the head. In a claim, its first label.
     pub at: u64,
     /// The gap that it saw in the head.

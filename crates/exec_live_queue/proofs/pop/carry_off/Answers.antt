@@ -3,5 +3,5 @@ use Rattle.std.specs.Prelude.{Some}
 use Rattle.exec_live_queue.proofs.Hands.{fronted}
 use Rattle.exec_live_queue.proofs.pop.carry_off.Goals as goal
 
-pub swap-value-requires : goal.swap-value-requires
-swap-value-requires g c = let p = c.requires.popped in (search rules, (c.requires.at, (Some p.0, fronted c.args.seat.now.me.1 [] ((c.args.real + 256) % 256) (Some p.0) p.1)))
+pub take-value-requires : goal.take-value-requires
+take-value-requires g c = let p = c.requires.popped in (search rules, (c.requires.at, (p.0, fronted c.args.seat.now.me.1 [] ((c.args.real + 256) % 256) (Some p.0) p.1)))
