@@ -2,6 +2,7 @@ pub mod Claims
 pub mod Hands
 pub mod Labels
 pub mod Looks
+pub mod Moves
 pub mod Orders
 pub mod Overflows
 pub mod Owners

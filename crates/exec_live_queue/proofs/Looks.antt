@@ -77,3 +77,7 @@ module _ {T : Type 0} where
   pub lays : (start : ℕ) (id : ℕ) (me : Sat T) (f : ℕ → ℕ) → ((r : ℕ) → f r ≤ r) → me.0.stage ≡ Owns → me.0.own.aside ≡ 0 → me.0.own.out_len ≡ 0 → me.1 ≡ []
       → Allows (LiveQueue start) 256 id me 0 (λ n. n) (laid f (step 256 0 0 0 none) me)
   lays start id me f most owns aside none_out empty = owner_steps start id 0 me [] (λ n. n) (laid f (step 256 0 0 0 none) me) owns empty (λ s k at0. lays_here start me f most owns aside none_out s k at0)
+
+pub nothing_left : {X : Type 0} (xs : List X) → length xs ≡ 0 → xs ≡ []
+nothing_left [] e = refl
+nothing_left (x ∷ xs) e = absurd (omega arith)

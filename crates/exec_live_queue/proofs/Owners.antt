@@ -2,7 +2,10 @@
 use Rattle.std.proofs.Common.{◌≡◌, ◌≢◌, ℕ, zero, suc, ◌+◌, ◌-◌, ◌*◌, ◌/◌, ◌%◌, ◌^◌, ◌<◌, ◌≤◌, ◌⊎◌, min, List, [], ◌∷◌, ◌++◌, length, take, drop, map, replicate, sym, refl, ap, ◌∙◌, subst, inl, inr, ⊎_elim, arith}
 use mathlib.Core.Option.{none, some}
 use mathlib.Core.Logic.{dite}
-use native.Mathlib.Decide.{ℕ_discrete}
+use native.Mathlib.Decide.{ℕ_discrete, dec_le}
+use Rattle.std.proofs.Common.{Bool, cond, lt_of_not-le, le-leb}
+use Rattle.std.proofs.lemmas.Bool.{lt-leb}
+use Rattle.exec_words.specs.Head.{room_at, is_spent}
 use lib.ListN.{get_elem?}
 use Rattle.std.specs.Prelude.{Option, Some, None}
 use Rattle.atomic_table.specs.Table.{step}
@@ -12,12 +15,17 @@ use Rattle.exec_live_queue.specs.declared.view.Stage.TheVariants.{Owns}
 use Rattle.exec_live_queue.specs.Numbers.{InOrder}
 use Rattle.exec_live_queue.specs.Plays.{Sat, Told, room, saw, out, hand, after_pop, laid, returned, Found, popped_view, Popped, values_of, published_view, Overflowed, overflowed_view, restored_view, whole}
 use Rattle.exec_live_queue.specs.Seats.{IsSeen, AtRest}
-use Rattle.exec_live_queue.specs.Calls.{looked, HasLooked, HasPopped, HasPublished, HasOverflowed, fully, AtHand}
+use Rattle.exec_live_queue.specs.Calls.{looked, HasLooked, HasPopped, HasPublished, HasOverflowed, fully, AtHand, Fills}
 use Rattle.exec_live_queue.specs.Live.{labels}
 use Rattle.exec_live_queue.proofs.Overflows.{whole_length}
 use Rattle.atomic_table.specs.Table.{rest}
 use Rattle.std.proofs.Common.{length-append, length-drop, append-nil}
 use Rattle.std.proofs.lemmas.List.{length-take-le}
+
+room_cases : (tail left len : ℕ) → len ≤ cond (is_spent tail) 0 left → (len ≡ 0) ⊎ ((len ≤ left) × (tail < 2 ^ 55 - 512))
+room_cases tail left len fits = dite (dec_le (2 ^ 55 - 512) tail)
+    (λ spent. inl (let e : cond (is_spent tail) 0 left ≡ 0 = ap (λ (b : Bool). cond b 0 left) (le-leb (2 ^ 55 - 512) tail spent) in omega (arith, fits, e)))
+    (λ ne. let lt : tail < 2 ^ 55 - 512 = lt_of_not-le ne in let e : cond (is_spent tail) 0 left ≡ left = ap (λ (b : Bool). cond b 0 left) (lt-leb (2 ^ 55 - 512) tail lt) in inr (omega (arith, fits, e), lt))
 
 module _ {T : Type 0} where
   -- a look
@@ -146,3 +154,23 @@ module _ {T : Type 0} where
       dite (ℕ_discrete (n / 512) d.saw_real)
       (λ e. ⊎_elim (λ (same : n % 512 ≡ d.saw_gap). absurd (ne (omega arith))) (λ (free : n % 512 ≡ 0). absurd (ne (omega arith))) (o.saw_still e))
       (λ other. omega arith)
+
+  -- the room that was seen is still there
+  pub room_stays : (d : Own T) (n tail len : ℕ) → Found d n → tail ≡ d.tail → d.tail + 256 ≤ 2 ^ 55 → len ≤ room_at record { real = d.saw_real; gap = d.saw_gap } tail → (len ≤ room d.tail (n / 512) (n % 512)) × (len ≤ 256) × (tail + len + 256 ≤ 2 ^ 55)
+  room_stays d n tail len f is bound fits = let o = f.1 in let a : d.saw_real ≤ n / 512 = o.saw_before in let b : n / 512 ≤ d.tail = o.behind in let c : d.saw_real + n % 512 ≤ n / 512 + d.saw_gap = o.saw_room in let e : tail ≡ d.tail = is in
+      let left : ℕ = 256 - (tail - d.saw_real) - d.saw_gap in
+      ⊎_elim (λ (full : len ≡ 0). (omega arith, omega arith, omega arith))
+      (λ (some_room : (len ≤ left) × (tail < 2 ^ 55 - 512)). let g : len ≤ 256 - (tail - d.saw_real) - d.saw_gap = some_room.0 in let h = some_room.1 in (omega arith, omega arith, omega arith)) (room_cases tail left len fits)
+
+  -- all free slots were taken
+  pub took_room : (m m' : Sat T) (n : ℕ) → laid (λ room. room) (step 256 0 0 0 none) m n m' → AtRest m
+      → (m'.0.own.out_at ≡ m.0.own.tail) × (m'.0.own.out_len ≡ room m.0.own.tail (n / 512) (n % 512)) × (m'.0.stage ≡ Owns) × (m'.0.own.aside ≡ 0) × (m'.0.own.tail ≡ m.0.own.tail) × Fills m' m'.0 m.0.own.tail (room m.0.own.tail (n / 512) (n % 512)) []
+  took_room m m' n l r = let is = l.1 in let t : ℕ = m.0.own.tail in let here : t ≡ t + 0 = omega arith in let free : List (Option T) = replicate (room t (n / 512) (n % 512)) None in
+      (ap (λ (x : Sat T). x.0.own.out_at) is, ap (λ (x : Sat T). x.0.own.out_len) is, ap (λ (x : Sat T). x.0.stage) is ∙ r.0, ap (λ (x : Sat T). x.0.own.aside) is ∙ r.2, ap (λ (x : Sat T). x.0.own.tail) is,
+      (λ i. (m'.0, (ap (λ (x : Sat T). x.1) is ∙ ap (λ (k : ℕ). hand k free) here ∙ sym (append-nil (hand (t + 0) free))) i)))
+
+  -- those that a batch of this length needs, and the others
+  pub free_slots : (m m' : Sat T) (n tail len : ℕ) → laid (λ room. room) (step 256 0 0 0 none) m n m' → AtRest m → tail ≡ m.0.own.tail → len ≤ room m.0.own.tail (n / 512) (n % 512)
+      → Fills m' m'.0 tail (len + (room m.0.own.tail (n / 512) (n % 512) - len)) []
+  free_slots m m' n tail len l r is fits = let all : ℕ = room m.0.own.tail (n / 512) (n % 512) in let split : all ≡ len + (all - len) = omega arith in
+      (took_room m m' n l r).5 ∙ (λ j. (m'.0, hand (sym is j + 0) (replicate {A = Option T} (split j) None) ++ []))

@@ -18,11 +18,14 @@
 #![tactic(auto)]
 
 pub mod answers;
+pub mod batch;
 pub mod head;
+pub mod overflow;
 pub mod plays;
 pub mod pop;
 pub mod push;
 pub mod slots;
+pub mod steal;
 pub mod steps;
 pub mod thief;
 pub mod view;
