@@ -11,4 +11,5 @@ pub mod Publishes
 pub mod Rebuild
 pub mod Releases
 pub mod Returns
+pub mod Steals
 pub mod Thieves

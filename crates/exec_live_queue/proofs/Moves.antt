@@ -12,6 +12,7 @@ use Rattle.exec_live_queue.specs.Plays.{Sat, hand, returned, values_of, publishe
 use Rattle.exec_live_queue.specs.Seats.{AtRest}
 use Rattle.exec_live_queue.specs.Calls.{HasLooked, AtHand, Fills, Empties}
 use Rattle.exec_live_queue.proofs.Hands.{fronted, turned_on, values_in}
+use Rattle.exec_live_queue.proofs.Looks.{nothing_left}
 
 module _ {T : Type 0} where
 
@@ -124,3 +125,29 @@ module _ {T : Type 0} where
   pub fill_all : (m : Sat T) (v : View T) (tail r i : ℕ) (all left : List T) → Filling m v tail r all i left → left ≡ [] → Fills m v tail r all
   fill_all m v tail r i all left f e = let is : f.0 ≡ all = sym (f.2 ∙ ap (λ (l : List T). f.0 ++ l) e ∙ append-nil f.0) in let none_left : length left + r ≡ r = ap (λ (l : List T). length l + r) e ∙ (let z : 0 + r ≡ r = omega arith in z) in
       f.3 ∙ (λ j. (v, hand (tail + length (is j)) (replicate {A = Option T} (none_left j) None) ++ hand tail (map Some (is j))))
+
+  -- where the values of a claim stand that go into free slots: what left the one seat, and came to the other
+  abbrev pub Carrying : Sat T → View T → ℕ → Sat T → View T → ℕ → ℕ → List T → ℕ → Type 0
+  Carrying m v at m1 w tail r all i = (left : List T) × Filling m1 w tail r all i left × Empties m v at i left
+
+  pub carry_start : (m : Sat T) (v : View T) (at : ℕ) (m1 : Sat T) (w : View T) (tail r count : ℕ) (all : List T) → length all ≡ count → Empties m v at 0 all → Fills m1 w tail (count + r) [] → Carrying m v at m1 w tail r all 0
+  carry_start m v at m1 w tail r count all len e f = (all, ([], refl, refl, f ∙ ap (λ (n : ℕ). (w, hand (tail + 0) (replicate {A = Option T} (n + r) None) ++ [])) (sym len)), e)
+
+  filling_count : (m1 : Sat T) (w : View T) (tail r i : ℕ) (all left : List T) → Filling m1 w tail r all i left → i + length left ≡ length all
+  filling_count m1 w tail r i all left f = let a = f.1 in let b = length-append f.0 left in let c = ap length f.2 in omega (arith, a, b, c)
+
+  pub carry_fronts : (m : Sat T) (v : View T) (at : ℕ) (m1 : Sat T) (w : View T) (tail r i label label' : ℕ) (all : List T) → Carrying m v at m1 w tail r all i → i < length all → label ≡ at + i → label' ≡ tail + i
+      → (x : T) × (m.1 ≡ (label % 256, Some x) ∷ rest m.1) × (m1.1 ≡ (label' % 256, None) ∷ rest m1.1)
+  carry_fronts m v at m1 w tail r i label label' all ([], f, e) lt is is' = absurd (let c = filling_count m1 w tail r i all [] f in omega (arith, c))
+  carry_fronts m v at m1 w tail r i label label' all (x ∷ left, f, e) lt is is' = (x, empties_front m v at i label x left e is, fill_front m1 w tail r i label' all (x ∷ left) x f refl is')
+
+  pub carry_more : (m m' : Sat T) (v : View T) (at : ℕ) (m1 m1' : Sat T) (w : View T) (tail r i label label' : ℕ) (all : List T) (y : T) → Carrying m v at m1 w tail r all i → i < length all → label ≡ at + i → label' ≡ tail + i
+      → m.1 ≡ (label % 256, Some y) ∷ rest m.1 → m' ≡ (m.0, rest m.1 ++ (label % 256, None) ∷ []) → m1' ≡ (m1.0, rest m1.1 ++ (label' % 256, Some y) ∷ []) → Carrying m' v at m1' w tail r all (i + 1)
+  carry_more m m' v at m1 m1' w tail r i label label' all y ([], f, e) lt is is' had h h' = absurd (let c = filling_count m1 w tail r i all [] f in omega (arith, c))
+  carry_more m m' v at m1 m1' w tail r i label label' all y (x ∷ left, f, e) lt is is' had h h' =
+      let same : x ≡ y = one_front m.1 (label % 256) x y (empties_front m v at i label x left e is) had in
+      (left, fill_step m1 m1' w tail r i label' all (x ∷ left) y f (ap (λ (z : T). Some z) same) is' h', emptied_next m m' v at i label x left e is h)
+
+  pub carry_end : (m : Sat T) (v : View T) (at : ℕ) (m1 : Sat T) (w : View T) (tail r i count : ℕ) (all : List T) → Carrying m v at m1 w tail r all i → length all ≡ count → i ≡ count → Empties m v at count [] × Fills m1 w tail r all
+  carry_end m v at m1 w tail r i count all c len is = let n = filling_count m1 w tail r i all c.0 c.1 in let dry : c.0 ≡ [] = nothing_left c.0 (omega (arith, n, len, is)) in
+      (c.2 ∙ (λ j. (v, hand (at + is j) (map Some (dry j)) ++ hand at (replicate {A = Option T} (is j) None))), fill_all m1 w tail r i all c.0 c.1 dry)

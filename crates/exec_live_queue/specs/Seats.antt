@@ -1,5 +1,5 @@
 -- What the steps say of the seat that makes them.
-use Rattle.std.specs.Prelude.{◌≡◌, ℕ, ◌+◌, ◌/◌, ◌%◌, ◌^◌, ◌<◌, ◌≤◌, List, [], ◌∷◌, ◌++◌, length, map, replicate, Option, Some, None}
+use Rattle.std.specs.Prelude.{◌≡◌, ◌≢◌, ℕ, ◌+◌, ◌/◌, ◌%◌, ◌^◌, ◌<◌, ◌≤◌, List, [], ◌∷◌, ◌++◌, length, map, replicate, Option, Some, None}
 use mathlib.Core.Option.{none}
 use Rattle.atomic_table.specs.Table.{step, rest}
 use Rattle.atomic_table.specs.declared.shared.Seat.{Seat}
@@ -23,6 +23,10 @@ module _ {T : Type 0} where
   -- this is the owner's, and nothing is out with it
   abbrev pub AtRest : Sat T → Type 0
   AtRest m = (m.0.stage ≡ Owns) × (m.0.own.out_len ≡ 0) × (m.0.own.aside ≡ 0) × (m.1 ≡ []) × (m.0.own.tail + 256 ≤ 2 ^ 55) × (m.0.own.start + length m.0.own.log ≡ m.0.own.tail)
+
+  -- this is a thief's that holds no claim
+  abbrev pub IsThief : Sat T → Type 0
+  IsThief m = (m.0.stage ≢ Owns) × (m.0.stage ≢ Claimed) × (m.1 ≡ [])
 
 module _ {T P : Type 0} where
   -- the seat is one at the queue's table, which has two words and 256 slots
