@@ -15,12 +15,18 @@ use Rattle.exec_live_queue.specs.declared.view.Stage.TheVariants.{Owns}
 use Rattle.exec_live_queue.specs.Numbers.{InOrder}
 use Rattle.exec_live_queue.specs.Plays.{Sat, Told, room, saw, out, hand, after_pop, laid, returned, Found, popped_view, Popped, values_of, published_view, Overflowed, overflowed_view, restored_view, whole}
 use Rattle.exec_live_queue.specs.Seats.{IsSeen, AtRest}
-use Rattle.exec_live_queue.specs.Calls.{looked, HasLooked, HasPopped, HasPublished, HasOverflowed, fully, AtHand, Fills}
+use Rattle.exec_live_queue.specs.Calls.{looked, HasLooked, HasPopped, HasPublished, HasOverflowed, fully, AtHand, Fills, AfterSteal}
+use Rattle.exec_live_queue.specs.declared.view.Theft.{Theft}
+use Rattle.exec_words.specs.declared.queue.whole.Steal.{Steal}
+use Rattle.exec_words.specs.declared.queue.whole.Steal.TheVariants as steal
 use Rattle.exec_live_queue.specs.Live.{labels}
 use Rattle.exec_live_queue.proofs.Overflows.{whole_length}
 use Rattle.atomic_table.specs.Table.{rest}
 use Rattle.std.proofs.Common.{length-append, length-drop, append-nil}
 use Rattle.std.proofs.lemmas.List.{length-take-le}
+
+pub room_seen : (tail left len : ℕ) → tail < 2 ^ 55 - 512 → len ≤ left → len ≤ cond (is_spent tail) 0 left
+room_seen tail left len lt fits = let e : cond (is_spent tail) 0 left ≡ left = ap (λ (b : Bool). cond b 0 left) (lt-leb (2 ^ 55 - 512) tail lt) in omega (arith, fits, e)
 
 room_cases : (tail left len : ℕ) → len ≤ cond (is_spent tail) 0 left → (len ≡ 0) ⊎ ((len ≤ left) × (tail < 2 ^ 55 - 512))
 room_cases tail left len fits = dite (dec_le (2 ^ 55 - 512) tail)
@@ -174,3 +180,13 @@ module _ {T : Type 0} where
       → Fills m' m'.0 tail (len + (room m.0.own.tail (n / 512) (n % 512) - len)) []
   free_slots m m' n tail len l r is fits = let all : ℕ = room m.0.own.tail (n / 512) (n % 512) in let split : all ≡ len + (all - len) = omega arith in
       (took_room m m' n l r).5 ∙ (λ j. (m'.0, hand (sym is j + 0) (replicate {A = Option T} (split j) None) ++ []))
+
+  -- a batch that was published after a look
+  pub published_on : (a b d : Own T) (xs : List T) → HasLooked a b → HasPublished b xs d → HasPublished a xs d
+  published_on a b d xs h k = (k.0 ∙ ap (λ (y : Own T). record (looked y d) { tail = y.tail + length xs; log = y.log ++ xs }) h.0, omega (arith, h.1, k.1))
+
+  -- a steal after a look
+  pub steals_on : (a b d : Own T) (t t' : Theft T) (answer : Steal) → HasLooked a b → AfterSteal b t d t' answer → AfterSteal a t d t' answer
+  steals_on a b d t t' (steal.Moved n) h k = (k.0, k.1, k.2, k.3, published_on a b d k.0 h k.4, k.5)
+  steals_on a b d t t' steal.Nothing h k = (looks_on a b d h k.0, k.1, subst (λ (n : ℕ). (2 ^ 55 - 512 ≤ n) ⊎ ((128 < n - d.saw_real + d.saw_gap) ⊎ ((0 < t'.gap) ⊎ (t'.upto < t'.at + 2)))) (own_tail a b h) k.2)
+  steals_on a b d t t' (steal.Again head) h k = (looks_on a b d h k.0, k.1, k.2, k.3, k.4)
