@@ -3,6 +3,7 @@ pub mod Hands
 pub mod Labels
 pub mod Looks
 pub mod Moves
+pub mod Opened
 pub mod Orders
 pub mod Overflows
 pub mod Owners

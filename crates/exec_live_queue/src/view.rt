@@ -1,8 +1,9 @@
 //! What a seat at the table knows. These types are for the proofs alone: no value of them is made.
 //!
-//! A field `[X; 0]` stands for a list of any length, since a clause reads an array as a list.
+//! A clause reads a `LinkedList` as the list that it has, and no type of an element is larger for it.
 
 use atomic_table::{Seat, Shared, TableRule};
+use std::collections::LinkedList;
 
 /// Where a seat stands between two of its steps.
 pub enum Stage {
@@ -28,7 +29,7 @@ pub struct Own<T> {
     /// the owner's next store of the tail, and else 0.
     pub aside: u64,
     /// The value of each label from `start` on. It only grows.
-    pub log: [T; 0],
+    pub log: LinkedList<T>,
     /// The first label whose slot is out with the owner.
     pub out_at: u64,
     /// How many slots are out with the owner.
@@ -38,11 +39,11 @@ pub struct Own<T> {
     /// The gap that the owner saw last in the head, or wrote there.
     pub saw_gap: u64,
     /// The labels that the owner popped.
-    pub popped: [u64; 0],
+    pub popped: LinkedList<u64>,
     /// The labels that an overflow handed out.
-    pub exported: [u64; 0],
+    pub exported: LinkedList<u64>,
     /// The labels that an overflow gave a new label, 256 further on.
-    pub relabelled: [u64; 0],
+    pub relabelled: LinkedList<u64>,
 }
 
 /// What a thief keeps.
@@ -56,9 +57,9 @@ pub struct Theft<T> {
     /// The tail that it saw. In a claim, one past its last label.
     pub upto: u64,
     /// The labels of all its claims.
-    pub claims: [u64; 0],
+    pub claims: LinkedList<u64>,
     /// The values that it took, one for each of these labels.
-    pub lot: [T; 0],
+    pub lot: LinkedList<T>,
 }
 
 /// What a seat knows.
