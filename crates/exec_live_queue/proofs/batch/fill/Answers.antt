@@ -11,7 +11,7 @@ overflow_add-tail g c = let v = c.loop-i.invariant in omega (arith, v.count, c.r
 
 pub put-requires : goal.put-requires
 put-requires g c = let v = c.loop-i.invariant in let q = c.requires in
-    (search rules, ((v.same.0 ∙ q.at.0, q.at.1, q.at.2), fill_front c.loop-i.seat.me c.args.seat.now.me.0 c.args.tail q.free.0 c.loop-i.i (c.args.tail + c.loop-i.i) c.args.batch.now.values c.loop-i.batch.values c.in-Some.value (v.filled q.free.0 q.free.1) (sym c.pop.ensures.value ∙ c.in-Some.is) refl))
+    record { at = (v.same.0 ∙ q.at.0, q.at.1, q.at.2); front = fill_front c.loop-i.seat.me c.args.seat.now.me.0 c.args.tail q.free.0 c.loop-i.i (c.args.tail + c.loop-i.i) c.args.batch.now.values c.loop-i.batch.values c.in-Some.value (v.filled q.free.0 q.free.1) (sym c.pop.ensures.value ∙ c.in-Some.is) refl }
 
 pub loop-i-preserved : goal.loop-i-preserved
 loop-i-preserved g c = let v = c.loop-i.invariant in let p = c.put.ensures in let values : c.pop.new.self.values ≡ drop 1 c.loop-i.batch.values = ap (λ b. b.values) {x = c.pop.new.self} c.pop.ensures.left in record {

@@ -4,7 +4,7 @@ use Rattle.exec_live_queue.proofs.Moves.{hands_front, handed_one, one_front}
 use Rattle.exec_live_queue.proofs.overflow.hand_out.Goals as goal
 
 pub take-requires : goal.take-requires
-take-requires g c = let h = c.requires.left in (search rules, (h.2.0, (h.0, hands_front c.args.seat.now.me c.args.done (c.args.tail + c.args.done) h.0 h.1 h.2.1 (ap (λ (n : ℕ). n + c.args.done) c.requires.tail.0))))
+take-requires g c = let h = c.requires.left in record { at = h.2.0; front = (h.0, hands_front c.args.seat.now.me c.args.done (c.args.tail + c.args.done) h.0 h.1 h.2.1 (ap (λ (n : ℕ). n + c.args.done) c.requires.tail.0)) }
 
 pub returns : goal.returns
 returns g c = let e = c.take.ensures in let m = c.args.seat.now.me in let m1 = c.take.new.seat.me in let label = c.args.tail + c.args.done in record {

@@ -15,12 +15,12 @@ overflow_add-real g c = let i = c.tries.invariant in omega (arith, i.seen, i.res
 
 pub pop_last-requires : goal.pop_last-requires
 pop_last-requires g c = let i = c.tries.invariant in let real : c.real_of-real.result ≡ c.tries.seat.me.0.own.saw_real = c.real_of-real.ensures ∙ i.seen.0 in
-    (search rules, (i.rests, (i.seen, (sym i.seen.1 ∙ sym c.gap_of.ensures ∙ c.if-gap_of-eq0.true, sym (ap (λ n. n + 1) real) ∙ c.if-real-tail-2.true ∙ c.requires.tail ∙ sym (own_tail c.args.seat.now.me.0.own c.tries.seat.me.0.own i.looked)))))
+    record { rests = i.rests; seen = i.seen; unclaimed = sym i.seen.1 ∙ sym c.gap_of.ensures ∙ c.if-gap_of-eq0.true; lone = sym (ap (λ n. n + 1) real) ∙ c.if-real-tail-2.true ∙ c.requires.tail ∙ sym (own_tail c.args.seat.now.me.0.own c.tries.seat.me.0.own i.looked) }
 
 pub carry_off-requires : goal.carry_off-requires
 carry_off-requires g c = let i = c.tries.invariant in let same = c.pop_last.ensures.same in
     let o = pops_out c.tries.seat.me c.pop_last.new.seat.me c.real_of-real.result 0 i.rests.1 c.pop_last.ensures.popped (c.real_of-real.ensures ∙ i.seen.0) in
-    (search rules, ((same.0 ∙ i.rests.0.0, i.rests.0.1, i.rests.0.2), (o.0, (o.1.0, (o.1.1, omega (arith, i.seen, i.rests.1.4, c.real_of-real.ensures))))))
+    record { at = (same.0 ∙ i.rests.0.0, i.rests.0.1, i.rests.0.2); owns = o.0; out = o.1.0; popped = o.1.1; small = omega (arith, i.seen, i.rests.1.4, c.real_of-real.ensures) }
 
 pub returns-then-real-tail-2 : goal.returns-then-real-tail-2
 returns-then-real-tail-2 g c = let i = c.tries.invariant in let p = c.pop_last.ensures in let e = c.carry_off.ensures in
@@ -29,12 +29,12 @@ returns-then-real-tail-2 g c = let i = c.tries.invariant in let p = c.pop_last.e
     record { same = (e.same.0 ∙ p.same.0 ∙ i.same.0, e.same.1 ∙ p.same.1 ∙ i.same.1); rests = ((here, i.rests.0.1, i.rests.0.2), k.0); popped = pops_on c.args.seat.now.me.0.own c.tries.seat.me.0.own c.carry_off.new.seat.me.0.own c.carry_off.result i.looked k.1; empty = tt }
 
 pub pop_exchange-found-requires : goal.pop_exchange-found-requires
-pop_exchange-found-requires g c = let i = c.tries.invariant in let t = own_tail c.args.seat.now.me.0.own c.tries.seat.me.0.own i.looked in (search rules, (i.rests, (i.seen, omega (arith, t, i.seen, c.requires.tail, c.real_of-real.ensures, c.if-real-tail.false))))
+pop_exchange-found-requires g c = let i = c.tries.invariant in let t = own_tail c.args.seat.now.me.0.own c.tries.seat.me.0.own i.looked in record { rests = i.rests; seen = i.seen; value = omega (arith, t, i.seen, c.requires.tail, c.real_of-real.ensures, c.if-real-tail.false) }
 
 pub carry_off-requires-then-found-seen : goal.carry_off-requires-then-found-seen
 carry_off-requires-then-found-seen g c = let i = c.tries.invariant in let p = c.pop_exchange-found.ensures in
     let o = pops_out c.tries.seat.me c.pop_exchange-found.new.seat.me c.real_of-real.result c.tries.seat.me.0.own.saw_gap i.rests.1 (p.popped.0 c.if-found-seen.true) (c.real_of-real.ensures ∙ i.seen.0) in
-    (search rules, ((p.same.0 ∙ i.rests.0.0, i.rests.0.1, i.rests.0.2), (o.0, (o.1.0, (o.1.1, omega (arith, i.seen, i.rests.1.4, c.real_of-real.ensures))))))
+    record { at = (p.same.0 ∙ i.rests.0.0, i.rests.0.1, i.rests.0.2); owns = o.0; out = o.1.0; popped = o.1.1; small = omega (arith, i.seen, i.rests.1.4, c.real_of-real.ensures) }
 
 pub returns-then-found-seen : goal.returns-then-found-seen
 returns-then-found-seen g c = let i = c.tries.invariant in let p = c.pop_exchange-found.ensures in let e = c.carry_off-then-found-seen.ensures in

@@ -11,12 +11,12 @@ loop-i-init g c = let A = c.args in record {
 pub take-value-requires : goal.take-value-requires
 take-value-requires g c = let A = c.args in let q = c.requires in let v = c.loop-i.invariant in let xs = q.claimed.0 in let len = q.claimed.1 in let i = c.loop-i.i in
     let k = carry_fronts c.loop-i.from.me A.from.now.me.0 A.at c.loop-i.seat.me A.seat.now.me.0 A.tail q.free.0 i (A.at + i) (A.tail + i) xs (v.moved xs q.free.0 len q.claimed.2 q.free.1) (omega (arith, len, c.loop-i-test.true)) refl refl in
-    (search rules, ((v.same.0.0 ∙ q.source.0, q.source.1, q.source.2), (k.0, k.1)))
+    record { at = (v.same.0.0 ∙ q.source.0, q.source.1, q.source.2); front = (k.0, k.1) }
 
 pub put-requires : goal.put-requires
 put-requires g c = let A = c.args in let q = c.requires in let v = c.loop-i.invariant in let xs = q.claimed.0 in let len = q.claimed.1 in let i = c.loop-i.i in
     let k = carry_fronts c.loop-i.from.me A.from.now.me.0 A.at c.loop-i.seat.me A.seat.now.me.0 A.tail q.free.0 i (A.at + i) (A.tail + i) xs (v.moved xs q.free.0 len q.claimed.2 q.free.1) (omega (arith, len, c.loop-i-test.true)) refl refl in
-    (search rules, ((v.same.1.0 ∙ q.into.0, q.into.1, q.into.2), k.2))
+    record { at = (v.same.1.0 ∙ q.into.0, q.into.1, q.into.2); front = k.2 }
 
 pub loop-i-preserved : goal.loop-i-preserved
 loop-i-preserved g c = let A = c.args in let v = c.loop-i.invariant in let i = c.loop-i.i in let t = c.take-value.ensures in let p = c.put.ensures in record {

@@ -17,7 +17,7 @@ tries-init g c = let q = c.requires in record {
 }
 
 pub release-found-requires : goal.release-found-requires
-release-found-requires g c = let v = c.tries.invariant in (search rules, (v.may, (v.seen, omega (arith, v.small))))
+release-found-requires g c = let v = c.tries.invariant in record { may = v.may; seen = v.seen; small = omega (arith, v.small) }
 
 pub tries-smaller : goal.tries-smaller
 tries-smaller g c = let v = c.tries.invariant in let r = c.release-found.ensures.released.1 c.if-found-seen.false in let t = c.tries.seat.me.0.theft in
