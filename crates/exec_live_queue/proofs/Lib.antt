@@ -12,5 +12,6 @@ pub mod Publishes
 pub mod Rebuild
 pub mod Releases
 pub mod Returns
+pub mod Standing
 pub mod Steals
 pub mod Thieves

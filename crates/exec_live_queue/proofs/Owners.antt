@@ -146,7 +146,7 @@ module _ {T : Type 0} where
       (ap (λ (d : Own T). record d { tail = d.tail + 128; aside = 0; log = d.log ++ take 128 (whole b); out_at = b.tail + 128; out_len = 128; saw_real = b.tail; saw_gap = 0; exported = d.exported ++ labels (b.saw_real + 128) 128; relabelled = d.relabelled ++ labels b.saw_real 128 }) h.0
       ∙ (λ i. record a { tail = a.tail + 128; aside = sym aside i; log = a.log ++ take 128 (vals i); out_at = b.tail + 128; out_len = 128; saw_real = b.tail; saw_gap = 0; exported = a.exported ++ labels (further i) 128; relabelled = a.relabelled ++ labels (real i) 128 })) in
       let long : a.start + length a.log ≡ a.tail = r.5 in let more = length-append a.log (take 128 (fully a)) in
-      ((omega (arith, h.1), ap (λ (z : Sat T). z.0.own.saw_real) is ∙ tail, own),
+      ((omega (arith, h.1), wide, ap (λ (z : Sat T). z.0.own.saw_real) is ∙ tail, own),
       (ap (λ (z : Sat T). z.0.stage) is ∙ owns, ap (λ (z : Sat T). z.0.own.aside) is, (let t : m3.0.own.tail ≡ a.tail + 128 = ap (λ (d : Own T). d.tail) own in omega arith),
       ap (λ (d : Own T). d.start + length d.log) own ∙ (let j : a.start + length (a.log ++ take 128 (fully a)) ≡ a.tail + 128 = omega arith in j) ∙ sym (ap (λ (d : Own T). d.tail) own),
       ap (λ (z : Sat T). z.0.own.out_at) is ∙ sym (ap (λ (z : Sat T). z.0.own.tail) is), ap (λ (z : Sat T). z.0.own.out_len) is ∙ (let j : 128 ≡ length (drop 128 (fully a)) + 0 = omega arith in j),

@@ -45,7 +45,7 @@ module _ {T : Type 0} where
 
   -- the queue was full without a claim: the oldest half has new labels, and the newest half is handed out
   abbrev pub HasOverflowed : Own T → Own T → Type 0
-  HasOverflowed d d' = (d.saw_real + 256 ≤ d.tail) × (d'.saw_real ≡ d.tail)
+  HasOverflowed d d' = (d.saw_real + 256 ≤ d.tail) × (length (fully d) ≡ 256) × (d'.saw_real ≡ d.tail)
       × (d' ≡ record (looked d d') { tail = d.tail + 128; log = d.log ++ take 128 (fully d); exported = d.exported ++ labels (d.tail - 128) 128; relabelled = d.relabelled ++ labels (d.tail - 256) 128 })
 
   -- what a push of x answers and does
@@ -54,6 +54,13 @@ module _ {T : Type 0} where
   AfterPush d x d' (answer.Overflow y) = (d.tail < 2 ^ 55 - 512) × (y ≡ x) × HasOverflowed d d'
   AfterPush d x d' (answer.Claimed y) = (d.tail < 2 ^ 55 - 512) × (y ≡ x) × HasLooked d d' × (0 < d'.saw_gap) × (d.tail + d'.saw_gap ≡ d'.saw_real + 256)
   AfterPush d x d' (answer.Spent y) = (2 ^ 55 - 512 ≤ d.tail) × (y ≡ x) × (d' ≡ d)
+
+  -- what is handed out after a push
+  abbrev pub handed_after : Own T → Push T → List T
+  handed_after d (answer.Pushed len) = []
+  handed_after d (answer.Overflow y) = drop 128 (fully d)
+  handed_after d (answer.Claimed y) = []
+  handed_after d (answer.Spent y) = []
 
   -- the numbers and lists that a thief keeps, but for what it saw
   abbrev pub HasTaken : Theft T → ℕ → List T → Theft T → Type 0

@@ -1,8 +1,8 @@
 //! The owner of a shared run queue.
 
-ghost use Rattle.std.specs.Prelude.{◌≡◌, ◌+◌, ◌-◌, ◌<◌, ◌≤◌, ◌==◌, [], ◌∷◌, length, drop, IfNone, IfSome, IsTrue, ◌↔◌};
+ghost use Rattle.std.specs.Prelude.{◌≡◌, ◌+◌, ◌≤◌, ◌↔◌, [], length, drop, slice_get, IfNone, IfSome, IsTrue};
 ghost use Rattle.exec_words.specs.Head.{room_at};
-ghost use Rattle.exec_live_queue.specs.Calls.{AfterPush, HasLooked, HasPopped, HasPublished, WasEmpty};
+ghost use Rattle.exec_live_queue.specs.Calls.{AfterPush, HasLooked, HasPopped, HasPublished, WasEmpty, handed_after};
 
 use crate::answers::Push;
 use crate::batch::push_batch;
@@ -63,5 +63,85 @@ impl<T> Owner<T> {
         ensures empty { IfNone result (WasEmpty self.old.own self.new.own) }
     {
         pop(words_of(&self.inner), &mut self.seat, self.tail)
+    }
+
+    /// How many more values fit, by the head that this call loads. 0 where the queue is spent.
+    pub fn room(&mut self) -> usize
+        requires whole { self.old.handed ≡ [] }
+        ensures same { (self.new.table ≡ self.old.table) × (self.new.handed ≡ []) }
+        ensures looked { HasLooked self.old.own self.new.own }
+        ensures room { result ≡ room_at record { real = self.new.own.saw_real; gap = self.new.own.saw_gap } self.new.own.tail }
+    {
+        let seen = look(words_of(&self.inner), &mut self.seat);
+        if self.tail >= SPENT {
+            return 0;
+        }
+        (SLOTS - (self.tail - real_of(seen)) - gap_of(seen)) as usize
+    }
+
+    /// Whether the queue has no value, by the head that this call loads.
+    pub fn is_empty(&mut self) -> bool
+        requires whole { self.old.handed ≡ [] }
+        ensures same { (self.new.table ≡ self.old.table) × (self.new.handed ≡ []) }
+        ensures looked { HasLooked self.old.own self.new.own }
+        ensures empty { IsTrue result ↔ (self.new.own.saw_real ≡ self.new.own.tail) }
+    {
+        self.len() == 0
+    }
+
+    /// Publishes a value behind the others. After `Overflow` the caller must take the values of the
+    /// overflow, by `next_overflowed`, before any other call.
+    pub fn push(&mut self, value: T) -> Push<T>
+        requires whole { self.old.handed ≡ [] }
+        ensures same { self.new.table ≡ self.old.table }
+        ensures pushed { AfterPush self.old.own value self.new.own result }
+        ensures handed { self.new.handed ≡ handed_after self.old.own result }
+    {
+        let answer = push(words_of(&self.inner), &mut self.seat, self.tail, value);
+        match &answer {
+            Push::Pushed(_) => self.tail += 1,
+            Push::Overflow(_) => {
+                self.tail += HALF;
+                self.left = HALF;
+            }
+            Push::Claimed(_) | Push::Spent(_) => {}
+        }
+        answer
+    }
+
+    /// The next value that an overflow hands out, the oldest first, or None where there is none
+    /// left.
+    pub fn next_overflowed(&mut self) -> Option<T>
+        ensures same { self.new.table ≡ self.old.table }
+        ensures looked { HasLooked self.old.own self.new.own }
+        ensures value { result ≡ slice_get self.old.handed 0 }
+        ensures handed { self.new.handed ≡ drop 1 self.old.handed }
+    {
+        if self.left == 0 {
+            return None;
+        }
+        let words = words_of(&self.inner);
+        let value = hand_out(words, &mut self.seat, self.tail, HALF - self.left);
+        if self.left == 1 {
+            end(words, &mut self.seat, HALF);
+            self.left = 0;
+            return Some(value);
+        }
+        self.left -= 1;
+        Some(value)
+    }
+
+    /// Publishes a batch behind the other values, by one store of the tail. The caller must have
+    /// seen room for all of it, by `room`.
+    pub fn push_batch(&mut self, batch: &mut Reserved<T>)
+        requires whole { self.old.handed ≡ [] }
+        requires room { length batch.old.values ≤ room_at record { real = self.old.own.saw_real; gap = self.old.own.saw_gap } self.old.own.tail }
+        ensures same { (self.new.table ≡ self.old.table) × (self.new.handed ≡ []) }
+        ensures published { HasPublished self.old.own batch.old.values self.new.own }
+        ensures taken { batch.new ≡ record batch.old { values = [] } }
+    {
+        let count = batch.len() as u64;
+        push_batch(words_of(&self.inner), &mut self.seat, self.tail, batch);
+        self.tail += count;
     }
 }
