@@ -20,6 +20,7 @@
 pub mod answers;
 pub mod batch;
 pub mod head;
+pub mod inner;
 pub mod overflow;
 pub mod owner;
 pub mod plays;

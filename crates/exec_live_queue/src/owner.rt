@@ -2,7 +2,9 @@
 
 ghost use Rattle.std.specs.Prelude.{◌≡◌, ◌+◌, ◌≤◌, ◌↔◌, [], length, drop, slice_get, IfNone, IfSome, IsTrue};
 ghost use Rattle.exec_words.specs.Head.{room_at};
-ghost use Rattle.exec_live_queue.specs.Calls.{AfterPush, HasLooked, HasPopped, HasPublished, WasEmpty, handed_after};
+ghost use Rattle.crossbeam_utils.specs.Padded.{padded_value};
+ghost use Rattle.exec_live_queue.specs.Seats.{IsAt, IsThief, Rests, SameSeat};
+ghost use Rattle.exec_live_queue.specs.Calls.{AfterPush, AfterSteal, HasLooked, HasPopped, HasPublished, WasEmpty, handed_after};
 
 use crate::answers::Push;
 use crate::batch::push_batch;
@@ -10,10 +12,12 @@ use crate::head::{gap_of, real_of};
 use crate::overflow::{end, hand_out};
 use crate::pop::pop;
 use crate::push::push;
-use crate::shared::{Inner, words_of};
+use crate::inner::{Inner, words_of};
+use crate::steal::{Pause, steal_once};
 use crate::steps::look;
-use crate::view::Place;
+use crate::view::{Place, Words};
 use crate::{HALF, SLOTS, SPENT};
+use exec_words::queue::Steal;
 use exec_words::reserved::Reserved;
 use std::alloc::Global;
 use std::marker::Model;
@@ -43,7 +47,59 @@ impl<T> Model for Owner<T> {
     ghost invariant = { λ o. Stands (padded_value o.inner.value).shared o.seat o.tail o.left };
 }
 
+impl<T: Drop> Owner<T> {
+    /// Lets the owner go. The caller must have seen the queue empty, and be in the middle of no
+    /// overflow.
+    pub fn leave(self)
+        requires empty { self.own.saw_real ≡ self.own.tail }
+        requires whole { self.handed ≡ [] }
+    {
+        let Owner {
+            inner,
+            seat,
+            tail: _,
+            left: _,
+        } = self;
+        drop(seat);
+        drop(inner);
+    }
+}
+
 impl<T> Owner<T> {
+    /// The owner at this seat, which is the first of its queue.
+    pub(crate) fn seated(inner: Arc<Inner<T>, Global>, seat: Place<T>, tail: u64) -> Self
+        requires rests { Rests (padded_value inner.value).shared seat }
+        requires tail { tail ≡ seat.me.0.own.tail }
+        ensures { result ≡ record { table = seat.table_id; own = seat.me.0.own; handed = [] } }
+    {
+        Owner {
+            inner,
+            seat,
+            tail,
+            left: 0,
+        }
+    }
+
+    /// One try of a steal from the queue of these words, by a thief's seat there.
+    pub(crate) fn steal<P: Pause>(
+        &mut self,
+        source: &Words<T>,
+        from: &mut Place<T>,
+        pause: &mut P,
+    ) -> Steal
+        requires source { (IsAt source.now from.old) × IsThief from.old.me }
+        requires whole { self.old.handed ≡ [] }
+        ensures same { SameSeat from.old from.new × IsThief from.new.me × (self.new.table ≡ self.old.table) × (self.new.handed ≡ []) }
+        ensures stolen { AfterSteal self.old.own from.old.me.0.theft self.new.own from.new.me.0.theft result }
+    {
+        let into = words_of(&self.inner);
+        let answer = steal_once(source, from, into, &mut self.seat, self.tail, pause);
+        if let Steal::Moved(count) = &answer {
+            self.tail += *count as u64;
+        }
+        answer
+    }
+
     /// How many values the queue has, by the head that this call loads.
     pub fn len(&mut self) -> usize
         requires whole { self.old.handed ≡ [] }

@@ -42,11 +42,13 @@ impl Pause for NoPause {
     }
 }
 
-/// What a thief has seen that it may claim: the head, and how many values.
+/// What a thief has seen that it may claim.
 #[derive(Clone, Copy)]
-struct Aim {
-    seen: u64,
-    count: u64,
+pub(crate) struct Aim {
+    /// The head.
+    pub(crate) seen: u64,
+    /// How many values.
+    pub(crate) count: u64,
 }
 
 /// One try of a steal. `tail` is that of the thief's own queue.
@@ -114,8 +116,8 @@ fn steal_from<T, P: Pause>(
     Steal::Moved(aim.count as usize)
 }
 
-// Loads head and tail. None where a claim is held, or there are fewer than two values.
-fn take_aim<T>(source: &Words<T>, from: &mut Place<T>) -> Option<Aim>
+/// Loads head and tail. None where a claim is held, or there are fewer than two values.
+pub(crate) fn take_aim<T>(source: &Words<T>, from: &mut Place<T>) -> Option<Aim>
     requires source { (IsAt source.now from.old) × IsThief from.old.me }
     ensures same { SameSeat from.old from.new }
     ensures thief { IsThief from.new.me }
