@@ -15,7 +15,6 @@ use Rattle.exec_live_queue.proofs.Hands.{fronted, turned_on, values_in}
 use Rattle.exec_live_queue.proofs.Looks.{nothing_left}
 
 module _ {T : Type 0} where
-
   -- one more value of an overflow was handed out
   pub handed_one : (m m1 : Sat T) (j label : ℕ) (x : T) (xs : List T) → AtHand m j (x ∷ xs) → label ≡ m.0.own.tail + j → m1 ≡ (m.0, rest m.1 ++ (label % 256, None) ∷ []) → AtHand m1 (j + 1) xs
   handed_one m m1 j label x xs h is e =

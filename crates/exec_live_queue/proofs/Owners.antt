@@ -145,13 +145,19 @@ module _ {T : Type 0} where
       = subst (λ (z : Sat T). z.0.own ≡ record (looked a z.0.own) { tail = a.tail + 128; log = a.log ++ take 128 (fully a); exported = a.exported ++ labels (a.tail - 128) 128; relabelled = a.relabelled ++ labels (a.tail - 256) 128 }) (sym is)
       (ap (λ (d : Own T). record d { tail = d.tail + 128; aside = 0; log = d.log ++ take 128 (whole b); out_at = b.tail + 128; out_len = 128; saw_real = b.tail; saw_gap = 0; exported = d.exported ++ labels (b.saw_real + 128) 128; relabelled = d.relabelled ++ labels b.saw_real 128 }) h.0
       ∙ (λ i. record a { tail = a.tail + 128; aside = sym aside i; log = a.log ++ take 128 (vals i); out_at = b.tail + 128; out_len = 128; saw_real = b.tail; saw_gap = 0; exported = a.exported ++ labels (further i) 128; relabelled = a.relabelled ++ labels (real i) 128 })) in
-      let long : a.start + length a.log ≡ a.tail = r.5 in let more = length-append a.log (take 128 (fully a)) in
-      ((omega (arith, h.1), wide, ap (λ (z : Sat T). z.0.own.saw_real) is ∙ tail, own),
-      (ap (λ (z : Sat T). z.0.stage) is ∙ owns, ap (λ (z : Sat T). z.0.own.aside) is, (let t : m3.0.own.tail ≡ a.tail + 128 = ap (λ (d : Own T). d.tail) own in omega arith),
-      ap (λ (d : Own T). d.start + length d.log) own ∙ (let j : a.start + length (a.log ++ take 128 (fully a)) ≡ a.tail + 128 = omega arith in j) ∙ sym (ap (λ (d : Own T). d.tail) own),
-      ap (λ (z : Sat T). z.0.own.out_at) is ∙ sym (ap (λ (z : Sat T). z.0.own.tail) is), ap (λ (z : Sat T). z.0.own.out_len) is ∙ (let j : 128 ≡ length (drop 128 (fully a)) + 0 = omega arith in j),
-      ap (λ (z : Sat T). z.1) is ∙ (λ i. hand (tail i + 128) (map Some (drop 128 (vals i)))) ∙ ap (λ (n : ℕ). hand n (map Some (drop 128 (fully a)))) (let j : a.tail + 128 ≡ m3.0.own.tail + 0 = (let t : m3.0.own.tail ≡ a.tail + 128 = ap (λ (d : Own T). d.tail) own in omega arith) in j)
-      ∙ sym (append-nil (hand (m3.0.own.tail + 0) (map Some (drop 128 (fully a)))))))
+      let long : a.start + length a.log ≡ a.tail = r.5 in let more = length-append a.log (take 128 (fully a)) in (
+        (omega (arith, h.1), wide, ap (λ (z : Sat T). z.0.own.saw_real) is ∙ tail, own),
+        (
+          ap (λ (z : Sat T). z.0.stage) is ∙ owns,
+          ap (λ (z : Sat T). z.0.own.aside) is,
+          (let t : m3.0.own.tail ≡ a.tail + 128 = ap (λ (d : Own T). d.tail) own in omega arith),
+          ap (λ (d : Own T). d.start + length d.log) own ∙ (let j : a.start + length (a.log ++ take 128 (fully a)) ≡ a.tail + 128 = omega arith in j) ∙ sym (ap (λ (d : Own T). d.tail) own),
+          ap (λ (z : Sat T). z.0.own.out_at) is ∙ sym (ap (λ (z : Sat T). z.0.own.tail) is),
+          ap (λ (z : Sat T). z.0.own.out_len) is ∙ (let j : 128 ≡ length (drop 128 (fully a)) + 0 = omega arith in j),
+          ap (λ (z : Sat T). z.1) is ∙ (λ i. hand (tail i + 128) (map Some (drop 128 (vals i)))) ∙ ap (λ (n : ℕ). hand n (map Some (drop 128 (fully a)))) (let j : a.tail + 128 ≡ m3.0.own.tail + 0 = (let t : m3.0.own.tail ≡ a.tail + 128 = ap (λ (d : Own T). d.tail) own in omega arith) in j)
+              ∙ sym (append-nil (hand (m3.0.own.tail + 0) (map Some (drop 128 (fully a))))),
+        ),
+      )
 
   -- where another head without a claim was seen, a value has left
   pub newer : (d d' : Own T) (seen n : ℕ) → IsSeen d seen → IsSeen d' n → Found d n → n ≢ seen → d.saw_gap ≡ 0 → d.saw_real < d'.saw_real
@@ -171,9 +177,14 @@ module _ {T : Type 0} where
   -- all free slots were taken
   pub took_room : (m m' : Sat T) (n : ℕ) → laid (λ room. room) (step 256 0 0 0 none) m n m' → AtRest m
       → (m'.0.own.out_at ≡ m.0.own.tail) × (m'.0.own.out_len ≡ room m.0.own.tail (n / 512) (n % 512)) × (m'.0.stage ≡ Owns) × (m'.0.own.aside ≡ 0) × (m'.0.own.tail ≡ m.0.own.tail) × Fills m' m'.0 m.0.own.tail (room m.0.own.tail (n / 512) (n % 512)) []
-  took_room m m' n l r = let is = l.1 in let t : ℕ = m.0.own.tail in let here : t ≡ t + 0 = omega arith in let free : List (Option T) = replicate (room t (n / 512) (n % 512)) None in
-      (ap (λ (x : Sat T). x.0.own.out_at) is, ap (λ (x : Sat T). x.0.own.out_len) is, ap (λ (x : Sat T). x.0.stage) is ∙ r.0, ap (λ (x : Sat T). x.0.own.aside) is ∙ r.2, ap (λ (x : Sat T). x.0.own.tail) is,
-      (λ i. (m'.0, (ap (λ (x : Sat T). x.1) is ∙ ap (λ (k : ℕ). hand k free) here ∙ sym (append-nil (hand (t + 0) free))) i)))
+  took_room m m' n l r = let is = l.1 in let t : ℕ = m.0.own.tail in let here : t ≡ t + 0 = omega arith in let free : List (Option T) = replicate (room t (n / 512) (n % 512)) None in (
+    ap (λ (x : Sat T). x.0.own.out_at) is,
+    ap (λ (x : Sat T). x.0.own.out_len) is,
+    ap (λ (x : Sat T). x.0.stage) is ∙ r.0,
+    ap (λ (x : Sat T). x.0.own.aside) is ∙ r.2,
+    ap (λ (x : Sat T). x.0.own.tail) is,
+    (λ i. (m'.0, (ap (λ (x : Sat T). x.1) is ∙ ap (λ (k : ℕ). hand k free) here ∙ sym (append-nil (hand (t + 0) free))) i)),
+  )
 
   -- those that a batch of this length needs, and the others
   pub free_slots : (m m' : Sat T) (n tail len : ℕ) → laid (λ room. room) (step 256 0 0 0 none) m n m' → AtRest m → tail ≡ m.0.own.tail → len ≤ room m.0.own.tail (n / 512) (n % 512)

@@ -26,10 +26,12 @@ pub mod owner;
 pub mod plays;
 pub mod pop;
 pub mod push;
-pub mod shared;
+pub mod queue;
 pub mod slots;
 pub mod steal;
 pub mod steps;
+#[cfg(test)]
+mod tests;
 pub mod thief;
 pub mod view;
 

@@ -9,10 +9,10 @@ ghost use Rattle.exec_live_queue.specs.Calls.{AfterPush, AfterSteal, HasLooked, 
 use crate::answers::Push;
 use crate::batch::push_batch;
 use crate::head::{gap_of, real_of};
+use crate::inner::{Inner, words_of};
 use crate::overflow::{end, hand_out};
 use crate::pop::pop;
 use crate::push::push;
-use crate::inner::{Inner, words_of};
 use crate::steal::{Pause, steal_once};
 use crate::steps::look;
 use crate::view::{Place, Words};

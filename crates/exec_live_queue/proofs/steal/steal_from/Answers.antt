@@ -47,9 +47,17 @@ release_claim-requires g c = let q = c.requires in let T = c.take_aim in let m =
     let k = room_stays w.0.own s.result c.args.tail 128 s.ensures.laid.0 q.tail q.into.1.4 q.room in let fits : count ≤ all = omega (arith, few, k.0) in
     let f = free_slots w w1 s.result c.args.tail count s.ensures.laid q.into.1 q.tail fits in let at = c.real_of-at.result in let first : m1.0.theft.at ≡ at = sym (c.real_of-at.ensures ∙ aim.1) in
     let e : Empties m2 m2.0 at 0 xs = subst (λ (n : ℕ). Empties m2 m2.0 n 0 xs) first (claimed_slots m1 m2 p) in
-    let C = c.carry_over in let m3 = C.new.from.me in let w2 = C.new.seat.me in let d = C.ensures.moved xs (all - count) len e f in let view : m3.0 ≡ claimed_view m1.0 xs = ap (λ z. z.0) {x = m3} d.0 ∙ ap (λ z. z.0) {x = m2} p.6 in record { may = ((C.ensures.same.0.0 ∙ F.ensures.same.0 ∙ T.ensures.same.0 ∙ q.source.0.0, q.source.0.1, q.source.0.2), ap (λ v. v.stage) {x = m3.0} view, count,
-      ap (λ v. v.theft.upto) {x = m3.0} view ∙ (λ i. sym (ap (λ v. v.theft.at) {x = m3.0} view) i + sym aim.3 i),
-      ap (λ z. z.1) {x = m3} d.0 ∙ ap (λ (n : ℕ). hand n (replicate count None)) (sym first ∙ sym (ap (λ v. v.theft.at) {x = m3.0} view))); claimed = (sym first ∙ sym (ap (λ v. v.theft.at) {x = m3.0} view), aim.3 ∙ sym (ap (λ v. v.theft.gap) {x = m3.0} view)); small = (omega (arith, first, aim.3, aim.4, aim.0.3), few) }
+    let C = c.carry_over in let m3 = C.new.from.me in let w2 = C.new.seat.me in let d = C.ensures.moved xs (all - count) len e f in let view : m3.0 ≡ claimed_view m1.0 xs = ap (λ z. z.0) {x = m3} d.0 ∙ ap (λ z. z.0) {x = m2} p.6 in record {
+      may = (
+        (C.ensures.same.0.0 ∙ F.ensures.same.0 ∙ T.ensures.same.0 ∙ q.source.0.0, q.source.0.1, q.source.0.2),
+        ap (λ v. v.stage) {x = m3.0} view,
+        count,
+        ap (λ v. v.theft.upto) {x = m3.0} view ∙ (λ i. sym (ap (λ v. v.theft.at) {x = m3.0} view) i + sym aim.3 i),
+        ap (λ z. z.1) {x = m3} d.0 ∙ ap (λ (n : ℕ). hand n (replicate count None)) (sym first ∙ sym (ap (λ v. v.theft.at) {x = m3.0} view)),
+      );
+      claimed = (sym first ∙ sym (ap (λ v. v.theft.at) {x = m3.0} view), aim.3 ∙ sym (ap (λ v. v.theft.gap) {x = m3.0} view));
+      small = (omega (arith, first, aim.3, aim.4, aim.0.3), few);
+    }
 
 pub show-requires : goal.show-requires
 show-requires g c = let q = c.requires in let T = c.take_aim in let m = c.args.from.now.me in let m1 = T.new.from.me in let aim = c.in-Some.ensures.aim in let F = c.claim-found in let m2 = F.new.seat.me in

@@ -31,7 +31,7 @@ pub invariant_of-self-2 : goal.invariant_of-self-2
 invariant_of-self-2 g c = let o = c.self.inside in let w = c.words_of-words.result.now in let s = subst (λ x. Stands x o.seat o.tail o.left) {y = w} (sym c.words_of-words.ensures) c.self.invariant in
     let n = next_of w o.seat o.tail o.left s (omega arith) in let h = c.hand_out-value in let seat1 = h.new.seat in let v = h.ensures.value n.0 n.1 n.2 in let own : seat1.me.0.own.tail ≡ o.seat.me.0.own.tail = ap (λ z. z.own.tail) {x = seat1.me.0} h.ensures.kept in
     subst (λ x. Stands x seat1 o.tail (o.left - 1)) {x = w} c.words_of-words.ensures
-        (stands_hands w seat1 o.tail (o.left - 1) (128 - o.left + 1) n.1 (s.0 ∙ sym own) (omega (arith, s.1)) (omega arith) (omega (arith, n.4)) v.1)
+    (stands_hands w seat1 o.tail (o.left - 1) (128 - o.left + 1) n.1 (s.0 ∙ sym own) (omega (arith, s.1)) (omega arith) (omega (arith, n.4)) v.1)
 
 pub returns : goal.returns
 returns g c = let o = c.self.inside in let w = c.words_of-words.result.now in let s = subst (λ x. Stands x o.seat o.tail o.left) {y = w} (sym c.words_of-words.ensures) c.self.invariant in

@@ -27,12 +27,12 @@ use std::sync::Arc;
 
 /// A queue, from which others steal.
 #[derive(Drop)]
-pub struct SharedQueue<T> {
+pub struct Queue<T> {
     inner: Arc<Inner<T>, Global>,
     start: u64,
 }
 
-impl<T> Model for SharedQueue<T> {
+impl<T> Model for Queue<T> {
     ghost use Rattle.std.specs.Prelude.{◌≡◌, ◌+◌, ◌^◌, ◌≤◌};
     ghost use Rattle.crossbeam_utils.specs.Padded.{padded_value};
     ghost use Rattle.exec_live_queue.specs.Handles.{Shown};
@@ -62,7 +62,16 @@ impl<T> Model for QueueSeat<T> {
     ghost invariant = { λ s. (s.place.me.1 ≡ []) × (s.place.me.0.stage ≢ Claimed) };
 }
 
-impl<T> SharedQueue<T> {
+impl<T> Queue<T> {
+    /// An empty queue whose first value gets the count 0, and its first seat.
+    pub fn shared(alloc: Global) -> Result<(Self, QueueSeat<T>), AllocError>
+    where
+        T: Drop,
+        ensures { IfOk result (λ r. (r.0.start ≡ 0) × (r.1.table ≡ r.0.table) × (r.1.view ≡ opened 0)) }
+    {
+        Queue::at(alloc, 0)
+    }
+
     /// An empty queue whose first value gets the count `start`, and its first seat. The caller must
     /// take a count that isn't past that at which a queue is spent.
     pub fn at(alloc: Global, start: u64) -> Result<(Self, QueueSeat<T>), AllocError>
@@ -74,7 +83,7 @@ impl<T> SharedQueue<T> {
         let words = [head_of(start, 0), start];
         let (table, place) = Table::vacant(alloc, &words, SLOTS as usize, &start)?;
         let inner = Arc::new(alloc, CachePadded::new(table))?;
-        Ok((SharedQueue { inner, start }, QueueSeat { place }))
+        Ok((Queue { inner, start }, QueueSeat { place }))
     }
 
     /// One more seat, a thief's, split off any seat at this queue.
