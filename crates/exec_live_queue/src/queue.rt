@@ -147,12 +147,7 @@ impl<T> Queue<T> {
 
     /// Steals until a try doesn't find that the head has changed since it was loaded. Answers how
     /// many values moved.
-    pub fn steal_into<R: Wait>(
-        &self,
-        rt: &R,
-        seat: &mut QueueSeat<T>,
-        into: &mut Owner<T>,
-    ) -> usize
+    pub fn steal_into<R: Wait>(&self, rt: &R, seat: &mut QueueSeat<T>, into: &mut Owner<T>) -> usize
         requires seat { (seat.old.table ≡ self.now.table) × (seat.old.view.stage ≢ Owns) }
         requires whole { into.old.handed ≡ [] }
         ensures same { (seat.new.table ≡ seat.old.table) × (seat.new.view.stage ≢ Owns) × (into.new.table ≡ into.old.table) × (into.new.handed ≡ []) }

@@ -1,4 +1,4 @@
-use Rattle.std.proofs.Common.{◌≡◌, ◌∙◌, sym, ap, length, arith}
+use Rattle.std.proofs.Common.{◌∙◌, sym, ap, length, arith}
 use Rattle.exec_live_queue.proofs.Standing.{none_left, one_fewer}
 use Rattle.exec_live_queue.proofs.tests.drain.Goals as goal
 
