@@ -10,11 +10,13 @@
 //! every step keeps is `specs/Live.antt`, which begins with a page on what each word means, who may
 //! do what, and why no value is lost or handed out twice.
 //!
-//! - `view`: what a seat knows, for the proofs alone.
-//! - `plays`: what each step tells the seat that makes it.
-//! - `head`: the head as a word.
-//! - `steps`: the steps of the owner.
-//! - `thief`: the steps of a thief.
+//! - `queue` and `owner`: the queue with the seats of its thieves, and its owner.
+//! - `pop`, `push`, `overflow`, `batch` and `steal`: what they do, over the words and a seat.
+//! - `steps` and `thief`: the steps of the owner and of a thief, one function each.
+//! - `slots`: what a seat does with the slots that are out with it.
+//! - `head` and `inner`: the head as a word, and where the words and slots lie.
+//! - `answers`: what a push answers.
+//! - `view` and `plays`: what a seat knows, and what each step tells it, for the proofs alone.
 #![tactic(auto)]
 
 pub mod answers;

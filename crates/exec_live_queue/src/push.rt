@@ -29,6 +29,7 @@ pub fn push<T>(words: &Words<T>, seat: &mut Place<T>, tail: u64, value: T) -> Pu
         Try::Done(push) => push,
         Try::Missed(value) => match try_push(words, seat, tail, value) {
             Try::Done(push) => push,
+            // No second try misses.
             Try::Missed(value) => Push::Claimed(value),
         },
     }
