@@ -5,12 +5,12 @@ use Rattle.std.proofs.lemmas.Bool.{cases_lt, and_right, and_parts, lt-leb, leb-t
 use Rattle.std.specs.List.{list_any}
 use Rattle.exec_machine.specs.Allowed.{is_due}
 use Rattle.exec_machine.specs.After.{flown}
-use Rattle.exec_driver.specs.declared.driver.Driver.{Driver}
-use Rattle.exec_driver.specs.declared.sleepers.Timers.{Timers}
-use Rattle.exec_driver.specs.Sleeps.{is_nap_over}
-use Rattle.exec_driver.specs.Operations.{operations_view}
-use Rattle.exec_driver.specs.Books.{one_if, Shows, ShowsSame, SameOwed, SameCounts, SameRing, SameStaged}
-use Rattle.exec_driver.proofs.Flights.{flown_same}
+use Rattle.exec_first_driver.specs.declared.driver.Driver.{Driver}
+use Rattle.exec_first_driver.specs.declared.sleepers.Timers.{Timers}
+use Rattle.exec_first_driver.specs.Sleeps.{is_nap_over}
+use Rattle.exec_first_driver.specs.Operations.{operations_view}
+use Rattle.exec_first_driver.specs.Books.{one_if, Shows, ShowsSame, SameOwed, SameCounts, SameRing, SameStaged}
+use Rattle.exec_first_driver.proofs.Flights.{flown_same}
 use Rattle.exec_core.specs.declared.executor.Core.{Core}
 use Rattle.exec_core.specs.declared.place.AfterCallbacks.{AfterCallbacks}
 use Rattle.exec_core.specs.declared.place.AfterCallbacks.TheVariants as then

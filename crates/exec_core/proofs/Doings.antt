@@ -22,11 +22,11 @@ use Rattle.exec_machine.specs.Ranges.{longest_timeout}
 use Rattle.exec_machine.specs.World.{Operation, no_sleeper}
 use Rattle.exec_machine.specs.Allowed.{is_polled_by, is_resolved, is_asleep, next_place, next_word, newest_held, kind_asked, sleep_asked, deadline_of, Goes}
 use Rattle.exec_machine.specs.After.{new_request, new_operation, new_sleeper, target_asked, length_asked, place_after_pass, woken_phase}
-use Rattle.exec_driver.specs.declared.driver.Driver.{Driver}
-use Rattle.exec_driver.specs.declared.sleepers.Timers.{Timers}
-use Rattle.exec_driver.specs.Operations.{operations_view}
-use Rattle.exec_driver.specs.Books.{Books, Shows, request_at}
-use Rattle.exec_driver.specs.Sleeps.{Sleeps, sleeper_at}
+use Rattle.exec_first_driver.specs.declared.driver.Driver.{Driver}
+use Rattle.exec_first_driver.specs.declared.sleepers.Timers.{Timers}
+use Rattle.exec_first_driver.specs.Operations.{operations_view}
+use Rattle.exec_first_driver.specs.Books.{Books, Shows, request_at}
+use Rattle.exec_first_driver.specs.Sleeps.{Sleeps, sleeper_at}
 use Rattle.exec_core.specs.declared.place.Place.TheVariants as place
 use Rattle.exec_core.specs.declared.root.Root.{Root}
 use Rattle.exec_core.specs.declared.executor.Core.{Core}

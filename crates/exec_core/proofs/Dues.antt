@@ -10,8 +10,8 @@ use Rattle.exec_machine.specs.declared.state.Request.{Request}
 use Rattle.exec_machine.specs.declared.state.Sleeper.{Sleeper}
 use Rattle.exec_machine.specs.Allowed.{is_awake, has_ended, is_polled_by, is_not_before, is_timed, is_timed_at, is_due, is_asleep, is_asleep_until}
 use Rattle.exec_machine.specs.Text.{is_quiet}
-use Rattle.exec_driver.specs.Sleeps.{is_nap_over}
-use Rattle.exec_driver.proofs.Sleeping.{none_over, none_sleeps}
+use Rattle.exec_first_driver.specs.Sleeps.{is_nap_over}
+use Rattle.exec_first_driver.proofs.Sleeping.{none_over, none_sleeps}
 use Rattle.exec_core.specs.declared.place.WaitsIn.{WaitsIn}
 use Rattle.exec_core.specs.declared.place.WaitsIn.TheVariants as stay
 use Rattle.exec_core.specs.declared.place.Place.{Place}

@@ -12,12 +12,12 @@ use Rattle.exec_machine.specs.declared.state.Sleeper.{Sleeper}
 use Rattle.exec_machine.specs.World.{no_request, no_sleeper}
 use Rattle.exec_machine.specs.Allowed.{is_resolved, is_some_number, owes_wake, sleeper_owes, MayPend}
 use Rattle.exec_machine.specs.After.{flown, enrolled, expired, reaped}
-use Rattle.exec_driver.specs.declared.driver.Driver.{Driver}
-use Rattle.exec_driver.specs.declared.sleepers.Timers.{Timers}
-use Rattle.exec_driver.specs.Books.{Books, Shows, request_at, outputs_due, SameToDo, SameOwed, SameCounts}
-use Rattle.exec_driver.specs.Operations.{operations_view}
-use Rattle.exec_driver.specs.Sleeps.{Sleeps, sleeper_at}
-use Rattle.exec_driver.proofs.Flights.{map_at, flown_same}
+use Rattle.exec_first_driver.specs.declared.driver.Driver.{Driver}
+use Rattle.exec_first_driver.specs.declared.sleepers.Timers.{Timers}
+use Rattle.exec_first_driver.specs.Books.{Books, Shows, request_at, outputs_due, SameToDo, SameOwed, SameCounts}
+use Rattle.exec_first_driver.specs.Operations.{operations_view}
+use Rattle.exec_first_driver.specs.Sleeps.{Sleeps, sleeper_at}
+use Rattle.exec_first_driver.proofs.Flights.{map_at, flown_same}
 use Rattle.exec_core.specs.declared.place.AfterCallbacks.{AfterCallbacks}
 use Rattle.exec_core.specs.declared.place.AfterCallbacks.TheVariants as then
 use Rattle.exec_core.specs.declared.place.Service.{Service}

@@ -19,16 +19,16 @@ use Rattle.exec_machine.specs.Ranges.{ring_size}
 use Rattle.exec_machine.specs.World.{World, Task, Operation, no_request, no_sleeper, operation_of, request_of, sleeper_of, task_of, worker_of}
 use Rattle.exec_machine.specs.Allowed.{is_awake, has_ended, is_flying, is_polled_by, is_done, is_queued, is_staged, is_landed, is_resolved, is_in_flight, is_none, in_flight, is_due, is_asleep, of_worker}
 use Rattle.exec_machine.specs.Progress.{NothingLeft, is_closing, is_runnable, is_gated, is_task_left, is_request_left, has_come}
-use Rattle.exec_driver.specs.declared.driver.Driver.{Driver}
-use Rattle.exec_driver.specs.Books.{Books, IsSound, Covers, request_at, operation_at, is_ready, is_on_ring, is_back, is_unenrolled, is_to_cancel, is_unreleased, is_unresolved, owes}
-use Rattle.exec_driver.specs.Sleeps.{Sleeps, is_nap_over, sleeper_at, owes_wake_still, TracksSleepers}
-use Rattle.exec_driver.specs.Operations.{operations_view}
+use Rattle.exec_first_driver.specs.declared.driver.Driver.{Driver}
+use Rattle.exec_first_driver.specs.Books.{Books, IsSound, Covers, request_at, operation_at, is_ready, is_on_ring, is_back, is_unenrolled, is_to_cancel, is_unreleased, is_unresolved, owes}
+use Rattle.exec_first_driver.specs.Sleeps.{Sleeps, is_nap_over, sleeper_at, owes_wake_still, TracksSleepers}
+use Rattle.exec_first_driver.specs.Operations.{operations_view}
 use Rattle.exec_core.specs.declared.executor.Core.{Core}
 use Rattle.exec_core.specs.View.{world, task_view}
 use Rattle.exec_core.specs.Order.{is_in_order}
 use Rattle.exec_core.specs.Minds.{IsFollowed, IsUnpaid, IsUnready, IsDoneUntilDue, IsAtRest, sleeps_at, is_due_at}
-use Rattle.exec_driver.proofs.Phases.{owes_fresh}
-use Rattle.exec_driver.proofs.Sleeping.{none_sleeps}
+use Rattle.exec_first_driver.proofs.Phases.{owes_fresh}
+use Rattle.exec_first_driver.proofs.Sleeping.{none_sleeps}
 use Rattle.exec_core.proofs.Settled.{none_tracked}
 
 true_from_ne_false : (b : Bool) → (b ≡ false → ⊥) → b ≡ true

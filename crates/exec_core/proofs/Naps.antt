@@ -12,7 +12,7 @@ use Rattle.std.proofs.lemmas.List.{get_or_past, length-set}
 use Rattle.exec_machine.specs.declared.state.Sleeper.{Sleeper}
 use Rattle.exec_machine.specs.World.{no_sleeper}
 use Rattle.exec_machine.specs.Allowed.{is_asleep}
-use Rattle.exec_driver.specs.Sleeps.{sleeper_at}
+use Rattle.exec_first_driver.specs.Sleeps.{sleeper_at}
 
 -- what sleeps after sleeper n changed, and sleeps then only if it did before, slept before
 pub asleep_set : (zs : List Sleeper) (n z : ℕ) (x : Sleeper) → (is_asleep 0 x ≡ true → is_asleep 0 (sleeper_at zs n) ≡ true) →

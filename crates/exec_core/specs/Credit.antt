@@ -6,8 +6,8 @@
 use Rattle.std.specs.Prelude.{ℕ, Bool, true, false, not, ◌+◌, ◌-◌, ◌*◌, ◌==◌, ◌&&◌, ◌||◌, nat_le, nat_lt, length}
 use Rattle.std.specs.List.{list_any}
 use Rattle.exec_machine.specs.Allowed.{is_due}
-use Rattle.exec_driver.specs.Books.{one_if}
-use Rattle.exec_driver.specs.Sleeps.{is_nap_over}
+use Rattle.exec_first_driver.specs.Books.{one_if}
+use Rattle.exec_first_driver.specs.Sleeps.{is_nap_over}
 use Rattle.exec_core.specs.declared.place.AfterCallbacks.{AfterCallbacks}
 use Rattle.exec_core.specs.declared.place.AfterCallbacks.TheVariants as then
 use Rattle.exec_core.specs.declared.place.AfterService.{AfterService}

@@ -17,10 +17,10 @@ use Rattle.exec_core.specs.declared.place.Service.{Service}
 use Rattle.exec_machine.specs.Allowed.{is_awake, has_ended, is_resolved, is_due}
 use Rattle.exec_machine.specs.Text.{is_quiet}
 use Rattle.exec_machine.specs.Progress.{is_closing, is_quiet_step, quiet_bound, IsRested, NothingLeft}
-use Rattle.exec_driver.specs.declared.driver.Driver.{Driver}
-use Rattle.exec_driver.specs.declared.sleepers.Timers.{Timers}
-use Rattle.exec_driver.specs.Books.{request_at, outputs_due}
-use Rattle.exec_driver.specs.Sleeps.{is_nap_over, sleeper_at}
+use Rattle.exec_first_driver.specs.declared.driver.Driver.{Driver}
+use Rattle.exec_first_driver.specs.declared.sleepers.Timers.{Timers}
+use Rattle.exec_first_driver.specs.Books.{request_at, outputs_due}
+use Rattle.exec_first_driver.specs.Sleeps.{is_nap_over, sleeper_at}
 use Rattle.exec_core.specs.declared.place.AfterCallbacks.{AfterCallbacks}
 use Rattle.exec_core.specs.declared.place.AfterCallbacks.TheVariants as then
 use Rattle.exec_core.specs.declared.place.OwnLook.{OwnLook}

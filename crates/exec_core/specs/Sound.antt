@@ -19,8 +19,8 @@ use Rattle.exec_core.specs.declared.place.Place.{Place}
 use Rattle.exec_core.specs.declared.root.Root.{Root}
 use Rattle.exec_core.specs.declared.executor.Core.{Core}
 use Rattle.exec_core.specs.View.{world}
-use Rattle.exec_driver.specs.Books.{Books}
-use Rattle.exec_driver.specs.Sleeps.{Sleeps, sleeper_at}
+use Rattle.exec_first_driver.specs.Books.{Books}
+use Rattle.exec_first_driver.specs.Sleeps.{Sleeps, sleeper_at}
 use Rattle.exec_core.specs.Places.{class_of, Holds, AtPlace}
 
 -- the ranges of a configuration that sums rest on

@@ -1,6 +1,6 @@
 use Rattle.std.proofs.Common.{refl, sym, ap, true, ◌&&◌, ◌∙◌}
 use Rattle.exec_core.proofs.Settled.{settled_all, none_tracked}
-use Rattle.exec_driver.specs.Books.{is_unreleased}
+use Rattle.exec_first_driver.specs.Books.{is_unreleased}
 use Rattle.exec_core.proofs.Naps.{none_asleep}
 use Rattle.std.proofs.lemmas.Bool.{false≢true, true≢false}
 use Rattle.exec_machine.specs.declared.state.WorkerPhase.TheVariants.{Ended}

@@ -2,7 +2,7 @@ use Rattle.std.proofs.Common.{refl, ap, sym, ◌∙◌, List, Ok, true, ◌<◌,
 use Rattle.std.proofs.lemmas.Bool.{and_from, false≢true}
 use Rattle.exec_machine.specs.declared.state.Sleeper.{Sleeper}
 use Rattle.exec_machine.specs.Allowed.{is_asleep}
-use Rattle.exec_driver.specs.Sleeps.{sleeper_at, is_nap_over}
+use Rattle.exec_first_driver.specs.Sleeps.{sleeper_at, is_nap_over}
 use Rattle.exec_core.specs.View.{world}
 use Rattle.exec_core.proofs.Naps.{asleep_set}
 use Rattle.exec_core.specs.Minds.Rests.{Stays}

@@ -1,7 +1,7 @@
 use Rattle.std.proofs.Common.{refl, sym, ◌∙◌, true, length, ◌==◌}
 use Rattle.std.proofs.lemmas.Bool.{and_parts, eqb-true}
 use Rattle.std.proofs.lemmas.List.{nil_from_length}
-use Rattle.exec_driver.specs.Books.{is_on_ring, is_back}
+use Rattle.exec_first_driver.specs.Books.{is_on_ring, is_back}
 use Rattle.exec_core.specs.declared.place.Place.TheVariants as place
 use Rattle.exec_core.proofs.Dues.{slept, aside_stay}
 use Rattle.exec_core.proofs.Lulls.{lull}

@@ -1,6 +1,6 @@
 use Rattle.std.proofs.Common.{refl, sym, ◌∙◌, ℕ}
 use Rattle.exec_machine.specs.World.{no_request}
-use Rattle.exec_driver.specs.Books.{is_unresolved, request_at}
+use Rattle.exec_first_driver.specs.Books.{is_unresolved, request_at}
 use Rattle.exec_core.specs.declared.place.Place.TheVariants as place
 use Rattle.exec_core.proofs.Dues.{slept}
 use Rattle.exec_core.proofs.Lulls.{lull, uncounted_at, resolved_aside}
