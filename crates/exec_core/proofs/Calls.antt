@@ -20,7 +20,7 @@ use Rattle.exec_machine.specs.declared.state.Sleeper.{Sleeper}
 use Rattle.exec_machine.specs.Allowed.{sleeper_owes}
 use Rattle.exec_first_driver.specs.declared.sleepers.Timers.{Timers}
 use Rattle.exec_first_driver.specs.Sleeps.{Sleeps, sleeper_at}
-use Rattle.exec_core.proofs.Naps.{still_asleep}
+use Rattle.exec_core.proofs.Sleeping.{still_asleep}
 use Rattle.exec_core.specs.Sound.{SoundAt, StepsTo, IsRoot, Suits}
 use Rattle.exec_core.proofs.Steps.{shown, world_shown, as_many, root_among}
 

@@ -6,8 +6,6 @@ use Rattle.std.proofs.lemmas.List.{get_or_default, length-map, get_or-map, get_o
 use Rattle.exec_outcomes.specs.declared.outcome.OpResult.{OpResult}
 use Rattle.exec_outcomes.specs.declared.outcome.Outcome.{Outcome}
 use Rattle.exec_first_driver.specs.declared.asked.Asked.{Asked}
-use Rattle.exec_first_driver.specs.Operations.{kind_of, target_of, length_of, deadline_of, moved_of}
-use Rattle.exec_outcomes.specs.declared.outcome.Kind.{Kind}
 use Rattle.exec_machine.specs.World.{Operation, no_operation}
 use Rattle.exec_machine.specs.declared.state.Phase.{Phase}
 use Rattle.exec_machine.specs.declared.state.Phase.TheVariants.{Gated, Queued, Staged, Flying, Landed, Resolved}

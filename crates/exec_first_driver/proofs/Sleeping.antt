@@ -11,7 +11,7 @@ use Rattle.exec_machine.specs.declared.state.Sleeper.{Sleeper}
 use Rattle.exec_machine.specs.World.{no_sleeper}
 use Rattle.exec_machine.specs.Allowed.{is_asleep, is_asleep_until}
 use Rattle.exec_first_driver.specs.Books.{one_if}
-use Rattle.exec_first_driver.specs.Sleeps.{TracksSleepers, IsNextSleep, IsFirstToFire, is_nap_over, sleeper_at, owes_wake_still}
+use Rattle.exec_first_driver.specs.Sleeps.{TracksSleepers, IsNextSleep, IsFirstToFire, is_sleep_over, sleeper_at, owes_wake_still}
 
 -- how often r stands in xs
 abbrev pub times : ℕ → List ℕ → ℕ
@@ -340,7 +340,7 @@ not_over : (a : Bool) (u t m : ℕ) → m < u → (not a || nat_le u t) ≡ true
 not_over true u t m b h = lt-leb t m (omega (arith, b, leb-true u t h))
 not_over false u t m b h = refl
 
-pub none_over : (zs : List Sleeper) (u m : ℕ) → m < u → list_all (λ z. not (is_asleep 0 z) || nat_le u z.until) zs ≡ true → list_any (is_nap_over m) zs ≡ false
+pub none_over : (zs : List Sleeper) (u m : ℕ) → m < u → list_all (λ z. not (is_asleep 0 z) || nat_le u z.until) zs ≡ true → list_any (is_sleep_over m) zs ≡ false
 none_over [] u m b h = refl
 none_over (z ∷ zs) u m b h =
     let parts = and_parts (not (is_asleep 0 z) || nat_le u z.until) _ h in
@@ -350,7 +350,7 @@ or_first : (x y : Bool) → (x || y) ≡ false → (x ≡ false) × (y ≡ false
 or_first true y h = absurd (true≢false h)
 or_first false y h = (refl, h)
 
-pub none_sleeps : (zs : List Sleeper) (m : ℕ) → list_any (is_asleep 0) zs ≡ false → list_any (is_nap_over m) zs ≡ false
+pub none_sleeps : (zs : List Sleeper) (m : ℕ) → list_any (is_asleep 0) zs ≡ false → list_any (is_sleep_over m) zs ≡ false
 none_sleeps [] m h = refl
 none_sleeps (z ∷ zs) m h =
     let parts = or_first (is_asleep 0 z) _ h in

@@ -33,8 +33,8 @@ IsNextSleep zs None = list_any (is_asleep 0) zs ≡ false
 IsNextSleep zs (Some u) = (list_any (is_asleep_until 0 u) zs ≡ true) × (list_all (λ z. not (is_asleep 0 z) || nat_le u z.until) zs ≡ true)
 
 -- a sleeper whose moment has come by m and was not told
-abbrev pub is_nap_over : ℕ → Sleeper → Bool
-is_nap_over m z = is_asleep 0 z && nat_le z.until m
+abbrev pub is_sleep_over : ℕ → Sleeper → Bool
+is_sleep_over m z = is_asleep 0 z && nat_le z.until m
 
 -- of the sleepers that are due at the moment this is the first
 abbrev pub IsFirstToFire : List Sleeper → ℕ → ℕ → Type 0

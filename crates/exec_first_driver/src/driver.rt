@@ -187,24 +187,23 @@ impl Driver {
     }
 
     /// Takes the deadline of the request, which is not Queued, off the wheel, where it's on it.
-    pub(crate) fn stop_timer(&mut self, request: usize) -> Result<(), AllocError>
+    pub(crate) fn stop_timer(&mut self, request: usize)
         requires listed { Listed self.old }
         requires there { request < len self.old.requests.items }
         requires left { is_queued (request_at self.old.requests.items request).phase ≡ false }
-        ensures listed { OnOk result (Listed self.new) }
-        ensures stopped { OnOk result (Becomes self.old self.new (slice_set self.old.requests.items request (record (request_at self.old.requests.items request) { timer = None }))) }
-        ensures to_do { OnOk result (SameToDo self.old self.new) }
-        ensures staged { OnOk result (SameStaged self.old self.new) }
-        ensures flights { OnOk result (self.new.in_flight ≡ self.old.in_flight) }
-        ensures outputs { OnOk result (outputs_due self.new ≡ outputs_due self.old) }
+        ensures listed { Listed self.new }
+        ensures stopped { Becomes self.old self.new (slice_set self.old.requests.items request (record (request_at self.old.requests.items request) { timer = None })) }
+        ensures to_do { SameToDo self.old self.new }
+        ensures staged { SameStaged self.old self.new }
+        ensures flights { self.new.in_flight ≡ self.old.in_flight }
+        ensures outputs { outputs_due self.new ≡ outputs_due self.old }
     {
         let entry = &mut self.requests[request];
         let Some(moment) = entry.timer else {
-            return Ok(());
+            return;
         };
         entry.timer = None;
         self.timers.remove(&Deadline { moment, request });
-        Ok(())
     }
 
     /// The task lets the request go. One that the kernel doesn't have is over, one that it has is cancelled.
@@ -224,16 +223,16 @@ impl Driver {
         let entry = self.requests[request];
         if is_with_kernel(&entry) {
             self.cancel(request)?;
-            self.stop_timer(request)?;
+            self.stop_timer(request);
             return Ok(());
         }
         if is_over(&entry) {
             self.give_up(request)?;
-            self.stop_timer(request)?;
+            self.stop_timer(request);
             return Ok(());
         }
         self.resolve(request, Outcome::Failure(Error::Timeout))?;
-        self.stop_timer(request)?;
+        self.stop_timer(request);
         Ok(())
     }
 
@@ -489,7 +488,7 @@ impl Driver {
     {
         match outcome {
             Some(outcome) => {
-                self.stop_timer(request)?;
+                self.stop_timer(request);
                 self.resolve(request, outcome)?;
                 Ok(())
             }

@@ -4,7 +4,7 @@ ghost use Rattle.std.specs.List.{list_any};
 ghost use Rattle.std.specs.Prelude.{◌≡◌, ℕ, true, false, ◌+◌, ◌<◌, ◌≤◌, ◌++◌, ◌∷◌, [], length as len, Ok, Some, None, IfOk, OnOk, OnErr, IfSome, slice_index, slice_set};
 ghost use Rattle.exec_machine.specs.Allowed.{sleeper_owes};
 ghost use Rattle.exec_machine.specs.After.{new_sleeper};
-ghost use Rattle.exec_first_driver.specs.Sleeps.{Sleeps, IsNextSleep, IsFirstToFire, is_nap_over, sleeper_at};
+ghost use Rattle.exec_first_driver.specs.Sleeps.{Sleeps, IsNextSleep, IsFirstToFire, is_sleep_over, sleeper_at};
 
 use exec_machine::state::{Forwarding, Sleeper};
 use std::alloc::{AllocError, Global};
@@ -129,7 +129,7 @@ impl Timers {
         ensures fired { (timer : ℕ) → result ≡ Ok (Some timer) → IsFirstToFire self.old.sleepers.items sampled timer }
         ensures becomes { (timer : ℕ) → result ≡ Ok (Some timer) → self.new.sleepers.items ≡ slice_set self.old.sleepers.items timer (record (sleeper_at self.old.sleepers.items timer) { fired = true }) }
         ensures none { result ≡ Ok None → self.new.sleepers.items ≡ self.old.sleepers.items }
-        ensures none_due { result ≡ Ok None → list_any (is_nap_over sampled) self.old.sleepers.items ≡ false }
+        ensures none_due { result ≡ Ok None → list_any (is_sleep_over sampled) self.old.sleepers.items ≡ false }
         ensures early { result ≡ Ok None → (until : ℕ) → IsNextSleep self.old.sleepers.items (Some until) → sampled < until }
         ensures owes { (timer : ℕ) → result ≡ Ok (Some timer) → self.new.wakes.items ≡ self.old.wakes.items ++ timer ∷ [] }
         ensures fewer { (timer : ℕ) → result ≡ Ok (Some timer) → len self.new.asleep.items + 1 ≡ len self.old.asleep.items }

@@ -141,12 +141,12 @@ impl Driver {
     {
         if !is_waiting(&self.requests[request]) {
             self.cancel(request)?;
-            self.stop_timer(request)?;
+            self.stop_timer(request);
             return Ok(None);
         }
         let outcome = Outcome::Failure(Error::Timeout);
         self.resolve(request, outcome)?;
-        self.stop_timer(request)?;
+        self.stop_timer(request);
         Ok(Some(outcome))
     }
 }

@@ -98,11 +98,6 @@ pub all_logged : (quiet : Bool) (p : Plan) (c : Core) (v : Standing) (steps : Li
 all_logged quiet p c v steps old mid new is_new same_steps leads same =
     front_logged quiet p c steps old mid new is_new same_steps (broke_between quiet c.config (standing c) v steps steps old mid (all_taken steps) leads) same
 
--- nothing was logged
-pub none_logged : (quiet : Bool) (p : Plan) (old : Option (List ℕ)) → GaveFrontOfLog quiet p old old
-none_logged quiet p old =
-    record { taken = []; are_taken = none_taken p.steps; lines = []; log = record { has_lines = refl; choices = []; runs = tt; solo = refl; rests = awake }; gave = no_front old (text_of_log (told_lines quiet [])) }
-
 -- why a text is not run is why the run ends
 pub cause_of : (e : TraceError) (source : Option (List ℕ)) (text : List ℕ) (read read' written written' : ℕ) → IsTextIn source text → CannotRun e text → read' ≡ read → written' ≡ written → IsCauseOf e source read read' written written'
 cause_of ReadFault source text read read' written written' is_text cannot same_read same_written = absurd cannot

@@ -23,10 +23,10 @@ returns-then-not-is_waiting-clause-books c =
     let there = there_from_test (λ (z : Request). not (is_none z.timer)) rs r refl (ap not c.requires.timed) in
     let m = c.cancel.new.self in
     let e = c.stop_timer.new.self in
-    let both = then_becomes d m e r (record x { cancelled = true }) (λ (z : Request). record z { timer = None }) there c.in_ok-cancel.ensures.cancelled c.in_ok-stop_timer.ensures.stopped in
+    let both = then_becomes d m e r (record x { cancelled = true }) (λ (z : Request). record z { timer = None }) there c.in_ok-cancel.ensures.cancelled c.stop_timer.ensures.stopped in
     let seen = changed rs r c.index.result.now x c.index.ensures there in
     let left : is_queued x.phase ≡ false = ap (λ (z : Request). is_queued z.phase) (sym seen.read) ∙ sym c.is_waiting.ensures ∙ c.if-not-is_waiting.true in
-    books_from d e r (expired None x) b c.in_ok-stop_timer.ensures.listed both there (sound_expired _ x left (b.each r)) refl (λ h. (h, refl))
+    books_from d e r (expired None x) b c.stop_timer.ensures.listed both there (sound_expired _ x left (b.each r)) refl (λ h. (h, refl))
 
 pub returns-then-not-is_waiting-clause-shows : goal.returns-then-not-is_waiting-clause-shows
 returns-then-not-is_waiting-clause-shows c =
@@ -38,7 +38,7 @@ returns-then-not-is_waiting-clause-shows c =
     let there = there_from_test (λ (z : Request). not (is_none z.timer)) rs r refl (ap not c.requires.timed) in
     let m = c.cancel.new.self in
     let e = c.stop_timer.new.self in
-    let both = then_becomes d m e r (record x { cancelled = true }) (λ (z : Request). record z { timer = None }) there c.in_ok-cancel.ensures.cancelled c.in_ok-stop_timer.ensures.stopped in
+    let both = then_becomes d m e r (record x { cancelled = true }) (λ (z : Request). record z { timer = None }) there c.in_ok-cancel.ensures.cancelled c.stop_timer.ensures.stopped in
     shows_from d e (slice_set rs r (expired None x)) both
 
 pub returns-clause-books : goal.returns-clause-books
@@ -51,8 +51,8 @@ returns-clause-books c =
     let there = there_from_test (λ (z : Request). not (is_none z.timer)) rs r refl (ap not c.requires.timed) in
     let m = c.resolve.new.self in
     let e = c.stop_timer-2.new.self in
-    let both = then_becomes d m e r (record x { phase = Resolved (Failure Timeout) }) (λ (z : Request). record z { timer = None }) there c.in_ok-resolve.ensures.resolved c.in_ok-stop_timer-2.ensures.stopped in
-    books_from d e r (expired (Some (Failure Timeout)) x) b c.in_ok-stop_timer-2.ensures.listed both there (sound_ended _ x (Failure Timeout) (b.each r)) refl (λ h. absurd (true≢false h))
+    let both = then_becomes d m e r (record x { phase = Resolved (Failure Timeout) }) (λ (z : Request). record z { timer = None }) there c.in_ok-resolve.ensures.resolved c.stop_timer-2.ensures.stopped in
+    books_from d e r (expired (Some (Failure Timeout)) x) b c.stop_timer-2.ensures.listed both there (sound_ended _ x (Failure Timeout) (b.each r)) refl (λ h. absurd (true≢false h))
 
 pub returns-clause-shows : goal.returns-clause-shows
 returns-clause-shows c =
@@ -64,5 +64,5 @@ returns-clause-shows c =
     let there = there_from_test (λ (z : Request). not (is_none z.timer)) rs r refl (ap not c.requires.timed) in
     let m = c.resolve.new.self in
     let e = c.stop_timer-2.new.self in
-    let both = then_becomes d m e r (record x { phase = Resolved (Failure Timeout) }) (λ (z : Request). record z { timer = None }) there c.in_ok-resolve.ensures.resolved c.in_ok-stop_timer-2.ensures.stopped in
+    let both = then_becomes d m e r (record x { phase = Resolved (Failure Timeout) }) (λ (z : Request). record z { timer = None }) there c.in_ok-resolve.ensures.resolved c.stop_timer-2.ensures.stopped in
     shows_from d e (slice_set rs r (expired (Some (Failure Timeout)) x)) both

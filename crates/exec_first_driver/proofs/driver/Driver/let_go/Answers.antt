@@ -40,7 +40,7 @@ returns-then-is_with_kernel-clause-dropped c =
     let same : y.phase ≡ x.phase = ap (λ (z : Request). z.phase) (read_mid rs r x y c.requires.there c.index.ensures) in
     let e = one_step rs mid r x (λ (z : Request). record z { cancelled = true }) c.requires.there done.requests in
     let flying : is_in_flight x.phase ≡ true = ap is_in_flight (sym same) ∙ sym c.is_with_kernel.ensures ∙ c.if-is_with_kernel.true in
-    let stopped = c.in_ok-stop_timer.ensures.stopped in
+    let stopped = c.stop_timer.ensures.stopped in
     record {
       asked = stopped.asked ∙ done.asked;
       requests = last_step rs mid c.stop_timer.new.self.requests.items r x (λ (z : Request). record z { cancelled = true }) c.requires.there ch.read e stopped.requests (dropped_in_flight x flying);
@@ -78,7 +78,7 @@ returns-then-is_over-clause-dropped c =
     let e = one_step rs mid r x (λ (z : Request). z) c.requires.there (done.requests ∙ sym (set-get_or (slice_set rs r (unheld x)) r no_request)) in
     let flying : is_in_flight x.phase ≡ false = ap is_in_flight (sym same) ∙ sym c.is_with_kernel.ensures ∙ c.if-is_with_kernel.false in
     let over : is_resolved x.phase ≡ true = ap is_resolved (sym same) ∙ sym c.is_over.ensures ∙ c.if-is_over.true in
-    let stopped = c.in_ok-stop_timer-2.ensures.stopped in
+    let stopped = c.stop_timer-then-is_over.ensures.stopped in
     record {
       asked = stopped.asked ∙ done.asked;
       requests = last_step rs mid c.stop_timer-then-is_over.new.self.requests.items r x (λ (z : Request). z) c.requires.there ch.read e stopped.requests (dropped_over x flying over);
@@ -116,7 +116,7 @@ returns-clause-dropped c =
     let e = one_step rs mid r x (λ (z : Request). record z { phase = Resolved (Failure Timeout) }) c.requires.there done.requests in
     let flying : is_in_flight x.phase ≡ false = ap is_in_flight (sym same) ∙ sym c.is_with_kernel.ensures ∙ c.if-is_with_kernel.false in
     let over : is_resolved x.phase ≡ false = ap is_resolved (sym same) ∙ sym c.is_over.ensures ∙ c.if-is_over.false in
-    let stopped = c.in_ok-stop_timer-3.ensures.stopped in
+    let stopped = c.stop_timer-2.ensures.stopped in
     record {
       asked = stopped.asked ∙ done.asked;
       requests = last_step rs mid c.stop_timer-2.new.self.requests.items r x (λ (z : Request). record z { phase = Resolved (Failure Timeout) }) c.requires.there ch.read e stopped.requests (dropped_apart x flying over);

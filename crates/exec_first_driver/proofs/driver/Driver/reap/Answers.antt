@@ -7,7 +7,7 @@ use Rattle.exec_first_driver.specs.Operations.{operations_view}
 use Rattle.exec_first_driver.specs.Books.{is_ready, is_on_ring, is_back, owes, is_unreleased, is_unresolved, operation_at, request_at, is_unenrolled, is_to_cancel, TracksGoing, AreNumbers, Buffers, IsOwned}
 use Rattle.exec_first_driver.proofs.Change.{changed, keep, leave_front, count_keep, count_down, was_sound, front_passes, timers_keep, length_keep, front_there, read_passes, along, covers_keep, buffers_set}
 use Rattle.exec_first_driver.proofs.Phases.{owes_not, unreleased_not, unresolved_is, of_0}
-use Rattle.std.proofs.Common.{◌+◌, drop, slice_get}
+use Rattle.std.proofs.Common.{drop, slice_get}
 use Rattle.std.specs.Prelude.{slice_set}
 use Rattle.std.proofs.lemmas.List.{length-map, map-set, length-set}
 use Rattle.exec_outcomes.specs.declared.outcome.Judged.{Judged}
@@ -23,7 +23,6 @@ use Rattle.exec_first_driver.proofs.Reaps.{landed_with, reaped_gated, view_at, s
 use Rattle.exec_outcomes.proofs.Runs.{uncancelled}
 use Rattle.std.proofs.lemmas.Option.{slice_get_read}
 use Rattle.std.proofs.lemmas.Bool.{false≢true}
-use Rattle.exec_first_driver.specs.Operations.{moved_of}
 use Rattle.exec_first_driver.specs.declared.asked.Asked.{Asked}
 use Rattle.exec_first_driver.proofs.driver.Driver.reap.Goals as goal
 

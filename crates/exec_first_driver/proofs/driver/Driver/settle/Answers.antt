@@ -45,7 +45,7 @@ returns-in_ok-resolve-in-Some-clause-requests c =
     let mid = c.stop_timer.new.self.requests.items in
     let end = c.resolve.new.self.requests.items in
     let o = c.in-Some.outcome in
-    let e = c.in_ok-stop_timer-in-Some.ensures.stopped.requests in
+    let e = c.stop_timer.ensures.stopped.requests in
     let g = c.in_ok-resolve-in-Some.ensures.resolved.requests in
     twice rs mid end r (record x { timer = None }) (record (request_at mid r) { phase = Resolved o }) e g
     ∙ ap (λ (z : Request). slice_set rs r (record z { phase = Resolved o })) (after_at rs mid r (record x { timer = None }) c.requires.there e)

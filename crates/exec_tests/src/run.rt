@@ -1,8 +1,8 @@
-use crate::complaint::Complaint;
-use crate::running::{run, run_trace};
-use crate::trace_error::TraceError;
+//! Whole runs: a trace or a text that is none, between ends that fail or don't, with the log or the complaint.
+
 use exec_base::io::{MemInput, MemOutput};
 use exec_machine::config::{Field, OutOfRange};
+use exec_run::{Complaint, TraceError, run, run_trace};
 use std::alloc::Global;
 use std::test::Fail;
 

@@ -1,7 +1,9 @@
-use super::*;
+//! Texts that are traces, with what they say, and texts that are none, with the line at which they go wrong.
+
 use exec_machine::config::{Configuration, Spin, Word};
 use exec_machine::step::Step;
 use exec_outcomes::outcome::OpResult;
+use exec_text::{ReadError, read_trace, total_steps};
 use std::test::*;
 
 /// A header with one socket.

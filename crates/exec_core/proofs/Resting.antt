@@ -21,7 +21,7 @@ use Rattle.exec_machine.specs.Allowed.{is_awake, has_ended, is_flying, is_polled
 use Rattle.exec_machine.specs.Progress.{NothingLeft, is_closing, is_runnable, is_gated, is_task_left, is_request_left, has_come}
 use Rattle.exec_first_driver.specs.declared.driver.Driver.{Driver}
 use Rattle.exec_first_driver.specs.Books.{Books, IsSound, Covers, request_at, operation_at, is_ready, is_on_ring, is_back, is_unenrolled, is_to_cancel, is_unreleased, is_unresolved, owes}
-use Rattle.exec_first_driver.specs.Sleeps.{Sleeps, is_nap_over, sleeper_at, owes_wake_still, TracksSleepers}
+use Rattle.exec_first_driver.specs.Sleeps.{Sleeps, is_sleep_over, sleeper_at, owes_wake_still, TracksSleepers}
 use Rattle.exec_first_driver.specs.Operations.{operations_view}
 use Rattle.exec_core.specs.declared.executor.Core.{Core}
 use Rattle.exec_core.specs.View.{world, task_view}
@@ -197,7 +197,7 @@ idle_waits c b s u m followed unpaid =
     not_resolved c b u.wakes q (subst F e followed) (subst U e unpaid))
     (λ z e.
     let U : Waiting → Type 0 = λ x. IsUnpaid x rs zs in
-    not_fired c s u.naps z (subst U e unpaid))
+    not_fired c s u.sleepers z (subst U e unpaid))
 
 pub request_lull : (c : Core) → Books c.driver → c.ring ≡ ring_size c.config → IsUnready c.root.flag c.driver c.timers c.ring →
     ((r : ℕ) → is_on_ring (request_at c.driver.requests.items r) ≡ false) → ((r : ℕ) → is_back (request_at c.driver.requests.items r) ≡ false) →
@@ -219,12 +219,12 @@ request_lull c b ring u staged landed m due r =
     (none_tracked is_unreleased rs c.driver.resources.items b.resources u.resources r)
     (none_at (is_due 0 m) rs no_request r refl due)
 
-lull_at : (c : Core) → Books c.driver → Sleeps c.timers → c.ring ≡ ring_size c.config → is_polled_by 0 c.root.phase ≡ false →
+resting_at : (c : Core) → Books c.driver → Sleeps c.timers → c.ring ≡ ring_size c.config → is_polled_by 0 c.root.phase ≡ false →
     is_in_order false c.root.phase c.root.flag c.root.fresh ≡ true → IsFollowed c.root.waiting c.driver.requests.items c.timers.sleepers.items →
     (c.root.phase ≡ task.Idle → IsUnpaid c.root.waiting c.driver.requests.items c.timers.sleepers.items) → IsUnready c.root.flag c.driver c.timers c.ring →
     ((r : ℕ) → is_on_ring (request_at c.driver.requests.items r) ≡ false) → ((r : ℕ) → is_back (request_at c.driver.requests.items r) ≡ false) →
     (m : ℕ) → is_due_at c m ≡ false → NothingLeft c.config (record (world c) { clock = m })
-lull_at c b s ring aside order followed unpaid u staged landed m due =
+resting_at c b s ring aside order followed unpaid u staged landed m due =
     let none = or_none _ _ due in
     record {
       tasks = tasks;
@@ -232,7 +232,7 @@ lull_at c b s ring aside order followed unpaid u staged landed m due =
       requests = request_lull c b ring u staged landed m none.0;
       sleepers = λ z.
           let x = sleeper_at c.timers.sleepers.items z in
-          ap (λ (i : ℕ). is_asleep i x && nat_le x.until m) (s.owner z) ∙ none_at (is_nap_over m) c.timers.sleepers.items no_sleeper z refl none.1;
+          ap (λ (i : ℕ). is_asleep i x && nat_le x.until m) (s.owner z) ∙ none_at (is_sleep_over m) c.timers.sleepers.items no_sleeper z refl none.1;
     }
   where
     tasks : (t : ℕ) → let w = record (world c) { clock = m } in is_task_left w (task_of w t) ≡ false
@@ -243,12 +243,12 @@ lull_at c b s ring aside order followed unpaid u staged landed m due =
     messages zero = refl
     messages (suc i) = refl
 
-pub lull : (c : Core) → Books c.driver → Sleeps c.timers → c.ring ≡ ring_size c.config → is_polled_by 0 c.root.phase ≡ false →
+pub resting : (c : Core) → Books c.driver → Sleeps c.timers → c.ring ≡ ring_size c.config → is_polled_by 0 c.root.phase ≡ false →
     is_in_order false c.root.phase c.root.flag c.root.fresh ≡ true → IsFollowed c.root.waiting c.driver.requests.items c.timers.sleepers.items →
     (c.root.phase ≡ task.Idle → IsUnpaid c.root.waiting c.driver.requests.items c.timers.sleepers.items) → IsUnready c.root.flag c.driver c.timers c.ring →
     ((r : ℕ) → is_on_ring (request_at c.driver.requests.items r) ≡ false) → ((r : ℕ) → is_back (request_at c.driver.requests.items r) ≡ false) →
     IsDoneUntilDue c
-lull c b s ring aside order followed unpaid u staged landed = λ m x due. lull_at (record c { rest = x }) b s ring aside order followed unpaid u staged landed m due
+resting c b s ring aside order followed unpaid u staged landed = λ m x due. resting_at (record c { rest = x }) b s ring aside order followed unpaid u staged landed m due
 
 -- the end
 
@@ -289,7 +289,7 @@ ended c b s done none released awake m =
           (none_tracked is_unreleased c.driver.requests.items c.driver.resources.items b.resources released r);
       sleepers = λ z.
           let x = sleeper_at c.timers.sleepers.items z in
-          ap (λ (i : ℕ). is_asleep i x && nat_le x.until m) (s.owner z) ∙ none_at (is_nap_over m) c.timers.sleepers.items no_sleeper z refl (none_sleeps c.timers.sleepers.items m awake);
+          ap (λ (i : ℕ). is_asleep i x && nat_le x.until m) (s.owner z) ∙ none_at (is_sleep_over m) c.timers.sleepers.items no_sleeper z refl (none_sleeps c.timers.sleepers.items m awake);
     }
   where
     tasks : (t : ℕ) → let w = record (world c) { clock = m } in is_task_left w (task_of w t) ≡ false
