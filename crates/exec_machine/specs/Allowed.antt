@@ -2,7 +2,7 @@
 --
 -- `Allowed c w i event choice`: worker i may take a step with this event in the state w. Where the event
 -- leaves something open, the choice says it; elsewhere the choice is `Plain`.
-use Rattle.std.specs.Prelude.{◌≡◌, ◌⊎◌, ℕ, zero, suc, Bool, true, false, not, ◌+◌, ◌-◌, ◌/◌, ◌%◌, ◌<◌, ◌==◌, ◌&&◌, ◌||◌, if◌then◌else◌, nat_le, nat_lt, min, List, [], ◌∷◌, Option, Some, None, length, drop, count_by, slice_get, slice_index_or, unwrap_or, ◌*◌, ◌^◌}
+use Rattle.std.specs.Prelude.{◌≡◌, ◌⊎◌, ℕ, zero, suc, Bool, true, false, not, ◌+◌, ◌-◌, ◌/◌, ◌%◌, ◌<◌, ◌==◌, ◌&&◌, ◌||◌, if◌then◌else◌, nat_le, nat_lt, min, List, [], ◌∷◌, Option, Some, None, length, drop, count_by, slice_get, slice_index_or, unwrap_or, ◌*◌}
 use Rattle.std.specs.List.{list_any, list_all, find}
 use Rattle.exec_base.specs.declared.error.Error.TheVariants.{Timeout}
 use Rattle.exec_base.specs.declared.limits.TheConstants.{LAST_MOMENT, LONGEST_TIMEOUT}

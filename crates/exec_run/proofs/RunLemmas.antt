@@ -26,7 +26,7 @@ use Rattle.exec_run.specs.Reading.{CannotRead, CannotRun}
 use Rattle.exec_run.specs.Explains.{IsCauseOf, Explains, complaint_line}
 use Rattle.exec_run.specs.Log.{Gave, GaveFront, AreTaken, GaveFrontOfLog}
 use Rattle.exec_run.specs.Steps.{BrokeBy, standing, Leads, Breaks, Complains}
-use Rattle.exec_run.proofs.StepLemmas.{goes_done, lines_done, none_taken, all_taken, no_front, broke_between}
+use Rattle.exec_run.proofs.StepLemmas.{goes_done, lines_done, all_taken, broke_between}
 
 -- a slice of one word that is this text
 pub one_word : (words : List (String Global)) (word : String Global) (text : List ℕ) → 1 ≤ length words → length words < 2 → word ≡ get_or words 0 word → bytes_eq (string_bytes word) text ≡ true → map string_bytes words ≡ text ∷ []
