@@ -1,129 +1,141 @@
 -- What any calls on a run queue keep.
-use Rattle.std.proofs.Common.{◌≡◌, ℕ, ◌+◌, ◌/◌, Bool, true, false, cond, List, [], ◌∷◌, ◌++◌, take, drop, refl, sym, ap, subst, ◌∙◌, arith, append_assoc, count_by}
-use Rattle.std.proofs.lemmas.List.{take-append-drop, append-nil, length-take, drop_all}
-use Rattle.std.proofs.lemmas.List.Sums.{sum_by-append, sum_by-take-drop}
+use Rattle.std.proofs.Common.{◌≡◌, ℕ, ◌+◌, ◌-◌, ◌/◌, ◌≤◌, Bool, true, false, cond, List, [], ◌∷◌, ◌++◌, length, take, drop, refl, sym, ap, subst, ◌∙◌, arith, append_assoc, length-append, count_by}
+use Rattle.std.proofs.lemmas.List.{take-append-drop, append-nil, length-take, length-drop}
+use Rattle.std.proofs.lemmas.List.Sums.{sum_by-append}
 use Rattle.exec_words.specs.Order.{IsWithin}
 use Rattle.exec_words.specs.QueueRuns.{Change, Push, Pop, Claim, Release, Overflow, Restore, History, begun, put_in, flow_over, come_back, after, after_all}
-use Rattle.exec_words.proofs.Within.{nothing_within, within_itself, within_trans, within_append, take_within, drop_more_within, drop_suffix_within}
+use Rattle.exec_words.proofs.Within.{nothing_within, within_itself, within_append}
 
 module _ {T : Type 0} where
-  -- what stands: each value is in one place; what left at the front and what is left come in the order in which they
-  -- were put; what was handed out came before all that is left past the oldest half
-  pub record Keeps (put front handed_out values held : List T) : Type 0 where
-    pub once : (p : T → Bool) → count_by p put ≡ count_by p front + count_by p handed_out + count_by p values + count_by p held
-    pub in_order : IsWithin (front ++ (values ++ held)) put
-    pub first : List T
-    pub later : List T
-    pub split : first ++ later ≡ put
-    pub gone : IsWithin handed_out first
-    pub waiting : IsWithin (drop 128 (values ++ held)) later
+  -- each value of the first list is in one of the others, and in its order
+  pub record IsSplit (all kept out : List T) : Type 0 where
+    pub once : (p : T → Bool) → count_by p all ≡ count_by p kept + count_by p out
+    pub kept_in_order : IsWithin kept all
+    pub out_in_order : IsWithin out all
 
-  -- how often a test holds, of two lists joined and of a list taken apart
-  count-append : (p : T → Bool) (xs ys : List T) → count_by p (xs ++ ys) ≡ count_by p xs + count_by p ys
+  -- What stands between all that was put, all that left at the front or is left, what was handed out, and how many are
+  -- left: what was put up to the last overflow is split between the two; what was put since is left at the end, and
+  -- before it there is half of a full queue at most.
+  record Keeps (put all out : List T) (waiting : ℕ) : Type 0 where
+    early : List T
+    late : List T
+    kept : List T
+    is_put : early ++ late ≡ put
+    is_all : kept ++ late ≡ all
+    apart : IsSplit early kept out
+    few : waiting ≤ 128 + length late
+
+  pub count-append : (p : T → Bool) (xs ys : List T) → count_by p (xs ++ ys) ≡ count_by p xs + count_by p ys
   count-append p xs ys = sum_by-append (λ x. cond (p x) 1 0) xs ys
 
-  count-take-drop : (p : T → Bool) (xs : List T) (i : ℕ) → count_by p (take i xs) + count_by p (drop i xs) ≡ count_by p xs
-  count-take-drop p xs i = sum_by-take-drop (λ x. cond (p x) 1 0) xs i
-
-  pushed :
-      (put front out values held : List T) (v : T) → held ≡ [] → Keeps put front out values held
-      → Keeps (put ++ v ∷ []) front out (values ++ v ∷ []) held
-  pushed put front out values held v none k =
-      let waits : List T → Type 0 = λ xs. IsWithin (drop 128 (values ++ xs)) k.later in
-      let waiting : IsWithin (drop 128 values) k.later = subst (λ xs. IsWithin (drop 128 xs) k.later) (append-nil values) (subst waits none k.waiting) in
-      let order : IsWithin (front ++ values) put =
-      subst (λ xs. IsWithin (front ++ xs) put) (append-nil values) (subst (λ xs. IsWithin (front ++ (values ++ xs)) put) none k.in_order) in
-      let all : (values ++ v ∷ []) ++ held ≡ values ++ v ∷ [] = ap (λ xs. (values ++ v ∷ []) ++ xs) none ∙ append-nil (values ++ v ∷ []) in
+  -- a split list with more behind, some of which is kept and the rest of which is out
+  split_more : (all kept out more held : List T) → IsSplit all kept out → IsSplit (all ++ (more ++ held)) (kept ++ more) (out ++ held)
+  split_more all kept out more held s =
       record {
-        once = λ p. omega (arith, k.once p, count-append p put (v ∷ []), count-append p values (v ∷ []));
-        in_order =
-            subst (λ xs. IsWithin (front ++ xs) (put ++ v ∷ [])) (sym all)
-            (subst (λ xs. IsWithin xs (put ++ v ∷ [])) (append_assoc front values (v ∷ []))
-            (within_append (front ++ values) put (v ∷ []) (v ∷ []) order (within_itself (v ∷ []))));
-        first = k.first;
-        later = k.later ++ v ∷ [];
-        split = sym (append_assoc k.first k.later (v ∷ [])) ∙ ap (λ xs. xs ++ v ∷ []) k.split;
-        gone = k.gone;
-        waiting =
-            subst (λ xs. IsWithin (drop 128 xs) (k.later ++ v ∷ [])) (sym all)
-            (within_trans (drop 128 (values ++ v ∷ [])) (drop 128 values ++ v ∷ []) (k.later ++ v ∷ []) (drop_more_within 128 values v)
-            (within_append (drop 128 values) k.later (v ∷ []) (v ∷ []) waiting (within_itself (v ∷ []))));
+        once = λ p.
+            omega (arith, s.once p, count-append p all (more ++ held), count-append p more held, count-append p kept more, count-append p out held);
+        kept_in_order =
+            within_append kept all more (more ++ held) s.kept_in_order
+            (subst (λ xs. IsWithin xs (more ++ held)) (append-nil more) (within_append more more [] held (within_itself more) (nothing_within held)));
+        out_in_order =
+            within_append out all held (more ++ held) s.out_in_order
+            (within_append [] more held held (nothing_within more) (within_itself held));
       }
 
-  left :
-      (put front out values held : List T) (n : ℕ) → Keeps put front out values held
-      → Keeps put (front ++ take n values) out (drop n values) held
-  left put front out values held n k =
-      let whole : take n values ++ (drop n values ++ held) ≡ values ++ held =
-      sym (append_assoc (take n values) (drop n values) held) ∙ ap (λ xs. xs ++ held) (take-append-drop n values) in
+  moved :
+      (put all then out : List T) (waiting left : ℕ) → all ≡ then → left ≤ waiting → Keeps put all out waiting → Keeps put then out left
+  moved put all then out waiting left same less k =
       record {
-        once = λ p. omega (arith, k.once p, count-append p front (take n values), count-take-drop p values n);
-        in_order =
-            subst (λ xs. IsWithin xs put)
-            (ap (λ xs. front ++ xs) (sym whole) ∙ sym (append_assoc front (take n values) (drop n values ++ held))) k.in_order;
-        first = k.first;
-        later = k.later;
-        split = k.split;
-        gone = k.gone;
-        waiting =
-            within_trans (drop 128 (drop n values ++ held)) (drop 128 (values ++ held)) k.later
-            (subst (λ xs. IsWithin (drop 128 (drop n values ++ held)) (drop 128 xs)) whole (drop_suffix_within 128 (take n values) (drop n values ++ held)))
-            k.waiting;
+        early = k.early;
+        late = k.late;
+        kept = k.kept;
+        is_put = k.is_put;
+        is_all = k.is_all ∙ same;
+        apart = k.apart;
+        few = omega (arith, k.few);
       }
 
+  one_more : (put all out : List T) (waiting : ℕ) (v : T) → Keeps put all out waiting → Keeps (put ++ v ∷ []) (all ++ v ∷ []) out (waiting + 1)
+  one_more put all out waiting v k =
+      record {
+        early = k.early;
+        late = k.late ++ v ∷ [];
+        kept = k.kept;
+        is_put = sym (append_assoc k.early k.late (v ∷ [])) ∙ ap (λ xs. xs ++ v ∷ []) k.is_put;
+        is_all = sym (append_assoc k.kept k.late (v ∷ [])) ∙ ap (λ xs. xs ++ v ∷ []) k.is_all;
+        apart = k.apart;
+        few = omega (arith, k.few, length-append k.late (v ∷ []));
+      }
+
+  -- the end of a list is that of its end, where it isn't longer
+  end_of : (kept late front end : List T) → kept ++ late ≡ front ++ end → length end ≤ length late
+      → (middle : List T) × (middle ++ end ≡ late) × (kept ++ middle ≡ front)
+  end_of [] late front end same short = (front, sym same, refl)
+  end_of (x ∷ xs) late [] end same short = absurd (omega (arith, ap length same, length-append xs late))
+  end_of (x ∷ xs) late (y ∷ ys) end same short =
+      let rest = end_of xs late ys end (ap (drop 1) same) short in
+      (rest.0, rest.1, cc)
+
+  -- the newest of what is left are handed out
   flowed :
-      (put front out values held : List T) → held ≡ [] → Keeps put front out values held
-      → Keeps put front (out ++ drop 128 values) [] (take 128 values)
-  flowed put front out values held none k =
-      let whole : values ++ held ≡ values = ap (λ xs. values ++ xs) none ∙ append-nil values in
-      let waiting : IsWithin (drop 128 values) k.later = subst (λ xs. IsWithin (drop 128 xs) k.later) whole k.waiting in
-      let order : IsWithin (front ++ values) put = subst (λ xs. IsWithin (front ++ xs) put) whole k.in_order in
-      let no_more : drop 128 (take 128 values) ≡ [] = drop_all 128 (take 128 values) (omega (arith, length-take 128 values)) in
+      (put all out front end : List T) (waiting left : ℕ) → all ≡ front ++ end → length end ≤ waiting - 128 → left ≤ 128
+      → Keeps put all out waiting → Keeps put front (out ++ end) left
+  flowed put all out front end waiting left same many less k =
+      let m = end_of k.kept k.late front end (k.is_all ∙ same) (omega (arith, k.few)) in
       record {
-        once = λ p. omega (arith, k.once p, count-append p out (drop 128 values), count-take-drop p values 128, ap (count_by p) none);
-        in_order =
-            within_trans (front ++ take 128 values) (front ++ values) put
-            (within_append front front (take 128 values) values (within_itself front) (take_within 128 values)) order;
-        first = put;
-        later = [];
-        split = append-nil put;
-        gone =
-            subst (λ xs. IsWithin (out ++ drop 128 values) xs) k.split
-            (within_append out k.first (drop 128 values) k.later k.gone waiting);
-        waiting = subst (λ xs. IsWithin xs []) (sym no_more) tt;
-      }
-
-  come : (put front out values held : List T) → values ≡ [] → Keeps put front out values held → Keeps put front out held []
-  come put front out values held none k =
-      let whole : values ++ held ≡ held ++ [] = ap (λ xs. xs ++ held) none ∙ sym (append-nil held) in
-      record {
-        once = λ p. omega (arith, k.once p, ap (count_by p) none);
-        in_order = subst (λ xs. IsWithin (front ++ xs) put) whole k.in_order;
-        first = k.first;
-        later = k.later;
-        split = k.split;
-        gone = k.gone;
-        waiting = subst (λ xs. IsWithin (drop 128 xs) k.later) whole k.waiting;
+        early = put;
+        late = [];
+        kept = front;
+        is_put = append-nil put;
+        is_all = append-nil front;
+        apart =
+            subst (λ xs. IsSplit put xs (out ++ end)) m.2
+            (subst (λ xs. IsSplit xs (k.kept ++ m.0) (out ++ end)) (ap (λ xs. k.early ++ xs) m.1 ∙ k.is_put)
+            (split_more k.early k.kept out m.0 end k.apart));
+        few = less;
       }
 
   abbrev KeepsIn : History T → Type 0
-  KeepsIn h = Keeps h.put h.front h.handed_out h.queue.values h.queue.held
+  KeepsIn h = Keeps h.put (h.front ++ (h.queue.values ++ h.queue.held)) h.handed_out (length (h.queue.values ++ h.queue.held))
 
   -- it stands after a choice, where it stands after both
   either : (b : Bool) (g h : History T) → KeepsIn g → KeepsIn h → KeepsIn (cond b g h)
   either true g h kg kh = kg
   either false g h kg kh = kh
 
+  -- so many values leave at the front
+  left :
+      (put front out values held : List T) (n : ℕ) → Keeps put (front ++ (values ++ held)) out (length (values ++ held))
+      → Keeps put ((front ++ take n values) ++ (drop n values ++ held)) out (length (drop n values ++ held))
+  left put front out values held n k =
+      moved put _ _ out _ _
+      (ap (λ xs. front ++ (xs ++ held)) (sym (take-append-drop n values))
+      ∙ ap (λ xs. front ++ xs) (append_assoc (take n values) (drop n values) held)
+      ∙ sym (append_assoc front (take n values) (drop n values ++ held)))
+      (omega (arith, length-append (drop n values) held, length-append values held, length-drop n values)) k
+
   put_in_keeps : (h : History T) (v : T) (held : List T) → h.queue.held ≡ held → KeepsIn h → KeepsIn (put_in h v held)
-  put_in_keeps h v [] is k = either _ _ h (pushed h.put h.front h.handed_out h.queue.values h.queue.held v is k) k
+  put_in_keeps h v [] is k =
+      let last = v ∷ [] in
+      either _ _ h
+      (moved (h.put ++ last) _ _ h.handed_out _ _
+      (rw (is, append-nil h.queue.values, append-nil (h.queue.values ++ last)) (append_assoc h.front h.queue.values last))
+      (omega (arith, length-append (h.queue.values ++ last) h.queue.held, length-append h.queue.values last, length-append h.queue.values h.queue.held))
+      (one_more h.put _ h.handed_out _ v k)) k
   put_in_keeps h v (x ∷ xs) is k = k
 
   flow_over_keeps : (h : History T) (held : List T) → h.queue.held ≡ held → KeepsIn h → KeepsIn (flow_over h held)
-  flow_over_keeps h [] is k = either _ _ h (flowed h.put h.front h.handed_out h.queue.values h.queue.held is k) k
+  flow_over_keeps h [] is k =
+      let values = h.queue.values in
+      either _ _ h
+      (flowed h.put _ h.handed_out (h.front ++ take 128 values) (drop 128 values) _ _
+      (rw (is, append-nil values, append_assoc h.front (take 128 values) (drop 128 values), take-append-drop 128 values) refl)
+      (omega (arith, length-drop 128 values, length-append values h.queue.held)) (omega (arith, length-take 128 values)) k) k
   flow_over_keeps h (x ∷ xs) is k = k
 
   come_back_keeps : (h : History T) (values : List T) → h.queue.values ≡ values → KeepsIn h → KeepsIn (come_back h values)
-  come_back_keeps h [] is k = come h.put h.front h.handed_out h.queue.values h.queue.held is k
+  come_back_keeps h [] is k =
+      moved h.put _ _ h.handed_out _ _ (rw (is, append-nil h.queue.held) refl) (rw (is, append-nil h.queue.held) (omega arith)) k
   come_back_keeps h (x ∷ xs) is k = k
 
   after_keeps : (h : History T) (change : Change T) → KeepsIn h → KeepsIn (after h change)
@@ -134,25 +146,19 @@ module _ {T : Type 0} where
   after_keeps h Overflow k = flow_over_keeps h h.queue.held refl k
   after_keeps h Restore k = come_back_keeps h h.queue.values refl k
 
-  pub all_keep : (h : History T) (changes : List (Change T)) → KeepsIn h → KeepsIn (after_all h changes)
+  all_keep : (h : History T) (changes : List (Change T)) → KeepsIn h → KeepsIn (after_all h changes)
   all_keep h [] k = k
   all_keep h (change ∷ rest) k = all_keep (after h change) rest (after_keeps h change k)
 
-  -- from an empty queue on
-  pub runs_keep : (real : ℕ) (changes : List (Change T)) → KeepsIn (after_all (begun real) changes)
-  runs_keep real changes =
-      all_keep (begun real) changes (record {
-        once = λ p. omega arith;
-        in_order = tt;
-        first = [];
-        later = [];
-        split = refl;
-        gone = tt;
-        waiting = tt;
-      })
-
-  -- what was handed out comes in the order in which it was put
-  pub handed_out_in_order : (put front out values held : List T) → Keeps put front out values held → IsWithin out put
-  handed_out_in_order put front out values held k =
-      subst (λ xs. IsWithin xs put) (append-nil out)
-      (subst (λ xs. IsWithin (out ++ []) xs) k.split (within_append out k.first [] k.later k.gone (nothing_within k.later)))
+  -- what was put is split between what left or is left, and what was handed out
+  pub runs_split :
+      (real : ℕ) (changes : List (Change T))
+      → let h = after_all (begun real) changes in
+      IsSplit h.put (h.front ++ (h.queue.values ++ h.queue.held)) h.handed_out
+  runs_split real changes =
+      let nothing : IsSplit [] [] [] = record { once = λ p. refl; kept_in_order = tt; out_in_order = tt } in
+      let k =
+      all_keep (begun real) changes
+      (record { early = []; late = []; kept = []; is_put = refl; is_all = refl; apart = nothing; few = omega arith }) in
+      let apart = split_more k.early k.kept (after_all (begun real) changes).handed_out k.late [] k.apart in
+      rw (append-nil k.late, append-nil (after_all (begun real) changes).handed_out, k.is_put, k.is_all) at apart

@@ -18,12 +18,9 @@ module _ {T : Type 0} where
   abbrev pub after_push : Fit → Queue T → T → Queue T
   after_push (fit.Room len) q value = published q (value ∷ [])
   after_push fit.Overflow q value = restored (overflowed q)
-  after_push fit.Claimed q value = q
-  after_push fit.Spent q value = q
+  after_push _ q value = q
 
   -- what goes into the owner's hand
   abbrev pub handed_out : Fit → Queue T → List T
-  handed_out (fit.Room len) q = []
   handed_out fit.Overflow q = newest q
-  handed_out fit.Claimed q = []
-  handed_out fit.Spent q = []
+  handed_out _ q = []

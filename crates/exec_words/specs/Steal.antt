@@ -1,7 +1,7 @@
 -- What a steal answers and does, where nobody acts in between.
 use Rattle.std.specs.Prelude.{take, nat_lt, ◌||◌, not, if◌then◌else◌}
 use Rattle.exec_words.specs.declared.queue.whole.Steal.{Steal}
-use Rattle.exec_words.specs.declared.queue.whole.Steal.TheVariants.{Moved, Nothing, Again}
+use Rattle.exec_words.specs.declared.queue.whole.Steal.TheVariants.{Moved, Nothing}
 use Rattle.exec_words.specs.Head.{is_stealable_at, claim_at}
 use Rattle.exec_words.specs.Queue.{Queue, head_of, tail_of, room_of, claimed, released, published}
 
@@ -15,11 +15,9 @@ module _ {T : Type 0} where
   -- the queue that is stolen from
   abbrev pub stolen_from : Steal → Queue T → Queue T
   stolen_from (Moved count) q = released (claimed q count)
-  stolen_from Nothing q = q
-  stolen_from (Again head) q = q
+  stolen_from _ q = q
 
   -- the thief's queue: the oldest half of the other one is behind its own values
   abbrev pub stolen_into : Steal → Queue T → Queue T → Queue T
   stolen_into (Moved count) q into = published into (take count q.values)
-  stolen_into Nothing q into = into
-  stolen_into (Again head) q into = into
+  stolen_into _ q into = into

@@ -6,8 +6,7 @@ use Rattle.exec_words.specs.declared.word.PureWord.{PureWord}
 
 abbrev pub is_armed : WaitTarget → Bool
 is_armed target.None = false
-is_armed target.Sleeping = true
-is_armed target.Ring = true
+is_armed _ = true
 
 -- a publication must be followed by a signal: a wait is armed, and nobody has signalled it
 abbrev pub asks_signal : PureWord → Bool

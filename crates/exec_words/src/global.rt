@@ -11,9 +11,6 @@
 ghost use Rattle.std.specs.Prelude.{◌≡◌, ◌+◌, ◌-◌, ◌<◌, ◌≤◌, ◌==◌, ◌↔◌, [], ◌∷◌, ◌++◌, length, take, drop, max, slice_get, false, true, IsTrue, IsOk, OnOk, IfErr, OnErr, not, Some, None};
 ghost use Rattle.exec_words.specs.Share.{share_of};
 
-#[cfg(test)]
-mod tests;
-
 use super::HALF;
 use super::queue::PureQueue;
 use super::reserved::Reserved;

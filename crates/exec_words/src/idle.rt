@@ -124,6 +124,7 @@ impl PureIdle {
     /// A claim: exchanges the set for one without its lowest worker, and answers that worker. Err
     /// with the set that was found where it isn't `seen`, and nothing changes then. The caller must
     /// have seen a worker.
+    #[tactic(auto, using(crate::proofs::Sets::same_sets, crate::proofs::Sets::other_sets))]
     pub fn claim_exchange(&mut self, seen: &WorkerSet) -> Result<usize, WorkerSet>
         requires { IsSome (lowest_of seen.now.has) }
         ensures same { IsOk result ↔ (self.old.published ≡ seen.now.has) }

@@ -8,9 +8,6 @@
 ghost use Rattle.std.specs.Prelude.{◌≡◌, ◌<◌, [], false, true, max, IsOk, IfOk, OnOk, IfErr, OnErr, ◌↔◌};
 ghost use Rattle.exec_words.specs.declared.word.WaitTarget.TheVariants as wait;
 
-#[cfg(test)]
-mod tests;
-
 use super::inbox::{Inbox, Message};
 use super::reserved::Reserved;
 use super::word::PureWord;

@@ -29,8 +29,6 @@
 ghost use Rattle.std.specs.Prelude.{◌≡◌, ◌+◌, ◌-◌, ◌^◌, ◌<◌, ◌≤◌, ◌↔◌, ◌==◌, [], ◌∷◌, ◌++◌, length, take, drop, slice_get, IsOk, IfOk, OnOk, IfErr, OnErr, IfNone, OnSome, Some, false, IsTrue, if◌then◌else◌};
 
 mod laws;
-#[cfg(test)]
-mod tests;
 mod whole;
 
 use super::head::Head;
@@ -321,6 +319,7 @@ impl<T> PureQueue<T> {
     }
 
     // Takes a full queue apart: the oldest half is kept, the newest half goes into the hand.
+    #[tactic(auto, using(crate::proofs::Overflow::unspent_below, crate::proofs::Overflow::half_left, crate::proofs::Overflow::half_taken, crate::proofs::Overflow::half_gone))]
     fn flow_over(&mut self, hand: &mut Reserved<T>)
         requires full { length self.old.values ≡ 256 }
         requires unclaimed { self.old.gap ≡ 0 }

@@ -18,9 +18,6 @@ ghost use Rattle.std.specs.Prelude.{◌≡◌, ◌≢◌, ◌<◌, ◌^◌, ◌&
 ghost use Rattle.exec_words.specs.declared.word.WaitTarget.TheVariants as wait;
 ghost use Rattle.exec_words.specs.Batch.{next_batch};
 
-#[cfg(test)]
-mod tests;
-
 use super::BATCHES;
 
 /// How a worker waits.

@@ -1,10 +1,11 @@
-//! A law of the search count, and worked examples of the idle set.
+//! A law of the search count.
 
-ghost use Rattle.std.specs.Prelude.{◌≡◌, ◌+◌, ℕ, List};
-ghost use Rattle.exec_words.specs.IdleRuns.{Change, count_after, came_in, went_out};
+ghost use Rattle.std.specs.Prelude.{◌≡◌, ◌+◌, List};
+ghost use Rattle.exec_words.specs.IdleRuns.{Change, after_all, nothing};
 
 /// The search count is what was added and exchanged in, less what was subtracted.
 pub fn the_count_is_a_sum()
-    ensures { (changes : List Change) → count_after 0 changes + went_out 0 changes
-        ≡ came_in 0 changes }
+    ensures { (changes : List Change)
+        → let t = after_all nothing changes in
+        t.count + t.went_out ≡ t.came_in }
 {}
