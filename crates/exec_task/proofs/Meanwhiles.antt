@@ -24,10 +24,8 @@ module _ (B : Type 0) (number : TaskNo) (owner : ℕ) where
   answer_is true false [] = refl
   answer_is false true [] = refl
   answer_is false false [] = refl
-  answer_is true true (Wakes ∷ rest) = answer_is true true rest
-  answer_is true false (Wakes ∷ rest) = answer_is true false rest
-  answer_is false true (Wakes ∷ rest) = answer_is true true rest
-  answer_is false false (Wakes ∷ rest) = answer_is true false rest
+  answer_is true c (Wakes ∷ rest) = answer_is true c rest
+  answer_is false c (Wakes ∷ rest) = answer_is true c rest
   answer_is true true (Clears ∷ rest) = answer_is true true rest
   answer_is true false (Clears ∷ rest) = answer_is true true rest
   answer_is false true (Clears ∷ rest) = answer_is false true rest

@@ -15,9 +15,6 @@ ghost use Rattle.exec_task.specs.TaskSet.{IsShardCount, IsRefused, shard_of, sha
 ghost use Rattle.exec_task.specs.Places.{Spawns};
 ghost use Rattle.exec_task.specs.Drained.{IsFor, TakesNewest, drain_of};
 
-#[cfg(test)]
-mod tests;
-
 use crate::drain::Drain;
 use crate::place::Place;
 use crate::runnable::Runnable;

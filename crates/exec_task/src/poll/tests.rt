@@ -1,18 +1,19 @@
 use super::{Asked, Carrier};
 use crate::body::{Act, Around, Body, Ended, Said};
-use crate::runnable::AfterPoll;
-use crate::task::{Phase, Task};
+use crate::runnable::{AfterPoll, Runnable};
+use crate::task::Task;
 use exec_base::error::Error;
 use exec_base::task_no::TaskNo;
 use std::alloc::Global;
+use std::process::Abort;
 use std::test::Fail;
 
-/// Yields so many times, waits for a wake, and is through.
+/// Lets others go first, then waits for a wake, and is through.
 #[derive(Drop)]
-struct Script {
-    yields: u32,
-    waits: bool,
-    outcome: u64,
+enum Script {
+    Yields,
+    Waits,
+    Ends,
 }
 
 impl Body for Script {
@@ -22,7 +23,7 @@ impl Body for Script {
 
     ghost left = { λ s. s };
 
-    ghost gives = { λ l sight said act l' sight'. (l'.outcome ≡ l.outcome) × (sight' ≡ sight) };
+    ghost gives = { λ l sight said act l' sight'. sight' ≡ sight };
 
     ghost name_of = { λ s. 4 };
 
@@ -36,22 +37,20 @@ impl Body for Script {
         _around: &mut A,
         _said: Said,
     ) -> Result<Act<Self>, Said> {
-        if self.yields > 0 {
-            self.yields -= 1;
-            return Ok(Act::Yield);
-        }
-        if self.waits {
-            self.waits = false;
-            return Ok(Act::Await(None));
-        }
-        Ok(Act::Done(self.outcome))
+        let (act, next) = match self {
+            Script::Yields => (Act::Yield, Script::Waits),
+            Script::Waits => (Act::Await(None), Script::Ends),
+            Script::Ends => (Act::Done(205), Script::Ends),
+        };
+        *self = next;
+        Ok(act)
     }
 }
 
 /// Who polls: it sees nothing, and wakes a task that yields.
 #[derive(Drop)]
 struct Hand {
-    has_begun: bool,
+    polls: u32,
 }
 
 impl Around for Hand {
@@ -97,13 +96,8 @@ impl Carrier<Script, Task<Script>> for Hand {
     {
         match asked {
             Asked::Resume => {
-                let first = !self.has_begun;
-                self.has_begun = true;
-                if first {
-                    Some(Said::Start)
-                } else {
-                    Some(Said::Pass)
-                }
+                self.polls = self.polls.saturating_add(1);
+                Some(Said::Start)
             }
             Asked::CarryOut(Act::Yield) => {
                 if let Some(runnable) = cell.wake() {
@@ -111,71 +105,47 @@ impl Carrier<Script, Task<Script>> for Hand {
                 }
                 None
             }
-            Asked::CarryOut(Act::Await(_)) => None,
-            _ => Some(Said::Pass),
+            Asked::CarryOut(_) => None,
         }
     }
 }
 
-fn make_script(yields: u32, waits: bool) -> Script {
-    Script {
-        yields,
-        waits,
-        outcome: 205,
-    }
+/// Polls the task with its runnable.
+fn poll(
+    rt: &impl Abort,
+    alloc: Global,
+    runnable: Runnable,
+    task: &mut Task<Script>,
+    hand: &mut Hand,
+) -> AfterPoll {
+    assert!(rt; runnable.task() == task.number() && runnable.owner() == task.owner());
+    runnable.poll(alloc, task.owner(), task, hand)
 }
 
 #[test]
-fn a_task_that_yields_is_requeued(rt: HostRuntime) -> Result<(), Fail> {
-    let (mut task, first) = Task::new(TaskNo(2), 1, make_script(2, false));
-    let mut hand = Hand { has_begun: false };
-    let AfterPoll::Requeue(again) = first.poll(rt.alloc(), 1, &mut task, &mut hand) else {
-        return Err(Fail::new("unexpected"));
+fn a_poll_requeues_waits_or_ends(rt: HostRuntime) -> Result<(), Fail> {
+    let (mut task, first) = Task::new(TaskNo(2), 1, Script::Yields);
+    let mut hand = Hand { polls: 0 };
+    let AfterPoll::Requeue(again) = poll(&rt, rt.alloc(), first, &mut task, &mut hand) else {
+        return Err(Fail::new("a wake in a poll requeues"));
     };
-    assert_eq!(rt; again.task(), TaskNo(2));
-    assert!(rt; matches!(task.phase(), Phase::Queued(_)));
-    Ok(())
-}
-
-#[test]
-fn a_task_that_waits_is_polled_once_it_is_woken(rt: HostRuntime) -> Result<(), Fail> {
-    let (mut task, first) = Task::new(TaskNo(2), 1, make_script(0, true));
-    let mut hand = Hand { has_begun: false };
-    assert!(rt;
-        matches!(
-            first.poll(rt.alloc(), 1, &mut task, &mut hand),
-            AfterPoll::Done
-        )
-    );
-    assert!(rt; matches!(task.phase(), Phase::Idle(_)));
-    assert!(rt; task.wake().is_some());
-    assert!(rt; task.wake().is_none());
-    Ok(())
-}
-
-#[test]
-fn a_task_that_is_through_is_retired(rt: HostRuntime) -> Result<(), Fail> {
-    let (mut task, first) = Task::new(TaskNo(2), 1, make_script(0, false));
-    let mut hand = Hand { has_begun: false };
-    let AfterPoll::Retire(number, how) = first.poll(rt.alloc(), 1, &mut task, &mut hand) else {
-        return Err(Fail::new("unexpected"));
+    let AfterPoll::Done = poll(&rt, rt.alloc(), again, &mut task, &mut hand) else {
+        return Err(Fail::new("a poll without a wake leaves nothing to do"));
     };
-    assert_eq!(rt; number, TaskNo(2));
-    assert_eq!(rt; how, Ended::Done(205));
+    let woken = task.wake().expect(&rt, "an idle task is queued");
+    let AfterPoll::Retire(number, how) = poll(&rt, rt.alloc(), woken, &mut task, &mut hand) else {
+        return Err(Fail::new("a body that is through ends its task"));
+    };
+    assert_eq!(rt; (number, how, hand.polls), (TaskNo(2), Ended::Done(205), 3));
     Ok(())
 }
 
 #[test]
 fn a_cleared_task_is_polled_no_more(rt: HostRuntime) -> Result<(), Fail> {
-    let (mut task, stale) = Task::new(TaskNo(2), 1, make_script(0, false));
+    let (mut task, stale) = Task::new(TaskNo(2), 1, Script::Ends);
+    let mut hand = Hand { polls: 0 };
     assert!(rt; task.clear().is_some());
-    let mut hand = Hand { has_begun: false };
-    assert!(rt;
-        matches!(
-            stale.poll(rt.alloc(), 1, &mut task, &mut hand),
-            AfterPoll::Done
-        )
-    );
-    assert!(rt; !hand.has_begun);
+    let after = poll(&rt, rt.alloc(), stale, &mut task, &mut hand);
+    assert!(rt; matches!(after, AfterPoll::Done) && hand.polls == 0);
     Ok(())
 }
