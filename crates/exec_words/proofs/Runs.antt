@@ -2,8 +2,7 @@
 use Rattle.std.proofs.Common.{◌≡◌, ℕ, ◌+◌, ◌-◌, ◌/◌, ◌≤◌, Bool, true, false, cond, List, [], ◌∷◌, ◌++◌, length, take, drop, refl, sym, ap, subst, ◌∙◌, arith, append_assoc, length-append, count_by}
 use Rattle.std.proofs.lemmas.List.{take-append-drop, append-nil, length-take, length-drop}
 use Rattle.std.proofs.lemmas.List.Sums.{sum_by-append}
-use Rattle.exec_words.specs.Order.{IsWithin}
-use Rattle.exec_words.specs.QueueRuns.{Change, Push, Pop, Claim, Release, Overflow, Restore, History, begun, put_in, flow_over, come_back, after, after_all}
+use Rattle.exec_words.specs.QueueRuns.{IsWithin, Change, Push, Pop, Claim, Release, Overflow, Restore, History, begun, put_in, flow_over, come_back, after, after_all}
 use Rattle.exec_words.proofs.Within.{nothing_within, within_itself, within_append}
 
 module _ {T : Type 0} where

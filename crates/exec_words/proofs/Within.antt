@@ -1,6 +1,6 @@
 -- Lists with some values left out.
 use Rattle.std.proofs.Common.{List, [], ◌∷◌, ◌++◌, refl, inl, inr}
-use Rattle.exec_words.specs.Order.{IsWithin}
+use Rattle.exec_words.specs.QueueRuns.{IsWithin}
 
 module _ {A : Type 0} where
   pub nothing_within : (ys : List A) → IsWithin [] ys

@@ -1,5 +1,5 @@
 -- Calls on a run queue that change it, one after another, by anyone; and what went in and came out.
-use Rattle.std.specs.Prelude.{ℕ, ◌/◌, ◌==◌, nat_lt, nat_le, ◌&&◌, not, List, [], ◌∷◌, ◌++◌, length, take, if◌then◌else◌}
+use Rattle.std.specs.Prelude.{◌≡◌, ◌⊎◌, ℕ, ◌/◌, ◌==◌, nat_lt, nat_le, ◌&&◌, not, List, [], ◌∷◌, ◌++◌, length, take, if◌then◌else◌}
 use Rattle.exec_words.specs.Head.{is_spent}
 use Rattle.exec_words.specs.Queue.{Queue, tail_of, room_of, popped, claimed, released, published, overflowed, newest, restored}
 
@@ -60,3 +60,9 @@ module _ {T : Type 0} where
   abbrev pub after_all : History T → List (Change T) → History T
   after_all h [] = h
   after_all h (change ∷ rest) = after_all (after h change) rest
+
+-- the first list is the second one, with some values left out
+abbrev pub IsWithin : {A : Type 0} → List A → List A → Type 0
+IsWithin [] ys = Unit {0}
+IsWithin (x ∷ xs) [] = ⊥
+IsWithin (x ∷ xs) (y ∷ ys) = ((x ≡ y) × IsWithin xs ys) ⊎ IsWithin (x ∷ xs) ys

@@ -9,7 +9,7 @@
 //! Ports the global queue of `commonware_runtime`'s `iouring::pool`.
 
 ghost use Rattle.std.specs.Prelude.{◌≡◌, ◌+◌, ◌-◌, ◌<◌, ◌≤◌, ◌==◌, ◌↔◌, [], ◌∷◌, ◌++◌, length, take, drop, max, slice_get, false, true, IsTrue, IsOk, OnOk, IfErr, OnErr, not, Some, None};
-ghost use Rattle.exec_words.specs.Share.{share_of};
+ghost use Rattle.exec_words.specs.Global.{share_of};
 
 use super::HALF;
 use super::queue::PureQueue;
@@ -146,7 +146,7 @@ impl<T> GlobalQueue<T> {
         let len = self.values.len();
         let share = share(len, workers, room, held);
         let first = self.values.pop()?;
-        into.publish_front(share - 1, &mut self.values);
+        into.publish(share - 1, &mut self.values);
         self.mirror = self.values.len();
         Some(first)
     }

@@ -16,10 +16,7 @@
 ghost use Rattle.std.specs.Prelude.{◌≡◌, ◌+◌, ◌-◌, ◌<◌, ◌^◌, ◌↔◌, IsTrue, IsOk, IfOk, OnOk, IfErr, OnErr, IsSome, IsNone, Some, true, false, replicate, slice_index_or, slice_set, position, length};
 ghost use Rattle.exec_words.specs.Idle.{is_in, lowest_of};
 
-mod laws;
-
 use super::MAX_WORKERS;
-pub use laws::the_count_is_a_sum;
 use std::marker::Model;
 
 /// What a worker does after its last look.
@@ -41,23 +38,6 @@ pub struct WorkerSet {
 }
 
 impl WorkerSet {
-    /// The set without workers.
-    pub fn empty() -> Self
-        ensures { result.has ≡ replicate 64 false }
-    {
-        WorkerSet {
-            has: [false; MAX_WORKERS],
-        }
-    }
-
-    /// Whether the worker of this number is in it. The caller must name a number below 64.
-    pub fn contains(&self, worker: usize) -> bool
-        requires { worker < 64 }
-        ensures { result ≡ is_in self.now.has worker }
-    {
-        self.has[worker]
-    }
-
     /// The lowest number in the set. None where it is empty.
     pub fn lowest(&self) -> Option<usize>
         ensures { result ≡ lowest_of self.now.has }
@@ -87,7 +67,9 @@ impl PureIdle {
         ensures { result ≡ record { published = replicate 64 false; count = 0 } }
     {
         PureIdle {
-            set: WorkerSet::empty(),
+            set: WorkerSet {
+                has: [false; MAX_WORKERS],
+            },
             count: 0,
         }
     }

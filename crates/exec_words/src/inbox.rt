@@ -29,7 +29,7 @@ pub enum Message<F, C> {
 }
 
 impl<F, C> Message<F, C> {
-    ghost use Rattle.exec_words.specs.Message.{is_wake_root};
+    ghost use Rattle.exec_words.specs.Inbox.{is_wake_root};
 
     /// Whether it wakes the root.
     pub fn is_wake_root(&self) -> bool
@@ -51,8 +51,7 @@ pub struct Inbox<F, C> {
 }
 
 impl<F, C> Model for Inbox<F, C> {
-    ghost use Rattle.exec_words.specs.Inbox.{Inbox as Letters, IsCounted};
-    ghost use Rattle.exec_words.specs.InboxLayout.{IsLaidOut};
+    ghost use Rattle.exec_words.specs.Inbox.{Inbox as Letters, IsLaidOut};
 
     ghost Value = { Letters F C };
 
@@ -68,9 +67,8 @@ impl<F, C> Model for Inbox<F, C> {
 }
 
 impl<F, C> Inbox<F, C> {
-    ghost use Rattle.exec_words.specs.Inbox.{sent, is_dropped, opens_batch, batch_taken, batch_handed, has_mail, shut, IsCounted, spare_places};
+    ghost use Rattle.exec_words.specs.Inbox.{sent, is_dropped, opens_batch, word_after, batch_taken, batch_handed, has_mail, shut, IsCounted, spare_places};
     ghost use Rattle.exec_words.specs.Word.{asks_signal};
-    ghost use Rattle.exec_words.specs.SentWord.{word_after};
 
     /// An open inbox without messages and places.
     pub fn new(alloc: Global) -> Self

@@ -18,6 +18,7 @@ pub mod global;
 pub mod head;
 pub mod idle;
 pub mod inbox;
+pub mod laws;
 pub mod mailbox;
 pub mod queue;
 pub mod reserved;

@@ -23,8 +23,7 @@ pub struct Mailbox<F, C> {
 }
 
 impl<F, C> Mailbox<F, C> {
-    ghost use Rattle.exec_words.specs.Inbox.{sent, is_dropped, batch_taken, batch_handed, has_mail, shut, spare_places};
-    ghost use Rattle.exec_words.specs.SentWord.{word_signalled};
+    ghost use Rattle.exec_words.specs.Inbox.{sent, is_dropped, batch_taken, batch_handed, has_mail, shut, spare_places, word_signalled};
 
     /// An open mailbox with a fresh wake word, and a place for a wake of the root.
     pub fn new(alloc: Global) -> Result<Self, AllocError>
@@ -33,9 +32,8 @@ impl<F, C> Mailbox<F, C> {
         C: Drop,
         ensures inbox { IfOk result (λ m. m.inbox
             ≡ record { messages = []; places = 1; closed = false; published = 0; taken = 0 }) }
-        ensures target { IfOk result (λ m. m.waker.target ≡ wait.None) }
-        ensures latch { IfOk result (λ m. m.waker.latch ≡ false) }
-        ensures batch { IfOk result (λ m. m.waker.batch ≡ 0) }
+        ensures waker { IfOk result (λ m. m.waker
+            ≡ record { target = wait.None; latch = false; batch = 0 }) }
     {
         let mut inbox = Inbox::new(alloc);
         inbox.reserve(alloc, 1)?;

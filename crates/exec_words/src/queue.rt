@@ -28,13 +28,11 @@
 
 ghost use Rattle.std.specs.Prelude.{◌≡◌, ◌+◌, ◌-◌, ◌^◌, ◌<◌, ◌≤◌, ◌↔◌, ◌==◌, [], ◌∷◌, ◌++◌, length, take, drop, slice_get, IsOk, IfOk, OnOk, IfErr, OnErr, IfNone, OnSome, Some, false, IsTrue, if◌then◌else◌};
 
-mod laws;
 mod whole;
 
 use super::head::Head;
 use super::reserved::Reserved;
 use super::{CAPACITY, HALF};
-pub use laws::{each_value_leaves_once, values_leave_in_order};
 use std::alloc::{AllocError, Global};
 use std::marker::Model;
 pub use whole::{PushAnswer, Steal};
@@ -50,8 +48,7 @@ pub struct PureQueue<T> {
 }
 
 impl<T> Model for PureQueue<T> {
-    ghost use Rattle.exec_words.specs.Queue.{Queue};
-    ghost use Rattle.exec_words.specs.QueueLayout.{IsLaidOut};
+    ghost use Rattle.exec_words.specs.Queue.{Queue, IsLaidOut};
 
     ghost Value = { Queue T };
 
@@ -70,17 +67,8 @@ impl<T> PureQueue<T> {
     ghost use Rattle.exec_words.specs.Queue.{head_of, tail_of, room_of, popped, claimed, released, published, overflowed, newest, restored};
     ghost use Rattle.exec_words.specs.Reserved.{extended, spare};
 
-    /// An empty queue whose first value gets the count 0.
-    pub fn new(alloc: Global) -> Result<Self, AllocError>
-    where
-        T: Drop,
-        ensures { IfOk result (λ q. q ≡ record { real = 0; gap = 0; values = []; held = [] }) }
-    {
-        PureQueue::at(alloc, 0)
-    }
-
-    /// An empty queue whose first value gets the count `real`. The caller must take one that isn't
-    /// past the count at which a queue is spent.
+    /// An empty queue whose first value gets the count `real`. The caller must take one, mostly 0,
+    /// that isn't past the count at which a queue is spent.
     pub fn at(alloc: Global, real: u64) -> Result<Self, AllocError>
     where
         T: Drop,
@@ -208,20 +196,10 @@ impl<T> PureQueue<T> {
         self.values.push(value);
     }
 
-    /// Publishes a batch behind the other values by one store of the tail. The caller must have
-    /// room for all of it, and be in the middle of no overflow.
-    pub fn publish(&mut self, batch: &mut Reserved<T>)
-        requires room { length batch.old.values ≤ room_of self.old }
-        requires whole { self.old.held ≡ [] }
-        ensures published { self.new ≡ published self.old batch.old.values }
-        ensures taken { batch.new ≡ record batch.old { values = [] } }
-    {
-        batch.move_front(batch.len(), &mut self.values);
-    }
-
-    /// Publishes the first `count` values of a list as `publish` does. The caller must have so many
-    /// there, and room for them.
-    pub fn publish_front(&mut self, count: usize, from: &mut Reserved<T>)
+    /// Publishes the first `count` values of a list behind the other values, by one store of the
+    /// tail. The caller must have so many there, and room for them, and be in the middle of no
+    /// overflow.
+    pub fn publish(&mut self, count: usize, from: &mut Reserved<T>)
         requires has { count ≤ length from.old.values }
         requires room { count ≤ room_of self.old }
         requires whole { self.old.held ≡ [] }
@@ -259,22 +237,11 @@ impl<T> PureQueue<T> {
         if self.head() != seen {
             return Err(self.head());
         }
-        Ok(self.claim(seen.len(tail) / 2, hand))
-    }
-
-    // Claims the first `count` values, and answers how many.
-    fn claim(&mut self, count: usize, hand: &mut Reserved<T>) -> usize
-        requires unclaimed { self.old.gap ≡ 0 }
-        requires half { count + count ≤ length self.old.values }
-        requires places { 128 ≤ spare hand.old }
-        ensures answer { result ≡ count }
-        ensures claimed { self.new ≡ claimed self.old count }
-        ensures moved { hand.new ≡ extended hand.old (take count self.old.values) }
-    {
+        let count = seen.len(tail) / 2;
         self.values.move_front(count, hand);
         self.real += count as u64;
         self.gap = count;
-        count
+        Ok(count)
     }
 
     /// The release of a claim by an exchange of the head: its places are free again, and those of

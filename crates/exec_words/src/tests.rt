@@ -8,7 +8,7 @@ use crate::head::Head;
 use crate::idle::{Park, PureIdle};
 use crate::inbox::Message;
 use crate::mailbox::Mailbox;
-use crate::queue::{PureQueue, PushAnswer, Steal};
+use crate::queue::{PureQueue, PushAnswer};
 use crate::reserved::Reserved;
 use crate::word::{PureWord, WaitTarget};
 use std::alloc::Global;
@@ -47,18 +47,26 @@ impl Local {
         self.queue.push(value, &mut self.hand)
     }
 
-    /// What a thief claims, by head and tail as they are.
+    /// What a thief claims, by head and tail as they are: how many values.
     fn claim(&mut self, rt: &impl Abort, thief: &mut Local) -> usize {
         let (head, tail) = (self.queue.head(), self.queue.tail());
-        assert!(rt; head.is_stealable(tail) && thief.hand.spare() >= HALF);
+        if thief.queue.room() < HALF || !head.is_stealable(tail) {
+            return 0;
+        }
+        assert!(rt; thief.hand.spare() >= HALF);
         self.queue
             .claim_exchange(head, tail, &mut thief.hand)
             .unwrap_or(0)
     }
 
-    fn steal(&mut self, rt: &impl Abort, thief: &mut Local) -> Steal {
-        assert!(rt; thief.queue.is_whole() && thief.hand.is_empty() && thief.hand.spare() >= HALF);
-        self.queue.steal_once(&mut thief.queue, &mut thief.hand)
+    /// A whole steal: how many values moved.
+    fn steal(&mut self, rt: &impl Abort, thief: &mut Local) -> usize {
+        let count = self.claim(rt, thief);
+        assert_eq!(rt; self.queue.release_exchange(self.queue.head()), Ok(()));
+        assert!(rt; thief.queue.is_whole() && count <= thief.queue.room());
+        assert!(rt; count <= thief.hand.len());
+        thief.queue.publish(count, &mut thief.hand);
+        count
     }
 
     /// Front and gap of the queue, and its room.
@@ -107,7 +115,7 @@ fn a_spent_queue_takes_no_more(rt: HostRuntime) -> Result<(), Fail> {
     assert_eq!(rt; local.push(&rt, 2), PushAnswer::Spent(2));
     assert_eq!(rt; local.queue.room(), 0);
     let mut other = Local::holding(&rt, rt.alloc(), 3..7)?;
-    assert_eq!(rt; other.steal(&rt, &mut local), Steal::Nothing);
+    assert_eq!(rt; other.steal(&rt, &mut local), 0);
     assert_eq!(rt; local.queue.pop(), Some(1));
     Ok(())
 }
@@ -116,11 +124,11 @@ fn a_spent_queue_takes_no_more(rt: HostRuntime) -> Result<(), Fail> {
 fn a_lone_value_stays_with_its_owner(rt: HostRuntime) -> Result<(), Fail> {
     let (mut zero, mut one) = (Local::at(rt.alloc(), 0)?, Local::at(rt.alloc(), 0)?);
     let mut two = Local::holding(&rt, rt.alloc(), 0..5)?;
-    assert_eq!(rt; two.steal(&rt, &mut zero), Steal::Moved(2));
+    assert_eq!(rt; two.steal(&rt, &mut zero), 2);
     assert_eq!(rt; (zero.queue.pop(), zero.queue.pop()), (Some(0), Some(1)));
-    assert_eq!(rt; two.steal(&rt, &mut one), Steal::Moved(1));
+    assert_eq!(rt; two.steal(&rt, &mut one), 1);
     assert_eq!(rt; (one.queue.pop(), two.queue.pop()), (Some(2), Some(3)));
-    assert_eq!(rt; two.steal(&rt, &mut one), Steal::Nothing);
+    assert_eq!(rt; two.steal(&rt, &mut one), 0);
     assert_eq!(rt; two.queue.len(), 1);
     Ok(())
 }
@@ -182,7 +190,7 @@ fn last_look(idle: &mut PureIdle, global: &GlobalQueue<u64>, other: &Local) -> (
     if park != Park::Wait {
         idle.withdraw(0);
     }
-    (park, idle.set().contains(0), idle.count())
+    (park, idle.set().has[0], idle.count())
 }
 
 #[test]

@@ -16,7 +16,7 @@
 
 ghost use Rattle.std.specs.Prelude.{◌≡◌, ◌≢◌, ◌<◌, ◌^◌, ◌&&◌, ◌||◌, ◌==◌, not, true, false};
 ghost use Rattle.exec_words.specs.declared.word.WaitTarget.TheVariants as wait;
-ghost use Rattle.exec_words.specs.Batch.{next_batch};
+ghost use Rattle.exec_words.specs.Word.{next_batch};
 
 use super::BATCHES;
 
@@ -47,9 +47,7 @@ impl PureWord {
 
     /// Nobody waits, no latch stands, and no batch was published.
     pub fn new() -> Self
-        ensures target { result.target ≡ wait.None }
-        ensures latch { result.latch ≡ false }
-        ensures batch { result.batch ≡ 0 }
+        ensures { result ≡ record { target = wait.None; latch = false; batch = 0 } }
     {
         PureWord::at(0)
     }
@@ -58,9 +56,7 @@ impl PureWord {
     /// `SUBMISSION_SEQ_MASK`.
     pub fn at(batch: u32) -> Self
         requires { batch < 2 ^ 29 }
-        ensures target { result.target ≡ wait.None }
-        ensures latch { result.latch ≡ false }
-        ensures batch { result.batch ≡ batch }
+        ensures { result ≡ record { target = wait.None; latch = false; batch = batch } }
     {
         PureWord {
             target: WaitTarget::None,

@@ -36,7 +36,6 @@ pub enum Steal {
 impl<T> PureQueue<T> {
     ghost use Rattle.exec_words.specs.Queue.{fit_of};
     ghost use Rattle.exec_words.specs.Push.{push_answer, after_push, handed_out};
-    ghost use Rattle.exec_words.specs.Steal.{steal_answer, stolen_from, stolen_into};
     ghost use Rattle.exec_words.specs.Reserved.{extended, spare};
 
     /// The owner's push in one action, where nobody acts in between. What an overflow hands out
@@ -62,28 +61,5 @@ impl<T> PureQueue<T> {
             Fit::Claimed => PushAnswer::Claimed(value),
             Fit::Spent => PushAnswer::Spent(value),
         }
-    }
-
-    /// A whole steal in one action, where nobody acts in between: half of the values go to the end
-    /// of `into`, by way of the thief's hand. `Again` doesn't come here. The caller must have an
-    /// empty hand of 128 places, and `into` must be in the middle of no overflow.
-    pub fn steal_once(&mut self, into: &mut PureQueue<T>, hand: &mut Reserved<T>) -> Steal
-        requires whole { into.old.held ≡ [] }
-        requires empty { hand.old.values ≡ [] }
-        requires places { 128 ≤ hand.old.places }
-        ensures answer { result ≡ steal_answer self.old into.old }
-        ensures source { self.new ≡ stolen_from (steal_answer self.old into.old) self.old }
-        ensures thief { into.new ≡ stolen_into (steal_answer self.old into.old) self.old into.old }
-        ensures hand { hand.new ≡ hand.old }
-    {
-        let head = self.head();
-        let tail = self.tail();
-        if into.room() < HALF || !head.is_stealable(tail) {
-            return Steal::Nothing;
-        }
-        let count = self.claim(head.len(tail) / 2, hand);
-        self.gap = 0;
-        into.publish(hand);
-        Steal::Moved(count)
     }
 }

@@ -1,7 +1,7 @@
 use Rattle.std.proofs.Common.{◌++◌, arith}
 use Rattle.exec_words.specs.QueueRuns.{begun, after_all}
 use Rattle.exec_words.proofs.Runs.{runs_split, count-append}
-use Rattle.exec_words.proofs.queue.laws.each_value_leaves_once.Goals as goal
+use Rattle.exec_words.proofs.laws.each_value_leaves_once.Goals as goal
 
 pub returns : goal.returns
 returns c real changes p =
