@@ -1,9 +1,14 @@
 -- What any calls on a run queue keep.
-use Rattle.std.proofs.Common.{◌≡◌, ℕ, ◌+◌, ◌-◌, ◌/◌, ◌≤◌, Bool, true, false, cond, List, [], ◌∷◌, ◌++◌, length, take, drop, refl, sym, ap, subst, ◌∙◌, arith, append_assoc, length-append, count_by}
+use Rattle.std.proofs.Common.{◌≡◌, ℕ, ◌+◌, ◌-◌, ◌/◌, ◌≤◌, ◌&&◌, Bool, true, false, cond, List, [], ◌∷◌, ◌++◌, length, take, drop, refl, sym, ap, subst, ◌∙◌, arith, append_assoc, length-append, count_by}
 use Rattle.std.proofs.lemmas.List.{take-append-drop, append-nil, length-take, length-drop}
 use Rattle.std.proofs.lemmas.List.Sums.{sum_by-append}
-use Rattle.exec_words.specs.QueueRuns.{IsWithin, Change, Push, Pop, Claim, Release, Overflow, Restore, History, begun, put_in, flow_over, come_back, after, after_all}
+use Rattle.exec_words.specs.QueueRuns.{IsWithin, Change, Push, Pop, Claim, Release, Overflow, Restore, History, begun, is_empty, after, after_all}
+use Rattle.exec_words.specs.Queue.{published, overflowed, newest, restored}
 use Rattle.exec_words.proofs.Within.{nothing_within, within_itself, within_append}
+
+first : (a b : Bool) → a && b ≡ true → a ≡ true
+first true b is = refl
+first false b is = absurd (cc)
 
 module _ {T : Type 0} where
   -- each value of the first list is in one of the others, and in its order
@@ -97,11 +102,6 @@ module _ {T : Type 0} where
   abbrev KeepsIn : History T → Type 0
   KeepsIn h = Keeps h.put (h.front ++ (h.queue.values ++ h.queue.held)) h.handed_out (length (h.queue.values ++ h.queue.held))
 
-  -- it stands after a choice, where it stands after both
-  either : (b : Bool) (g h : History T) → KeepsIn g → KeepsIn h → KeepsIn (cond b g h)
-  either true g h kg kh = kg
-  either false g h kg kh = kh
-
   -- so many values leave at the front
   left :
       (put front out values held : List T) (n : ℕ) → Keeps put (front ++ (values ++ held)) out (length (values ++ held))
@@ -113,37 +113,41 @@ module _ {T : Type 0} where
       ∙ sym (append_assoc front (take n values) (drop n values ++ held)))
       (omega (arith, length-append (drop n values) held, length-append values held, length-drop n values)) k
 
-  put_in_keeps : (h : History T) (v : T) (held : List T) → h.queue.held ≡ held → KeepsIn h → KeepsIn (put_in h v held)
-  put_in_keeps h v [] is k =
+  pushed : (h : History T) (v : T) → h.queue.held ≡ [] → KeepsIn h → KeepsIn (record h { queue = published h.queue (v ∷ []); put = h.put ++ v ∷ [] })
+  pushed h v none k =
       let last = v ∷ [] in
-      either _ _ h
-      (moved (h.put ++ last) _ _ h.handed_out _ _
-      (rw (is, append-nil h.queue.values, append-nil (h.queue.values ++ last)) (append_assoc h.front h.queue.values last))
+      moved (h.put ++ last) _ _ h.handed_out _ _
+      (rw (none, append-nil h.queue.values, append-nil (h.queue.values ++ last)) (append_assoc h.front h.queue.values last))
       (omega (arith, length-append (h.queue.values ++ last) h.queue.held, length-append h.queue.values last, length-append h.queue.values h.queue.held))
-      (one_more h.put _ h.handed_out _ v k)) k
-  put_in_keeps h v (x ∷ xs) is k = k
+      (one_more h.put _ h.handed_out _ v k)
 
-  flow_over_keeps : (h : History T) (held : List T) → h.queue.held ≡ held → KeepsIn h → KeepsIn (flow_over h held)
-  flow_over_keeps h [] is k =
+  overflowed_keeps : (h : History T) → h.queue.held ≡ [] → KeepsIn h → KeepsIn (record h { queue = overflowed h.queue; handed_out = h.handed_out ++ newest h.queue })
+  overflowed_keeps h none k =
       let values = h.queue.values in
-      either _ _ h
-      (flowed h.put _ h.handed_out (h.front ++ take 128 values) (drop 128 values) _ _
-      (rw (is, append-nil values, append_assoc h.front (take 128 values) (drop 128 values), take-append-drop 128 values) refl)
-      (omega (arith, length-drop 128 values, length-append values h.queue.held)) (omega (arith, length-take 128 values)) k) k
-  flow_over_keeps h (x ∷ xs) is k = k
+      flowed h.put _ h.handed_out (h.front ++ take 128 values) (drop 128 values) _ _
+      (rw (none, append-nil values, append_assoc h.front (take 128 values) (drop 128 values), take-append-drop 128 values) refl)
+      (omega (arith, length-drop 128 values, length-append values h.queue.held)) (omega (arith, length-take 128 values)) k
 
-  come_back_keeps : (h : History T) (values : List T) → h.queue.values ≡ values → KeepsIn h → KeepsIn (come_back h values)
-  come_back_keeps h [] is k =
-      moved h.put _ _ h.handed_out _ _ (rw (is, append-nil h.queue.held) refl) (rw (is, append-nil h.queue.held) (omega arith)) k
-  come_back_keeps h (x ∷ xs) is k = k
+  restored_keeps : (h : History T) → h.queue.values ≡ [] → KeepsIn h → KeepsIn (record h { queue = restored h.queue })
+  restored_keeps h none k =
+      moved h.put _ _ h.handed_out _ _ (rw (none, append-nil h.queue.held) refl) (rw (none, append-nil h.queue.held) (omega arith)) k
+
+  -- what stands before and after a choice
+  either : (b : Bool) (g h : History T) → (b ≡ true → KeepsIn g) → KeepsIn h → KeepsIn (cond b g h)
+  either true g h kg kh = kg refl
+  either false g h kg kh = kh
+
+  none : (xs : List T) → is_empty xs ≡ true → xs ≡ []
+  none [] is = refl
+  none (x ∷ xs) is = absurd (cc)
 
   after_keeps : (h : History T) (change : Change T) → KeepsIn h → KeepsIn (after h change)
-  after_keeps h (Push value) k = put_in_keeps h value h.queue.held refl k
-  after_keeps h Pop k = either _ _ h (left h.put h.front h.handed_out h.queue.values h.queue.held 1 k) k
-  after_keeps h (Claim seen) k = either _ _ h (left h.put h.front h.handed_out h.queue.values h.queue.held (seen / 2) k) k
+  after_keeps h (Push value) k = either _ _ h (λ is. pushed h value (none h.queue.held (first _ _ is)) k) k
+  after_keeps h Pop k = either _ h _ (λ _. k) (left h.put h.front h.handed_out h.queue.values h.queue.held 1 k)
+  after_keeps h (Claim seen) k = either _ _ h (λ _. left h.put h.front h.handed_out h.queue.values h.queue.held (seen / 2) k) k
   after_keeps h Release k = k
-  after_keeps h Overflow k = flow_over_keeps h h.queue.held refl k
-  after_keeps h Restore k = come_back_keeps h h.queue.values refl k
+  after_keeps h Overflow k = either _ _ h (λ is. overflowed_keeps h (none h.queue.held (first _ _ is)) k) k
+  after_keeps h Restore k = either _ _ h (λ is. restored_keeps h (none h.queue.values is) k) k
 
   all_keep : (h : History T) (changes : List (Change T)) → KeepsIn h → KeepsIn (after_all h changes)
   all_keep h [] k = k

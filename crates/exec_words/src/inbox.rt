@@ -28,17 +28,6 @@ pub enum Message<F, C> {
     Cancel(C),
 }
 
-impl<F, C> Message<F, C> {
-    ghost use Rattle.exec_words.specs.Inbox.{is_wake_root};
-
-    /// Whether it wakes the root.
-    pub fn is_wake_root(&self) -> bool
-        ensures { result ≡ is_wake_root self.now }
-    {
-        matches!(self, Message::WakeRoot)
-    }
-}
-
 /// The messages of a worker that it hasn't taken. Only `reserve` takes memory.
 #[derive(Drop)]
 pub struct Inbox<F, C> {
@@ -151,7 +140,7 @@ impl<F, C> Inbox<F, C> {
         if self.closed {
             return Err(message);
         }
-        let is_root = message.is_wake_root();
+        let is_root = matches!(message, Message::WakeRoot);
         if is_root && self.has_root {
             return Ok(false);
         }

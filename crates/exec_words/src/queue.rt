@@ -1,30 +1,27 @@
 //! The run queue of a worker, as transitions.
 //!
 //! A run queue holds up to 256 values, the oldest first. One worker owns it: only the owner pushes
-//! and pops. Others are thieves: a thief claims the oldest half, moves those values away, and
-//! releases the claim. What happens between two steps of one party is seen by the next one: each
-//! exchange of the head names the head that its party saw, fails where the head has changed since,
-//! and then tells the head that it found.
+//! and pops. Others are thieves, each of which claims the oldest half, moves it away, and releases
+//! the claim. What happens between two steps of one party is seen by the next one: each exchange
+//! names the head that its party saw; where the head has changed since, it changes nothing, and
+//! answers the head that it found.
 //!
-//! - The owner pops by an exchange (`pop_exchange`). The last value without a claim it takes by a
-//!   store of the head (`pop_last`): no thief can take a lone value. In a queue without thieves a
-//!   pop is one action (`pop`).
-//! - The owner publishes by a store of the tail: one value (`push_fitting`), or a batch
-//!   (`publish`). It must have room.
-//! - A thief loads head and tail and claims half of what is between them (`claim_exchange`): no
-//!   claim is held, and there are two values at least. The values are in its hand then. While it
-//!   moves them their places aren't free: the gap counts them, and those of the owner's pops past
+//! - The owner pops by an exchange (`pop_exchange`). A lone value without a claim it takes by a
+//!   store of the head (`pop_last`), since no thief can; where no thief acts a pop is one action
+//!   (`pop`).
+//! - The owner publishes by a store of the tail: one value (`push_fitting`), or several (`publish`).
+//! - A thief that loaded head and tail claims half of what is between them (`claim_exchange`). While
+//!   it moves them their places aren't free: the gap counts them, and those of the owner's pops past
 //!   them. The release (`release_exchange`) frees both.
-//! - A push into a full queue without a claim flows over (`overflow_exchange`): the newest half
-//!   goes to the owner's hand, and the oldest half is kept aside until the owner's next store of
-//!   the tail (`restore`). In between the queue is empty to thieves. Each position is counted once
-//!   more, so no head comes again.
+//! - A push into a full queue without a claim flows over (`overflow_exchange`): the newest half goes
+//!   to the owner's hand, and the oldest half is kept aside until the owner's next store of the tail
+//!   (`restore`). In between the queue is empty to thieves. Each position is counted once more, so
+//!   no head comes again.
 //!
-//! Where nobody acts in between, `push`, `pop` and `steal_once` are whole calls of these steps.
-//!
-//! A queue counts its values: from 2^55 - 512 on it takes no more, and is spent. What a contract
-//! sees is in `specs/Queue.antt`. Ports the `Queue` and `Owner` of `commonware_runtime`'s
-//! `iouring::queue`, each of whose loops makes these steps.
+//! Where nobody acts in between, `push` is a whole push of these steps. A queue counts its values:
+//! from 2^55 - 512 on it takes no more, and is spent. What a contract sees is in `specs/Queue.antt`.
+//! Ports the `Queue` and `Owner` of `commonware_runtime`'s `iouring::queue`, each of whose loops
+//! makes these steps.
 
 ghost use Rattle.std.specs.Prelude.{◌≡◌, ◌+◌, ◌-◌, ◌^◌, ◌<◌, ◌≤◌, ◌↔◌, ◌==◌, [], ◌∷◌, ◌++◌, length, take, drop, slice_get, IsOk, IfOk, OnOk, IfErr, OnErr, IfNone, OnSome, Some, false, IsTrue, if◌then◌else◌};
 
@@ -132,8 +129,7 @@ impl<T> PureQueue<T> {
     }
 
     /// The owner's pop by an exchange of the head. Err with the head that was found where it isn't
-    /// `seen`, and nothing changes then. The caller must have seen a value: the tail is past the
-    /// head that it saw.
+    /// `seen`. The caller must have seen a value: the tail is past the head that it saw.
     pub fn pop_exchange(&mut self, seen: Head) -> Result<T, Head>
         requires { seen.real < tail_of self.old }
         ensures same { IsOk result ↔ (head_of self.old ≡ seen) }
@@ -148,14 +144,15 @@ impl<T> PureQueue<T> {
         Ok(self.pop_front())
     }
 
-    // Takes the front value.
+    // Takes the front value. A pop beside a claim raises the gap.
     fn pop_front(&mut self) -> T
         requires { 0 < length self.old.values }
         ensures value { slice_get self.old.values 0 ≡ Some result }
         ensures popped { self.new ≡ popped self.old }
     {
+        let gap = self.gap;
         self.real += 1;
-        self.gap = gap_after_pop(self.gap);
+        self.gap = if gap == 0 { 0 } else { gap + 1 };
         match self.values.pop() {
             Some(value) => value,
             None => unreachable!(),
@@ -211,7 +208,7 @@ impl<T> PureQueue<T> {
 
     /// A thief's claim by an exchange of the head: half of the values up to the tail that it saw,
     /// rounded down, go into its hand, the oldest first. Answers how many. Err with the head that
-    /// was found where it isn't `seen`, and nothing changes then.
+    /// was found where it isn't `seen`.
     ///
     /// The caller must have loaded `tail` from this queue after `seen`, have seen no claim and at
     /// least two values, and have 128 places in its hand.
@@ -245,8 +242,7 @@ impl<T> PureQueue<T> {
     }
 
     /// The release of a claim by an exchange of the head: its places are free again, and those of
-    /// the pops past it. Err with the head that was found where it isn't `seen`, and nothing
-    /// changes then.
+    /// the pops past it. Err with the head that was found where it isn't `seen`.
     pub fn release_exchange(&mut self, seen: Head) -> Result<(), Head>
         ensures same { IsOk result ↔ (head_of self.old ≡ seen) }
         ensures released { OnOk result (self.new ≡ released self.old) }
@@ -262,7 +258,7 @@ impl<T> PureQueue<T> {
 
     /// The beginning of an overflow by an exchange of the head: the newest half goes into the
     /// owner's hand, the oldest first, and the oldest half is kept aside until `restore`. Err with
-    /// the head that was found where it isn't `seen`, and nothing changes then.
+    /// the head that was found where it isn't `seen`.
     ///
     /// The caller must have seen a full queue without a claim that isn't spent, be in the middle of
     /// no other overflow, and have 128 places in its hand.
@@ -310,12 +306,4 @@ impl<T> PureQueue<T> {
     {
         self.values.swap(&mut self.held);
     }
-}
-
-// A pop beside a claim raises the gap.
-fn gap_after_pop(gap: usize) -> usize
-    requires { gap < 256 }
-    ensures { result ≡ (if gap == 0 then 0 else gap + 1) }
-{
-    if gap == 0 { 0 } else { gap + 1 }
 }

@@ -94,7 +94,7 @@ impl PureWord {
         ensures asks { result ≡ asks_signal self.old }
         ensures published { self.new ≡ record self.old { batch = next_batch self.old.batch } }
     {
-        let asks = self.asks_signal();
+        let asks = self.target != WaitTarget::None && !self.latch;
         self.batch = next_batch(self.batch);
         asks
     }
@@ -119,13 +119,6 @@ impl PureWord {
         let found = *self;
         self.latch = false;
         found
-    }
-
-    /// Whether a signal must follow a publication: a wait is armed, and no latch stands.
-    pub fn asks_signal(&self) -> bool
-        ensures { result ≡ asks_signal self.now }
-    {
-        self.target != WaitTarget::None && !self.latch
     }
 
     /// Whether a latch stands.
