@@ -59,18 +59,6 @@ module _ {T : Type 0} where
         few = omega (arith, k.few);
       }
 
-  one_more : (put all out : List T) (waiting : ℕ) (v : T) → Keeps put all out waiting → Keeps (put ++ v ∷ []) (all ++ v ∷ []) out (waiting + 1)
-  one_more put all out waiting v k =
-      record {
-        early = k.early;
-        late = k.late ++ v ∷ [];
-        kept = k.kept;
-        is_put = sym (append_assoc k.early k.late (v ∷ [])) ∙ ap (λ xs. xs ++ v ∷ []) k.is_put;
-        is_all = sym (append_assoc k.kept k.late (v ∷ [])) ∙ ap (λ xs. xs ++ v ∷ []) k.is_all;
-        apart = k.apart;
-        few = omega (arith, k.few, length-append k.late (v ∷ []));
-      }
-
   -- the end of a list is that of its end, where it isn't longer
   end_of : (kept late front end : List T) → kept ++ late ≡ front ++ end → length end ≤ length late
       → (middle : List T) × (middle ++ end ≡ late) × (kept ++ middle ≡ front)
@@ -79,25 +67,6 @@ module _ {T : Type 0} where
   end_of (x ∷ xs) late (y ∷ ys) end same short =
       let rest = end_of xs late ys end (ap (drop 1) same) short in
       (rest.0, rest.1, cc)
-
-  -- the newest of what is left are handed out
-  flowed :
-      (put all out front end : List T) (waiting left : ℕ) → all ≡ front ++ end → length end ≤ waiting - 128 → left ≤ 128
-      → Keeps put all out waiting → Keeps put front (out ++ end) left
-  flowed put all out front end waiting left same many less k =
-      let m = end_of k.kept k.late front end (k.is_all ∙ same) (omega (arith, k.few)) in
-      record {
-        early = put;
-        late = [];
-        kept = front;
-        is_put = append-nil put;
-        is_all = append-nil front;
-        apart =
-            subst (λ xs. IsSplit put xs (out ++ end)) m.2
-            (subst (λ xs. IsSplit xs (k.kept ++ m.0) (out ++ end)) (ap (λ xs. k.early ++ xs) m.1 ∙ k.is_put)
-            (split_more k.early k.kept out m.0 end k.apart));
-        few = less;
-      }
 
   abbrev KeepsIn : History T → Type 0
   KeepsIn h = Keeps h.put (h.front ++ (h.queue.values ++ h.queue.held)) h.handed_out (length (h.queue.values ++ h.queue.held))
@@ -115,18 +84,42 @@ module _ {T : Type 0} where
 
   pushed : (h : History T) (v : T) → h.queue.held ≡ [] → KeepsIn h → KeepsIn (record h { queue = published h.queue (v ∷ []); put = h.put ++ v ∷ [] })
   pushed h v none k =
+      let values = h.queue.values in
       let last = v ∷ [] in
-      moved (h.put ++ last) _ _ h.handed_out _ _
-      (rw (none, append-nil h.queue.values, append-nil (h.queue.values ++ last)) (append_assoc h.front h.queue.values last))
-      (omega (arith, length-append (h.queue.values ++ last) h.queue.held, length-append h.queue.values last, length-append h.queue.values h.queue.held))
-      (one_more h.put _ h.handed_out _ v k)
+      record {
+        early = k.early;
+        late = k.late ++ last;
+        kept = k.kept;
+        is_put = sym (append_assoc k.early k.late last) ∙ ap (λ xs. xs ++ last) k.is_put;
+        is_all =
+            sym (append_assoc k.kept k.late last)
+            ∙ ap (λ xs. xs ++ last) k.is_all
+            ∙ rw (none, append-nil values, append-nil (values ++ last)) (append_assoc h.front values last);
+        apart = k.apart;
+        few = omega (arith, k.few, length-append k.late last, length-append (values ++ last) h.queue.held, length-append values last, length-append values h.queue.held);
+      }
 
+  -- the newest of what is left are handed out
   overflowed_keeps : (h : History T) → h.queue.held ≡ [] → KeepsIn h → KeepsIn (record h { queue = overflowed h.queue; handed_out = h.handed_out ++ newest h.queue })
   overflowed_keeps h none k =
       let values = h.queue.values in
-      flowed h.put _ h.handed_out (h.front ++ take 128 values) (drop 128 values) _ _
-      (rw (none, append-nil values, append_assoc h.front (take 128 values) (drop 128 values), take-append-drop 128 values) refl)
-      (omega (arith, length-drop 128 values, length-append values h.queue.held)) (omega (arith, length-take 128 values)) k
+      let front = h.front ++ take 128 values in
+      let end = drop 128 values in
+      let same : h.front ++ (values ++ h.queue.held) ≡ front ++ end =
+      rw (none, append-nil values, append_assoc h.front (take 128 values) end, take-append-drop 128 values) refl in
+      let m = end_of k.kept k.late front end (k.is_all ∙ same) (omega (arith, k.few, length-drop 128 values, length-append values h.queue.held)) in
+      record {
+        early = h.put;
+        late = [];
+        kept = front;
+        is_put = append-nil h.put;
+        is_all = append-nil front;
+        apart =
+            subst (λ xs. IsSplit h.put xs (h.handed_out ++ end)) m.2
+            (subst (λ xs. IsSplit xs (k.kept ++ m.0) (h.handed_out ++ end)) (ap (λ xs. k.early ++ xs) m.1 ∙ k.is_put)
+            (split_more k.early k.kept h.handed_out m.0 end k.apart));
+        few = omega (arith, length-take 128 values);
+      }
 
   restored_keeps : (h : History T) → h.queue.values ≡ [] → KeepsIn h → KeepsIn (record h { queue = restored h.queue })
   restored_keeps h none k =

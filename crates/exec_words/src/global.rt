@@ -56,9 +56,8 @@ impl<T> GlobalQueue<T> {
         }
     }
 
-    /// Makes places for `n` values in all, those that are there already among them.
-    ///
-    /// Where there is no memory the queue stays as it is.
+    /// Makes places for `n` values in all, those that are there already among them. Where there is
+    /// no memory the queue stays as it is.
     pub fn reserve(&mut self, alloc: Global, n: usize) -> Result<(), AllocError>
         ensures places { OnOk result (self.new
             ≡ record self.old { places = max self.old.places n }) }

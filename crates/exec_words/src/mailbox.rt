@@ -43,9 +43,8 @@ impl<F, C> Mailbox<F, C> {
         })
     }
 
-    /// Makes places for `n` messages in all, those that are there already among them.
-    ///
-    /// Where there is no memory the mailbox stays as it is.
+    /// Makes places for `n` messages in all, those that are there already among them. Where there
+    /// is no memory the mailbox stays as it is.
     pub fn reserve(&mut self, alloc: Global, n: usize) -> Result<(), AllocError>
         ensures places { OnOk result (self.new
             ≡ record self.old {
@@ -59,9 +58,8 @@ impl<F, C> Mailbox<F, C> {
 
     /// Sends a message, and signals the worker where the batch that it begins asks for it. A second
     /// wake of the root beside one that isn't taken is dropped. Gives the message back exactly
-    /// where the mailbox is closed, and nothing changes then.
-    ///
-    /// The caller must have reserved the message's place.
+    /// where the mailbox is closed, and nothing changes then. The caller must have reserved the
+    /// message's place.
     pub fn send(&mut self, message: Message<F, C>) -> Result<(), Message<F, C>>
     where
         F: Drop,

@@ -56,9 +56,8 @@ impl<T> Reserved<T> {
         Ok(Reserved { values, places })
     }
 
-    /// Makes places for `n` values in all, those that are there already among them.
-    ///
-    /// Where there is no memory the list stays as it is.
+    /// Makes places for `n` values in all, those that are there already among them. Where there is
+    /// no memory the list stays as it is.
     pub fn reserve(&mut self, _alloc: Global, n: usize) -> Result<(), AllocError>
         ensures places { OnOk result (self.new
             ≡ record self.old { places = max self.old.places n }) }
