@@ -26,16 +26,8 @@ module _ {T : Type 0} where
   here_last : (shards : List (List (ℕ × T))) (at : ℕ) → at < length shards → from_shard shards (next_shard (length shards) at) ≡ others shards at ++ get_or shards at [] ∷ []
   here_last shards at there =
       elim (next_cases (length shards) at) [
-        | inl e ↦
-            ap (from_shard shards) e.1
-            ∙ append-nil shards
-            ∙ sym (take_all (suc at) shards (omega arith))
-            ∙ take-suc shards at [] there
-            ∙ ap (λ xs. (xs ++ take at shards) ++ get_or shards at [] ∷ []) (sym (drop_all (suc at) shards (omega arith)))
-        | inr e ↦
-            ap (from_shard shards) (e.1 ∙ add-one at)
-            ∙ ap (λ xs. drop (suc at) shards ++ xs) (take-suc shards at [] there)
-            ∙ sym (append_assoc (drop (suc at) shards) (take at shards) (get_or shards at [] ∷ []))
+        | inl e ↦ grind (arith, append-nil, take_all (suc at) shards, drop_all (suc at) shards, take-suc shards at [] there)
+        | inr e ↦ rw (e.1, add-one at, take-suc shards at [] there, append_assoc) refl
       ]
 
   -- an empty shard is passed

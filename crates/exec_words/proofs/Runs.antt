@@ -76,11 +76,7 @@ module _ {T : Type 0} where
       (put front out values held : List T) (n : ℕ) → Keeps put (front ++ (values ++ held)) out (length (values ++ held))
       → Keeps put ((front ++ take n values) ++ (drop n values ++ held)) out (length (drop n values ++ held))
   left put front out values held n k =
-      moved put _ _ out _ _
-      (ap (λ xs. front ++ (xs ++ held)) (sym (take-append-drop n values))
-      ∙ ap (λ xs. front ++ xs) (append_assoc (take n values) (drop n values) held)
-      ∙ sym (append_assoc front (take n values) (drop n values ++ held)))
-      (omega (arith, length-append (drop n values) held, length-append values held, length-drop n values)) k
+      moved put _ _ out _ _ (grind (arith, append_assoc, take-append-drop n values)) (grind (arith, length-append, length-drop)) k
 
   pushed : (h : History T) (v : T) → h.queue.held ≡ [] → KeepsIn h → KeepsIn (record h { queue = published h.queue (v ∷ []); put = h.put ++ v ∷ [] })
   pushed h v none k =
@@ -90,13 +86,10 @@ module _ {T : Type 0} where
         early = k.early;
         late = k.late ++ last;
         kept = k.kept;
-        is_put = sym (append_assoc k.early k.late last) ∙ ap (λ xs. xs ++ last) k.is_put;
-        is_all =
-            sym (append_assoc k.kept k.late last)
-            ∙ ap (λ xs. xs ++ last) k.is_all
-            ∙ rw (none, append-nil values, append-nil (values ++ last)) (append_assoc h.front values last);
+        is_put = grind (arith, append_assoc, k.is_put);
+        is_all = grind (arith, append_assoc, append-nil, k.is_all);
         apart = k.apart;
-        few = omega (arith, k.few, length-append k.late last, length-append (values ++ last) h.queue.held, length-append values last, length-append values h.queue.held);
+        few = grind (arith, k.few, length-append);
       }
 
   -- the newest of what is left are handed out
@@ -105,8 +98,7 @@ module _ {T : Type 0} where
       let values = h.queue.values in
       let front = h.front ++ take 128 values in
       let end = drop 128 values in
-      let same : h.front ++ (values ++ h.queue.held) ≡ front ++ end =
-      rw (none, append-nil values, append_assoc h.front (take 128 values) end, take-append-drop 128 values) refl in
+      let same : h.front ++ (values ++ h.queue.held) ≡ front ++ end = grind (arith, append_assoc, append-nil, take-append-drop 128 values) in
       let m = end_of k.kept k.late front end (k.is_all ∙ same) (omega (arith, k.few, length-drop 128 values, length-append values h.queue.held)) in
       record {
         early = h.put;
@@ -123,7 +115,7 @@ module _ {T : Type 0} where
 
   restored_keeps : (h : History T) → h.queue.values ≡ [] → KeepsIn h → KeepsIn (record h { queue = restored h.queue })
   restored_keeps h none k =
-      moved h.put _ _ h.handed_out _ _ (rw (none, append-nil h.queue.held) refl) (rw (none, append-nil h.queue.held) (omega arith)) k
+      moved h.put _ _ h.handed_out _ _ (grind (arith, append-nil)) (grind (arith, append-nil)) k
 
   -- what stands before and after a choice
   either : (b : Bool) (g h : History T) → (b ≡ true → KeepsIn g) → KeepsIn h → KeepsIn (cond b g h)
