@@ -29,15 +29,15 @@ module _ {T : Type 0} where
     apart : IsSplit early kept out
     few : waiting ≤ 128 + length late
 
-  pub count-append : (p : T → Bool) (xs ys : List T) → count_by p (xs ++ ys) ≡ count_by p xs + count_by p ys
-  count-append p xs ys = sum_by-append (λ x. cond (p x) 1 0) xs ys
+  pub count_append : (p : T → Bool) (xs ys : List T) → count_by p (xs ++ ys) ≡ count_by p xs + count_by p ys
+  count_append p xs ys = sum_by-append (λ x. cond (p x) 1 0) xs ys
 
   -- a split list with more behind, some of which is kept and the rest of which is out
   split_more : (all kept out more held : List T) → IsSplit all kept out → IsSplit (all ++ (more ++ held)) (kept ++ more) (out ++ held)
   split_more all kept out more held s =
       record {
         once = λ p.
-            omega (arith, s.once p, count-append p all (more ++ held), count-append p more held, count-append p kept more, count-append p out held);
+            omega (arith, s.once p, count_append p all (more ++ held), count_append p more held, count_append p kept more, count_append p out held);
         kept_in_order =
             within_append kept all more (more ++ held) s.kept_in_order
             (subst (λ xs. IsWithin xs (more ++ held)) (append-nil more) (within_append more more [] held (within_itself more) (nothing_within held)));

@@ -4,7 +4,6 @@ pub mod Head
 pub mod Idle
 pub mod IdleRuns
 pub mod Inbox
-pub mod Push
 pub mod Queue
 pub mod QueueRuns
 pub mod Reserved

@@ -25,14 +25,37 @@
 
 ghost use Rattle.std.specs.Prelude.{◌≡◌, ◌+◌, ◌-◌, ◌^◌, ◌<◌, ◌≤◌, ◌↔◌, ◌==◌, [], ◌∷◌, ◌++◌, length, take, drop, slice_get, IsOk, IfOk, OnOk, IfErr, OnErr, IfNone, OnSome, Some, false, IsTrue, if◌then◌else◌};
 
-mod whole;
-
-use super::head::Head;
+use super::head::{Fit, Head};
 use super::reserved::Reserved;
 use super::{CAPACITY, HALF};
 use std::alloc::{AllocError, Global};
 use std::marker::Model;
-pub use whole::{PushAnswer, Steal};
+
+/// What a push answers.
+#[derive(Debug, PartialEq, Eq, Drop)]
+pub enum PushAnswer<T> {
+    /// The value was published; the queue had so many then.
+    Pushed(usize),
+    /// The queue was full: its newest half went into the owner's hand, and this value goes behind
+    /// it.
+    Overflow(T),
+    /// No place was free beside a claim: only this value goes elsewhere.
+    Claimed(T),
+    /// The queue is spent: this value goes elsewhere.
+    Spent(T),
+}
+
+/// What one try of a steal answers.
+#[derive(Clone, Copy, Debug, PartialEq, Eq)]
+pub enum Steal {
+    /// So many values moved into the thief's queue.
+    Moved(usize),
+    /// There was nothing to take, a claim was held, or the thief's queue had fewer than 128 places
+    /// free.
+    Nothing,
+    /// The head has changed since it was loaded: this one was found.
+    Again(Head),
+}
 
 /// A run queue. No call but a maker takes memory.
 #[derive(Drop)]
@@ -61,7 +84,7 @@ impl<T> Model for PureQueue<T> {
 
 impl<T> PureQueue<T> {
     ghost use Rattle.exec_words.specs.Head.{claim_at, is_spent};
-    ghost use Rattle.exec_words.specs.Queue.{head_of, tail_of, room_of, popped, claimed, released, published, overflowed, newest, restored};
+    ghost use Rattle.exec_words.specs.Queue.{head_of, tail_of, room_of, fit_of, push_answer, after_push, handed_out, popped, claimed, released, published, overflowed, newest, restored};
     ghost use Rattle.exec_words.specs.Reserved.{extended, spare};
 
     /// An empty queue whose first value gets the count `real`. The caller must take one, mostly 0,
@@ -305,5 +328,30 @@ impl<T> PureQueue<T> {
         ensures { self.new ≡ restored self.old }
     {
         self.values.swap(&mut self.held);
+    }
+
+    /// The owner's push in one action, where nobody acts in between. What an overflow hands out
+    /// goes into the owner's hand, the oldest first. The caller must have 128 places there, and be
+    /// in the middle of no overflow.
+    pub fn push(&mut self, value: T, hand: &mut Reserved<T>) -> PushAnswer<T>
+        requires whole { self.old.held ≡ [] }
+        requires places { 128 ≤ spare hand.old }
+        ensures answer { result ≡ push_answer (fit_of self.old) value }
+        ensures after { self.new ≡ after_push (fit_of self.old) self.old value }
+        ensures handed_out { hand.new ≡ extended hand.old (handed_out (fit_of self.old) self.old) }
+    {
+        match self.head().fit(self.tail()) {
+            Fit::Room(len) => {
+                self.push_fitting(value);
+                PushAnswer::Pushed(len)
+            }
+            Fit::Overflow => {
+                self.flow_over(hand);
+                self.restore();
+                PushAnswer::Overflow(value)
+            }
+            Fit::Claimed => PushAnswer::Claimed(value),
+            Fit::Spent => PushAnswer::Spent(value),
+        }
     }
 }

@@ -177,7 +177,7 @@ fn shares(rt: HostRuntime) -> Result<(), Fail> {
 
 /// The last look of worker 0 of two, which holds no count: its answer, whether the worker stays
 /// published, and the search count.
-fn last_look(idle: &mut PureIdle, global: &GlobalQueue<u64>, other: &Local) -> (Park, bool, usize) {
+fn look(idle: &mut PureIdle, global: &GlobalQueue<u64>, other: &Local) -> (Park, bool, usize) {
     idle.publish(0);
     let is_stealable = other.queue.head().is_stealable(other.queue.tail());
     let park = if global.mirror() != 0 {
@@ -199,15 +199,9 @@ fn a_last_look_has_three_answers(rt: HostRuntime) -> Result<(), Fail> {
     let (full, none) = (global_of(&rt, rt.alloc(), 1)?, GlobalQueue::new(rt.alloc()));
     let other = Local::holding(&rt, rt.alloc(), 0..2)?;
     searched.add();
-    assert_eq!(rt; last_look(&mut idle, &full, &other), (Park::Run, false, 0));
-    assert_eq!(rt;
-        last_look(&mut searched, &none, &other),
-        (Park::Wait, true, 1)
-    );
-    assert_eq!(rt;
-        last_look(&mut idle, &none, &other),
-        (Park::Search, false, 1)
-    );
+    assert_eq!(rt; look(&mut idle, &full, &other), (Park::Run, false, 0));
+    assert_eq!(rt; look(&mut searched, &none, &other), (Park::Wait, true, 1));
+    assert_eq!(rt; look(&mut idle, &none, &other), (Park::Search, false, 1));
     Ok(())
 }
 
@@ -219,17 +213,17 @@ fn a_batch_is_signalled_once(rt: HostRuntime) {
     word.wake();
     assert!(rt; !word.publish());
     word.disarm();
-    assert!(rt; !word.signalled() && word.pending(0));
+    assert!(rt; !word.latch && word.pending(0));
 }
 
 #[test]
 fn a_batch_is_published_once(rt: HostRuntime) -> Result<(), Fail> {
     let mut mailbox: Mailbox<u8, u32> = Mailbox::new(rt.alloc())?;
     let mut batch = Reserved::with_places(rt.alloc(), 2)?;
-    mailbox.reserve(rt.alloc(), 2)?;
+    mailbox.inbox.reserve(rt.alloc(), 2)?;
     assert_eq!(rt; mailbox.send(Message::WakeRoot), Ok(()));
     assert_eq!(rt; mailbox.send(Message::Cancel(7)), Ok(()));
-    assert!(rt; mailbox.waker.pending(0) && mailbox.take(&mut batch));
+    assert!(rt; mailbox.waker.pending(0) && mailbox.inbox.take(&mut batch));
     assert_eq!(rt; batch.pop(), Some(Message::WakeRoot));
     assert_eq!(rt; batch.pop(), Some(Message::Cancel(7)));
     assert!(rt; !mailbox.waker.pending(1));

@@ -118,13 +118,6 @@ impl PureWord {
         found
     }
 
-    /// Whether a latch stands.
-    pub fn signalled(&self) -> bool
-        ensures { result ≡ self.now.latch }
-    {
-        self.latch
-    }
-
     /// Whether a batch was published that isn't among the processed ones, a number of at most
     /// `SUBMISSION_SEQ_MASK`.
     pub fn pending(&self, processed: u32) -> bool
