@@ -1,5 +1,5 @@
 -- What comes of a poll that others wake and clear.
-use Rattle.std.proofs.Common.{◌≡◌, ℕ, ◌||◌, Bool, true, false, List, [], ◌∷◌, if◌then◌else◌, refl}
+use Rattle.std.proofs.Common.{◌≡◌, ℕ, ◌||◌, Bool, true, false, List, [], ◌∷◌, if◌then◌else◌, arith}
 use Rattle.exec_base.specs.declared.task_no.TaskNo.{TaskNo}
 use Rattle.exec_task.specs.declared.body.Ended.TheVariants.{Closed}
 use Rattle.exec_task.specs.declared.task.Phase.TheVariants.{Running, Notified}
@@ -20,18 +20,9 @@ module _ (B : Type 0) (number : TaskNo) (owner : ℕ) where
   polled woken cancelled = record { number = number; owner = owner; phase = if woken then Notified else Running; cancelled = cancelled }
 
   answer_is : (woken cancelled : Bool) (meanwhile : List Meanwhile) → pend_answer (after_meanwhile (polled woken cancelled) meanwhile) ≡ wanted number owner (woken || some_wake meanwhile) (cancelled || some_clear meanwhile)
-  answer_is true true [] = refl
-  answer_is true false [] = refl
-  answer_is false true [] = refl
-  answer_is false false [] = refl
-  answer_is true true (Wakes ∷ rest) = answer_is true true rest
-  answer_is true false (Wakes ∷ rest) = answer_is true false rest
-  answer_is false true (Wakes ∷ rest) = answer_is true true rest
-  answer_is false false (Wakes ∷ rest) = answer_is true false rest
-  answer_is true true (Clears ∷ rest) = answer_is true true rest
-  answer_is true false (Clears ∷ rest) = answer_is true true rest
-  answer_is false true (Clears ∷ rest) = answer_is false true rest
-  answer_is false false (Clears ∷ rest) = answer_is false true rest
+  answer_is woken cancelled [] = grind arith
+  answer_is woken cancelled (Wakes ∷ rest) = grind (arith, answer_is true cancelled rest)
+  answer_is woken cancelled (Clears ∷ rest) = grind (arith, answer_is woken true rest)
 
   pub one_requeue : (meanwhile : List Meanwhile) → pend_answer (after_meanwhile (just_begun {B = B} number owner) meanwhile) ≡ after_pending_poll (just_begun {B = B} number owner) meanwhile
   one_requeue meanwhile = answer_is false false meanwhile

@@ -1,5 +1,5 @@
 -- What a drain hands out, and in which order.
-use Rattle.std.specs.Prelude.{◌≡◌, ℕ, zero, suc, ◌+◌, ◌-◌, ◌*◌, ◌%◌, ◌<◌, ◌≤◌, ◌==◌, List, [], ◌∷◌, ◌++◌, length, reverse, slice_set, slice_index_or, Option, Some, None, if◌then◌else◌}
+use Rattle.std.specs.Prelude.{◌≡◌, ℕ, ◌+◌, ◌-◌, ◌*◌, ◌%◌, ◌<◌, ◌≤◌, ◌==◌, List, [], ◌∷◌, ◌++◌, length, reverse, take, drop, flat_map, slice_set, Option, Some, None, if◌then◌else◌}
 use Rattle.exec_base.specs.declared.task_no.TaskNo.{TaskNo}
 use Rattle.exec_task.specs.declared.drain.Drain.{Drain}
 use Rattle.exec_task.specs.TaskSet.{Set, shard_at, held, Changes}
@@ -13,10 +13,13 @@ abbrev pub passed : ℕ → Drain → Drain
 passed count d = record { at = next_shard count d.at; left = d.left - 1 }
 
 module _ {T : Type 0} where
+  -- the shards from this one on, round all of them
+  abbrev pub from_shard : List (List (ℕ × T)) → ℕ → List (List (ℕ × T))
+  from_shard shards at = drop at shards ++ take at shards
+
   -- the tasks of so many shards, from this one on: of each the newest first
   abbrev pub to_come : List (List (ℕ × T)) → ℕ → ℕ → List (ℕ × T)
-  to_come shards at zero = []
-  to_come shards at (suc left) = reverse (slice_index_or shards at []) ++ to_come shards (next_shard (length shards) at) left
+  to_come shards at left = flat_map reverse (take left (from_shard shards at))
 
   -- a drain by this worker, before its first visit
   abbrev pub drain_of : Set T → ℕ → Drain

@@ -2,7 +2,6 @@
 use Rattle.std.specs.Prelude.{◌≡◌, ℕ, ◌+◌, ◌-◌, ◌^◌, ◌<◌, ◌⊎◌, Option, Some, None, Result, Ok, Err}
 use Rattle.exec_base.specs.declared.error.Error.TheVariants.{NoMemory}
 use Rattle.exec_task.specs.declared.body.Act.{Act}
-use Rattle.exec_task.specs.declared.body.Act.TheVariants.{Register, Await, Drop, Sleep, Spawn, Dedicated, Wake, Yield, Fault}
 use Rattle.exec_task.specs.declared.body.Act.TheVariants as act_of
 use Rattle.exec_task.specs.declared.body.Said.{Said}
 use Rattle.exec_task.specs.declared.body.Said.TheVariants.{Refused}
@@ -21,16 +20,9 @@ use Rattle.exec_task.specs.Growth.{WouldGrow}
 
 -- how the task ends, where the act says that its body is through
 abbrev pub ended_by : {B : Type 0} → Act B → Option Ended
-ended_by (Register _) = None
-ended_by (Await _) = None
-ended_by (Drop _) = None
-ended_by (Sleep _) = None
-ended_by (Spawn _) = None
-ended_by (Dedicated _) = None
-ended_by (Wake _) = None
-ended_by Yield = None
 ended_by (act_of.Done result) = Some (ended.Done result)
-ended_by (Fault code) = Some (ended.Fault code)
+ended_by (act_of.Fault code) = Some (ended.Fault code)
+ended_by _ = None
 
 -- who polls, the task's cell, and the body
 pub record Polled (W C B : Type 0) : Type 0 where

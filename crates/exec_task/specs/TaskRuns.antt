@@ -32,26 +32,31 @@ begins phase = if is_some (queued_body phase) then 1 else 0
 
 -- the runnables that a poll gives back
 abbrev pub requeued : AfterPoll → ℕ
-requeued after_poll.Done = 0
 requeued (after_poll.Requeue _) = 1
-requeued (after_poll.Retire _ _) = 0
+requeued _ = 0
 
 module _ {B : Type 0} where
   -- who begins a poll has a runnable, and who ends one polls; anybody wakes and clears
   abbrev pub MayCall : Ledger B → Call B → Type 0
-  MayCall l Wake = Unit {0}
   MayCall l Begin = 0 < l.runnables
   MayCall l (Pend _) = 0 < l.polls
   MayCall l Done = 0 < l.polls
-  MayCall l Clear = Unit {0}
+  MayCall l _ = Unit {0}
 
   -- what the call makes of task and runnables
   abbrev pub after : Ledger B → Call B → Ledger B
-  after l Wake = record { task = record l.task { phase = woken l.task.phase }; runnables = l.runnables + published l.task.phase; polls = l.polls }
-  after l Begin = record { task = record l.task { phase = begun l.task.phase }; runnables = l.runnables - 1; polls = l.polls + begins l.task.phase }
-  after l (Pend body) = record { task = pended l.task body; runnables = l.runnables + requeued (pend_answer l.task); polls = l.polls - 1 }
-  after l Done = record { task = over l.task; runnables = l.runnables; polls = l.polls - 1 }
-  after l Clear = record { task = cleared l.task; runnables = l.runnables; polls = l.polls }
+  after l Wake =
+      record l { task = record l.task { phase = woken l.task.phase }; runnables = l.runnables + published l.task.phase }
+  after l Begin =
+      record {
+        task = record l.task { phase = begun l.task.phase };
+        runnables = l.runnables - 1;
+        polls = l.polls + begins l.task.phase;
+      }
+  after l (Pend body) =
+      record { task = pended l.task body; runnables = l.runnables + requeued (pend_answer l.task); polls = l.polls - 1 }
+  after l Done = record l { task = over l.task; polls = l.polls - 1 }
+  after l Clear = record l { task = cleared l.task }
 
   -- calls in whatever order, each by who may make it
   abbrev pub AreCalls : Ledger B → List (Call B) → Type 0
@@ -82,13 +87,13 @@ pub data Meanwhile : Type 0 where
 
 abbrev pub some_wake : List Meanwhile → Bool
 some_wake [] = false
-some_wake (Wakes ∷ rest) = true
-some_wake (Clears ∷ rest) = some_wake rest
+some_wake (Wakes ∷ _) = true
+some_wake (_ ∷ rest) = some_wake rest
 
 abbrev pub some_clear : List Meanwhile → Bool
 some_clear [] = false
-some_clear (Wakes ∷ rest) = some_clear rest
-some_clear (Clears ∷ rest) = true
+some_clear (Clears ∷ _) = true
+some_clear (_ ∷ rest) = some_clear rest
 
 module _ {B : Type 0} where
   abbrev pub after_meanwhile : Task B → List Meanwhile → Task B

@@ -2,8 +2,8 @@
 //!
 //! A drain goes round the shards once, from the shard at four times the worker's number on, so that workers that
 //! drain at once begin at different shards. At each it takes the newest task again and again until the shard is
-//! empty. Who drains clears each task before the next is taken. A closed set takes no task, so none is left
-//! behind, and each is handed out once (`to_come` is the list of what is still to come).
+//! empty; who drains clears each task before the next is taken. A closed set takes no task, so none is left behind,
+//! and each is handed out once (`to_come` is the list of what is still to come).
 //!
 //! A drain keeps its place alone and is lent the set by each call, so that the set may stand under locks, and a
 //! step may be a single visit of a shard.
@@ -57,7 +57,6 @@ impl Drain {
     }
 
     /// One visit of the shard at which it stands: takes its newest task, or finds it empty and goes on to the next.
-    ///
     /// The drain must be one of this set, and not over.
     pub fn visit<T>(&mut self, tasks: &mut Tasks<T>) -> Option<(TaskNo, T)>
         requires its { IsFor self.old tasks.old }
@@ -80,9 +79,7 @@ impl Drain {
         }
     }
 
-    /// The next task, with its number. None where none is left.
-    ///
-    /// The drain must be one of this set.
+    /// The next task, with its number. None where none is left. The drain must be one of this set.
     pub fn next<T>(&mut self, tasks: &mut Tasks<T>) -> Option<(TaskNo, T)>
     where
         T: Drop,

@@ -12,9 +12,6 @@
 ghost use Rattle.std.specs.Prelude.{◌≡◌, ◌-◌, ◌^◌, Bool, IsTrue, OnSome, Option};
 ghost use Rattle.exec_task.specs.Polls.{StepsTo, Turns, Polls, PollsTask};
 
-#[cfg(test)]
-mod tests;
-
 use crate::body::{Act, Around, Body, Ended, Said};
 use crate::runnable::{AfterPoll, Runnable};
 use crate::task::Task;
@@ -174,14 +171,12 @@ fn run<B: Body + Drop, C: TaskCell<B>, W: Carrier<B, C>>(
 impl Runnable {
     /// Polls its task once: begins the poll, steps the body and carries out its acts until the poll ends, and ends
     /// it. `owner` is the identity of the task set (`Tasks::id`), `cell` the task, and `worker` is who polls: what
-    /// the body sees, and how its acts are carried out.
+    /// the body sees, and how its acts are carried out. The runnable must be that of this task, which must belong
+    /// to this set. A stale one is discarded.
     ///
     /// It takes no memory but for the body's acts. A body that gets none for an act is told so by
-    /// `Refused(NoMemory)`. A stale runnable is discarded.
-    ///
-    /// A poll ends after at most 2^64 - 1 steps of its body; the task is then ended as if it had been cleared.
-    ///
-    /// The runnable must be that of this task, which must belong to this set.
+    /// `Refused(NoMemory)`. A poll ends after at most 2^64 - 1 steps of its body; the task is then ended as if it
+    /// had been cleared.
     pub fn poll<B: Body + Drop, C: TaskCell<B>, W: Carrier<B, C>>(
         self,
         alloc: Global,

@@ -4,6 +4,8 @@ use Rattle.exec_words.specs.declared.head.Head.{Head}
 use Rattle.exec_words.specs.declared.inbox.Message.TheVariants.{WakeRoot, Cancel}
 use Rattle.exec_words.specs.declared.word.WaitTarget.{WaitTarget}
 use Rattle.exec_words.specs.declared.word.PureWord.{PureWord}
+use Rattle.exec_words.specs.IdleRuns.{Tally, Add, Subtract, Exchange, nothing}
+use Rattle.exec_words.specs.IdleRuns as idle
 use Rattle.exec_words.specs.Inbox.{Inbox, sent}
 use Rattle.exec_words.specs.Queue.{Queue, claimed, popped}
 use Rattle.exec_words.specs.QueueRuns.{Push, Pop, Claim, Release, History, begun, after_all}
@@ -50,3 +52,7 @@ two_letters = sent (sent no_mail WakeRoot) (Cancel 7)
 -- three values go in, one is claimed, and one is popped beside the claim
 abbrev pub a_run : History ℕ
 a_run = after_all (begun 0) (Push 1 ∷ Push 2 ∷ Push 3 ∷ Claim 3 ∷ Pop ∷ Release ∷ [])
+
+-- a search begins and ends; the second exchange finds a count
+abbrev pub searches : Tally
+searches = idle.after_all nothing (Add ∷ Subtract ∷ Exchange ∷ Exchange ∷ [])

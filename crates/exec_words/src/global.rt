@@ -9,10 +9,7 @@
 //! Ports the global queue of `commonware_runtime`'s `iouring::pool`.
 
 ghost use Rattle.std.specs.Prelude.{◌≡◌, ◌+◌, ◌-◌, ◌<◌, ◌≤◌, ◌==◌, ◌↔◌, [], ◌∷◌, ◌++◌, length, take, drop, max, slice_get, false, true, IsTrue, IsOk, OnOk, IfErr, OnErr, not, Some, None};
-ghost use Rattle.exec_words.specs.Share.{share_of};
-
-#[cfg(test)]
-mod tests;
+ghost use Rattle.exec_words.specs.Global.{share_of};
 
 use super::HALF;
 use super::queue::PureQueue;
@@ -59,9 +56,8 @@ impl<T> GlobalQueue<T> {
         }
     }
 
-    /// Makes places for `n` values in all, those that are there already among them.
-    ///
-    /// Where there is no memory the queue stays as it is.
+    /// Makes places for `n` values in all, those that are there already among them. Where there is
+    /// no memory the queue stays as it is.
     pub fn reserve(&mut self, alloc: Global, n: usize) -> Result<(), AllocError>
         ensures places { OnOk result (self.new
             ≡ record self.old { places = max self.old.places n }) }
@@ -149,7 +145,7 @@ impl<T> GlobalQueue<T> {
         let len = self.values.len();
         let share = share(len, workers, room, held);
         let first = self.values.pop()?;
-        into.publish_front(share - 1, &mut self.values);
+        into.publish(share - 1, &mut self.values);
         self.mirror = self.values.len();
         Some(first)
     }

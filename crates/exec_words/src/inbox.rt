@@ -1,11 +1,10 @@
 //! The messages that wait for one worker, in batches.
 //!
-//! Anyone sends, under a lock; the worker takes all that is there at once, as one batch, and
-//! applies it in order. The first message of a batch publishes it in the worker's wake word, so
-//! batches published less batches taken is 1 where an open inbox holds a message, and else 0. That
-//! the worker's root is to be woken stands at most once in a batch: a second such message is
-//! dropped. A closed inbox gives each message back, and what stood in it when it closed counts as
-//! taken.
+//! Anyone sends, under a lock; the worker takes all that is there at once, as one batch, and applies
+//! it in order. The first message of a batch publishes it in the worker's wake word, so batches
+//! published less batches taken is 1 where an open inbox holds a message, and else 0. That the
+//! worker's root is to be woken stands at most once in a batch. A closed inbox gives each message
+//! back, and what stood in it when it closed counts as taken.
 //!
 //! Ports the `Inbox` and `Message` of `commonware_runtime`'s `iouring::mailbox`.
 
@@ -28,17 +27,6 @@ pub enum Message<F, C> {
     Cancel(C),
 }
 
-impl<F, C> Message<F, C> {
-    ghost use Rattle.exec_words.specs.Message.{is_wake_root};
-
-    /// Whether it wakes the root.
-    pub fn is_wake_root(&self) -> bool
-        ensures { result ≡ is_wake_root self.now }
-    {
-        matches!(self, Message::WakeRoot)
-    }
-}
-
 /// The messages of a worker that it hasn't taken. Only `reserve` takes memory.
 #[derive(Drop)]
 pub struct Inbox<F, C> {
@@ -51,8 +39,7 @@ pub struct Inbox<F, C> {
 }
 
 impl<F, C> Model for Inbox<F, C> {
-    ghost use Rattle.exec_words.specs.Inbox.{Inbox as Letters, IsCounted};
-    ghost use Rattle.exec_words.specs.InboxLayout.{IsLaidOut};
+    ghost use Rattle.exec_words.specs.Inbox.{Inbox as Letters, IsLaidOut};
 
     ghost Value = { Letters F C };
 
@@ -68,9 +55,8 @@ impl<F, C> Model for Inbox<F, C> {
 }
 
 impl<F, C> Inbox<F, C> {
-    ghost use Rattle.exec_words.specs.Inbox.{sent, is_dropped, opens_batch, batch_taken, batch_handed, has_mail, shut, IsCounted, spare_places};
+    ghost use Rattle.exec_words.specs.Inbox.{sent, is_dropped, opens_batch, word_after, batch_taken, batch_handed, has_mail, shut, IsCounted, spare_places};
     ghost use Rattle.exec_words.specs.Word.{asks_signal};
-    ghost use Rattle.exec_words.specs.SentWord.{word_after};
 
     /// An open inbox without messages and places.
     pub fn new(alloc: Global) -> Self
@@ -91,9 +77,8 @@ impl<F, C> Inbox<F, C> {
         }
     }
 
-    /// Makes places for `n` messages in all, those that are there already among them.
-    ///
-    /// Where there is no memory the inbox stays as it is.
+    /// Makes places for `n` messages in all, those that are there already among them. Where there
+    /// is no memory the inbox stays as it is.
     pub fn reserve(&mut self, alloc: Global, n: usize) -> Result<(), AllocError>
         ensures places { OnOk result (self.new
             ≡ record self.old { places = max self.old.places n }) }
@@ -129,7 +114,6 @@ impl<F, C> Inbox<F, C> {
     /// Appends a message, and publishes the batch that it begins in the worker's wake word. Answers
     /// whether a signal must follow. A second wake of the root beside one that isn't taken is
     /// dropped. Gives the message back exactly where the inbox is closed, and nothing changes then.
-    ///
     /// The caller must have reserved the message's place.
     pub fn send(
         &mut self,
@@ -153,7 +137,7 @@ impl<F, C> Inbox<F, C> {
         if self.closed {
             return Err(message);
         }
-        let is_root = message.is_wake_root();
+        let is_root = matches!(message, Message::WakeRoot);
         if is_root && self.has_root {
             return Ok(false);
         }

@@ -8,9 +8,6 @@
 ghost use Rattle.std.specs.Prelude.{◌≡◌, ◌+◌, ◌-◌, ◌<◌, ◌≤◌, ◌==◌, [], ◌∷◌, ◌++◌, length, take, drop, max, slice_get, IfOk, OnOk, OnErr};
 ghost use Rattle.std.specs.VecDeque.{deque_capacity};
 
-#[cfg(test)]
-mod tests;
-
 use std::alloc::{AllocError, Global};
 use std::collections::VecDeque;
 use std::marker::Model;
@@ -59,9 +56,8 @@ impl<T> Reserved<T> {
         Ok(Reserved { values, places })
     }
 
-    /// Makes places for `n` values in all, those that are there already among them.
-    ///
-    /// Where there is no memory the list stays as it is.
+    /// Makes places for `n` values in all, those that are there already among them. Where there is
+    /// no memory the list stays as it is.
     pub fn reserve(&mut self, _alloc: Global, n: usize) -> Result<(), AllocError>
         ensures places { OnOk result (self.new
             ≡ record self.old { places = max self.old.places n }) }

@@ -1,10 +1,10 @@
-//! Laws of run queues.
+//! Laws of run queues and of the search count, over whatever calls come in whatever order.
 
 ghost use Rattle.std.specs.Prelude.{◌≡◌, ◌+◌, ◌++◌, ℕ, Bool, List, count_by};
-ghost use Rattle.exec_words.specs.Order.{IsWithin};
-ghost use Rattle.exec_words.specs.QueueRuns.{Change, begun, after_all};
+ghost use Rattle.exec_words.specs.IdleRuns.{Change as Move, after_all as after_moves, nothing};
+ghost use Rattle.exec_words.specs.QueueRuns.{Change, IsWithin, begun, after_all};
 
-/// Whatever calls anyone makes, in whatever order: each value that was put in is in one place, of
+/// Each value that was put in is in one place, of
 /// those that left at the front, those that overflows handed out, and those that are left. So none
 /// is handed out twice, and none is lost.
 pub fn each_value_leaves_once()
@@ -23,4 +23,12 @@ pub fn values_leave_in_order()
     ensures back { (real : ℕ) (changes : List (Change ℕ))
         → let h = after_all (begun real) changes in
         IsWithin h.handed_out h.put }
+{}
+
+/// The search count is what was added and exchanged in, less what was subtracted.
+#[tactic(auto, using(crate::proofs::Counts::count_is_a_sum))]
+pub fn the_count_is_a_sum()
+    ensures { (moves : List Move)
+        → let t = after_moves nothing moves in
+        t.count + t.went_out ≡ t.came_in }
 {}
