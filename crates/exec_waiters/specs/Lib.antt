@@ -1,0 +1,5 @@
+pub mod Ids
+pub mod Told
+pub mod States
+pub mod Events
+pub mod Layout
