@@ -1,87 +1,233 @@
 -- How a change of one entry keeps the counts, and what is said of every entry.
-use Rattle.std.proofs.Common.{◌≡◌, ◌×◌, ◌⊎◌, ℕ, ◌+◌, ◌<◌, ◌≤◌, Bool, true, false, cond, List, [], ◌∷◌, length, set, Option, Some, None, refl, ap, arith, inl, inr, length-set, length-append}
-use Rattle.std.proofs.lemmas.Grind.{common_steps}
-use Rattle.std.proofs.lemmas.Bool.{cases_lt}
-use Rattle.std.proofs.lemmas.List.{get_or_past}
-use Rattle.std.proofs.lemmas.List.Sums.{sum_by-set, count_by-le-length}
-use Rattle.std.proofs.lemmas.List.Elements.{All-set}
-use Rattle.exec_base.specs.Slab.{Slab, value_at, value_in, slot_at, written, removed, freed}
+use Rattle.std.proofs.Common.{◌≡◌, ◌⊎◌, ℕ, ◌+◌, ◌^◌, ltb, ◌<◌, ◌≤◌, Bool, true, false, not, ◌&&◌, ◌||◌, cond, List, [], ◌∷◌, ◌++◌, length, set, get_or, All, Option, Some, None, refl, sym, ap, subst, ◌∙◌, arith, inl, inr, length-set, length-append}
+use Rattle.std.proofs.lemmas.Bool.{cases_lt, leb-false, false≢true}
+use Rattle.std.proofs.lemmas.Bool.Decides.{eqb_tells}
+use Rattle.std.proofs.lemmas.List.{get_or_past, get_or-set_same, get_or_default, set_past, set-get_or}
+use Rattle.std.proofs.lemmas.List.Sums.{sum_by-set, sum_by_push, count_by-le-length, get_or-le-sum_by}
+use Rattle.std.proofs.lemmas.List.Elements.{All-set, All-push}
+use Rattle.exec_base.specs.Slab.{Slab, value_at, value_in, slot_at, written, removed, freed, inserted, filled, next_id, next_index, generation_of, next_generation, IsPast}
 use Rattle.exec_base.specs.declared.slab.Id.{Id}
 use Rattle.exec_base.specs.declared.slab.Slot.{Slot}
 use Rattle.exec_base.specs.declared.slab.Slot.TheVariants.{Live, Vacant, Retired}
+use Rattle.exec_outcomes.specs.Accounts.{is_durable}
+use Rattle.exec_request.specs.Kept.{Kept, kept_of}
+use Rattle.exec_request.specs.Requests.{asked_of}
+use Rattle.exec_request.specs.States.{asks_cancel}
+use Rattle.exec_request.specs.declared.request.Request.{Request}
+use Rattle.exec_waiters.specs.declared.observer.Observer.{Observer}
 use Rattle.exec_waiters.specs.declared.waiter.Entry.{Entry}
 use Rattle.exec_waiters.specs.declared.waiter.Entry.TheVariants.{Pending, Ready}
 use Rattle.exec_waiters.specs.declared.waiter.Waiter.{Waiter}
-use Rattle.exec_waiters.specs.States.{is_asking, flies, counts_pending, counts_flying, pending_count, flying_count, waiter_at}
-use Rattle.exec_waiters.specs.Layout.{IsKept, is_sound_entry, is_sound_slot}
+use Rattle.exec_waiters.specs.States.{is_asking, flies, counts_pending, counts_flying, pending_count, flying_count, waiter_at, waiter_of, is_full, suits, is_sync, is_detached, needs_permit, may_stage, named}
+use Rattle.exec_waiters.specs.Events.{with_permit, with_observer}
+use Rattle.exec_waiters.specs.Layout.{IsKept, is_sound, is_sound_entry, is_sound_slot}
 
-abbrev one_if : Bool → ℕ
+abbrev pub one_if : Bool → ℕ
 one_if b = cond b 1 0
 
-module _ {S F : Type 0} where
-  -- a slot with this value holds it
-  pub entry_in : (slot : Slot (Entry S F)) (g : ℕ) (e : Entry S F) → value_in slot g ≡ Some e → slot ≡ Live g e
-  entry_in (Live h v) g e at = grind (arith, common_steps, at)
-  entry_in (Vacant h) g e at = absurd (cc)
-  entry_in Retired g e at = absurd (cc)
+-- with its permit nothing is lacking
+permitted : (a b c p : Bool) → (a && not (b && (c && not p))) ≡ true → (a && not (b && (c && not true))) ≡ true
+permitted true true true p sound = refl
+permitted true true false p sound = refl
+permitted true false c p sound = refl
+permitted false b c p sound = absurd (false≢true sound)
 
-  -- what has a value is a slot that is there
-  pub within_by : (s : Slab (Entry S F)) (id : Id) (e : Entry S F) → value_at s id ≡ Some e → id.index < length s.slots
-  within_by s id e at =
+-- nothing is under way
+landed : (a b c : Bool) → (a && not (b && c)) ≡ true → (a && not (false && c)) ≡ true
+landed true b c sound = refl
+landed false b c sound = absurd (false≢true sound)
+
+-- what was sound and needs no permit may be staged
+staged : (a b c : Bool) → (a && not (b && c)) ≡ true → c ≡ false → (a && not (true && c)) ≡ true
+staged true b true sound free = absurd (false≢true (sym free))
+staged true b false sound free = refl
+staged false b c sound free = absurd (false≢true sound)
+
+and_tells : (a b c : Bool) → ((not a && not b) && not c) ≡ true → (a ≡ false) × (c ≡ false)
+and_tells false false false is = (refl, refl)
+and_tells false false true is = absurd (false≢true is)
+and_tells false true c is = absurd (false≢true is)
+and_tells true b c is = absurd (false≢true is)
+
+-- another observer that is no detached sync
+observed : (a b c x : Bool) → ((not a || b) && not c) ≡ true → x ≡ false → ((not x || b) && not c) ≡ true
+observed a b true true sound free = absurd (false≢true (sym free))
+observed a b false true sound free = absurd (false≢true (sym free))
+observed true true c false sound free = sound
+observed true false c false sound free = absurd (false≢true sound)
+observed false b c false sound free = sound
+
+-- the slot of an entry that went
+by_pending : (S F : Type 0) (b : Bool) (h : ℕ) → one_if (counts_pending {S = S} {F = F} (cond b (Vacant h) Retired)) ≡ 0
+by_pending S F true h = refl
+by_pending S F false h = refl
+
+freed_pending : (S F : Type 0) (g : ℕ) → one_if (counts_pending {S = S} {F = F} (freed g)) ≡ 0
+freed_pending S F g = by_pending S F (ltb (g + 1) (2 ^ 64)) (g + 1)
+
+by_flying : (S F : Type 0) (b : Bool) (h : ℕ) → one_if (counts_flying {S = S} {F = F} (cond b (Vacant h) Retired)) ≡ 0
+by_flying S F true h = refl
+by_flying S F false h = refl
+
+freed_flying : (S F : Type 0) (g : ℕ) → one_if (counts_flying {S = S} {F = F} (freed g)) ≡ 0
+freed_flying S F g = by_flying S F (ltb (g + 1) (2 ^ 64)) (g + 1)
+
+by_sound : (S F : Type 0) (b : Bool) (h : ℕ) → is_sound_slot {S = S} {F = F} (cond b (Vacant h) Retired) ≡ true
+by_sound S F true h = refl
+by_sound S F false h = refl
+
+freed_sound : (S F : Type 0) (g : ℕ) → is_sound_slot {S = S} {F = F} (freed g) ≡ true
+freed_sound S F g = by_sound S F (ltb (g + 1) (2 ^ 64)) (g + 1)
+
+some_of_if : {A : Type 0} (b : Bool) (x y : A) → cond b (Some x) None ≡ Some y → x ≡ y
+some_of_if true x y is = cc
+some_of_if false x y is = absurd (cc)
+
+module _ {S F : Type 0} where
+  -- a request that isn't over is an entry
+  pub entry_of : (o : Option (Entry S F)) (w : Waiter S F) → waiter_of o ≡ Some w → o ≡ Some (Pending w)
+  entry_of None w is = absurd (cc)
+  entry_of (Some (Pending v)) w is = cc
+  entry_of (Some (Ready output)) w is = absurd (cc)
+
+  -- a slot with this value holds it
+  pub slot_of : (slot : Slot (Entry S F)) (g : ℕ) (e : Entry S F) → value_in slot g ≡ Some e → slot ≡ Live g e
+  slot_of (Live h v) g e at = elim (eqb_tells h g) [ inl same ↦ let got = rw same.0 at at in cc (same.1) | inr other ↦ let got = rw other.0 at at in absurd (cc) ]
+  slot_of (Vacant h) g e at = absurd (cc)
+  slot_of Retired g e at = absurd (cc)
+
+  -- the entry is there
+  pub record IsAt (s : Slab (Entry S F)) (id : Id) (e : Entry S F) : Type 0 where
+    pub within : id.index < length s.slots
+    pub slot : get_or s.slots id.index (Vacant s.first) ≡ Live id.generation e
+
+  pub at_by : (s : Slab (Entry S F)) (id : Id) (e : Entry S F) → value_at s id ≡ Some e → IsAt s id e
+  at_by s id e at =
+      let slot = slot_of (slot_at s id.index) id.generation e at in
       elim (cases_lt id.index (length s.slots)) [
-        | inl inside ↦ inside
-        | inr past ↦ let none : value_at s id ≡ None = rw (get_or_past s.slots id.index (Vacant s.first) past) refl in absurd (cc)
+        | inl inside ↦ record { within = inside; slot = slot }
+        | inr past ↦ let none = get_or_past s.slots id.index (Vacant s.first) past in absurd (cc)
       ]
 
-  freed_pending : (g : ℕ) → one_if (counts_pending {S = S} {F = F} (freed g)) ≡ 0
-  freed_pending g = grind (arith, common_steps)
-
-  freed_flying : (g : ℕ) → one_if (counts_flying {S = S} {F = F} (freed g)) ≡ 0
-  freed_flying g = grind (arith, common_steps)
-
-  freed_sound : (g : ℕ) → is_sound_slot {S = S} {F = F} (freed g) ≡ true
-  freed_sound g = grind (arith, common_steps)
+  -- a slot is set to another
+  pub kept_set : (s : Slab (Entry S F)) (vacant : List ℕ) (i : ℕ) (is : Slot (Entry S F)) (n k n' k' : ℕ) → i < length s.slots → n' + one_if (counts_pending (slot_at s i)) ≡ n + one_if (counts_pending is) → k' + one_if (counts_flying (slot_at s i)) ≡ k + one_if (counts_flying is) → is_sound_slot is ≡ true → IsKept s n k → IsKept (record s { slots = set s.slots i is; vacant = vacant }) n' k'
+  kept_set s vacant i is n k n' k' inside asking flying sound kept =
+      record {
+        pending_is = omega (arith, sum_by-set (λ (o : Slot (Entry S F)). cond (counts_pending o) 1 0) s.slots i is (Vacant s.first) inside, asking, kept.pending_is);
+        flying_is = omega (arith, sum_by-set (λ (o : Slot (Entry S F)). cond (counts_flying o) 1 0) s.slots i is (Vacant s.first) inside, flying, kept.flying_is);
+        sound = All-set (λ (o : Slot (Entry S F)). is_sound_slot o ≡ true) s.slots i is sound kept.sound;
+        few = rw length-set kept.few;
+      }
 
   -- an entry becomes another
   pub kept_written : (s : Slab (Entry S F)) (id : Id) (was is : Entry S F) (n k n' k' : ℕ) → value_at s id ≡ Some was → n' + one_if (is_asking was) ≡ n + one_if (is_asking is) → k' + one_if (flies was) ≡ k + one_if (flies is) → is_sound_entry is ≡ true → IsKept s n k → IsKept (written s id is) n' k'
   kept_written s id was is n k n' k' at asking flying sound kept =
-      let inside = within_by s id was at in
-      let slot = entry_in (slot_at s id.index) id.generation was at in
-      record {
-        pending_is = omega (arith, sum_by-set (λ o. cond (counts_pending o) 1 0) s.slots id.index (Live id.generation is) (Vacant s.first) inside, ap (λ (o : Slot (Entry S F)). one_if (counts_pending o)) slot, asking, kept.pending_is);
-        flying_is = omega (arith, sum_by-set (λ o. cond (counts_flying o) 1 0) s.slots id.index (Live id.generation is) (Vacant s.first) inside, ap (λ (o : Slot (Entry S F)). one_if (counts_flying o)) slot, flying, kept.flying_is);
-        sound = All-set (λ o. is_sound_slot o ≡ true) s.slots id.index (Live id.generation is) sound kept.sound;
-        few = rw length-set kept.few;
-      }
+      let there = at_by s id was at in
+      kept_set s s.vacant id.index (Live id.generation is) n k n' k' there.within (rw there.slot asking) (rw there.slot flying) sound kept
 
   -- an entry goes
   pub kept_removed : (s : Slab (Entry S F)) (id : Id) (was : Entry S F) (n k n' k' : ℕ) → value_at s id ≡ Some was → n' + one_if (is_asking was) ≡ n → k' + one_if (flies was) ≡ k → IsKept s n k → IsKept (removed s id) n' k'
   kept_removed s id was n k n' k' at asking flying kept =
-      let inside = within_by s id was at in
-      let slot = entry_in (slot_at s id.index) id.generation was at in
+      let there = at_by s id was at in
+      kept_set s (removed s id).vacant id.index (freed id.generation) n k n' k' there.within (rw there.slot (omega (arith, freed_pending S F id.generation, asking))) (rw there.slot (omega (arith, freed_flying S F id.generation, flying))) (freed_sound S F id.generation) kept
+
+  -- an entry comes
+  not_live : (slot : Slot (Entry S F)) → (generation_of slot < next_generation slot → ⊥) → (one_if (counts_pending slot) ≡ 0) × (one_if (counts_flying slot) ≡ 0)
+  not_live (Live g e) new = absurd (new (omega arith))
+  not_live (Vacant g) new = (refl, refl)
+  not_live Retired new = (refl, refl)
+
+  kept_pushed : (s : Slab (Entry S F)) (e : Entry S F) (room n k : ℕ) → length s.slots < 4294967295 → is_asking e ≡ true → flies e ≡ false → is_sound_entry e ≡ true → IsKept s n k → IsKept (record s { slots = s.slots ++ Live s.first e ∷ []; room = room }) (n + 1) k
+  kept_pushed s e room n k few asking flying sound kept =
+      let one : one_if (is_asking e) ≡ 1 = rw asking refl in
+      let none : one_if (flies e) ≡ 0 = rw flying refl in
       record {
-        pending_is = omega (arith, sum_by-set (λ o. cond (counts_pending o) 1 0) s.slots id.index (freed id.generation) (Vacant s.first) inside, ap (λ (o : Slot (Entry S F)). one_if (counts_pending o)) slot, freed_pending id.generation, asking, kept.pending_is);
-        flying_is = omega (arith, sum_by-set (λ o. cond (counts_flying o) 1 0) s.slots id.index (freed id.generation) (Vacant s.first) inside, ap (λ (o : Slot (Entry S F)). one_if (counts_flying o)) slot, freed_flying id.generation, flying, kept.flying_is);
-        sound = All-set (λ o. is_sound_slot o ≡ true) s.slots id.index (freed id.generation) (freed_sound id.generation) kept.sound;
-        few = rw length-set kept.few;
+        pending_is = omega (arith, sum_by_push (λ (o : Slot (Entry S F)). cond (counts_pending o) 1 0) s.slots (Live s.first e), one, kept.pending_is);
+        flying_is = omega (arith, sum_by_push (λ (o : Slot (Entry S F)). cond (counts_flying o) 1 0) s.slots (Live s.first e), none, kept.flying_is);
+        sound = All-push (λ (o : Slot (Entry S F)). is_sound_slot o ≡ true) s.slots (Live s.first e) kept.sound sound;
+        few = omega (arith, length-append s.slots (Live s.first e ∷ []), few);
       }
 
-  -- one request that isn't over counts
-  pub counted : (s : Slab (Entry S F)) (id : Id) (w : Waiter S F) (n k : ℕ) → value_at s id ≡ Some (Pending w) → IsKept s n k → 1 ≤ n
-  counted s id w n k at kept =
-      let inside = within_by s id (Pending w) at in
-      let slot = entry_in (slot_at s id.index) id.generation (Pending w) at in
-      omega (arith, sum_by-set (λ o. cond (counts_pending o) 1 0) s.slots id.index (freed id.generation) (Vacant s.first) inside, ap (λ (o : Slot (Entry S F)). one_if (counts_pending o)) slot, freed_pending id.generation, kept.pending_is)
+  kept_refilled : (s : Slab (Entry S F)) (rest : List ℕ) (e : Entry S F) (i g room n k : ℕ) → g ≡ generation_of (slot_at s i) → (g < next_generation (slot_at s i) → ⊥) → value_in (get_or (set s.slots i (Live g e)) i (Vacant s.first)) g ≡ Some e → is_asking e ≡ true → flies e ≡ false → is_sound_entry e ≡ true → IsKept s n k → IsKept (record s { slots = set s.slots i (Live g e); vacant = rest; room = room }) (n + 1) k
+  kept_refilled s rest e i g room n k is new there asking flying sound kept =
+      let empty = not_live (slot_at s i) (rw is at new) in
+      let one : one_if (is_asking e) ≡ 1 = rw asking refl in
+      let none : one_if (flies e) ≡ 0 = rw flying refl in
+      elim (cases_lt i (length s.slots)) [
+        | inl inside ↦
+            let kept' = kept_set s rest i (Live g e) n k (n + 1) k inside (omega (arith, empty.0, one)) (omega (arith, empty.1, none)) sound kept in
+            record { pending_is = kept'.pending_is; flying_is = kept'.flying_is; sound = kept'.sound; few = kept'.few }
+        | inr past ↦
+            let same = rw (set_past s.slots i (Live g e) past, get_or_past s.slots i (Vacant s.first) past) at there in
+            absurd (cc)
+      ]
 
-  pub counted_flying : (s : Slab (Entry S F)) (id : Id) (was : Entry S F) (n k : ℕ) → value_at s id ≡ Some was → flies was ≡ true → IsKept s n k → 1 ≤ k
-  counted_flying s id was n k at flying kept =
-      let inside = within_by s id was at in
-      let slot = entry_in (slot_at s id.index) id.generation was at in
-      omega (arith, sum_by-set (λ o. cond (counts_flying o) 1 0) s.slots id.index (freed id.generation) (Vacant s.first) inside, ap (λ (o : Slot (Entry S F)). one_if (counts_flying o)) slot, ap one_if flying, freed_flying id.generation, kept.flying_is)
+  kept_filled : (s : Slab (Entry S F)) (vacant : List ℕ) (e : Entry S F) (id : Id) (room n k : ℕ) → next_id (record s { vacant = vacant }) ≡ Some id → (IsPast s id → ⊥) → value_at (filled s vacant e) id ≡ Some e → is_full (record s { vacant = vacant }) ≡ false → is_asking e ≡ true → flies e ≡ false → is_sound_entry e ≡ true → IsKept s n k → IsKept (record (filled s vacant e) { room = room }) (n + 1) k
+  kept_filled s [] e id room n k next new there free asking flying sound kept =
+      kept_pushed s e room n k (leb-false _ _ free) asking flying sound kept
+  kept_filled s (i ∷ rest) e id room n k next new there free asking flying sound kept =
+      let named : record { index = i; generation = generation_of (slot_at s i) } ≡ id = some_of_if (ltb i (2 ^ 32)) _ id next in
+      let new' = subst (λ (x : Id). IsPast s x → ⊥) (sym named) new in
+      let there' = subst (λ (x : Id). value_at (filled s (i ∷ rest) e) x ≡ Some e) (sym named) there in
+      kept_refilled s rest e i (generation_of (slot_at s i)) room n k refl new' there' asking flying sound kept
 
-  -- neither count is more than there are slots
-  pub few_pending : (s : Slab (Entry S F)) (n k : ℕ) → IsKept s n k → n ≤ 4294967295
-  few_pending s n k kept = omega (arith, count_by-le-length counts_pending s.slots, kept.pending_is, kept.few)
+  pub kept_inserted : (s : Slab (Entry S F)) (e : Entry S F) (id : Id) (room n k : ℕ) → next_id s ≡ Some id → (IsPast s id → ⊥) → value_at (inserted s e) id ≡ Some e → is_full s ≡ false → is_asking e ≡ true → flies e ≡ false → is_sound_entry e ≡ true → IsKept s n k → IsKept (record (inserted s e) { room = room }) (n + 1) k
+  kept_inserted s e id room n k next new there free asking flying sound kept =
+      kept_filled s s.vacant e id room n k next new there free asking flying sound kept
 
-  pub few_flying : (s : Slab (Entry S F)) (n k : ℕ) → IsKept s n k → k ≤ 4294967295
-  few_flying s n k kept = omega (arith, count_by-le-length counts_flying s.slots, kept.flying_is, kept.few)
+  pub sound_permitted : (w : Waiter S F) → is_sound w ≡ true → is_sound (with_permit w) ≡ true
+  sound_permitted w sound = permitted (suits w.request w.observer) w.in_flight (is_durable (asked_of w.request).kind) w.permit sound
+
+  pub sound_observed : (w : Waiter S F) (observer : Observer S F) → is_sound w ≡ true → is_detached observer ≡ false → is_sound (with_observer observer w) ≡ true
+  sound_observed w observer sound free = observed (is_detached w.observer) (is_sync (asked_of w.request).kind) (w.in_flight && needs_permit w) (is_detached observer) sound free
+
+  pub sound_staged : (w : Waiter S F) (request : Request) → kept_of request ≡ kept_of w.request → is_sound w ≡ true → needs_permit w ≡ false → is_sound (record w { in_flight = true; request = request }) ≡ true
+  sound_staged w request kept sound free =
+      let asked : asked_of request ≡ asked_of w.request = ap (λ (k : Kept). k.asked) kept in
+      rw asked (staged (suits w.request w.observer) w.in_flight (needs_permit w) sound free)
+
+  pub sound_landed : (w : Waiter S F) (request : Request) → kept_of request ≡ kept_of w.request → is_sound w ≡ true → is_sound (record w { in_flight = false; request = request }) ≡ true
+  sound_landed w request kept sound =
+      let asked : asked_of request ≡ asked_of w.request = ap (λ (k : Kept). k.asked) kept in
+      rw asked (landed (suits w.request w.observer) w.in_flight (needs_permit w) sound)
+
+  pub sound_moved : (w : Waiter S F) (request : Request) → asked_of request ≡ asked_of w.request → is_sound w ≡ true → is_sound (record w { request = request }) ≡ true
+  sound_moved w request asked sound = rw asked sound
+
+  -- a request becomes another that is sound
+  pub kept_changed : (s : Slab (Entry S F)) (id : Id) (w w' : Waiter S F) (n k k' : ℕ) → waiter_at s id ≡ Some w → k' + one_if w.in_flight ≡ k + one_if w'.in_flight → is_sound w' ≡ true → IsKept s n k → IsKept (written s id (Pending w')) n k'
+  kept_changed s id w w' n k k' at flying sound kept =
+      kept_written s id (Pending w) (Pending w') n k n k' (entry_of _ w at) refl flying sound kept
+
+  -- an entry that is there, written again
+  pub same_written : (s : Slab (Entry S F)) (id : Id) (e : Entry S F) → value_at s id ≡ Some e → written s id e ≡ s
+  same_written s id e at =
+      let there = at_by s id e at in
+      let same : set s.slots id.index (Live id.generation e) ≡ s.slots = rw (← there.slot) (set-get_or s.slots id.index (Vacant s.first)) in
+      ap (λ (slots : List (Slot (Entry S F))). record s { slots = slots }) same
+
+  -- one that isn't over counts, and so does one in flight; neither count is more than there are slots
+  pub counted : (s : Slab (Entry S F)) (id : Id) (was : Entry S F) (n k : ℕ) → value_at s id ≡ Some was → IsKept s n k → (one_if (is_asking was) ≤ n) × (one_if (flies was) ≤ k)
+  counted s id was n k at kept =
+      let there = at_by s id was at in
+      let asks : one_if (counts_pending (slot_at s id.index)) ≤ n = omega (arith, get_or-le-sum_by (λ (o : Slot (Entry S F)). cond (counts_pending o) 1 0) s.slots id.index (Vacant s.first) there.within, kept.pending_is) in
+      let flying : one_if (counts_flying (slot_at s id.index)) ≤ k = omega (arith, get_or-le-sum_by (λ (o : Slot (Entry S F)). cond (counts_flying o) 1 0) s.slots id.index (Vacant s.first) there.within, kept.flying_is) in
+      (rw there.slot at asks, rw there.slot at flying)
+
+  pub few_counted : (s : Slab (Entry S F)) (n k : ℕ) → IsKept s n k → (n ≤ 4294967295) × (k ≤ 4294967295)
+  few_counted s n k kept =
+      (omega (arith, count_by-le-length counts_pending s.slots, kept.pending_is, kept.few), omega (arith, count_by-le-length counts_flying s.slots, kept.flying_is, kept.few))
+
+  -- the request is sound
+  pub sound_at : (s : Slab (Entry S F)) (id : Id) (w : Waiter S F) (n k : ℕ) → waiter_at s id ≡ Some w → IsKept s n k → is_sound w ≡ true
+  sound_at s id w n k at kept =
+      let there = at_by s id (Pending w) (entry_of _ w at) in
+      rw there.slot at (kept.sound id.index (Vacant s.first) there.within)
+
+  -- what may be staged isn't under way, and lacks no permit
+  pub staging_tells : (o : Option (Waiter S F)) (w : Waiter S F) → o ≡ Some w → may_stage o ≡ true → (w.in_flight ≡ false) × (needs_permit w ≡ false)
+  staging_tells o w is may = and_tells w.in_flight (asks_cancel w.state) (needs_permit w) (rw is at may)
+
+  -- what a completion names is under way
+  pub named_flies : (s : Slab (Entry S F)) (user_data : ℕ) (id : Id) → named s user_data ≡ Some id → (w : Waiter S F) × (waiter_at s id ≡ Some w) × (w.in_flight ≡ true)
+  named_flies s user_data id is = ?

@@ -1,1 +1,2 @@
-mod Changes
+pub mod Changes
+pub mod Ends

@@ -21,6 +21,7 @@ use Rattle.exec_request.specs.States.{Ended, as_answer, asks_cancel}
 use Rattle.exec_request.specs.declared.output.RequestOutput.{RequestOutput}
 use Rattle.exec_request.specs.declared.output.RequestOutput.TheVariants as output
 use Rattle.exec_request.specs.declared.request.Request.{Request}
+use Rattle.exec_request.specs.declared.results.WaiterState.{WaiterState}
 use Rattle.exec_request.specs.declared.results.WaiterState.TheVariants.{Active, CancelRequested}
 use Rattle.exec_ring.specs.Landings.{Moves}
 use Rattle.exec_ring.specs.declared.completion.Submission.{Submission}
@@ -96,8 +97,11 @@ module _ {S F : Type 0} where
   abbrev pub with_permit : Waiter S F → Waiter S F
   with_permit w = record w { permit = true }
 
+  abbrev pub with_state : WaiterState → Waiter S F → Waiter S F
+  with_state state w = record w { state = state }
+
   abbrev pub with_tick : ℕ → Waiter S F → Waiter S F
-  with_tick tick w = record w { state = Active (Some tick) }
+  with_tick tick w = with_state (Active (Some tick)) w
 
   abbrev pub with_observer : Observer S F → Waiter S F → Waiter S F
   with_observer observer w = record w { observer = observer }
@@ -106,7 +110,7 @@ module _ {S F : Type 0} where
   with_waker task w = with_observer (Local (Some task)) w
 
   abbrev pub cancelled : Waiter S F → Waiter S F
-  cancelled w = record w { state = CancelRequested }
+  cancelled w = with_state CancelRequested w
 
   -- WHO WAITS
 

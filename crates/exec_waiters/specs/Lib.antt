@@ -3,3 +3,4 @@ pub mod Told
 pub mod States
 pub mod Events
 pub mod Layout
+pub mod Lends

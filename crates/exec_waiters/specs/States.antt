@@ -13,6 +13,7 @@ use Rattle.exec_base.specs.declared.task_no.TaskNo.{TaskNo}
 use Rattle.exec_outcomes.specs.Accounts.{is_durable}
 use Rattle.exec_outcomes.specs.declared.outcome.Kind.{Kind}
 use Rattle.exec_outcomes.specs.declared.outcome.Kind.TheVariants as kind
+use Rattle.exec_request.specs.declared.output.RequestOutput.{RequestOutput}
 use Rattle.exec_request.specs.declared.request.Request.{Request}
 use Rattle.exec_request.specs.declared.request.Request.TheVariants.{ReadAt, WriteAt, Sync}
 use Rattle.exec_request.specs.declared.results.WaiterState.{WaiterState}
@@ -200,6 +201,15 @@ module _ {S F : Type 0} where
   abbrev pub file_in : Option (Waiter S F) → Option ℕ
   file_in None = None
   file_in (Some w) = file_of w.request
+
+  -- the output that is kept
+  abbrev pub output_in : Entry S F → Option RequestOutput
+  output_in (Pending w) = None
+  output_in (Ready output) = Some output
+
+  abbrev pub output_at : Option (Entry S F) → Option RequestOutput
+  output_at None = None
+  output_at (Some entry) = output_in entry
 
   abbrev pub asked_for : Entry S F → Option (Refused S F)
   asked_for (Pending w) = Some (record { request = w.request; observer = w.observer })

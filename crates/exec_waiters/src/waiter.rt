@@ -1,10 +1,15 @@
 //! One request with its observer and its flags, and what stands under an id.
 
-ghost use Rattle.std.specs.Prelude.{◌≡◌, Some, true};
+ghost use Rattle.std.specs.Prelude.{◌≡◌, Some, IsSome, true};
 ghost use Rattle.exec_waiters.specs.States.{tick_in, takes_tick, file_of, needs_permit};
 ghost use Rattle.exec_waiters.specs.Events.{admitted};
+ghost use Rattle.std.specs.Borrow.{sem};
+ghost use Rattle.exec_waiters.specs.Lends.{lends_waiter, lends_waiter_at};
+ghost use Rattle.exec_waiters.specs.States.{waiter_at, waiter_in};
 
 use crate::observer::Observer;
+use crate::waiter_id::WaiterId;
+use exec_base::slab::Slab;
 use exec_request::output::RequestOutput;
 use exec_request::request::Request;
 use exec_request::results::WaiterState;
@@ -97,6 +102,20 @@ impl<S: Drop, F: Drop> Waiter<S, F> {
     }
 }
 
+impl<S, F> Entry<S, F> {
+    // The request, for writing.
+    fn waiter_mut(&mut self) -> &mut Waiter<S, F>
+        requires { IsSome (waiter_in self.old) }
+        ensures* lends { sem 𝓛 (lends_waiter S.row F.row self.entry result) }
+        ensures value { waiter_in self.old ≡ Some result.now }
+    {
+        match self {
+            Entry::Pending(waiter) => waiter,
+            Entry::Ready(_) => unreachable!(),
+        }
+    }
+}
+
 impl<S: Drop, F: Drop> Entry<S, F> {
     ghost use Rattle.exec_waiters.specs.States.{is_asking, asked_for};
 
@@ -117,5 +136,17 @@ impl<S: Drop, F: Drop> Entry<S, F> {
             ) => Refused { request, observer },
             Entry::Ready(_) => unreachable!(),
         }
+    }
+}
+
+/// The request with this id, for writing. The caller must have one that isn't over.
+pub(crate) fn waiter_mut<S, F>(entries: &mut Slab<Entry<S, F>>, id: WaiterId) -> &mut Waiter<S, F>
+    requires { IsSome (waiter_at entries.old id.0) }
+    ensures* lends { sem 𝓛 (lends_waiter_at S.row F.row entries.entry id.0 result) }
+    ensures value { waiter_at entries.old id.0 ≡ Some result.now }
+{
+    match entries.get_mut(id.0) {
+        Some(entry) => entry.waiter_mut(),
+        None => unreachable!(),
     }
 }

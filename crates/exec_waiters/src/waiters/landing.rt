@@ -8,7 +8,7 @@ ghost use Rattle.exec_waiters.specs.States.{waiter_at, is_flying};
 ghost use Rattle.exec_waiters.specs.Events.{Lands};
 
 use super::Waiters;
-use crate::waiter::Entry;
+use crate::waiter::waiter_mut;
 use crate::waiter_id::WaiterId;
 use exec_outcomes::outcome::OpResult;
 use exec_ring::landing::Unlawful;
@@ -37,11 +37,7 @@ impl<S: Drop, F: Drop> Waiters<S, F> {
         ensures same { OnErr result (self.new ≡ self.old) }
         ensures store { OnErr result (store.new ≡ store.old) }
     {
-        match self.entries.get_mut(id.0) {
-            Some(Entry::Pending(waiter)) => {
-                ring.land(id.user_data(), given, store, &mut waiter.request)
-            }
-            _ => unreachable!(),
-        }
+        let waiter = waiter_mut(&mut self.entries, id);
+        ring.land(id.user_data(), given, store, &mut waiter.request)
     }
 }

@@ -1,17 +1,17 @@
 //! Who waits for a request: looking, waking, forwarding, letting go.
 
-ghost use Rattle.std.specs.Prelude.{◌≡◌, ◌<◌, Some, None, IfSome, IfNone, true, false};
+ghost use Rattle.std.specs.Prelude.{◌≡◌, ◌<◌, Some, None, IfSome, IfNone, is_some, true, false};
 ghost use Rattle.exec_base.specs.Slab.{value_at};
 ghost use Rattle.exec_base.specs.declared.slab.Id.{Id as Name};
 ghost use Rattle.exec_waiters.specs.Told.{HasPlaces, Tells, nothing_told, awake};
-ghost use Rattle.exec_waiters.specs.States.{waiter_at, is_observed_here, may_be_seen, is_held_at};
-ghost use Rattle.exec_waiters.specs.Events.{changed, with_waker, waker_of, seen_by, taken, forwarded, told_by_forward, orphaned, told_by_orphan, asks_cancel_by_orphan, told_by_close, IsFirstHeld};
+ghost use Rattle.exec_waiters.specs.States.{waiter_at, is_observed_here, may_be_seen, is_held_at, is_detached, output_at};
+ghost use Rattle.exec_waiters.specs.Events.{changed, with_waker, with_observer, waker_of, seen_by, taken, forwarded, told_by_forward, orphaned, told_by_orphan, asks_cancel_by_orphan, told_by_close, IsFirstHeld};
 
 use super::Waiters;
 use crate::completed::Closed;
 use crate::deferred::{Answer, Deferred, Untaken};
 use crate::observer::Observer;
-use crate::waiter::Entry;
+use crate::waiter::{Entry, waiter_mut};
 use crate::waiter_id::WaiterId;
 use exec_base::error::Error;
 use exec_base::task_no::TaskNo;
@@ -20,6 +20,8 @@ use exec_time::timers::Observation;
 use std::mem;
 
 impl<S: Drop, F: Drop> Waiters<S, F> {
+    ghost use Rattle.exec_waiters.specs.declared.waiter.Waiter.{Waiter as Asking};
+
     /// What a task of the worker finds. An output is taken, and the slot is free then. The caller must know that a
     /// task of the worker waits for the request, or that its output is kept.
     pub fn observe(&mut self, id: WaiterId, waker: TaskNo) -> Observation<RequestOutput>
@@ -27,15 +29,12 @@ impl<S: Drop, F: Drop> Waiters<S, F> {
         ensures answer { result ≡ seen_by waker (value_at self.old id.0) }
         ensures taken { self.new ≡ taken self.old id.0 }
     {
-        match self.entries.get(id.0) {
-            Some(Entry::Pending(waiter)) => match &waiter.observer {
-                Observer::Local(Some(current)) if current.0 == waker.0 => Observation::Pending,
-                _ => Observation::Refresh,
-            },
-            _ => match self.entries.remove(id.0) {
-                Some(Entry::Ready(output)) => Observation::Ready(output),
-                _ => unreachable!(),
-            },
+        if let Some(output) = self.take_output(id) {
+            return Observation::Ready(output);
+        }
+        match self.waker(id) {
+            Some(current) if current.0 == waker.0 => Observation::Pending,
+            _ => Observation::Refresh,
         }
     }
 
@@ -46,13 +45,8 @@ impl<S: Drop, F: Drop> Waiters<S, F> {
         ensures answer { result ≡ waker_of (waiter_at self.old id.0) }
         ensures set { self.new ≡ changed self.old id.0 (with_waker waker) }
     {
-        match self.entries.get_mut(id.0) {
-            Some(Entry::Pending(waiter)) => {
-                match mem::replace(&mut waiter.observer, Observer::Local(Some(waker))) {
-                    Observer::Local(current) => current,
-                    _ => unreachable!(),
-                }
-            }
+        match self.set_observer(id, Observer::Local(Some(waker))) {
+            Observer::Local(current) => current,
             _ => unreachable!(),
         }
     }
@@ -65,18 +59,12 @@ impl<S: Drop, F: Drop> Waiters<S, F> {
         ensures forwarded { self.new ≡ forwarded self.old id.0 sender }
         ensures told { Tells deferred.old deferred.new (told_by_forward id.0 sender (value_at self.old id.0)) }
     {
-        let result = match self.entries.get_mut(id.0) {
-            Some(Entry::Pending(waiter)) => {
-                if matches!(&waiter.observer, Observer::Local(_)) {
-                    waiter.observer = Observer::Forwarded(sender);
-                    return;
-                }
-                Err(Error::Closed)
-            }
-            Some(Entry::Ready(_)) => match self.entries.remove(id.0) {
-                Some(Entry::Ready(output)) => Ok(output),
-                _ => unreachable!(),
-            },
+        if self.is_observed_here(id) {
+            let _local = self.set_observer(id, Observer::Forwarded(sender));
+            return;
+        }
+        let result = match self.take_output(id) {
+            Some(output) => Ok(output),
             None => Err(Error::Closed),
         };
         deferred
@@ -94,25 +82,46 @@ impl<S: Drop, F: Drop> Waiters<S, F> {
         ensures orphaned { self.new ≡ orphaned self.old id.0 }
         ensures told { Tells deferred.old deferred.new (told_by_orphan id.0 (value_at self.old id.0)) }
     {
-        match self.entries.get_mut(id.0) {
-            Some(Entry::Pending(waiter)) => {
-                if !waiter.observer.is_held() {
-                    return false;
-                }
-                let cancels = !waiter.request.retains_on_orphan();
-                let observer = mem::replace(&mut waiter.observer, Observer::Orphaned);
-                deferred.turn_away(id, observer);
-                cancels
-            }
-            Some(Entry::Ready(_)) => match self.entries.remove(id.0) {
-                Some(Entry::Ready(output)) => {
-                    deferred.outputs.push_reserved(Untaken { id, output });
-                    false
-                }
-                _ => unreachable!(),
-            },
-            None => false,
+        if let Some(output) = self.take_output(id) {
+            deferred.outputs.push_reserved(Untaken { id, output });
+            return false;
         }
+        let Some(waiter) = self.get(id) else {
+            return false;
+        };
+        if !waiter.observer.is_held() {
+            return false;
+        }
+        let cancels = !waiter.request.retains_on_orphan();
+        let observer = self.set_observer(id, Observer::Orphaned);
+        deferred.turn_away(id, observer);
+        cancels
+    }
+
+    // Takes an output that is kept. None where there is none, and then nothing changes.
+    fn take_output(&mut self, id: WaiterId) -> Option<RequestOutput>
+        ensures answer { result ≡ output_at (value_at self.old id.0) }
+        ensures taken { self.new ≡ taken self.old id.0 }
+    {
+        match self.entries.get(id.0) {
+            Some(Entry::Ready(_)) => {}
+            _ => return None,
+        }
+        match self.entries.remove(id.0) {
+            Some(Entry::Ready(output)) => Some(output),
+            _ => unreachable!(),
+        }
+    }
+
+    // Has this one wait for a request that isn't over, and answers who waited.
+    fn set_observer(&mut self, id: WaiterId, observer: Observer<S, F>) -> Observer<S, F>
+        requires there { is_some (waiter_at self.old id.0) ≡ true }
+        requires elsewhere { is_detached observer ≡ false }
+        ensures before { (waiter : Asking S F) → waiter_at self.old id.0 ≡ Some waiter → result ≡ waiter.observer }
+        ensures set { self.new ≡ changed self.old id.0 (with_observer observer) }
+    {
+        let waiter = waiter_mut(&mut self.entries, id);
+        mem::replace(&mut waiter.observer, observer)
     }
 
     /// Takes the observer of the request in the first slot that has one which can let go: as [`Waiters::orphan`] does,

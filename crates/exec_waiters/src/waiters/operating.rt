@@ -1,16 +1,16 @@
 //! The operations of a request, its deadline, its cancel, its permit, and its end.
 
-ghost use Rattle.std.specs.Prelude.{◌≡◌, Some, None, Ok, true, false};
+ghost use Rattle.std.specs.Prelude.{◌≡◌, Some, None, is_some, true, false};
 ghost use Rattle.exec_base.specs.declared.slab.Id.{Id as Name};
 ghost use Rattle.exec_request.specs.States.{as_answer};
 ghost use Rattle.exec_waiters.specs.Told.{HasPlaces};
 ghost use Rattle.exec_waiters.specs.States.{waiter_at, is_idle, is_observed_here, awaits_tick, may_stage, lacks_permit, named};
-ghost use Rattle.exec_waiters.specs.Events.{changed, with_permit, with_tick, cancelled, may_cancel, answer_at_grant, is_lawful_for, Stages, Completes, Finishes};
+ghost use Rattle.exec_waiters.specs.Events.{changed, with_permit, with_tick, with_state, cancelled, may_cancel, answer_at_grant, is_lawful_for, Stages, Completes, Finishes};
 
 use super::Waiters;
 use crate::completed::CompletionOutcome;
 use crate::deferred::{Deferred, Retired};
-use crate::waiter::{Entry, Waiter};
+use crate::waiter::{Entry, Waiter, waiter_mut};
 use crate::waiter_id::WaiterId;
 use exec_base::error::Error;
 use exec_outcomes::outcome::OpResult;
@@ -36,13 +36,9 @@ impl<S: Drop, F: Drop> Waiters<S, F> {
         ensures answer { as_answer result ≡ answer_at_grant (waiter_at self.old id.0) open_.now }
         ensures permit { self.new ≡ changed self.old id.0 with_permit }
     {
-        match self.entries.get_mut(id.0) {
-            Some(Entry::Pending(waiter)) => {
-                waiter.permit = true;
-                waiter.request.prepare_durability(open_)
-            }
-            _ => unreachable!(),
-        }
+        let waiter = waiter_mut(&mut self.entries, id);
+        waiter.permit = true;
+        waiter.request.prepare_durability(open_)
     }
 
     /// Notes the tick of the wheel at which the request's deadline comes. The caller must have a request that is not
@@ -51,14 +47,12 @@ impl<S: Drop, F: Drop> Waiters<S, F> {
         requires awaits { awaits_tick (waiter_at self.old id.0) ≡ true }
         ensures { self.new ≡ changed self.old id.0 (with_tick tick) }
     {
-        match self.entries.get_mut(id.0) {
-            Some(Entry::Pending(waiter)) => {
-                waiter.state = WaiterState::Active {
-                    target_tick: Some(tick),
-                };
-            }
-            _ => unreachable!(),
-        }
+        self.set_state(
+            id,
+            WaiterState::Active {
+                target_tick: Some(tick),
+            },
+        );
     }
 
     /// Asks for the cancel of the request. Answers whether this was the first time. Nothing changes where the request
@@ -67,14 +61,21 @@ impl<S: Drop, F: Drop> Waiters<S, F> {
         ensures answer { result ≡ may_cancel (waiter_at self.old id.0) }
         ensures cancelled { self.new ≡ changed self.old id.0 cancelled }
     {
-        match self.entries.get_mut(id.0) {
-            Some(Entry::Pending(waiter)) => {
-                let first = !waiter.state.is_cancelled();
-                waiter.state = WaiterState::CancelRequested;
-                first
-            }
-            _ => false,
-        }
+        let Some(waiter) = self.get(id) else {
+            return false;
+        };
+        let first = !waiter.state.is_cancelled();
+        self.set_state(id, WaiterState::CancelRequested);
+        first
+    }
+
+    // Has a request that isn't over stand so.
+    fn set_state(&mut self, id: WaiterId, state: WaiterState)
+        requires { is_some (waiter_at self.old id.0) ≡ true }
+        ensures { self.new ≡ changed self.old id.0 (with_state state) }
+    {
+        let waiter = waiter_mut(&mut self.entries, id);
+        waiter.state = state;
     }
 
     /// The entry of the request's next operation; the kernel may have it from now on. The caller must have a request
@@ -84,15 +85,11 @@ impl<S: Drop, F: Drop> Waiters<S, F> {
         ensures staged { (waiter : Asking S F) → waiter_at self.old id.0 ≡ Some waiter → Stages self.old self.new id.0 waiter open_.now result }
     {
         self.in_flight += 1;
-        match self.entries.get_mut(id.0) {
-            Some(Entry::Pending(waiter)) => {
-                waiter.in_flight = true;
-                Submission {
-                    window: waiter.request.build_sqe(open_),
-                    user_data: id.user_data(),
-                }
-            }
-            _ => unreachable!(),
+        let waiter = waiter_mut(&mut self.entries, id);
+        waiter.in_flight = true;
+        Submission {
+            window: waiter.request.build_sqe(open_),
+            user_data: id.user_data(),
         }
     }
 
@@ -110,17 +107,11 @@ impl<S: Drop, F: Drop> Waiters<S, F> {
         ensures stale { named self.old user_data ≡ None → (result ≡ None) × (self.new ≡ self.old) × (open_.new ≡ open_.old) }
     {
         let id = self.named(user_data)?;
-        match self.entries.get_mut(id.0) {
-            Some(Entry::Pending(waiter)) => {
-                self.in_flight -= 1;
-                waiter.in_flight = false;
-                match waiter.request.on_cqe(waiter.state, given, open_) {
-                    Some(ended) => Some(CompletionOutcome::Complete(id, ended)),
-                    None => Some(CompletionOutcome::Requeue(id)),
-                }
-            }
-            _ => unreachable!(),
-        }
+        self.in_flight -= 1;
+        let waiter = waiter_mut(&mut self.entries, id);
+        waiter.in_flight = false;
+        let answer = waiter.request.on_cqe(waiter.state, given, open_);
+        Some(CompletionOutcome::of(id, answer))
     }
 
     /// Ends the request so. Its output is kept for a task of the worker, is sent to who waits elsewhere, or is let go;

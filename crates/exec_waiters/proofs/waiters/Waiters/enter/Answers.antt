@@ -1,0 +1,4 @@
+use Rattle.exec_waiters.proofs.waiters.Waiters.enter.Goals as goal
+
+pub invariant_of-self : goal.invariant_of-self
+invariant_of-self g c = ?
