@@ -1,5 +1,6 @@
 -- How a change of one entry keeps the counts, and what is said of every entry.
-use Rattle.std.proofs.Common.{◌≡◌, ◌⊎◌, ℕ, ◌+◌, ◌^◌, ltb, ◌<◌, ◌≤◌, Bool, true, false, not, ◌&&◌, ◌||◌, cond, List, [], ◌∷◌, ◌++◌, length, set, get_or, All, Option, Some, None, refl, sym, ap, subst, ◌∙◌, arith, inl, inr, length-set, length-append}
+use Rattle.std.proofs.Common.{◌≡◌, ◌⊎◌, ℕ, ◌+◌, ◌-◌, ◌^◌, ltb, ◌<◌, ◌≤◌, Bool, true, false, not, ◌&&◌, ◌||◌, cond, List, [], ◌∷◌, ◌++◌, length, set, get_or, All, Option, Some, None, refl, sym, ap, subst, ◌∙◌, arith, inl, inr, length-set, length-append}
+use Rattle.std.proofs.lemmas.Grind.{common_steps}
 use Rattle.std.proofs.lemmas.Bool.{cases_lt, leb-false, false≢true}
 use Rattle.std.proofs.lemmas.Bool.Decides.{eqb_tells}
 use Rattle.std.proofs.lemmas.List.{get_or_past, get_or-set_same, get_or_default, set_past, set-get_or}
@@ -13,13 +14,15 @@ use Rattle.exec_outcomes.specs.Accounts.{is_durable}
 use Rattle.exec_request.specs.Kept.{Kept, kept_of}
 use Rattle.exec_request.specs.Requests.{asked_of}
 use Rattle.exec_request.specs.States.{asks_cancel}
+use Rattle.exec_request.specs.declared.output.RequestOutput.{RequestOutput}
 use Rattle.exec_request.specs.declared.request.Request.{Request}
 use Rattle.exec_waiters.specs.declared.observer.Observer.{Observer}
 use Rattle.exec_waiters.specs.declared.waiter.Entry.{Entry}
 use Rattle.exec_waiters.specs.declared.waiter.Entry.TheVariants.{Pending, Ready}
+use Rattle.exec_waiters.specs.declared.waiter_id.WaiterId.{WaiterId}
 use Rattle.exec_waiters.specs.declared.waiter.Waiter.{Waiter}
-use Rattle.exec_waiters.specs.States.{is_asking, flies, counts_pending, counts_flying, pending_count, flying_count, waiter_at, waiter_of, is_full, suits, is_sync, is_detached, needs_permit, may_stage, named}
-use Rattle.exec_waiters.specs.Events.{with_permit, with_observer}
+use Rattle.exec_waiters.specs.States.{is_asking, flies, counts_pending, counts_flying, pending_count, flying_count, waiter_at, waiter_of, is_full, suits, is_sync, is_detached, needs_permit, may_stage, named, is_flying, is_idle, name_of}
+use Rattle.exec_waiters.specs.Events.{admitted, with_permit, with_observer}
 use Rattle.exec_waiters.specs.Layout.{IsKept, is_sound, is_sound_entry, is_sound_slot}
 
 abbrev pub one_if : Bool → ℕ
@@ -48,6 +51,18 @@ and_tells false false false is = (refl, refl)
 and_tells false false true is = absurd (false≢true is)
 and_tells false true c is = absurd (false≢true is)
 and_tells true b c is = absurd (false≢true is)
+
+pub and_left : (a b : Bool) → (a && b) ≡ true → a ≡ true
+and_left true b is = refl
+and_left false b is = absurd (false≢true is)
+
+pub name_tells : (o : Option Id) (n : WaiterId) → name_of o ≡ Some n → o ≡ Some n.0
+name_tells None n is = absurd (cc)
+name_tells (Some id) n is = let same : record { 0 = id } ≡ n = cc in ap (λ (m : WaiterId). Some m.0) same
+
+by_not : (a : Bool) → not a ≡ true → a ≡ false
+by_not false is = refl
+by_not true is = absurd (false≢true is)
 
 -- another observer that is no detached sync
 observed : (a b c x : Bool) → ((not a || b) && not c) ≡ true → x ≡ false → ((not x || b) && not c) ≡ true
@@ -229,5 +244,29 @@ module _ {S F : Type 0} where
   staging_tells o w is may = and_tells w.in_flight (asks_cancel w.state) (needs_permit w) (rw is at may)
 
   -- what a completion names is under way
-  pub named_flies : (s : Slab (Entry S F)) (user_data : ℕ) (id : Id) → named s user_data ≡ Some id → (w : Waiter S F) × (waiter_at s id ≡ Some w) × (w.in_flight ≡ true)
-  named_flies s user_data id is = ?
+  flying_tells : (o : Option (Waiter S F)) (w : Waiter S F) → o ≡ Some w → is_flying o ≡ true → w.in_flight ≡ true
+  flying_tells o w is flying = rw is at flying
+
+  pub named_flies : (s : Slab (Entry S F)) (user_data : ℕ) (id : Id) (w : Waiter S F) → named s user_data ≡ Some id → waiter_at s id ≡ Some w → w.in_flight ≡ true
+  named_flies s user_data id w is at =
+      let flying : is_flying (waiter_at s id) ≡ true = grind (arith, common_steps) in
+      flying_tells _ w at flying
+
+  -- what is idle isn't under way
+  pub idle_tells : (o : Option (Waiter S F)) (w : Waiter S F) → o ≡ Some w → is_idle o ≡ true → w.in_flight ≡ false
+  idle_tells o w is idle = by_not w.in_flight (rw is at idle)
+
+  -- a request that was admitted is sound
+  pub admitted_sound : (r : Request) (observer : Observer S F) → suits r observer ≡ true → is_sound_entry (admitted r observer) ≡ true
+  admitted_sound r observer fits = rw fits refl
+
+  -- a request is over, and its output is kept, or it is gone
+  pub kept_over : (s : Slab (Entry S F)) (id : Id) (w : Waiter S F) (told : RequestOutput) (n k : ℕ) → waiter_at s id ≡ Some w → w.in_flight ≡ false → IsKept s n k → IsKept (written s id (Ready told)) (n - 1) k
+  kept_over s id w told n k at idle kept =
+      let one : 1 ≤ n = (counted s id (Pending w) n k (entry_of _ w at) kept).0 in
+      kept_written s id (Pending w) (Ready told) n k (n - 1) k (entry_of _ w at) (omega arith) (rw idle refl) refl kept
+
+  pub kept_gone : (s : Slab (Entry S F)) (id : Id) (w : Waiter S F) (n k : ℕ) → waiter_at s id ≡ Some w → w.in_flight ≡ false → IsKept s n k → IsKept (removed s id) (n - 1) k
+  kept_gone s id w n k at idle kept =
+      let one : 1 ≤ n = (counted s id (Pending w) n k (entry_of _ w at) kept).0 in
+      kept_removed s id (Pending w) n k (n - 1) k (entry_of _ w at) (omega arith) (rw idle (omega arith)) kept

@@ -40,9 +40,6 @@ module _ {S F : Type 0} where
       Updates-free s (removed s id) id e (Changed-set s (removed s id) id.index (freed id.generation) refl refl there.within) there.slot
 
   live_past : (s : Slab (Entry S F)) (id : Id) (e : Entry S F) → value_at s id ≡ Some e → IsPast s id
-      live_past s id e at = let there = at_by s id e at in rw there.slot (omega arith)
-
-  live_past : (s : Slab (Entry S F)) (id : Id) (e : Entry S F) → value_at s id ≡ Some e → IsPast s id
   live_past s id e at = let there = at_by s id e at in rw there.slot (omega arith)
 
   gone_past : (s : Slab (Entry S F)) (id : Id) (e : Entry S F) → id.generation < 2 ^ 64 → value_at s id ≡ Some e → IsPast (removed s id) id

@@ -1,2 +1,4 @@
 pub mod Changes
 pub mod Ends
+pub mod Endings
+pub mod Fits

@@ -154,18 +154,16 @@ impl<S: Drop, F: Drop> Waiters<S, F> {
         let Some(entry) = self.entries.get_mut(id.0) else {
             unreachable!()
         };
-        match mem::replace(entry, place) {
-            Entry::Pending(waiter) => {
-                let tick = waiter.tick();
-                let waker = waiter.observer.waker();
-                let (output, resources) = waiter.request.complete(ended, open_);
-                *entry = Entry::Ready(output);
-                deferred.wake(waker);
-                deferred.resources.push_reserved(Retired { id, resources });
-                tick
-            }
-            Entry::Ready(_) => unreachable!(),
-        }
+        let Entry::Pending(waiter) = mem::replace(entry, place) else {
+            unreachable!()
+        };
+        let tick = waiter.tick();
+        let waker = waiter.observer.waker();
+        let (output, resources) = waiter.request.complete(ended, open_);
+        *entry = Entry::Ready(output);
+        deferred.wake(waker);
+        deferred.resources.push_reserved(Retired { id, resources });
+        tick
     }
 
     // Ends a request that no task of the worker waits for: its slot is free, and the output is sent or let go.
@@ -182,23 +180,21 @@ impl<S: Drop, F: Drop> Waiters<S, F> {
         ensures { (waiter : Asking S F) → waiter_at self.old id.0 ≡ Some waiter → Finishes self.old self.new deferred.old deferred.new id.0 waiter ended open_.old open_.new result }
     {
         self.pending -= 1;
-        match self.entries.remove(id.0) {
-            Some(Entry::Pending(waiter)) => {
-                let tick = waiter.tick();
-                let Waiter {
-                    state: _,
-                    in_flight: _,
-                    observer,
-                    request,
-                    permit: _,
-                } = waiter;
-                let (output, resources) = request.complete(ended, open_);
-                deferred.deliver(id, output, observer);
-                // Last, since what is told before asks for a place in each list.
-                deferred.resources.push_reserved(Retired { id, resources });
-                tick
-            }
-            _ => unreachable!(),
-        }
+        let Some(Entry::Pending(waiter)) = self.entries.remove(id.0) else {
+            unreachable!()
+        };
+        let tick = waiter.tick();
+        let Waiter {
+            state: _,
+            in_flight: _,
+            observer,
+            request,
+            permit: _,
+        } = waiter;
+        let (output, resources) = request.complete(ended, open_);
+        deferred.deliver(id, output, observer);
+        // Last, since what is told before asks for a place in each list.
+        deferred.resources.push_reserved(Retired { id, resources });
+        tick
     }
 }
