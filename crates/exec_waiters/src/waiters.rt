@@ -21,7 +21,7 @@
 
 ghost use Rattle.std.specs.Prelude.{◌≡◌, ◌≤◌, ◌==◌, [], Some, IfOk, IfErr, OnOk, OnErr, true, false};
 ghost use Rattle.std.specs.Option.{option_copied};
-ghost use Rattle.exec_base.specs.Slab.{next_id, inserted, IsPast, Updates, TakesId};
+ghost use Rattle.exec_base.specs.Slab.{next_id, inserted, live_count, IsPast, Updates, TakesId};
 ghost use Rattle.exec_waiters.specs.States.{waiter_at, suits, pending_count, flying_count, is_full};
 ghost use Rattle.exec_waiters.specs.Events.{admitted, IsTurnedDown};
 
@@ -97,6 +97,13 @@ impl<S: Drop, F: Drop> Waiters<S, F> {
         ensures { result ≡ pending_count self.now }
     {
         self.pending
+    }
+
+    /// How many ids stand for something: requests that are not over, and outputs that are kept.
+    pub fn live(&self) -> usize
+        ensures { result ≡ live_count self.now }
+    {
+        self.entries.len()
     }
 
     /// Whether all requests are over.

@@ -136,15 +136,16 @@ impl<S: Drop, F: Drop> Waiters<S, F> {
         ensures none { IfNone result ((id : Name) → is_held_at (value_at self.old id) ≡ false) }
         ensures same { IfNone result ((self.new ≡ self.old) × (deferred.new ≡ deferred.old)) }
     {
-        let id = self.first_held()?;
+        let id = self.first_observed()?;
         let waker = self.waker(id);
         let cancels = self.orphan(id, deferred);
         deferred.wake(waker);
         Some(Closed { id, cancels })
     }
 
-    // The request in the first slot that has one which someone can let go.
-    fn first_held(&self) -> Option<WaiterId>
+    /// The request in the first slot that has one which someone can let go: the one that [`Waiters::close`] takes the
+    /// observer of. None where there is none.
+    pub fn first_observed(&self) -> Option<WaiterId>
         ensures first { IfSome result (λ id. IsFirstHeld self.now id.0) }
         ensures none { IfNone result ((id : Name) → is_held_at (value_at self.now id) ≡ false) }
     {

@@ -1,6 +1,5 @@
-use Rattle.std.proofs.Common.{◌≡◌, Some, rules, sym, ◌∙◌}
+use Rattle.std.proofs.Common.{◌≡◌, Some, rules}
 use Rattle.exec_waiters.specs.States.{waiter_at}
-use Rattle.exec_waiters.specs.Events.{Finishes}
 use Rattle.exec_waiters.proofs.Changes.{kept_over, idle_tells}
 use Rattle.exec_waiters.proofs.Endings.{finishes_here, here_of}
 use Rattle.exec_waiters.proofs.waiters.Waiters.keep.Goals as goal
@@ -16,4 +15,4 @@ returns g c = λ waiter is.
     let at : waiter_at c.self.inside.entries c.args.id.0 ≡ Some w = search rules in
     let at-now = rw c.self.view_is at at in
     let same : w ≡ waiter = cc in
-    rw (← same, c.complete-output.ensures.told, ← c.self.view_is) (finishes_here c.self.inside.entries c.args.deferred.now _ c.args.id.0 w c.args.ended c.args.open_.now c.complete-output.new.open_ c.tick-tick.result (here_of _ w at-now c.requires.here) c.tick-tick.ensures c.complete-output.ensures.open ?)
+    rw (← same, c.complete-output.ensures.told, ← c.self.view_is) (finishes_here c.self.inside.entries c.args.deferred.now _ c.args.id.0 w c.args.ended c.args.open_.now c.complete-output.new.open_ c.tick-tick.result (here_of _ w at-now c.requires.here) c.tick-tick.ensures c.complete-output.ensures.open (search rules))
