@@ -1,12 +1,14 @@
 -- How a change of one entry keeps the counts, and what is said of every entry.
-use Rattle.std.proofs.Common.{◌≡◌, ◌⊎◌, ℕ, ◌+◌, ◌-◌, ◌^◌, ltb, ◌<◌, ◌≤◌, Bool, true, false, not, ◌&&◌, ◌||◌, cond, List, [], ◌∷◌, ◌++◌, length, set, get_or, All, Option, Some, None, refl, sym, ap, subst, ◌∙◌, arith, inl, inr, length-set, length-append}
+use Rattle.std.proofs.Common.{◌≡◌, ℕ, ◌+◌, ◌-◌, ◌^◌, ◌<◌, ◌≤◌, Bool, true, false, not, ◌&&◌, ◌||◌, cond, List, [], ◌∷◌, length, set, get_or, Option, Some, None, refl, sym, ap, ◌∙◌, arith, inl, inr, length-set, length-append}
 use Rattle.std.proofs.lemmas.Grind.{common_steps}
-use Rattle.std.proofs.lemmas.Bool.{cases_lt, leb-false, false≢true}
+use Rattle.std.proofs.lemmas.Bool.{cases_lt, leb-true, leb-false, false≢true}
 use Rattle.std.proofs.lemmas.Bool.Decides.{eqb_tells}
-use Rattle.std.proofs.lemmas.List.{get_or_past, get_or-set_same, get_or_default, set_past, set-get_or}
-use Rattle.std.proofs.lemmas.List.Sums.{sum_by-set, sum_by_push, count_by-le-length, get_or-le-sum_by}
+use Rattle.std.proofs.lemmas.List.{get_or_past, get_or-set_same, get_or_default}
+use Rattle.std.proofs.lemmas.List.Sums.{sum_by-set, sum_by_push, get_or-le-sum_by}
 use Rattle.std.proofs.lemmas.List.Elements.{All-set, All-push}
-use Rattle.exec_base.specs.Slab.{Slab, value_at, value_in, slot_at, written, removed, freed, inserted, filled, next_id, next_index, generation_of, next_generation, IsPast}
+use Rattle.exec_base.specs.Slab.{Slab, value_at, value_in, slot_at, written, removed, inserted, filled, generation_of}
+use Rattle.exec_base.specs.SlabLayout.{Lacks, AreVacant, ListsAll}
+use Rattle.exec_base.proofs.Slots.{ltb_tells, vacant_within, AreVacant-set, AreVacant-push, ListsAll-fill, ListsAll-keep, ListsAll-free, ListsAll-push, none-vacant, Lacks-live}
 use Rattle.exec_base.specs.declared.slab.Id.{Id}
 use Rattle.exec_base.specs.declared.slab.Slot.{Slot}
 use Rattle.exec_base.specs.declared.slab.Slot.TheVariants.{Live, Vacant, Retired}
@@ -21,7 +23,7 @@ use Rattle.exec_waiters.specs.declared.waiter.Entry.{Entry}
 use Rattle.exec_waiters.specs.declared.waiter.Entry.TheVariants.{Pending, Ready}
 use Rattle.exec_waiters.specs.declared.waiter_id.WaiterId.{WaiterId}
 use Rattle.exec_waiters.specs.declared.waiter.Waiter.{Waiter}
-use Rattle.exec_waiters.specs.States.{is_asking, flies, counts_pending, counts_flying, pending_count, flying_count, waiter_at, waiter_of, is_full, suits, is_sync, is_detached, needs_permit, may_stage, named, is_flying, is_idle, name_of}
+use Rattle.exec_waiters.specs.States.{is_asking, flies, counts_pending, counts_flying, waiter_at, waiter_of, is_full, suits, is_sync, is_detached, needs_permit, may_stage, named, is_flying, is_idle, name_of, IsUsedUp}
 use Rattle.exec_waiters.specs.Events.{admitted, with_permit, with_observer}
 use Rattle.exec_waiters.specs.Layout.{IsKept, is_sound, is_sound_entry, is_sound_slot}
 
@@ -72,32 +74,6 @@ observed true true c false sound free = sound
 observed true false c false sound free = absurd (false≢true sound)
 observed false b c false sound free = sound
 
--- the slot of an entry that went
-by_pending : (S F : Type 0) (b : Bool) (h : ℕ) → one_if (counts_pending {S = S} {F = F} (cond b (Vacant h) Retired)) ≡ 0
-by_pending S F true h = refl
-by_pending S F false h = refl
-
-freed_pending : (S F : Type 0) (g : ℕ) → one_if (counts_pending {S = S} {F = F} (freed g)) ≡ 0
-freed_pending S F g = by_pending S F (ltb (g + 1) (2 ^ 64)) (g + 1)
-
-by_flying : (S F : Type 0) (b : Bool) (h : ℕ) → one_if (counts_flying {S = S} {F = F} (cond b (Vacant h) Retired)) ≡ 0
-by_flying S F true h = refl
-by_flying S F false h = refl
-
-freed_flying : (S F : Type 0) (g : ℕ) → one_if (counts_flying {S = S} {F = F} (freed g)) ≡ 0
-freed_flying S F g = by_flying S F (ltb (g + 1) (2 ^ 64)) (g + 1)
-
-by_sound : (S F : Type 0) (b : Bool) (h : ℕ) → is_sound_slot {S = S} {F = F} (cond b (Vacant h) Retired) ≡ true
-by_sound S F true h = refl
-by_sound S F false h = refl
-
-freed_sound : (S F : Type 0) (g : ℕ) → is_sound_slot {S = S} {F = F} (freed g) ≡ true
-freed_sound S F g = by_sound S F (ltb (g + 1) (2 ^ 64)) (g + 1)
-
-some_of_if : {A : Type 0} (b : Bool) (x y : A) → cond b (Some x) None ≡ Some y → x ≡ y
-some_of_if true x y is = cc
-some_of_if false x y is = absurd (cc)
-
 module _ {S F : Type 0} where
   -- a request that isn't over is an entry
   pub entry_of : (o : Option (Entry S F)) (w : Waiter S F) → waiter_of o ≡ Some w → o ≡ Some (Pending w)
@@ -125,70 +101,92 @@ module _ {S F : Type 0} where
       ]
 
   -- a slot is set to another
-  pub kept_set : (s : Slab (Entry S F)) (vacant : List ℕ) (i : ℕ) (is : Slot (Entry S F)) (n k n' k' : ℕ) → i < length s.slots → n' + one_if (counts_pending (slot_at s i)) ≡ n + one_if (counts_pending is) → k' + one_if (counts_flying (slot_at s i)) ≡ k + one_if (counts_flying is) → is_sound_slot is ≡ true → IsKept s n k → IsKept (record s { slots = set s.slots i is; vacant = vacant }) n' k'
-  kept_set s vacant i is n k n' k' inside asking flying sound kept =
+  kept_set : (s : Slab (Entry S F)) (vacant : List ℕ) (i : ℕ) (is : Slot (Entry S F)) (n k n' k' : ℕ) → i < length s.slots → n' + one_if (counts_pending (slot_at s i)) ≡ n + one_if (counts_pending is) → k' + one_if (counts_flying (slot_at s i)) ≡ k + one_if (counts_flying is) → is_sound_slot is ≡ true → AreVacant (set s.slots i is) vacant → ListsAll (set s.slots i is) vacant → IsKept s n k → IsKept (record s { slots = set s.slots i is; vacant = vacant }) n' k'
+  kept_set s vacant i is n k n' k' inside asking flying sound ones listed kept =
       record {
         pending_is = omega (arith, sum_by-set (λ (o : Slot (Entry S F)). cond (counts_pending o) 1 0) s.slots i is (Vacant s.first) inside, asking, kept.pending_is);
         flying_is = omega (arith, sum_by-set (λ (o : Slot (Entry S F)). cond (counts_flying o) 1 0) s.slots i is (Vacant s.first) inside, flying, kept.flying_is);
         sound = All-set (λ (o : Slot (Entry S F)). is_sound_slot o ≡ true) s.slots i is sound kept.sound;
         few = rw length-set kept.few;
+        vacant_ones = ones;
+        all_listed = listed;
       }
+
+  -- the slot of an entry isn't listed as vacant
+  lacks_at : (s : Slab (Entry S F)) (id : Id) (e : Entry S F) → IsAt s id e → AreVacant s.slots s.vacant → Lacks s.vacant id.index
+  lacks_at s id e there ones =
+      let live = get_or_default s.slots id.index Retired (Vacant s.first) there.within ∙ there.slot in
+      Lacks-live s.slots s.vacant id.index id.generation e live ones
 
   -- an entry becomes another
   pub kept_written : (s : Slab (Entry S F)) (id : Id) (was is : Entry S F) (n k n' k' : ℕ) → value_at s id ≡ Some was → n' + one_if (is_asking was) ≡ n + one_if (is_asking is) → k' + one_if (flies was) ≡ k + one_if (flies is) → is_sound_entry is ≡ true → IsKept s n k → IsKept (written s id is) n' k'
   kept_written s id was is n k n' k' at asking flying sound kept =
       let there = at_by s id was at in
-      kept_set s s.vacant id.index (Live id.generation is) n k n' k' there.within (rw there.slot asking) (rw there.slot flying) sound kept
+      kept_set s s.vacant id.index (Live id.generation is) n k n' k' there.within (rw there.slot asking) (rw there.slot flying) sound (AreVacant-set s.slots s.vacant id.index (Live id.generation is) (lacks_at s id was there kept.vacant_ones) kept.vacant_ones) (ListsAll-keep s.slots s.vacant id.index (Live id.generation is) there.within refl kept.all_listed) kept
 
   -- an entry goes
   pub kept_removed : (s : Slab (Entry S F)) (id : Id) (was : Entry S F) (n k n' k' : ℕ) → value_at s id ≡ Some was → n' + one_if (is_asking was) ≡ n → k' + one_if (flies was) ≡ k → IsKept s n k → IsKept (removed s id) n' k'
   kept_removed s id was n k n' k' at asking flying kept =
       let there = at_by s id was at in
-      kept_set s (removed s id).vacant id.index (freed id.generation) n k n' k' there.within (rw there.slot (omega (arith, freed_pending S F id.generation, asking))) (rw there.slot (omega (arith, freed_flying S F id.generation, flying))) (freed_sound S F id.generation) kept
+      let lacks = lacks_at s id was there kept.vacant_ones in
+      let i = id.index in
+      let next = id.generation + 1 in
+      elim (ltb_tells next (2 ^ 64)) [
+        | inl fits ↦
+            rw fits.0 (kept_set s (i ∷ s.vacant) i (Vacant next) n k n' k' there.within (rw there.slot (omega (arith, asking))) (rw there.slot (omega (arith, flying))) refl (
+              record { generation = next; is = get_or-set_same s.slots i (Vacant next) Retired there.within },
+              lacks,
+              AreVacant-set s.slots s.vacant i (Vacant next) lacks kept.vacant_ones,
+            ) (ListsAll-free s.slots s.vacant i (Vacant next) kept.all_listed) kept)
+        | inr last ↦
+            rw last.0 (kept_set s s.vacant i Retired n k n' k' there.within (rw there.slot (omega (arith, asking))) (rw there.slot (omega (arith, flying))) refl (AreVacant-set s.slots s.vacant i Retired lacks kept.vacant_ones) (ListsAll-keep s.slots s.vacant i Retired there.within refl kept.all_listed) kept)
+      ]
 
   -- an entry comes
-  not_live : (slot : Slot (Entry S F)) → (generation_of slot < next_generation slot → ⊥) → (one_if (counts_pending slot) ≡ 0) × (one_if (counts_flying slot) ≡ 0)
-  not_live (Live g e) new = absurd (new (omega arith))
-  not_live (Vacant g) new = (refl, refl)
-  not_live Retired new = (refl, refl)
-
-  kept_pushed : (s : Slab (Entry S F)) (e : Entry S F) (room n k : ℕ) → length s.slots < 4294967295 → is_asking e ≡ true → flies e ≡ false → is_sound_entry e ≡ true → IsKept s n k → IsKept (record s { slots = s.slots ++ Live s.first e ∷ []; room = room }) (n + 1) k
-  kept_pushed s e room n k few asking flying sound kept =
+  kept_filled : (s : Slab (Entry S F)) (vacant : List ℕ) (e : Entry S F) (room n k : ℕ) → is_full (record s { vacant = vacant }) ≡ false → is_asking e ≡ true → flies e ≡ false → is_sound_entry e ≡ true → IsKept (record s { vacant = vacant }) n k → IsKept (record (filled (record s { vacant = vacant }) vacant e) { room = room }) (n + 1) k
+  kept_filled s [] e room n k free asking flying sound kept =
       let one : one_if (is_asking e) ≡ 1 = rw asking refl in
       let none : one_if (flies e) ≡ 0 = rw flying refl in
       record {
         pending_is = omega (arith, sum_by_push (λ (o : Slot (Entry S F)). cond (counts_pending o) 1 0) s.slots (Live s.first e), one, kept.pending_is);
         flying_is = omega (arith, sum_by_push (λ (o : Slot (Entry S F)). cond (counts_flying o) 1 0) s.slots (Live s.first e), none, kept.flying_is);
         sound = All-push (λ (o : Slot (Entry S F)). is_sound_slot o ≡ true) s.slots (Live s.first e) kept.sound sound;
-        few = omega (arith, length-append s.slots (Live s.first e ∷ []), few);
+        few = omega (arith, length-append s.slots (Live s.first e ∷ []), leb-false _ _ free);
+        vacant_ones = AreVacant-push s.slots [] (Live s.first e) kept.vacant_ones;
+        all_listed = ListsAll-push s.slots [] (Live s.first e) refl kept.all_listed;
       }
-
-  kept_refilled : (s : Slab (Entry S F)) (rest : List ℕ) (e : Entry S F) (i g room n k : ℕ) → g ≡ generation_of (slot_at s i) → (g < next_generation (slot_at s i) → ⊥) → value_in (get_or (set s.slots i (Live g e)) i (Vacant s.first)) g ≡ Some e → is_asking e ≡ true → flies e ≡ false → is_sound_entry e ≡ true → IsKept s n k → IsKept (record s { slots = set s.slots i (Live g e); vacant = rest; room = room }) (n + 1) k
-  kept_refilled s rest e i g room n k is new there asking flying sound kept =
-      let empty = not_live (slot_at s i) (rw is at new) in
+  kept_filled s (i ∷ rest) e room n k free asking flying sound kept =
+      let s' = record s { vacant = i ∷ rest } in
+      let was = kept.vacant_ones.0 in
+      let inside = vacant_within s.slots i was.generation was.is in
+      let here : slot_at s i ≡ Vacant was.generation = get_or_default s.slots i (Vacant s.first) Retired inside ∙ was.is in
+      let slot = Live (generation_of (slot_at s i)) e in
       let one : one_if (is_asking e) ≡ 1 = rw asking refl in
       let none : one_if (flies e) ≡ 0 = rw flying refl in
-      elim (cases_lt i (length s.slots)) [
-        | inl inside ↦
-            let kept' = kept_set s rest i (Live g e) n k (n + 1) k inside (omega (arith, empty.0, one)) (omega (arith, empty.1, none)) sound kept in
-            record { pending_is = kept'.pending_is; flying_is = kept'.flying_is; sound = kept'.sound; few = kept'.few }
-        | inr past ↦
-            let same = rw (set_past s.slots i (Live g e) past, get_or_past s.slots i (Vacant s.first) past) at there in
-            absurd (cc)
-      ]
+      let set' = kept_set s' rest i slot n k (n + 1) k inside (rw here (omega (arith, one))) (rw here (omega (arith, none))) sound (AreVacant-set s.slots rest i slot kept.vacant_ones.1 kept.vacant_ones.2) (ListsAll-fill s.slots rest i slot inside refl kept.all_listed) kept in
+      record {
+        pending_is = set'.pending_is;
+        flying_is = set'.flying_is;
+        sound = set'.sound;
+        few = set'.few;
+        vacant_ones = set'.vacant_ones;
+        all_listed = set'.all_listed;
+      }
 
-  kept_filled : (s : Slab (Entry S F)) (vacant : List ℕ) (e : Entry S F) (id : Id) (room n k : ℕ) → next_id (record s { vacant = vacant }) ≡ Some id → (IsPast s id → ⊥) → value_at (filled s vacant e) id ≡ Some e → is_full (record s { vacant = vacant }) ≡ false → is_asking e ≡ true → flies e ≡ false → is_sound_entry e ≡ true → IsKept s n k → IsKept (record (filled s vacant e) { room = room }) (n + 1) k
-  kept_filled s [] e id room n k next new there free asking flying sound kept =
-      kept_pushed s e room n k (leb-false _ _ free) asking flying sound kept
-  kept_filled s (i ∷ rest) e id room n k next new there free asking flying sound kept =
-      let named : record { index = i; generation = generation_of (slot_at s i) } ≡ id = some_of_if (ltb i (2 ^ 32)) _ id next in
-      let new' = subst (λ (x : Id). IsPast s x → ⊥) (sym named) new in
-      let there' = subst (λ (x : Id). value_at (filled s (i ∷ rest) e) x ≡ Some e) (sym named) there in
-      kept_refilled s rest e i (generation_of (slot_at s i)) room n k refl new' there' asking flying sound kept
+  pub kept_inserted : (s : Slab (Entry S F)) (e : Entry S F) (room n k : ℕ) → is_full s ≡ false → is_asking e ≡ true → flies e ≡ false → is_sound_entry e ≡ true → IsKept s n k → IsKept (record (inserted s e) { room = room }) (n + 1) k
+  kept_inserted s e room n k free asking flying sound kept =
+      kept_filled s s.vacant e room n k free asking flying sound kept
 
-  pub kept_inserted : (s : Slab (Entry S F)) (e : Entry S F) (id : Id) (room n k : ℕ) → next_id s ≡ Some id → (IsPast s id → ⊥) → value_at (inserted s e) id ≡ Some e → is_full s ≡ false → is_asking e ≡ true → flies e ≡ false → is_sound_entry e ≡ true → IsKept s n k → IsKept (record (inserted s e) { room = room }) (n + 1) k
-  kept_inserted s e id room n k next new there free asking flying sound kept =
-      kept_filled s s.vacant e id room n k next new there free asking flying sound kept
+  -- where the next slot would be that of the last index, each index is used
+  used_by : (s : Slab (Entry S F)) (vacant : List ℕ) (n k : ℕ) → is_full (record s { vacant = vacant }) ≡ true → IsKept (record s { vacant = vacant }) n k → IsUsedUp s
+  used_by s [] n k full kept =
+      record { all_there = omega (arith, leb-true _ _ full, kept.few); none_vacant = none-vacant s.slots kept.all_listed }
+  used_by s (i ∷ rest) n k full kept =
+      let was = kept.vacant_ones.0 in
+      absurd (omega (arith, leb-true _ _ full, vacant_within s.slots i was.generation was.is, kept.few))
+
+  pub used_up : (s : Slab (Entry S F)) (n k : ℕ) → is_full s ≡ true → IsKept s n k → IsUsedUp s
+  used_up s n k full kept = used_by s s.vacant n k full kept
 
   pub sound_permitted : (w : Waiter S F) → is_sound w ≡ true → is_sound (with_permit w) ≡ true
   sound_permitted w sound = permitted (suits w.request w.observer) w.in_flight (is_durable (asked_of w.request).kind) w.permit sound
@@ -214,13 +212,6 @@ module _ {S F : Type 0} where
   kept_changed s id w w' n k k' at flying sound kept =
       kept_written s id (Pending w) (Pending w') n k n k' (entry_of _ w at) refl flying sound kept
 
-  -- an entry that is there, written again
-  pub same_written : (s : Slab (Entry S F)) (id : Id) (e : Entry S F) → value_at s id ≡ Some e → written s id e ≡ s
-  same_written s id e at =
-      let there = at_by s id e at in
-      let same : set s.slots id.index (Live id.generation e) ≡ s.slots = rw (← there.slot) (set-get_or s.slots id.index (Vacant s.first)) in
-      ap (λ (slots : List (Slot (Entry S F))). record s { slots = slots }) same
-
   -- one that isn't over counts, and so does one in flight; neither count is more than there are slots
   pub counted : (s : Slab (Entry S F)) (id : Id) (was : Entry S F) (n k : ℕ) → value_at s id ≡ Some was → IsKept s n k → (one_if (is_asking was) ≤ n) × (one_if (flies was) ≤ k)
   counted s id was n k at kept =
@@ -228,10 +219,6 @@ module _ {S F : Type 0} where
       let asks : one_if (counts_pending (slot_at s id.index)) ≤ n = omega (arith, get_or-le-sum_by (λ (o : Slot (Entry S F)). cond (counts_pending o) 1 0) s.slots id.index (Vacant s.first) there.within, kept.pending_is) in
       let flying : one_if (counts_flying (slot_at s id.index)) ≤ k = omega (arith, get_or-le-sum_by (λ (o : Slot (Entry S F)). cond (counts_flying o) 1 0) s.slots id.index (Vacant s.first) there.within, kept.flying_is) in
       (rw there.slot at asks, rw there.slot at flying)
-
-  pub few_counted : (s : Slab (Entry S F)) (n k : ℕ) → IsKept s n k → (n ≤ 4294967295) × (k ≤ 4294967295)
-  few_counted s n k kept =
-      (omega (arith, count_by-le-length counts_pending s.slots, kept.pending_is, kept.few), omega (arith, count_by-le-length counts_flying s.slots, kept.flying_is, kept.few))
 
   -- the request is sound
   pub sound_at : (s : Slab (Entry S F)) (id : Id) (w : Waiter S F) (n k : ℕ) → waiter_at s id ≡ Some w → IsKept s n k → is_sound w ≡ true

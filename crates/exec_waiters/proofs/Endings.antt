@@ -1,17 +1,16 @@
 -- A request that ends for a task of the worker, and the search for one that someone holds.
-use Rattle.std.proofs.Common.{◌≡◌, ℕ, ◌+◌, ◌<◌, ◌≤◌, Bool, true, false, List, [], ◌∷◌, ◌++◌, length, Option, Some, None, refl, sym, ap, ◌∙◌, arith, inl, inr}
+use Rattle.std.proofs.Common.{◌≡◌, ℕ, ◌+◌, ◌<◌, true, false, [], ◌∷◌, length, Option, Some, refl, arith, inl, inr}
 use Rattle.std.proofs.lemmas.Bool.{false≢true, cases_lt}
 use Rattle.std.proofs.lemmas.List.{get_or_past}
-use Rattle.exec_base.specs.Slab.{Slab, value_at, value_in, written}
+use Rattle.exec_base.specs.Slab.{Slab, value_at, written}
 use Rattle.exec_base.specs.declared.slab.Id.{Id}
 use Rattle.exec_base.specs.declared.slab.Slot.TheVariants.{Vacant}
-use Rattle.exec_base.specs.declared.task_no.TaskNo.{TaskNo}
 use Rattle.exec_outcomes.specs.Accounts.{Account}
 use Rattle.exec_request.specs.Requests.{output_of, retired_of, record_after}
 use Rattle.exec_request.specs.States.{Ended}
 use Rattle.exec_request.specs.declared.output.RequestOutput.{RequestOutput}
-use Rattle.exec_waiters.specs.Told.{Told, Tells, awake}
-use Rattle.exec_waiters.specs.States.{waiter_at, waiter_of, is_local, is_observed_here, is_held_at, tick_in}
+use Rattle.exec_waiters.specs.Told.{Tells, awake}
+use Rattle.exec_waiters.specs.States.{is_local, is_observed_here, is_held_at, tick_in}
 use Rattle.exec_waiters.specs.Events.{Finishes, finished_for, output_told, waker_in}
 use Rattle.exec_waiters.specs.declared.deferred.Deferred.{Deferred}
 use Rattle.exec_waiters.specs.declared.observer.Observer.{Observer}

@@ -1,14 +1,10 @@
 -- What a finish does to the map of requests, and which request a completion names.
-use Rattle.std.proofs.Common.{◌≡◌, ◌≢◌, ℕ, ◌+◌, ◌*◌, ◌/◌, ◌%◌, ◌^◌, ◌<◌, Bool, true, false, not, eqb, cond, ◌&&◌, Option, Some, None, IsSome, refl, sym, ap, ◌∙◌, arith, inl, inr}
-use Rattle.std.proofs.lemmas.Bool.Decides.{eqb_tells}
-use Rattle.exec_base.specs.Slab.{Slab, value_at, value_in, slot_at, written, removed, freed, Updates, IsPast}
+use Rattle.std.proofs.Common.{◌≡◌, ◌≢◌, ◌^◌, ◌<◌, Option, Some, None, IsSome, refl, ap, ◌∙◌, arith}
+use Rattle.exec_base.specs.Slab.{Slab, value_at, removed, freed, Updates, IsPast}
 use Rattle.exec_base.specs.declared.slab.Id.{Id}
-use Rattle.exec_base.specs.declared.slab.Slot.{Slot}
-use Rattle.exec_base.specs.declared.slab.Slot.TheVariants.{Live, Vacant, Retired}
-use Rattle.exec_base.proofs.Slots.{Changed-set, Updates-write, Updates-free, past-write, past-free, same_id}
+use Rattle.exec_base.proofs.Slots.{Changed-set, Updates-write, Updates-free, past-write, past-free}
 use Rattle.exec_request.specs.declared.output.RequestOutput.{RequestOutput}
-use Rattle.exec_waiters.specs.Ids.{user_data_of, index_in, generation_in}
-use Rattle.exec_waiters.specs.States.{waiter_at, waiter_of, is_flying, flies, named, named_in}
+use Rattle.exec_waiters.specs.States.{waiter_at, waiter_of}
 use Rattle.exec_waiters.specs.Events.{finished_for}
 use Rattle.exec_waiters.specs.declared.observer.Observer.{Observer}
 use Rattle.exec_waiters.specs.declared.observer.Observer.TheVariants.{Local, Forwarded, DetachedSync, Orphaned}

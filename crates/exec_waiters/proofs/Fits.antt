@@ -1,5 +1,5 @@
 -- What an output is of, and what bytes that move leave of a request.
-use Rattle.std.proofs.Common.{◌≡◌, ℕ, Bool, true, false, not, cond, ◌||◌, Option, Some, None, Result, Ok, Err, refl, sym, ap, length}
+use Rattle.std.proofs.Common.{◌≡◌, ℕ, Bool, true, false, cond, Option, Some, None, Result, Ok, Err, refl, sym, ap, length}
 use Rattle.std.specs.Result.{OnOk, OnErr}
 use Rattle.exec_outcomes.specs.Accounts.{Account}
 use Rattle.exec_outcomes.specs.declared.outcome.Kind.TheVariants as kind
@@ -23,7 +23,7 @@ use Rattle.exec_ring.specs.declared.completion.Submission.{Submission}
 use Rattle.exec_ring.specs.declared.landing.Unlawful.{Unlawful}
 use Rattle.exec_ring.specs.declared.store.Store.{Store}
 use Rattle.exec_request.specs.declared.window.Window.{Window}
-use Rattle.exec_waiters.specs.States.{is_sync, suits, is_detached}
+use Rattle.exec_waiters.specs.States.{is_sync, suits}
 use Rattle.exec_waiters.specs.Events.{is_of_sync, fits}
 use Rattle.exec_waiters.specs.declared.observer.Observer.{Observer}
 

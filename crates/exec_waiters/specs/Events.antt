@@ -1,5 +1,5 @@
 -- What each call does to the requests of a worker, and what it leaves to be told.
-use Rattle.std.specs.Prelude.{◌≡◌, ℕ, Bool, true, false, not, ◌<◌, ◌==◌, ◌&&◌, ◌||◌, List, [], ◌∷◌, Option, Some, None, Result, Ok, Err, IsTrue, if◌then◌else◌}
+use Rattle.std.specs.Prelude.{◌≡◌, ℕ, Bool, true, false, not, ◌<◌, ◌==◌, ◌&&◌, ◌||◌, List, [], ◌∷◌, Option, Some, None, Result, Ok, Err, if◌then◌else◌}
 use Rattle.exec_base.specs.Slab.{Slab, value_at, written, removed, HasRoom}
 use Rattle.exec_base.specs.declared.slab.InsertError.{InsertError}
 use Rattle.exec_base.specs.declared.slab.InsertError.TheVariants.{Full, NoMemory}
@@ -26,16 +26,12 @@ use Rattle.exec_request.specs.declared.results.WaiterState.TheVariants.{Active, 
 use Rattle.exec_ring.specs.Landings.{Moves}
 use Rattle.exec_ring.specs.declared.completion.Submission.{Submission}
 use Rattle.exec_ring.specs.declared.store.Store.{Store}
-use Rattle.exec_time.specs.declared.notes.Completion.{Completion}
 use Rattle.exec_time.specs.declared.timers.Observation.{Observation}
 use Rattle.exec_time.specs.declared.timers.Observation.TheVariants as observation
 use Rattle.exec_waiters.specs.Ids.{user_data_of}
 use Rattle.exec_waiters.specs.Told.{Told, Tells, nothing_told, tasks_of}
-use Rattle.exec_waiters.specs.States.{is_local, is_held_by, is_detached, is_held_at, is_full, tick_in}
+use Rattle.exec_waiters.specs.States.{is_local, is_held_by, is_detached, is_held_at, is_full, tick_in, IsUsedUp}
 use Rattle.exec_waiters.specs.declared.deferred.Deferred.{Deferred}
-use Rattle.exec_waiters.specs.declared.deferred.Answer.{Answer}
-use Rattle.exec_waiters.specs.declared.deferred.Untaken.{Untaken}
-use Rattle.exec_waiters.specs.declared.deferred.Retired.{Retired}
 use Rattle.exec_waiters.specs.declared.observer.Observer.{Observer}
 use Rattle.exec_waiters.specs.declared.observer.Observer.TheVariants.{Local, Forwarded, DetachedSync, Orphaned}
 use Rattle.exec_waiters.specs.declared.completed.CompletionOutcome.{CompletionOutcome}
@@ -74,13 +70,16 @@ outcome_by id (Some ended) = Complete (record { 0 = id }) ended
 
 module _ {S F : Type 0} where
   -- a request that was admitted
+  abbrev pub fresh : Request → Observer S F → Waiter S F
+  fresh r observer =
+      record { state = Active None; in_flight = false; observer = observer; request = r; permit = false }
+
   abbrev pub admitted : Request → Observer S F → Entry S F
-  admitted r observer =
-      Pending (record { state = Active None; in_flight = false; observer = observer; request = r; permit = false })
+  admitted r observer = Pending (fresh r observer)
 
   -- an insert is refused for this reason, and hands this back
   abbrev pub IsTurnedDown : Slab (Entry S F) → Refused S F → InsertError (Refused S F) → Type 0
-  IsTurnedDown s back (Full v) = (v ≡ back) × (is_full s ≡ true)
+  IsTurnedDown s back (Full v) = (v ≡ back) × IsUsedUp s
   IsTurnedDown s back (NoMemory v) = (v ≡ back) × (HasRoom s → ⊥) × (is_full s ≡ false)
 
   -- ONE REQUEST CHANGED

@@ -4,3 +4,4 @@ pub mod States
 pub mod Events
 pub mod Layout
 pub mod Lends
+pub mod Examples

@@ -4,12 +4,11 @@
 -- or the output of one that is over, kept for a task of the worker. Phases of the executor's requests are read here so:
 -- Staged, Flying and Landed are `in_flight`, Gated is durable without its permit, Queued is what is neither, and
 -- Resolved is an entry with an output or one that is gone.
-use Rattle.std.specs.Prelude.{ℕ, Bool, true, false, not, ◌%◌, ◌==◌, ◌&&◌, ◌||◌, length, count_by, nat_le, Option, Some, None, if◌then◌else◌}
-use Rattle.exec_base.specs.Slab.{Slab, slot_at, value_at, next_index}
+use Rattle.std.specs.Prelude.{◌≡◌, ℕ, Bool, All, true, false, not, ◌%◌, ◌==◌, ◌&&◌, ◌||◌, length, count_by, nat_le, Option, Some, None, if◌then◌else◌}
+use Rattle.exec_base.specs.Slab.{Slab, slot_at, value_at, next_index, is_vacant}
 use Rattle.exec_base.specs.declared.slab.Id.{Id}
 use Rattle.exec_base.specs.declared.slab.Slot.{Slot}
 use Rattle.exec_base.specs.declared.slab.Slot.TheVariants.{Live, Vacant, Retired}
-use Rattle.exec_base.specs.declared.task_no.TaskNo.{TaskNo}
 use Rattle.exec_outcomes.specs.Accounts.{is_durable}
 use Rattle.exec_outcomes.specs.declared.outcome.Kind.{Kind}
 use Rattle.exec_outcomes.specs.declared.outcome.Kind.TheVariants as kind
@@ -192,6 +191,11 @@ module _ {S F : Type 0} where
   -- no request can be named any more: the next slot would be that of the last index, which other user data has
   abbrev pub is_full : Slab (Entry S F) → Bool
   is_full s = nat_le 4294967295 (next_index s.vacant (length s.slots))
+
+  -- each index that a request may have is that of a request, or of an output that is kept, or retired
+  pub record IsUsedUp (s : Slab (Entry S F)) : Type 0 where
+    pub all_there : length s.slots ≡ 4294967295
+    pub none_vacant : All (λ slot. is_vacant slot ≡ false) s.slots
 
   -- the open whose permit it needs
   abbrev pub gate_in : Option (Waiter S F) → Option ℕ

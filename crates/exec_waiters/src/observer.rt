@@ -1,10 +1,12 @@
 //! Who waits for a request.
 
 ghost use Rattle.std.specs.Prelude.{◌≡◌};
-ghost use Rattle.exec_waiters.specs.States.{is_held_by, is_local};
+ghost use Rattle.exec_waiters.specs.States.{suits, is_held_by, is_local};
 ghost use Rattle.exec_waiters.specs.Events.{waker_in};
 
 use exec_base::task_no::TaskNo;
+use exec_outcomes::outcome::Kind;
+use exec_request::request::Request;
 
 /// Where the outcome of a request goes. `S` is what the outcome of a sync is sent by, `F` what the output of a request
 /// is sent by. Ports `Observer`.
@@ -21,6 +23,13 @@ pub enum Observer<S, F> {
 }
 
 impl<S: Drop, F: Drop> Observer<S, F> {
+    /// Whether it may wait for this request: where its outcome alone is to be sent, only for a sync.
+    pub fn suits(&self, request: &Request) -> bool
+        ensures { result ≡ suits request.now self.now }
+    {
+        !matches!(self, Observer::DetachedSync(_)) || request.kind() == Kind::Sync
+    }
+
     /// Whether someone waits who can let the request go: not so where nobody waits, nor where a sync was begun whose
     /// outcome alone is sent.
     pub(crate) fn is_held(&self) -> bool

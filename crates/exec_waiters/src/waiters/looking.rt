@@ -2,7 +2,7 @@
 
 ghost use Rattle.std.specs.Prelude.{◌≡◌, is_some};
 ghost use Rattle.exec_base.specs.Slab.{value_at};
-ghost use Rattle.exec_waiters.specs.States.{waiter_at, is_flying, deadline_in, tick_of, gate_in, file_in, is_observed_here, may_be_seen, awaits_tick, lacks_permit, may_stage, named, name_of};
+ghost use Rattle.exec_waiters.specs.States.{waiter_at, is_flying, is_idle, deadline_in, tick_of, gate_in, file_in, is_observed_here, may_be_seen, awaits_tick, lacks_permit, may_stage, named, name_of};
 ghost use Rattle.exec_waiters.specs.Events.{may_complete, waker_of};
 
 use super::Waiters;
@@ -48,6 +48,16 @@ impl<S: Drop, F: Drop> Waiters<S, F> {
     {
         match self.get(id) {
             Some(waiter) => waiter.in_flight,
+            None => false,
+        }
+    }
+
+    /// Whether the request is not over, and the kernel has no operation of it: then it may be finished.
+    pub fn is_idle(&self, id: WaiterId) -> bool
+        ensures { result ≡ is_idle (waiter_at self.now id.0) }
+    {
+        match self.get(id) {
+            Some(waiter) => !waiter.in_flight,
             None => false,
         }
     }

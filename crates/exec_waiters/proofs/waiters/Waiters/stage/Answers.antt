@@ -1,5 +1,5 @@
-use Rattle.std.proofs.Common.{arith, rules, ◌≡◌, ◌+◌}
-use Rattle.exec_waiters.proofs.Changes.{kept_changed, sound_at, sound_staged, staging_tells, one_if}
+use Rattle.std.proofs.Common.{arith}
+use Rattle.exec_waiters.proofs.Changes.{kept_changed, sound_at, sound_staged, staging_tells}
 use Rattle.exec_waiters.proofs.waiters.Waiters.stage.Goals as goal
 
 pub invariant_of-self : goal.invariant_of-self

@@ -1,4 +1,4 @@
-use Rattle.std.proofs.Common.{◌≡◌, Some, refl, rules, arith}
+use Rattle.std.proofs.Common.{◌≡◌, Some, rules, arith}
 use Rattle.exec_base.specs.Slab.{value_at}
 use Rattle.exec_waiters.specs.declared.waiter.Entry.TheVariants.{Ready}
 use Rattle.exec_waiters.proofs.Changes.{kept_removed}
