@@ -3,3 +3,5 @@
 
 #[cfg(test)]
 mod request;
+#[cfg(test)]
+mod waiters;

@@ -226,6 +226,10 @@ module _ {S F : Type 0} where
       let there = at_by s id (Pending w) (entry_of _ w at) in
       rw there.slot at (kept.sound id.index (Vacant s.first) there.within)
 
+  -- its index isn't the last
+  pub index_below : (s : Slab (Entry S F)) (id : Id) (w : Waiter S F) (n k : ℕ) → waiter_at s id ≡ Some w → IsKept s n k → id.index < 4294967295
+  index_below s id w n k at kept = omega (arith, (at_by s id (Pending w) (entry_of _ w at)).within, kept.few)
+
   -- what may be staged isn't under way, and lacks no permit
   pub staging_tells : (o : Option (Waiter S F)) (w : Waiter S F) → o ≡ Some w → may_stage o ≡ true → (w.in_flight ≡ false) × (needs_permit w ≡ false)
   staging_tells o w is may = and_tells w.in_flight (asks_cancel w.state) (needs_permit w) (rw is at may)

@@ -6,8 +6,6 @@ pub mod deferred;
 pub mod examples;
 pub mod laws;
 pub mod observer;
-#[cfg(test)]
-mod tests;
 pub mod waiter;
 pub mod waiter_id;
 pub mod waiters;

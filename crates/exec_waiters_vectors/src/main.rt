@@ -10,6 +10,7 @@
 mod fault;
 mod replay;
 mod telling;
+mod words;
 
 use fault::Fault;
 use replay::Replay;

@@ -2,20 +2,10 @@
 
 use crate::fault::Fault;
 use crate::telling::{end_of, text_of_end, text_of_lists};
-use exec_base::error::{Cause, Error};
-use exec_base::slab::{Id, InsertError};
+use crate::words::{ended, name, number, request, result, small};
+use exec_base::slab::InsertError;
 use exec_base::task_no::TaskNo;
-use exec_bufs::buf::{IoBuf, IoBufMut};
-use exec_bufs::bufs::IoBufs;
-use exec_outcomes::outcome::OpResult;
-use exec_request::buffers::WriteBuffers;
-use exec_request::cache::Cache;
 use exec_request::open_record::OpenRecord;
-use exec_request::read_at::ReadAtRequest;
-use exec_request::request::Request;
-use exec_request::send::SendRequest;
-use exec_request::sync::SyncRequest;
-use exec_request::write_at::{WriteAtRequest, WriteAtState};
 use exec_time::timers::Observation;
 use exec_waiters::completed::CompletionOutcome;
 use exec_waiters::deferred::Deferred;
@@ -29,84 +19,6 @@ use std::str::{FromStr, SplitWhitespace};
 #[derive(Drop)]
 pub struct Replay {
     waiters: Waiters<u64, u64>,
-}
-
-fn number(words: &mut SplitWhitespace<'_>) -> Result<u64, Fault> {
-    match words.next() {
-        Some(word) => u64::from_str(word).map_err(|_| Fault::Malformed),
-        None => Err(Fault::Malformed),
-    }
-}
-
-fn name(words: &mut SplitWhitespace<'_>) -> Result<WaiterId, Fault> {
-    let index = number(words)? as u32;
-    let generation = number(words)?;
-    Ok(WaiterId(Id { index, generation }))
-}
-
-fn result(words: &mut SplitWhitespace<'_>) -> Result<OpResult, Fault> {
-    let word = words.next().unwrap_or("");
-    match word.strip_prefix("-") {
-        Some(code) => match u64::from_str(code) {
-            Ok(code) => Ok(OpResult::Errno(code)),
-            Err(_) => Err(Fault::Malformed),
-        },
-        None => match u64::from_str(word) {
-            Ok(count) => Ok(OpResult::Count(count)),
-            Err(_) => Err(Fault::Malformed),
-        },
-    }
-}
-
-fn ended(words: &mut SplitWhitespace<'_>) -> Result<Result<(), Error>, Fault> {
-    match words.next() {
-        Some("ok") => Ok(Ok(())),
-        Some("Timeout") => Ok(Err(Error::Timeout)),
-        Some("SendFailed") => Ok(Err(Error::SendFailed)),
-        Some("ReadFailed") => Ok(Err(Error::ReadFailed)),
-        Some("WriteFailed") => Ok(Err(Error::WriteFailed)),
-        Some("BlobInsufficientLength") => Ok(Err(Error::BlobInsufficientLength)),
-        Some("Io") => Ok(Err(Error::Io(Cause::Code(number(words)? as u16)))),
-        _ => Err(Fault::Malformed),
-    }
-}
-
-fn eight_bytes(alloc: Global) -> Result<WriteBuffers, Fault> {
-    let bytes = Vec::from_array(alloc, [1u8, 2, 3, 4, 5, 6, 7, 8])?;
-    let mut bufs = IoBufs::new(alloc);
-    if bufs.push(alloc, IoBuf::from(bytes)).is_err() {
-        return Err(Fault::Memory(AllocError));
-    }
-    Ok(WriteBuffers::from(bufs))
-}
-
-fn request(alloc: Global, words: &mut SplitWhitespace<'_>) -> Result<Request, Fault> {
-    Ok(match words.next() {
-        Some("send") => Request::Send(SendRequest::new(3, eight_bytes(alloc)?, None)),
-        Some("read") => {
-            let mut buf = IoBufMut::with_capacity(alloc, 8)?;
-            buf.set_len(8);
-            Request::ReadAt(ReadAtRequest::new(1, 0, buf, Cache::Enabled))
-        }
-        Some("write") => Request::WriteAt(WriteAtRequest::new(
-            1,
-            0,
-            eight_bytes(alloc)?,
-            WriteAtState::Writing,
-            Cache::Enabled,
-            0,
-        )),
-        Some("dsync") => Request::WriteAt(WriteAtRequest::new(
-            1,
-            0,
-            eight_bytes(alloc)?,
-            WriteAtState::WritingSync,
-            Cache::Enabled,
-            0,
-        )),
-        Some("sync") => Request::Sync(SyncRequest::new(1, 0)),
-        _ => return Err(Fault::Malformed),
-    })
 }
 
 fn flag(alloc: Global, holds: bool) -> Result<String, AllocError> {
@@ -138,7 +50,6 @@ impl Replay {
             return Ok(format!(in alloc; "{data}")?);
         }
         let mut deferred = Deferred::new(alloc);
-        deferred.reserve(alloc, 64)?;
         let answer = match word {
             "insert" => self.insert(alloc, &mut words)?,
             "close" => self.close(alloc, &mut deferred)?,
@@ -158,6 +69,9 @@ impl Replay {
             Some("detached") => Observer::DetachedSync(number(words)?),
             _ => return Err(Fault::Malformed),
         };
+        if !observer.suits(&asked) {
+            return Err(Fault::Condition);
+        }
         match self.waiters.insert(alloc, asked, observer) {
             Ok(id) => {
                 if self.waiters.lacks_permit(id) {
@@ -176,6 +90,7 @@ impl Replay {
         let mut text = String::new(alloc);
         let mut count = 0u64;
         for _ in 0..64 {
+            deferred.reserve(alloc, 1)?;
             let Some(closed) = self.waiters.close(deferred) else {
                 break;
             };
@@ -224,44 +139,72 @@ impl Replay {
         deferred: &mut Deferred<u64, u64>,
     ) -> Result<String, Fault> {
         let id = name(words)?;
-        Ok(match word {
+        match word {
             "stage" if self.waiters.may_stage(id) => {
                 self.waiters.stage(id, &Some(OpenRecord::new()));
-                String::from_str(alloc, "ok")?
+                Ok(String::from_str(alloc, "ok")?)
             }
             "deadline" if self.waiters.awaits_tick(id) => {
                 self.waiters.set_deadline(id, number(words)?);
-                String::from_str(alloc, "ok")?
+                Ok(String::from_str(alloc, "ok")?)
             }
-            "finish" if self.waiters.is_pending(id) && !self.waiters.is_in_flight(id) => {
-                let mut record = Some(OpenRecord::new());
-                let ended = ended(words)?;
-                tick(alloc, self.waiters.finish(id, ended, &mut record, deferred))?
-            }
-            "observe" if self.waiters.may_be_seen(id) => {
-                match self.waiters.observe(id, TaskNo(number(words)? as u32)) {
-                    Observation::Ready(output) => {
-                        let word = text_of_end(alloc, end_of(&output))?;
-                        format!(in alloc; "ready {word}")?
-                    }
-                    Observation::Pending => String::from_str(alloc, "pending")?,
-                    Observation::Refresh => String::from_str(alloc, "refresh")?,
-                }
-            }
+            "finish" => self.finish(alloc, id, words, deferred),
+            "observe" => self.observe(alloc, id, words),
             "waker" if self.waiters.is_observed_here(id) => {
-                let displaced = self.waiters.set_waker(id, TaskNo(number(words)? as u32));
-                tick(alloc, displaced.map(|task: TaskNo| task.0 as u64))?
+                let displaced = self.waiters.set_waker(id, TaskNo(small(words)?));
+                Ok(tick(alloc, displaced.map(|task: TaskNo| task.0 as u64))?)
             }
-            "target" => tick(alloc, self.waiters.target_tick(id))?,
-            "pending" => flag(alloc, self.waiters.is_pending(id))?,
-            "flying" => flag(alloc, self.waiters.is_in_flight(id))?,
-            "cancel" => flag(alloc, self.waiters.cancel(id))?,
-            "orphan" => flag(alloc, self.waiters.orphan(id, deferred))?,
+            "target" => Ok(tick(alloc, self.waiters.target_tick(id))?),
+            "pending" => Ok(flag(alloc, self.waiters.is_pending(id))?),
+            "flying" => Ok(flag(alloc, self.waiters.is_in_flight(id))?),
+            "cancel" => Ok(flag(alloc, self.waiters.cancel(id))?),
+            "orphan" => {
+                deferred.reserve(alloc, 1)?;
+                Ok(flag(alloc, self.waiters.orphan(id, deferred))?)
+            }
             "forward" => {
-                self.waiters.forward(id, number(words)?, deferred);
-                String::from_str(alloc, "ok")?
+                let sender = number(words)?;
+                deferred.reserve(alloc, 1)?;
+                self.waiters.forward(id, sender, deferred);
+                Ok(String::from_str(alloc, "ok")?)
             }
-            _ => return Err(Fault::Condition),
+            _ => Err(Fault::Condition),
+        }
+    }
+
+    fn finish(
+        &mut self,
+        alloc: Global,
+        id: WaiterId,
+        words: &mut SplitWhitespace<'_>,
+        deferred: &mut Deferred<u64, u64>,
+    ) -> Result<String, Fault> {
+        let ended = ended(words)?;
+        deferred.reserve(alloc, 1)?;
+        if !self.waiters.is_idle(id) {
+            return Err(Fault::Condition);
+        }
+        let mut record = Some(OpenRecord::new());
+        Ok(tick(alloc, self.waiters.finish(id, ended, &mut record, deferred))?)
+    }
+
+    fn observe(
+        &mut self,
+        alloc: Global,
+        id: WaiterId,
+        words: &mut SplitWhitespace<'_>,
+    ) -> Result<String, Fault> {
+        let task = TaskNo(small(words)?);
+        if !self.waiters.may_be_seen(id) {
+            return Err(Fault::Condition);
+        }
+        Ok(match self.waiters.observe(id, task) {
+            Observation::Ready(output) => {
+                let word = text_of_end(alloc, end_of(&output))?;
+                format!(in alloc; "ready {word}")?
+            }
+            Observation::Pending => String::from_str(alloc, "pending")?,
+            Observation::Refresh => String::from_str(alloc, "refresh")?,
         })
     }
 }

@@ -1,8 +1,9 @@
 //! The operations of a request, its deadline, its cancel, its permit, and its end.
 
-ghost use Rattle.std.specs.Prelude.{◌≡◌, Some, None, is_some, true, false};
+ghost use Rattle.std.specs.Prelude.{◌≡◌, ◌<◌, Some, None, is_some, true, false};
 ghost use Rattle.exec_base.specs.declared.slab.Id.{Id as Name};
 ghost use Rattle.exec_request.specs.States.{as_answer};
+ghost use Rattle.exec_waiters.specs.Ids.{index_in};
 ghost use Rattle.exec_waiters.specs.Told.{HasPlaces};
 ghost use Rattle.exec_waiters.specs.States.{waiter_at, is_idle, is_observed_here, awaits_tick, may_stage, lacks_permit, named};
 ghost use Rattle.exec_waiters.specs.Events.{changed, with_permit, with_tick, with_state, cancelled, may_cancel, answer_at_grant, is_lawful_for, Stages, Completes, Finishes};
@@ -80,9 +81,11 @@ impl<S: Drop, F: Drop> Waiters<S, F> {
 
     /// The entry of the request's next operation; the kernel may have it from now on. The caller must have a request
     /// that is not over and has no operation, whose cancel nobody asked for, and which has the permit that it needs.
+    /// The user data of no request has the last index, which that of wakes and cancels has.
     pub fn stage(&mut self, id: WaiterId, open_: &Option<OpenRecord>) -> Submission
         requires may { may_stage (waiter_at self.old id.0) ≡ true }
         ensures staged { (waiter : Asking S F) → waiter_at self.old id.0 ≡ Some waiter → Stages self.old self.new id.0 waiter open_.now result }
+        ensures own { index_in result.user_data < 4294967295 }
     {
         self.in_flight += 1;
         let waiter = waiter_mut(&mut self.entries, id);
