@@ -31,11 +31,7 @@ fn name(index: u32, generation: u64) -> WaiterId {
 }
 
 /// Admits a poll that a task of the worker waits for, or a sync that this one waits for.
-fn admit(
-    waiters: &mut Requests,
-    alloc: Global,
-    detached: Option<u32>,
-) -> Option<WaiterId> {
+fn admit(waiters: &mut Requests, alloc: Global, detached: Option<u32>) -> Option<WaiterId> {
     match detached {
         None => {
             let request = Request::Poll(PollRequest::new(4, Some(10)));
@@ -133,7 +129,10 @@ fn a_request_ends_once(rt: HostRuntime) -> Result<(), Fail> {
     let mut told = Told::new(rt.alloc());
     let tick = finish(&rt, rt.alloc(), &mut waiters, id, Ok(()), &mut told)?;
     assert_eq!(rt; tick, Some(641));
-    assert_eq!(rt; (waiters.len(), waiters.live(), waiters.in_flight()), (0, 1, 0));
+    assert_eq!(rt;
+        (waiters.len(), waiters.live(), waiters.in_flight()),
+        (0, 1, 0)
+    );
     assert_eq!(rt; counts(&told), (0, 0, 1, 0, 0));
     assert_eq!(rt; told.resources[0].id, id);
     assert!(rt; !waiters.cancel(id));
@@ -200,7 +199,10 @@ fn a_sync_is_told_of_alone(rt: HostRuntime) -> Result<(), Fail> {
     let mut told = Told::new(rt.alloc());
     let id = name(0, 0);
     assert_eq!(rt; admit(&mut waiters, rt.alloc(), Some(5)), Some(id));
-    assert_eq!(rt; (waiters.durability(id), waiters.open_of(id)), (Some(1), Some(1)));
+    assert_eq!(rt;
+        (waiters.durability(id), waiters.open_of(id)),
+        (Some(1), Some(1))
+    );
     assert!(rt; waiters.lacks_permit(id));
     let record = Some(OpenRecord::new());
     assert_eq!(rt; waiters.acquire_durability(id, &record), Some(Ok(())));

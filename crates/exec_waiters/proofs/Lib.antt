@@ -1,4 +1,5 @@
 pub mod Changes
-pub mod Ends
-pub mod Endings
+pub mod Finishing
 pub mod Fits
+pub mod Held
+pub mod Over

@@ -1,5 +1,5 @@
 use Rattle.exec_request.specs.Requests.{output_of}
-use Rattle.exec_waiters.proofs.Ends.{over, past, others}
+use Rattle.exec_waiters.proofs.Over.{over, past, others}
 use Rattle.exec_waiters.proofs.laws.a_request_is_resolved_at_most_once.Goals as goal
 
 pub returns-clause-over : goal.returns-clause-over

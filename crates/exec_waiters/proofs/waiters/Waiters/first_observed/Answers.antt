@@ -1,5 +1,5 @@
 use Rattle.std.proofs.Common.{◌≡◌, length, arith}
-use Rattle.exec_waiters.proofs.Endings.{none_begins, none_more, none_at_all}
+use Rattle.exec_waiters.proofs.Held.{none_begins, none_more, none_at_all}
 use Rattle.exec_waiters.proofs.waiters.Waiters.first_observed.Goals as goal
 
 pub loop-index-init : goal.loop-index-init

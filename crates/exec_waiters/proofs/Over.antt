@@ -1,4 +1,4 @@
--- What a finish does to the map of requests, and which request a completion names.
+-- What a finish does to the map of requests.
 use Rattle.std.proofs.Common.{◌≡◌, ◌≢◌, ◌^◌, ◌<◌, Option, Some, None, IsSome, refl, ap, ◌∙◌, arith}
 use Rattle.exec_base.specs.Slab.{Slab, value_at, removed, freed, Updates, IsPast}
 use Rattle.exec_base.specs.declared.slab.Id.{Id}

@@ -1,16 +1,14 @@
--- A request that ends for a task of the worker, and the search for one that someone holds.
-use Rattle.std.proofs.Common.{◌≡◌, ℕ, ◌+◌, ◌<◌, true, false, [], ◌∷◌, length, Option, Some, refl, arith, inl, inr}
-use Rattle.std.proofs.lemmas.Bool.{false≢true, cases_lt}
-use Rattle.std.proofs.lemmas.List.{get_or_past}
-use Rattle.exec_base.specs.Slab.{Slab, value_at, written}
+-- A request that ends for a task of the worker.
+use Rattle.std.proofs.Common.{◌≡◌, ℕ, true, false, [], ◌∷◌, Option, Some, refl}
+use Rattle.std.proofs.lemmas.Bool.{false≢true}
+use Rattle.exec_base.specs.Slab.{Slab, written}
 use Rattle.exec_base.specs.declared.slab.Id.{Id}
-use Rattle.exec_base.specs.declared.slab.Slot.TheVariants.{Vacant}
 use Rattle.exec_outcomes.specs.Accounts.{Account}
 use Rattle.exec_request.specs.Requests.{output_of, retired_of, record_after}
 use Rattle.exec_request.specs.States.{Ended}
 use Rattle.exec_request.specs.declared.output.RequestOutput.{RequestOutput}
 use Rattle.exec_waiters.specs.Told.{Tells, awake}
-use Rattle.exec_waiters.specs.States.{is_local, is_observed_here, is_held_at, tick_in}
+use Rattle.exec_waiters.specs.States.{is_local, is_observed_here, tick_in}
 use Rattle.exec_waiters.specs.Events.{Finishes, finished_for, output_told, waker_in}
 use Rattle.exec_waiters.specs.declared.deferred.Deferred.{Deferred}
 use Rattle.exec_waiters.specs.declared.observer.Observer.{Observer}
@@ -43,21 +41,3 @@ module _ {S F : Type 0} where
         told = rw (told_here id (output_of w.request ended account) w.observer here) tells;
         open_after = opened;
       }
-
-  -- no entry in the slots below this one can be let go
-  pub record NoneBelow (s : Slab (Entry S F)) (i : ℕ) : Type 0 where
-    pub none : (other : Id) → other.index < i → is_held_at (value_at s other) ≡ false
-
-  pub none_begins : (s : Slab (Entry S F)) → NoneBelow s 0
-  none_begins s = record { none = λ other below. absurd (omega arith) }
-
-  pub none_more : (s : Slab (Entry S F)) (i : ℕ) → NoneBelow s i → ((id : Id) → id.index ≡ i → is_held_at (value_at s id) ≡ false) → NoneBelow s (i + 1)
-  none_more s i below here =
-      record { none = λ other within. elim (cases_lt other.index i) [ inl lower ↦ below.none other lower | inr at ↦ here other (omega arith) ] }
-
-  pub none_at_all : (s : Slab (Entry S F)) → NoneBelow s (length s.slots) → (id : Id) → is_held_at (value_at s id) ≡ false
-  none_at_all s below id =
-      elim (cases_lt id.index (length s.slots)) [
-        | inl inside ↦ below.none id inside
-        | inr past ↦ rw (get_or_past s.slots id.index (Vacant s.first) past) refl
-      ]
