@@ -36,8 +36,7 @@ use std::marker::Model;
 pub enum PushAnswer<T> {
     /// The value was published; the queue had so many then.
     Pushed(usize),
-    /// The queue was full: its newest half went into the owner's hand, and this value goes behind
-    /// it.
+    /// The queue was full: its newest half is in the owner's hand, and this value goes behind it.
     Overflow(T),
     /// No place was free beside a claim: only this value goes elsewhere.
     Claimed(T),
@@ -128,13 +127,6 @@ impl<T> PureQueue<T> {
         ensures { result ≡ length self.now.values }
     {
         self.values.len()
-    }
-
-    /// Whether there is none.
-    pub fn is_empty(&self) -> bool
-        ensures { result ≡ (length self.now.values == 0) }
-    {
-        self.values.is_empty()
     }
 
     /// Whether its owner is in the middle of no overflow.
@@ -231,10 +223,8 @@ impl<T> PureQueue<T> {
 
     /// A thief's claim by an exchange of the head: half of the values up to the tail that it saw,
     /// rounded down, go into its hand, the oldest first. Answers how many. Err with the head that
-    /// was found where it isn't `seen`.
-    ///
-    /// The caller must have loaded `tail` from this queue after `seen`, have seen no claim and at
-    /// least two values, and have 128 places in its hand.
+    /// was found where it isn't `seen`. The caller must have loaded `tail` from this queue after
+    /// `seen`, have seen no claim and at least two values, and have 128 places in its hand.
     pub fn claim_exchange(
         &mut self,
         seen: Head,
@@ -281,10 +271,9 @@ impl<T> PureQueue<T> {
 
     /// The beginning of an overflow by an exchange of the head: the newest half goes into the
     /// owner's hand, the oldest first, and the oldest half is kept aside until `restore`. Err with
-    /// the head that was found where it isn't `seen`.
-    ///
-    /// The caller must have seen a full queue without a claim that isn't spent, be in the middle of
-    /// no other overflow, and have 128 places in its hand.
+    /// the head that was found where it isn't `seen`. The caller must have seen a full queue without
+    /// a claim that isn't spent, be in the middle of no other overflow, and have 128 places in its
+    /// hand.
     pub fn overflow_exchange(&mut self, seen: Head, hand: &mut Reserved<T>) -> Result<(), Head>
         requires full { seen.real + 256 ≡ tail_of self.old }
         requires unspent { is_spent (tail_of self.old) ≡ false }

@@ -44,14 +44,8 @@ pub struct PureWord {
 impl PureWord {
     ghost use Rattle.exec_words.specs.Word.{asks_signal, is_idle_at};
 
-    /// Nobody waits, no latch stands, and no batch was published.
-    pub fn new() -> Self
-        ensures { result ≡ record { target = wait.None; latch = false; batch = 0 } }
-    {
-        PureWord::at(0)
-    }
-
-    /// The same, with this number of published batches, at most `SUBMISSION_SEQ_MASK`.
+    /// Nobody waits, no latch stands, and so many batches were published: at most
+    /// `SUBMISSION_SEQ_MASK`.
     pub fn at(batch: u32) -> Self
         requires { batch < 2 ^ 29 }
         ensures { result ≡ record { target = wait.None; latch = false; batch = batch } }
