@@ -1,10 +1,10 @@
 //! The queue that all workers of a pool take from, with the mirror of its length.
 //!
-//! Anyone may append. A worker takes a share: one value more than an even split between the workers,
-//! the oldest first, but no more than its own run queue has room for below half. It polls the first
-//! itself, and the others go into its run queue. All this is done under one lock. The mirror is
-//! read without the lock: it is stored with each change, and equals the length. A closed queue takes
-//! nothing more. Ports the global queue of `commonware_runtime`'s `iouring::pool`.
+//! Anyone may append. A worker takes a share: one value more than an even split between the
+//! workers, the oldest first, but no more than its own run queue has room for below half. It polls
+//! the first itself, and the others go into its run queue. All this is done under one lock. The
+//! mirror is read without the lock: it is stored with each change, and equals the length. A closed
+//! queue takes nothing more. Ports the global queue of `commonware_runtime`'s `iouring::pool`.
 
 ghost use Rattle.std.specs.Prelude.{◌≡◌, ◌+◌, ◌-◌, ◌<◌, ◌≤◌, ◌==◌, ◌↔◌, [], ◌∷◌, ◌++◌, length, take, drop, max, slice_get, false, true, IsTrue, IsOk, OnOk, IfErr, OnErr, not, Some, None};
 ghost use Rattle.exec_words.specs.Global.{share_of};

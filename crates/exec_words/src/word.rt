@@ -1,10 +1,10 @@
 //! The wake word of a worker: how it waits, whether it is to wake, and how many batches of mail
 //! were published.
 //!
-//! A worker that is about to wait arms its word, and waits only where it finds no latch and no batch
-//! that it hasn't taken. Whoever has something for the worker sets the latch: the first one to do
-//! so while a wait is armed rouses the worker, and a latch that comes earlier keeps the next wait
-//! from beginning. The end of a wait takes wait and latch out.
+//! A worker that is about to wait arms its word, and waits only where it finds no latch and no
+//! batch that it hasn't taken. Whoever has something for the worker sets the latch: the first one
+//! to do so while a wait is armed rouses the worker, and a latch that comes earlier keeps the next
+//! wait from beginning. The end of a wait takes wait and latch out.
 //!
 //! Mail is published before it is signalled: the first message of a batch raises the batch number,
 //! and a signal must follow exactly where a wait is armed and no latch stands. Where none is armed,
