@@ -1,4 +1,3 @@
 pub mod Maps
-pub mod Meanwhiles
 pub mod Rights
 pub mod Rounds

@@ -1,21 +1,11 @@
 -- A task set by the numbers of its tasks.
-use Rattle.std.proofs.Common.{◌≡◌, ◌≢◌, ℕ, zero, suc, ◌<◌, ◌⊎◌, ◌++◌, ◌∷◌, replicate, ◌%◌, ◌==◌, Bool, true, false, cond, List, [], length, set, get_or, get_or-set_same, get_or-set_other, inl, inr, Option, Some, None, refl, ap, sym, ◌∙◌, subst, arith}
+use Rattle.std.proofs.Common.{◌≡◌, ℕ, zero, suc, ◌<◌, ◌⊎◌, ◌++◌, ◌∷◌, replicate, ◌%◌, List, [], length, set, get_or, get_or-set_same, get_or-set_other, Option, Some, None, refl, sym, ◌∙◌, arith}
 use Rattle.std.proofs.lemmas.List.{length-set}
 use Rattle.std.proofs.lemmas.Bool.Decides.{nat_tests}
-use Rattle.std.proofs.lemmas.Bool.{cases_Bool, cases_eq, eqb-true}
-use Rattle.std.specs.Ordering.{is_eq, nat_cmp}
-use Rattle.std.specs.declared.cmp.Ordering.TheVariants.{Less, Equal, Greater}
-use Rattle.std.specs.BTreeMap.{BTreeMap, is_at, UpdatesBy}
+use Rattle.std.specs.Ordering.{nat_cmp}
+use Rattle.std.specs.BTreeMap.{BTreeMap, UpdatesBy}
 use Rattle.exec_base.specs.declared.task_no.TaskNo.{TaskNo}
-use Rattle.exec_task.specs.TaskSet.{Set, at_number, shard_at, shard_of, held, AreAtHome, ShardChanges, Changes}
-use Rattle.exec_task.specs.Drained.{TakesNewest}
-
--- another number isn't this one
-is_at-other : (number other : ℕ) → other ≢ number → is_at (nat_cmp number) other ≡ false
-is_at-other number other apart = grind (arith, nat_tests)
-
-some_none : {X : Type 0} {x : X} → Some x ≡ None → ⊥
-some_none e = cc
+use Rattle.exec_task.specs.TaskSet.{Set, at_number, shard_at, shard_of, AreAtHome, ShardChanges, Changes, TakesNewest}
 
 -- an empty shard holds nothing
 nothing : {T : Type 0} (count index : ℕ) (number : ℕ) → at_number {T = T} (get_or (replicate count []) index []) number ≡ None
@@ -27,7 +17,7 @@ module _ {T : Type 0} where
   -- what a map's own clause says, by numbers
   pub shard_changes : (old new : BTreeMap ℕ T) (number : ℕ) (task : Option T) → UpdatesBy nat_cmp (nat_cmp number) old new task → ShardChanges old.entries new.entries number task
   shard_changes old new number task updates =
-      record { changed = updates.1; others = λ other apart. updates.2 other (is_at-other number other apart) }
+      record { changed = updates.1; others = λ other apart. updates.2 other (grind (arith, nat_tests)) }
 
   -- a change of the number's shard is a change of the set
   pub changes : (s : Set T) (shard : List (ℕ × T)) (number : TaskNo) (task : Option T) → shard_of s number < length s.shards → ShardChanges (shard_at s (shard_of s number)) shard number.0 task → Changes s (record s { shards = set s.shards (shard_of s number) shard }) number task
@@ -49,7 +39,7 @@ module _ {T : Type 0} where
   -- the newest task of a shard is taken from the set
   pub takes_newest : (s : Set T) (shard : List (ℕ × T)) (index : ℕ) (t : TaskNo × T) → AreAtHome s.shards → index < length s.shards → at_number (shard_at s index) t.0.0 ≡ Some t.1 → shard_at s index ≡ shard ++ (t.0.0, t.1) ∷ [] → ShardChanges (shard_at s index) shard t.0.0 None → TakesNewest index t s (record s { shards = set s.shards index shard })
   takes_newest s shard index t home there was newest change =
-      let at_home : shard_of s t.0 ≡ index = home index t.0.0 (λ none. some_none (sym was ∙ none)) in
+      let at_home : shard_of s t.0 ≡ index = home index t.0.0 (λ none. (let lost : Some t.1 ≡ None = sym was ∙ none in cc)) in
       record {
         was_held = grind (arith, at_home, was);
         newest = grind (arith, get_or-set_same, newest);

@@ -1,10 +1,14 @@
--- One right to poll a task.
-use Rattle.std.proofs.Common.{◌≡◌, ℕ, ◌+◌, ◌≤◌, Bool, true, false, List, [], ◌∷◌, arith}
+-- What calls on a task keep, and what comes of a poll that others wake and clear.
+use Rattle.std.proofs.Common.{◌≡◌, ℕ, ◌+◌, ◌≤◌, ◌||◌, Bool, true, false, List, [], ◌∷◌, if◌then◌else◌, arith}
 use Rattle.exec_base.specs.declared.task_no.TaskNo.{TaskNo}
 use Rattle.exec_task.specs.declared.task.Phase.{Phase}
-use Rattle.exec_task.specs.declared.task.Phase.TheVariants.{Idle}
-use Rattle.exec_task.specs.TaskRuns.{Call, Ledger, MayCall, AreCalls, IsOneRight, after, after_all}
+use Rattle.exec_task.specs.declared.task.Phase.TheVariants.{Idle, Running, Notified}
+use Rattle.exec_task.specs.declared.body.Ended.TheVariants.{Closed}
+use Rattle.exec_task.specs.declared.runnable.AfterPoll.TheVariants.{Done as Nothing, Requeue, Retire}
+use Rattle.exec_task.specs.Phases.{Task, pend_answer}
+use Rattle.exec_task.specs.TaskRuns.{Call, Ledger, MayCall, AreCalls, IsOneRight, after, after_all, Meanwhile, after_meanwhile, some_wake, some_clear, just_begun, after_pending_poll}
 use Rattle.exec_task.specs.TaskRuns.Call.{Wake, Begin, Pend, Done, Clear}
+use Rattle.exec_task.specs.TaskRuns.Meanwhile.{Wakes, Clears}
 
 module _ {B : Type 0} where
   -- the parts of a ledger
@@ -43,3 +47,19 @@ module _ {B : Type 0} where
   at_most_one l calls right are =
       let end = after_all l calls in
       at_most_one_by end.task.phase end.runnables end.polls (one_right l calls right are)
+
+module _ (B : Type 0) (number : TaskNo) (owner : ℕ) where
+  -- the task in a poll, whether it was woken, and whether it was cleared
+  abbrev polled : Bool → Bool → Task B
+  polled woken cancelled = record { number = number; owner = owner; phase = if woken then Notified else Running; cancelled = cancelled }
+
+  answer_is :
+      (woken cancelled : Bool) (m : List Meanwhile)
+      → pend_answer (after_meanwhile (polled woken cancelled) m)
+      ≡ (if cancelled || some_clear m then Retire number Closed else (if woken || some_wake m then Requeue (record { task = number; owner = owner }) else Nothing))
+  answer_is woken cancelled [] = grind arith
+  answer_is woken cancelled (Wakes ∷ rest) = grind (arith, answer_is true cancelled rest)
+  answer_is woken cancelled (Clears ∷ rest) = grind (arith, answer_is woken true rest)
+
+  pub one_requeue : (meanwhile : List Meanwhile) → pend_answer (after_meanwhile (just_begun {B = B} number owner) meanwhile) ≡ after_pending_poll (just_begun {B = B} number owner) meanwhile
+  one_requeue meanwhile = answer_is false false meanwhile

@@ -1,14 +1,13 @@
 -- Rounds of the shards of a task set.
-use Rattle.std.proofs.Common.{◌≡◌, ◌≢◌, ℕ, zero, suc, ◌+◌, ◌-◌, ◌<◌, ◌≤◌, ◌⊎◌, inl, inr, Bool, cond, List, [], ◌∷◌, ◌++◌, length, reverse, take, drop, get_or, set, get_or-set_same, count_by, sum_by, refl, sym, ap, ◌∙◌, arith, rules, length-append, length-drop, append_assoc, add-one}
+use Rattle.std.proofs.Common.{◌≡◌, ◌≢◌, ℕ, zero, suc, ◌+◌, ◌<◌, ◌≤◌, ◌⊎◌, inl, inr, Bool, cond, List, [], ◌∷◌, ◌++◌, length, reverse, take, drop, get_or, set, get_or-set_same, count_by, sum_by, refl, ap, arith, rules, length-append, length-drop, append_assoc, add-one}
 use Rattle.std.specs.List.{flat_map}
 use Rattle.std.proofs.Math.Seq.{drop-cons, take-suc}
-use Rattle.std.proofs.lemmas.List.{reverse-append, append-nil, length-take, take-append-le, take-append-drop, take_all, drop_all, drop-set-lt, take-set, length-set}
+use Rattle.std.proofs.lemmas.List.{reverse-append, append-nil, length-take, take-append-le, take_all, drop_all, drop-set-lt, take-set, length-set}
 use Rattle.std.proofs.lemmas.List.Sums.{sum_by-append, sum_by-cons, sum_by-take-drop}
 use Rattle.std.proofs.lemmas.List.Sorted.{IsPermutation-reverse, sum_by-IsPermutation}
 use Rattle.exec_base.specs.declared.task_no.TaskNo.{TaskNo}
 use Rattle.exec_task.specs.declared.drain.Drain.{Drain}
-use Rattle.exec_task.specs.TaskSet.{Set}
-use Rattle.exec_task.specs.Drained.{next_shard, from_shard, to_come, IsFor, TakesNewest}
+use Rattle.exec_task.specs.TaskSet.{Set, next_shard, from_shard, to_come, IsFor, TakesNewest}
 
 -- the next shard is the first, or the one after this
 next_cases : (count at : ℕ) → ((at + 1 ≡ count) × (next_shard count at ≡ 0)) ⊎ ((at + 1 ≢ count) × (next_shard count at ≡ at + 1))
@@ -31,10 +30,10 @@ module _ {T : Type 0} where
       ]
 
   -- an empty shard is passed
-  pub to_come-passed :
+  pub to_come_passed :
       (shards : List (List (ℕ × T))) (at left rest : ℕ) → at < length shards → left ≡ rest + 1 → left ≤ length shards → get_or shards at [] ≡ []
       → to_come shards at left ≡ to_come shards (next_shard (length shards) at) rest
-  to_come-passed shards at left rest there more few empty =
+  to_come_passed shards at left rest there more few empty =
       let short : rest ≤ length (others shards at) =
       omega (arith, length-append (drop (suc at) shards) (take at shards), length-drop (suc at) shards, length-take at shards) in
       rw (here_last shards at there, more, add-one rest, here_first shards at there, empty, take-append-le rest (others shards at) ([] ∷ []) short) refl
@@ -48,10 +47,10 @@ module _ {T : Type 0} where
       let there' : at < length (set shards at shard) = rw (length-set shards at shard) there in
       rw (here_first shards at there, here_first (set shards at shard) at there', newest, get_or-set_same shards at shard [] there, drop-set-lt (suc at) shards at shard (omega arith), take-set shards at shard, reverse-append shard (task ∷ [])) refl
 
-  pub to_come-taken :
+  pub to_come_taken :
       (s s' : Set T) (d : Drain) (t : TaskNo × T) → IsFor d s → 0 < d.left → TakesNewest d.at t s s'
       → to_come s.shards d.at d.left ≡ (t.0.0, t.1) ∷ to_come s'.shards d.at d.left
-  to_come-taken s s' d t its more taken =
+  to_come_taken s s' d t its more taken =
       rw taken.others (first_to_come s.shards (get_or s'.shards d.at []) (t.0.0, t.1) d.at d.left its.there more taken.newest)
 
 module _ {T : Type 0} (kind : ℕ × T → Bool) where

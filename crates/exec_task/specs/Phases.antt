@@ -1,7 +1,6 @@
 -- What a contract sees of a task, and what each call makes of it.
-use Rattle.std.specs.Prelude.{ℕ, Bool, true, false, Option, Some, None, if◌then◌else◌}
+use Rattle.std.specs.Prelude.{ℕ, ◌==◌, ◌&&◌, ◌||◌, MatchBool, Bool, true, false, Option, Some, None, if◌then◌else◌}
 use Rattle.exec_base.specs.declared.task_no.TaskNo.{TaskNo}
-use Rattle.exec_task.specs.declared.body.Ended.{Ended}
 use Rattle.exec_task.specs.declared.body.Ended.TheVariants.{Closed}
 use Rattle.exec_task.specs.declared.task.Phase.{Phase}
 use Rattle.exec_task.specs.declared.task.Phase.TheVariants.{Idle, Queued, Running, Notified, Complete}
@@ -77,3 +76,11 @@ module _ {B : Type 0} where
   -- a cleared task is over, or is once its poll ends
   abbrev pub cleared : Task B → Task B
   cleared t = if is_polled t.phase then record t { cancelled = true } else record t { phase = Complete }
+
+module _ {P : Type 0} (serving : P → ℕ → Bool) (shows_empty : P → Bool → Type 0) (workers_of : P → ℕ) (enqueues pushes : P → Runnable → P → Type 0) where
+  -- The worker at hand keeps a new task's first runnable where it serves the task's set, and has nothing else queued or
+  -- is the only one. Else it goes into the global queue.
+  pub record Spawns (old : P) (runnable : Runnable) (new : P) : Type 0 where
+    pub empty : Bool
+    pub shown : shows_empty old empty
+    pub goes : MatchBool (serving old runnable.owner && (empty || (workers_of old == 1))) (enqueues old runnable new) (pushes old runnable new)

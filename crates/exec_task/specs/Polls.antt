@@ -1,5 +1,5 @@
 -- What one poll of a task does, from what its body is told first to its last section.
-use Rattle.std.specs.Prelude.{◌≡◌, ℕ, ◌+◌, ◌-◌, ◌^◌, ◌<◌, ◌⊎◌, Option, Some, None, Result, Ok, Err}
+use Rattle.std.specs.Prelude.{◌≡◌, ℕ, ◌+◌, ◌-◌, ◌^◌, ◌<◌, ◌⊎◌, Option, Some, None}
 use Rattle.exec_base.specs.declared.error.Error.TheVariants.{NoMemory}
 use Rattle.exec_task.specs.declared.body.Act.{Act}
 use Rattle.exec_task.specs.declared.body.Act.TheVariants as act_of
@@ -15,8 +15,7 @@ use Rattle.exec_task.specs.declared.poll.Turn.TheVariants.{Through, Waits, Told}
 use Rattle.exec_task.specs.declared.runnable.AfterPoll.{AfterPoll}
 use Rattle.exec_task.specs.declared.runnable.AfterPoll.TheVariants as after
 use Rattle.exec_task.specs.declared.runnable.Runnable.{Runnable}
-use Rattle.exec_task.specs.Sight.{Sight}
-use Rattle.exec_task.specs.Growth.{WouldGrow}
+use Rattle.exec_task.specs.Sight.{Sight, WouldGrow}
 
 -- how the task ends, where the act says that its body is through
 abbrev pub ended_by : {B : Type 0} → Act B → Option Ended

@@ -1,5 +1,5 @@
 -- Calls on a task, one after another, and the runnables that are about.
-use Rattle.std.specs.Prelude.{◌≡◌, ℕ, ◌+◌, ◌-◌, ◌<◌, ◌≤◌, Bool, true, false, ◌||◌, List, [], ◌∷◌, Option, Some, None, if◌then◌else◌, is_some}
+use Rattle.std.specs.Prelude.{◌≡◌, ℕ, ◌+◌, ◌-◌, ◌<◌, ◌≤◌, Bool, true, false, List, [], ◌∷◌, if◌then◌else◌, is_some}
 use Rattle.exec_base.specs.declared.task_no.TaskNo.{TaskNo}
 use Rattle.exec_task.specs.declared.body.Ended.TheVariants.{Closed}
 use Rattle.exec_task.specs.declared.task.Phase.{Phase}
@@ -22,14 +22,6 @@ pub record Ledger (B : Type 0) : Type 0 where
   pub runnables : ℕ
   pub polls : ℕ
 
--- the runnables that a wake publishes
-abbrev pub published : {B : Type 0} → Phase B → ℕ
-published phase = if is_idle phase then 1 else 0
-
--- the polls that a runnable begins
-abbrev pub begins : {B : Type 0} → Phase B → ℕ
-begins phase = if is_some (queued_body phase) then 1 else 0
-
 -- the runnables that a poll gives back
 abbrev pub requeued : AfterPoll → ℕ
 requeued (after_poll.Requeue _) = 1
@@ -43,15 +35,15 @@ module _ {B : Type 0} where
   MayCall l Done = 0 < l.polls
   MayCall l _ = Unit {0}
 
-  -- what the call makes of task and runnables
+  -- what the call makes of task and runnables: a wake of an idle task publishes one, and a queued one may be polled
   abbrev pub after : Ledger B → Call B → Ledger B
   after l Wake =
-      record l { task = record l.task { phase = woken l.task.phase }; runnables = l.runnables + published l.task.phase }
+      record l { task = record l.task { phase = woken l.task.phase }; runnables = l.runnables + (if is_idle l.task.phase then 1 else 0) }
   after l Begin =
       record {
         task = record l.task { phase = begun l.task.phase };
         runnables = l.runnables - 1;
-        polls = l.polls + begins l.task.phase;
+        polls = l.polls + (if is_some (queued_body l.task.phase) then 1 else 0);
       }
   after l (Pend body) =
       record { task = pended l.task body; runnables = l.runnables + requeued (pend_answer l.task); polls = l.polls - 1 }

@@ -9,8 +9,7 @@
 //! step may be a single visit of a shard.
 
 ghost use Rattle.std.specs.Prelude.{◌≡◌, ℕ, ◌+◌, ◌*◌, ◌%◌, ◌<◌, ◌==◌, [], ◌∷◌, ◌++◌, length, IsTrue, IfSome, IfNone, OnSome};
-ghost use Rattle.exec_task.specs.TaskSet.{shard_at};
-ghost use Rattle.exec_task.specs.Drained.{IsFor, TakesNewest, passed, to_come, came, next_shard as next_shard_of};
+ghost use Rattle.exec_task.specs.TaskSet.{shard_at, IsFor, TakesNewest, passed, to_come, came, next_shard as next_shard_of};
 
 use crate::tasks::Tasks;
 use exec_base::task_no::TaskNo;
@@ -58,6 +57,7 @@ impl Drain {
 
     /// One visit of the shard at which it stands: takes its newest task, or finds it empty and goes on to the next.
     /// The drain must be one of this set, and not over.
+    #[tactic(auto, using(crate::proofs::Rounds::to_come_taken, crate::proofs::Rounds::to_come_passed))]
     pub fn visit<T>(&mut self, tasks: &mut Tasks<T>) -> Option<(TaskNo, T)>
         requires its { IsFor self.old tasks.old }
         requires more { 0 < self.old.left }

@@ -5,9 +5,8 @@ ghost use Rattle.exec_task.specs.Phases.{is_idle, queued_body, body_of, woken, b
 ghost use Rattle.exec_task.specs.TaskRuns.{AreCalls, after_all, after_pending_poll};
 ghost use Rattle.exec_task.specs.TaskRuns.Call.{Wake, Begin, Pend, Done, Clear};
 ghost use Rattle.exec_task.specs.TaskRuns.Meanwhile.{Wakes, Clears};
-ghost use Rattle.exec_task.specs.TaskSet.{held, shard_of, removed, IsRefused};
-ghost use Rattle.exec_task.specs.Drained.{to_come, drain_of, next_shard};
-ghost use Rattle.exec_task.specs.Growth.{grows};
+ghost use Rattle.exec_task.specs.TaskSet.{held, shard_of, removed, IsRefused, to_come, drain_of, next_shard};
+ghost use Rattle.exec_task.specs.Sight.{grows};
 ghost use Rattle.exec_task.specs.Polls.{ended_by};
 ghost use Rattle.exec_task.specs.Examples.{no, in_phase, cleared_in, fresh, two_left, four_in_two};
 ghost use Rattle.exec_task.specs.declared.task.Phase.TheVariants as phase;

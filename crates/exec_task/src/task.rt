@@ -72,12 +72,12 @@ impl<B: Drop> Phase<B> {
         ensures body { result ≡ queued_body self.old }
         ensures begun { self.new ≡ begun self.old }
     {
-        if !matches!(self, Phase::Queued(_)) {
-            return None;
-        }
         match mem::replace(self, Phase::Running) {
             Phase::Queued(body) => Some(body),
-            _ => unreachable!(),
+            other => {
+                *self = other;
+                None
+            }
         }
     }
 
@@ -86,18 +86,15 @@ impl<B: Drop> Phase<B> {
         ensures idle { result ≡ is_idle self.old }
         ensures woken { self.new ≡ woken self.old }
     {
-        if matches!(self, Phase::Running) {
-            *self = Phase::Notified;
-            return false;
-        }
-        if !matches!(self, Phase::Idle(_)) {
-            return false;
-        }
         match mem::replace(self, Phase::Notified) {
-            Phase::Idle(body) => *self = Phase::Queued(body),
-            _ => unreachable!(),
+            Phase::Idle(body) => {
+                *self = Phase::Queued(body);
+                return true;
+            }
+            Phase::Running => {}
+            other => *self = other,
         }
-        true
+        false
     }
 
     fn is_polled(&self) -> bool

@@ -6,7 +6,6 @@ use crate::task::Task;
 use crate::tasks::Tasks;
 use exec_base::task_no::TaskNo;
 use std::alloc::{AllocError, Global};
-use std::process::Abort;
 use std::test::Fail;
 
 /// A global queue that counts what it was given.
@@ -57,12 +56,6 @@ impl Place for Counting {
     }
 }
 
-/// Takes a task out of a set that holds it.
-fn take(rt: &impl Abort, tasks: &mut Tasks<char>, number: u32) -> Option<char> {
-    assert!(rt; tasks.get(TaskNo(number)).is_some());
-    tasks.remove(TaskNo(number))
-}
-
 #[test]
 fn a_drain_hands_out_the_newest_first(rt: HostRuntime) -> Result<(), Fail> {
     let mut tasks = Tasks::with_shards(rt.alloc(), 1)?;
@@ -74,9 +67,10 @@ fn a_drain_hands_out_the_newest_first(rt: HostRuntime) -> Result<(), Fail> {
         assert!(rt; held.is_ok());
     }
     assert_eq!(rt; place.pushed, 5);
-    assert_eq!(rt; take(&rt, &mut tasks, 2), Some('c'));
-    assert_eq!(rt; take(&rt, &mut tasks, 4), Some('e'));
-    assert_eq!(rt; take(&rt, &mut tasks, 0), Some('a'));
+    for (number, letter) in [(2, 'c'), (4, 'e'), (0, 'a')] {
+        assert!(rt; tasks.get(TaskNo(number)).is_some());
+        assert_eq!(rt; tasks.remove(TaskNo(number)), Some(letter));
+    }
     tasks.close();
     let mut drain = tasks.drain(0);
     assert_eq!(rt; drain.next(&mut tasks), Some((TaskNo(3), 'd')));

@@ -1,16 +1,39 @@
 -- What any calls on a run queue keep.
-use Rattle.std.proofs.Common.{◌≡◌, ℕ, ◌+◌, ◌-◌, ◌/◌, ◌≤◌, ◌&&◌, Bool, true, false, cond, List, [], ◌∷◌, ◌++◌, length, take, drop, refl, sym, ap, subst, ◌∙◌, arith, append_assoc, length-append, count_by}
+use Rattle.std.proofs.Common.{◌≡◌, ℕ, ◌+◌, ◌/◌, ◌≤◌, ◌&&◌, Bool, true, false, cond, List, [], ◌∷◌, ◌++◌, length, take, drop, refl, inl, inr, sym, ap, subst, ◌∙◌, arith, append_assoc, length-append, count_by}
 use Rattle.std.proofs.lemmas.List.{take-append-drop, append-nil, length-take, length-drop}
 use Rattle.std.proofs.lemmas.List.Sums.{sum_by-append}
 use Rattle.exec_words.specs.QueueRuns.{IsWithin, Change, Push, Pop, Claim, Release, Overflow, Restore, History, begun, is_empty, after, after_all}
 use Rattle.exec_words.specs.Queue.{published, overflowed, newest, restored}
-use Rattle.exec_words.proofs.Within.{nothing_within, within_itself, within_append}
 
 first : (a b : Bool) → a && b ≡ true → a ≡ true
 first true b is = refl
 first false b is = absurd (cc)
 
 module _ {T : Type 0} where
+  -- lists with some values left out
+  nothing_within : (ys : List T) → IsWithin [] ys
+  nothing_within [] = tt
+  nothing_within (y ∷ ys) = tt
+
+  within_itself : (xs : List T) → IsWithin xs xs
+  within_itself [] = tt
+  within_itself (x ∷ xs) = inl (refl, within_itself xs)
+
+  -- one more value may be left out
+  within_more : (xs ys : List T) (y : T) → IsWithin xs ys → IsWithin xs (y ∷ ys)
+  within_more [] ys y p = tt
+  within_more (x ∷ xs) ys y p = inr p
+
+  within_append : (xs ys us vs : List T) → IsWithin xs ys → IsWithin us vs → IsWithin (xs ++ us) (ys ++ vs)
+  within_append [] [] us vs p q = q
+  within_append (x ∷ xs) [] us vs p q = absurd p
+  within_append [] (y ∷ ys) us vs p q = within_more us (ys ++ vs) y (within_append [] ys us vs (nothing_within ys) q)
+  within_append (x ∷ xs) (y ∷ ys) us vs p q =
+      elim p [
+        | inl first ↦ inl (first.0, within_append xs ys us vs first.1 q)
+        | inr later ↦ inr (within_append (x ∷ xs) ys us vs later q)
+      ]
+
   -- each value of the first list is in one of the others, and in its order
   pub record IsSplit (all kept out : List T) : Type 0 where
     pub once : (p : T → Bool) → count_by p all ≡ count_by p kept + count_by p out

@@ -1,5 +1,5 @@
 -- Queues, words and inboxes to look at.
-use Rattle.std.specs.Prelude.{ℕ, zero, suc, ◌+◌, ◌-◌, ◌^◌, Bool, false, List, [], ◌∷◌}
+use Rattle.std.specs.Prelude.{ℕ, zero, suc, ◌+◌, Bool, false, List, [], ◌∷◌}
 use Rattle.exec_words.specs.declared.head.Head.{Head}
 use Rattle.exec_words.specs.declared.inbox.Message.TheVariants.{WakeRoot, Cancel}
 use Rattle.exec_words.specs.declared.word.WaitTarget.{WaitTarget}
@@ -33,10 +33,6 @@ popped_past = popped (popped (claimed five 2))
 -- as many values as there can be
 abbrev pub full : Queue ℕ
 full = queue_at 0 (numbers 0 256)
-
--- from this count of its tail on a queue is spent
-abbrev pub last_count : ℕ
-last_count = 2 ^ 55 - 512
 
 abbrev pub word : WaitTarget → Bool → PureWord
 word target latch = record { target = target; latch = latch; batch = 0 }

@@ -1,10 +1,10 @@
 //! Worked examples of the definitions, proved by computation: what holds, and what doesn't.
 
-ghost use Rattle.std.specs.Prelude.{◌≡◌, ◌≢◌, ◌-◌, true, false, [], ◌∷◌, Some, None};
+ghost use Rattle.std.specs.Prelude.{◌≡◌, ◌≢◌, ◌-◌, ◌^◌, true, false, [], ◌∷◌, Some, None};
 ghost use Rattle.exec_words.specs.declared.head.Fit.TheVariants as fit;
 ghost use Rattle.exec_words.specs.declared.inbox.Message.TheVariants as mail;
 ghost use Rattle.exec_words.specs.declared.word.WaitTarget.TheVariants as wait;
-ghost use Rattle.exec_words.specs.Examples.{numbers, head, queue_at, five, popped_past, full, last_count, word, no_mail, two_letters, a_run, searches};
+ghost use Rattle.exec_words.specs.Examples.{numbers, head, queue_at, five, popped_past, full, word, no_mail, two_letters, a_run, searches};
 ghost use Rattle.exec_words.specs.Global.{share_of};
 ghost use Rattle.exec_words.specs.Head.{fit_at, room_at, is_stealable_at};
 ghost use Rattle.exec_words.specs.Idle.{lowest_of};
@@ -16,21 +16,11 @@ ghost use Rattle.exec_words.specs.Word.{asks_signal, is_idle_at, next_batch};
 /// Five values, of which a thief claims two. The owner pops two past the claim, and the release
 /// frees all four places. A full queue flows over: the oldest half stays, under new counts.
 pub fn transitions()
-    ensures claimed { claimed five 2 ≡ record {
-      real = 2;
-      gap = 2;
-      values = numbers 3 3;
-      held = [];
-    } }
-    ensures popped { popped_past ≡ record { real = 4; gap = 4; values = 5 ∷ []; held = [] } }
+    ensures claimed { claimed five 2 ≡ record (queue_at 2 (numbers 3 3)) { gap = 2 } }
+    ensures popped { popped_past ≡ record (queue_at 4 (5 ∷ [])) { gap = 4 } }
     ensures released { released popped_past ≡ queue_at 4 (5 ∷ []) }
     ensures not_to_its_end { released popped_past ≢ record popped_past { gap = 2 } }
-    ensures between { overflowed full ≡ record {
-      real = 256;
-      gap = 0;
-      values = [];
-      held = numbers 0 128;
-    } }
+    ensures between { overflowed full ≡ record (queue_at 256 []) { held = numbers 0 128 } }
     ensures after { restored (overflowed full) ≡ queue_at 256 (numbers 0 128) }
     ensures handed_out { newest full ≡ numbers 128 128 }
     ensures not_the_oldest { newest full ≢ numbers 0 128 }
@@ -43,12 +33,12 @@ pub fn fits()
     ensures overflow { fit_at (head 0 0) 256 ≡ fit.Overflow }
     ensures beside_pops { fit_at (head 4 4) 255 ≡ fit.Room 252 }
     ensures full { fit_at (head 4 4) 256 ≡ fit.Claimed }
-    ensures spent { fit_at (head (last_count - 1) 0) last_count ≡ fit.Spent }
+    ensures spent { fit_at (head (2 ^ 55 - 513) 0) (2 ^ 55 - 512) ≡ fit.Spent }
     ensures two { is_stealable_at (head 7 0) 9 ≡ true }
     ensures lone { is_stealable_at (head 7 0) 8 ≡ false }
     ensures beside_a_claim { is_stealable_at (head 7 1) 20 ≡ false }
     ensures room { room_at (head 4 4) 5 ≡ 251 }
-    ensures no_room { room_at (head (last_count - 1) 0) last_count ≡ 0 }
+    ensures no_room { room_at (head (2 ^ 55 - 513) 0) (2 ^ 55 - 512) ≡ 0 }
 {}
 
 /// Shares of the global queue: for one of four workers, for one without room, and of nothing. The

@@ -117,13 +117,11 @@ impl PureIdle {
         if self.set != *seen {
             return Err(self.set);
         }
-        match seen.lowest() {
-            Some(lowest) => {
-                self.set.has[lowest] = false;
-                Ok(lowest)
-            }
-            None => unreachable!(),
-        }
+        let Some(lowest) = seen.lowest() else {
+            unreachable!();
+        };
+        self.set.has[lowest] = false;
+        Ok(lowest)
     }
 
     /// Loads the search count.
@@ -133,8 +131,7 @@ impl PureIdle {
         self.count
     }
 
-    /// Adds a search count. The caller must know that the count isn't at its type's end: it is at
-    /// most the number of those that hold one.
+    /// Adds a search count. The caller must know that the count isn't at its type's end.
     pub fn add(&mut self)
         requires { self.old.count + 1 < 2 ^ 64 }
         ensures { self.new ≡ record self.old { count = self.old.count + 1 } }

@@ -1,12 +1,11 @@
 //! The messages that wait for one worker, in batches.
 //!
-//! Anyone sends, under a lock; the worker takes all that is there at once, as one batch, and applies
-//! it in order. The first message of a batch publishes it in the worker's wake word, so batches
-//! published less batches taken is 1 where an open inbox holds a message, and else 0. That the
-//! worker's root is to be woken stands at most once in a batch. A closed inbox gives each message
-//! back, and what stood in it when it closed counts as taken.
-//!
-//! Ports the `Inbox` and `Message` of `commonware_runtime`'s `iouring::mailbox`.
+//! Anyone sends, under a lock; the worker takes all that is there at once, as one batch, and
+//! applies it in order. The first message of a batch publishes it in the worker's wake word, so
+//! batches published less batches taken is 1 where an open inbox holds a message, and else 0. That
+//! the worker's root is to be woken stands at most once in a batch. A closed inbox gives each
+//! message back, and what stood in it when it closed counts as taken. Ports the `Inbox` and
+//! `Message` of `commonware_runtime`'s `iouring::mailbox`.
 
 ghost use Rattle.std.specs.Prelude.{◌≡◌, ◌<◌, ◌^◌, [], length, max, false, true, not, ◌&&◌, IsOk, IfOk, OnOk, IfErr, OnErr, ◌↔◌};
 ghost use Rattle.exec_words.specs.declared.inbox.Message.{Message as Mail};
@@ -151,9 +150,8 @@ impl<F, C> Inbox<F, C> {
         Ok(word.publish())
     }
 
-    /// Takes all messages as one batch into `batch`, whose places stay here in exchange. False
-    /// exactly where there is none, and nothing changes then. The caller must have applied the
-    /// batch before: `batch` is empty.
+    /// Takes all messages as one batch into `batch`, which must be empty, and whose places stay
+    /// here in exchange. False exactly where there is none, and nothing changes then.
     pub fn take(&mut self, batch: &mut Reserved<Message<F, C>>) -> bool
         requires { batch.old.values ≡ [] }
         ensures answer { result ≡ has_mail self.old }
@@ -170,8 +168,7 @@ impl<F, C> Inbox<F, C> {
     }
 
     /// Closes the inbox. What stood in it counts as a batch that was taken, and goes into `batch`,
-    /// for the worker to let go; the answer is whether there was one. The caller must have let go
-    /// of the batch before.
+    /// which must be empty, for the worker to let go; the answer is whether there was one.
     pub fn close(&mut self, batch: &mut Reserved<Message<F, C>>) -> bool
         requires { batch.old.values ≡ [] }
         ensures answer { result ≡ has_mail self.old }

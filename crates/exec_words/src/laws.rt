@@ -26,7 +26,7 @@ pub fn values_leave_in_order()
 {}
 
 /// The search count is what was added and exchanged in, less what was subtracted.
-#[tactic(auto, using(crate::proofs::Counts::count_is_a_sum))]
+#[tactic(auto, using(crate::proofs::Counts::stays_a_sum))]
 pub fn the_count_is_a_sum()
     ensures { (moves : List Move)
         → let t = after_moves nothing moves in

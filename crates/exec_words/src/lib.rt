@@ -26,8 +26,7 @@ pub mod word;
 pub const CAPACITY: usize = 256;
 /// How many values an overflow keeps, and the most that a steal takes: half the capacity.
 pub const HALF: usize = 128;
-/// The fewest values that an unclaimed queue holds for a steal to take any. Half of them is taken,
-/// rounded down.
+/// The fewest values of an unclaimed queue of which a steal takes any: half, rounded down.
 pub const STEALABLE: usize = 2;
 /// The most workers that a pool has.
 pub const MAX_WORKERS: usize = 64;

@@ -38,7 +38,7 @@ impl<F, C> Mailbox<F, C> {
         let mut inbox = Inbox::new(alloc);
         inbox.reserve(alloc, 1)?;
         Ok(Mailbox {
-            waker: PureWord::new(),
+            waker: PureWord::at(0),
             inbox,
         })
     }

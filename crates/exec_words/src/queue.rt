@@ -7,21 +7,20 @@
 //! answers the head that it found.
 //!
 //! - The owner pops by an exchange (`pop_exchange`). A lone value without a claim it takes by a
-//!   store of the head (`pop_last`), since no thief can; where no thief acts a pop is one action
-//!   (`pop`).
-//! - The owner publishes by a store of the tail: one value (`push_fitting`), or several (`publish`).
-//! - A thief that loaded head and tail claims half of what is between them (`claim_exchange`). While
-//!   it moves them their places aren't free: the gap counts them, and those of the owner's pops past
-//!   them. The release (`release_exchange`) frees both.
-//! - A push into a full queue without a claim flows over (`overflow_exchange`): the newest half goes
-//!   to the owner's hand, and the oldest half is kept aside until the owner's next store of the tail
-//!   (`restore`). In between the queue is empty to thieves. Each position is counted once more, so
-//!   no head comes again.
+//!   store of the head (`pop_last`), since no thief can. Without thieves a pop is one act (`pop`).
+//! - The owner publishes one value (`push_fitting`) or several (`publish`) by a store of the tail.
+//! - A thief that loaded head and tail claims half of what is between them (`claim_exchange`).
+//!   While it moves them their places aren't free: the gap counts them, and those of the owner's
+//!   pops past them. The release (`release_exchange`) frees both.
+//! - A push into a full queue without a claim flows over (`overflow_exchange`): the newest half
+//!   goes to the owner's hand, and the oldest half is kept aside until the owner's next store of
+//!   the tail (`restore`). In between the queue is empty to thieves. Each position is counted once
+//!   more, so no head comes again.
 //!
 //! Where nobody acts in between, `push` is a whole push of these steps. A queue counts its values:
-//! from 2^55 - 512 on it takes no more, and is spent. What a contract sees is in `specs/Queue.antt`.
-//! Ports the `Queue` and `Owner` of `commonware_runtime`'s `iouring::queue`, each of whose loops
-//! makes these steps.
+//! from 2^55 - 512 on it takes no more, and is spent. What a contract sees is in
+//! `specs/Queue.antt`. Ports the `Queue` and `Owner` of `commonware_runtime`'s `iouring::queue`,
+//! each of whose loops makes these steps.
 
 ghost use Rattle.std.specs.Prelude.{◌≡◌, ◌+◌, ◌-◌, ◌^◌, ◌<◌, ◌≤◌, ◌↔◌, ◌==◌, [], ◌∷◌, ◌++◌, length, take, drop, slice_get, IsOk, IfOk, OnOk, IfErr, OnErr, IfNone, OnSome, Some, false, IsTrue, if◌then◌else◌};
 
@@ -36,8 +35,7 @@ use std::marker::Model;
 pub enum PushAnswer<T> {
     /// The value was published; the queue had so many then.
     Pushed(usize),
-    /// The queue was full: its newest half went into the owner's hand, and this value goes behind
-    /// it.
+    /// The queue was full: its newest half is in the owner's hand, and this value goes behind it.
     Overflow(T),
     /// No place was free beside a claim: only this value goes elsewhere.
     Claimed(T),
@@ -128,13 +126,6 @@ impl<T> PureQueue<T> {
         ensures { result ≡ length self.now.values }
     {
         self.values.len()
-    }
-
-    /// Whether there is none.
-    pub fn is_empty(&self) -> bool
-        ensures { result ≡ (length self.now.values == 0) }
-    {
-        self.values.is_empty()
     }
 
     /// Whether its owner is in the middle of no overflow.
@@ -231,10 +222,8 @@ impl<T> PureQueue<T> {
 
     /// A thief's claim by an exchange of the head: half of the values up to the tail that it saw,
     /// rounded down, go into its hand, the oldest first. Answers how many. Err with the head that
-    /// was found where it isn't `seen`.
-    ///
-    /// The caller must have loaded `tail` from this queue after `seen`, have seen no claim and at
-    /// least two values, and have 128 places in its hand.
+    /// was found where it isn't `seen`. The caller must have loaded `tail` from this queue after
+    /// `seen`, have seen no claim and at least two values, and have 128 places in its hand.
     pub fn claim_exchange(
         &mut self,
         seen: Head,
@@ -281,10 +270,9 @@ impl<T> PureQueue<T> {
 
     /// The beginning of an overflow by an exchange of the head: the newest half goes into the
     /// owner's hand, the oldest first, and the oldest half is kept aside until `restore`. Err with
-    /// the head that was found where it isn't `seen`.
-    ///
-    /// The caller must have seen a full queue without a claim that isn't spent, be in the middle of
-    /// no other overflow, and have 128 places in its hand.
+    /// the head that was found where it isn't `seen`. The caller must have seen a full queue
+    /// without a claim that isn't spent, be in the middle of no other overflow, and have 128 places
+    /// in its hand.
     pub fn overflow_exchange(&mut self, seen: Head, hand: &mut Reserved<T>) -> Result<(), Head>
         requires full { seen.real + 256 ≡ tail_of self.old }
         requires unspent { is_spent (tail_of self.old) ≡ false }

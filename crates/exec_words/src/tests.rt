@@ -63,15 +63,9 @@ impl Local {
     fn steal(&mut self, rt: &impl Abort, thief: &mut Local) -> usize {
         let count = self.claim(rt, thief);
         assert_eq!(rt; self.queue.release_exchange(self.queue.head()), Ok(()));
-        assert!(rt; thief.queue.is_whole() && count <= thief.queue.room());
-        assert!(rt; count <= thief.hand.len());
+        assert!(rt; thief.queue.is_whole() && count <= thief.hand.len().min(thief.queue.room()));
         thief.queue.publish(count, &mut thief.hand);
         count
-    }
-
-    /// Front and gap of the queue, and its room.
-    fn shown(&self) -> (Head, usize) {
-        (self.queue.head(), self.queue.room())
     }
 }
 
@@ -83,7 +77,7 @@ fn a_full_queue_flows_over(rt: HostRuntime) -> Result<(), Fail> {
         assert_eq!(rt; local.queue.pop(), Some(value));
         assert_eq!(rt; local.hand.pop(), Some(value + 128));
     }
-    assert!(rt; local.queue.is_empty() && local.hand.is_empty());
+    assert!(rt; local.queue.len() == 0 && local.hand.is_empty());
     Ok(())
 }
 
@@ -102,9 +96,12 @@ fn a_release_frees_the_pops_past_its_claim(rt: HostRuntime) -> Result<(), Fail> 
     assert_eq!(rt; local.claim(&rt, &mut Local::at(rt.alloc(), 0)?), 2);
     assert_eq!(rt; (local.queue.pop(), local.queue.pop()), (Some(2), Some(3)));
     let seen = Head { real: 4, gap: 4 };
-    assert_eq!(rt; local.shown(), (seen, 251));
+    assert_eq!(rt; (local.queue.head(), local.queue.room()), (seen, 251));
     assert_eq!(rt; local.queue.release_exchange(seen), Ok(()));
-    assert_eq!(rt; local.shown(), (Head { real: 4, gap: 0 }, 255));
+    assert_eq!(rt;
+        (local.queue.head(), local.queue.room()),
+        (Head { real: 4, gap: 0 }, 255)
+    );
     Ok(())
 }
 
@@ -144,21 +141,14 @@ fn global_of(rt: &impl Abort, alloc: Global, count: usize) -> Result<GlobalQueue
     Ok(global)
 }
 
-/// How many values a worker with this run queue takes from so many.
-fn share(
-    rt: &impl Abort,
-    alloc: Global,
-    workers: usize,
-    count: usize,
-    local: &mut Local,
-) -> Result<usize, Fail>
+/// How many values a worker with this run queue takes.
+fn share(rt: &impl Abort, workers: usize, global: &mut GlobalQueue<u64>, local: &mut Local) -> usize
     requires { 0 < workers }
 {
-    let mut global = global_of(rt, alloc, count)?;
-    let (room, held) = (local.queue.room(), local.queue.len());
+    let (before, room, held) = (global.mirror(), local.queue.room(), local.queue.len());
     assert!(rt; local.queue.is_whole());
     assert_eq!(rt; global.take(workers, room, held, &mut local.queue), Some(0));
-    Ok(count.saturating_sub(global.mirror()))
+    before.saturating_sub(global.mirror())
 }
 
 #[test]
@@ -168,10 +158,13 @@ fn shares(rt: HostRuntime) -> Result<(), Fail> {
     let mut holding = Local::holding(&rt, alloc, 0..100)?;
     let mut claimed = Local::holding(&rt, alloc, 0..256)?;
     assert_eq!(rt; claimed.claim(&rt, &mut Local::at(alloc, 0)?), 128);
-    assert_eq!(rt; share(&rt, alloc, 4, 8, &mut free)?, 3);
-    assert_eq!(rt; share(&rt, alloc, 1, 130, &mut alone)?, 129);
-    assert_eq!(rt; share(&rt, alloc, 1, 300, &mut holding)?, 29);
-    assert_eq!(rt; share(&rt, alloc, 1, 300, &mut claimed)?, 1);
+    let shares = (
+        share(&rt, 4, &mut global_of(&rt, alloc, 8)?, &mut free),
+        share(&rt, 1, &mut global_of(&rt, alloc, 130)?, &mut alone),
+        share(&rt, 1, &mut global_of(&rt, alloc, 300)?, &mut holding),
+        share(&rt, 1, &mut global_of(&rt, alloc, 300)?, &mut claimed),
+    );
+    assert_eq!(rt; shares, (3, 129, 29, 1));
     Ok(())
 }
 
@@ -207,7 +200,7 @@ fn a_last_look_has_three_answers(rt: HostRuntime) -> Result<(), Fail> {
 
 #[test]
 fn a_batch_is_signalled_once(rt: HostRuntime) {
-    let mut word = PureWord::new();
+    let mut word = PureWord::at(0);
     assert!(rt; word.arm(WaitTarget::Ring).still_idle(0));
     assert!(rt; word.publish());
     word.wake();

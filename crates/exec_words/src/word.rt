@@ -1,10 +1,10 @@
 //! The wake word of a worker: how it waits, whether it is to wake, and how many batches of mail
 //! were published.
 //!
-//! A worker that is about to wait arms its word, and waits only where it finds no latch and no batch
-//! that it hasn't taken. Whoever has something for the worker sets the latch: the first one to do
-//! so while a wait is armed rouses the worker, and a latch that comes earlier keeps the next wait
-//! from beginning. The end of a wait takes wait and latch out.
+//! A worker that is about to wait arms its word, and waits only where it finds no latch and no
+//! batch that it hasn't taken. Whoever has something for the worker sets the latch: the first one
+//! to do so while a wait is armed rouses the worker, and a latch that comes earlier keeps the next
+//! wait from beginning. The end of a wait takes wait and latch out.
 //!
 //! Mail is published before it is signalled: the first message of a batch raises the batch number,
 //! and a signal must follow exactly where a wait is armed and no latch stands. Where none is armed,
@@ -44,14 +44,8 @@ pub struct PureWord {
 impl PureWord {
     ghost use Rattle.exec_words.specs.Word.{asks_signal, is_idle_at};
 
-    /// Nobody waits, no latch stands, and no batch was published.
-    pub fn new() -> Self
-        ensures { result ≡ record { target = wait.None; latch = false; batch = 0 } }
-    {
-        PureWord::at(0)
-    }
-
-    /// The same, with this number of published batches, at most `SUBMISSION_SEQ_MASK`.
+    /// Nobody waits, no latch stands, and so many batches were published: at most
+    /// `SUBMISSION_SEQ_MASK`.
     pub fn at(batch: u32) -> Self
         requires { batch < 2 ^ 29 }
         ensures { result ≡ record { target = wait.None; latch = false; batch = batch } }
