@@ -1,5 +1,5 @@
 -- A request that ends for a task of the worker.
-use Rattle.std.proofs.Common.{◌≡◌, ℕ, true, false, [], ◌∷◌, Option, Some, refl}
+use Rattle.std.proofs.Common.{◌≡◌, ℕ, true, [], ◌∷◌, Option, Some, refl}
 use Rattle.std.proofs.lemmas.Bool.{false≢true}
 use Rattle.exec_base.specs.Slab.{Slab, written}
 use Rattle.exec_base.specs.declared.slab.Id.{Id}

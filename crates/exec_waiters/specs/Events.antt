@@ -79,7 +79,7 @@ module _ {S F : Type 0} where
 
   -- an insert is refused for this reason, and hands this back
   abbrev pub IsTurnedDown : Slab (Entry S F) → Refused S F → InsertError (Refused S F) → Type 0
-  IsTurnedDown s back (Full v) = (v ≡ back) × IsUsedUp s
+  IsTurnedDown s back (Full v) = (v ≡ back) × (is_full s ≡ true) × IsUsedUp s
   IsTurnedDown s back (NoMemory v) = (v ≡ back) × (HasRoom s → ⊥) × (is_full s ≡ false)
 
   -- ONE REQUEST CHANGED
