@@ -6,7 +6,7 @@ use Rattle.exec_words.specs.declared.word.WaitTarget.{WaitTarget}
 use Rattle.exec_words.specs.declared.word.PureWord.{PureWord}
 use Rattle.exec_words.specs.IdleRuns.{Tally, Add, Subtract, Exchange, nothing}
 use Rattle.exec_words.specs.IdleRuns as idle
-use Rattle.exec_words.specs.Inbox.{Inbox, sent}
+use Rattle.exec_words.specs.Inbox.{Inbox, without_mail, sent}
 use Rattle.exec_words.specs.Queue.{Queue, claimed, popped}
 use Rattle.exec_words.specs.QueueRuns.{Push, Pop, Claim, Release, History, begun, after_all}
 
@@ -39,7 +39,7 @@ word target latch = record { target = target; latch = latch; batch = 0 }
 
 -- an open inbox without messages
 abbrev pub no_mail : Inbox ℕ ℕ
-no_mail = record { messages = []; places = 2; closed = false; published = 0; taken = 0 }
+no_mail = without_mail 2
 
 -- a wake of the root, and a cancel
 abbrev pub two_letters : Inbox ℕ ℕ

@@ -17,6 +17,10 @@ pub record Inbox (F C : Type 0) : Type 0 where
   pub taken : ℕ
 
 module _ {F C : Type 0} where
+  -- an open inbox without messages, with so many places
+  abbrev pub without_mail : ℕ → Inbox F C
+  without_mail places = record { messages = []; places = places; closed = false; published = 0; taken = 0 }
+
   abbrev pub has_any : List (Message F C) → Bool
   has_any [] = false
   has_any _ = true

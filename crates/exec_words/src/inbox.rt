@@ -54,18 +54,12 @@ impl<F, C> Model for Inbox<F, C> {
 }
 
 impl<F, C> Inbox<F, C> {
-    ghost use Rattle.exec_words.specs.Inbox.{sent, is_dropped, opens_batch, word_after, batch_taken, batch_handed, has_mail, shut, IsCounted, spare_places};
+    ghost use Rattle.exec_words.specs.Inbox.{without_mail, sent, is_dropped, opens_batch, word_after, batch_taken, batch_handed, has_mail, shut, IsCounted, spare_places};
     ghost use Rattle.exec_words.specs.Word.{asks_signal};
 
     /// An open inbox without messages and places.
     pub fn new(alloc: Global) -> Self
-        ensures { result ≡ record {
-          messages = [];
-          places = 0;
-          closed = false;
-          published = 0;
-          taken = 0;
-        } }
+        ensures { result ≡ without_mail 0 }
     {
         Inbox {
             messages: Reserved::new(alloc),
@@ -92,22 +86,6 @@ impl<F, C> Inbox<F, C> {
         ensures counted { IsCounted self.now }
     {
         self.closed
-    }
-
-    /// How many batches were published, modulo 2^29.
-    pub fn published(&self) -> u32
-        ensures count { result ≡ self.now.published }
-        ensures counted { IsCounted self.now }
-    {
-        self.published
-    }
-
-    /// How many batches were taken, modulo 2^29.
-    pub fn taken(&self) -> u32
-        ensures count { result ≡ self.now.taken }
-        ensures counted { IsCounted self.now }
-    {
-        self.taken
     }
 
     /// Appends a message, and publishes the batch that it begins in the worker's wake word. Answers

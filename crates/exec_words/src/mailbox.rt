@@ -2,8 +2,7 @@
 //!
 //! `send` is a whole sending, where nobody acts in between: the section that appends and publishes,
 //! and then the signal where one is asked for. An executor that makes these one by one calls
-//! `Inbox::send` and `PureWord::wake`. What concerns one of the two alone, as reserving, taking and
-//! closing, is a call on it. Ports the `Mailbox` of `commonware_runtime`'s `iouring::mailbox`.
+//! `Inbox::send` and `PureWord::wake`. Ports `Mailbox` of `commonware_runtime`'s `iouring::mailbox`.
 
 ghost use Rattle.std.specs.Prelude.{◌≡◌, ◌<◌, [], false, true, max, IsOk, IfOk, OnOk, IfErr, OnErr, ◌↔◌};
 ghost use Rattle.exec_words.specs.declared.word.WaitTarget.TheVariants as wait;
@@ -23,15 +22,14 @@ pub struct Mailbox<F, C> {
 }
 
 impl<F, C> Mailbox<F, C> {
-    ghost use Rattle.exec_words.specs.Inbox.{sent, is_dropped, spare_places, word_signalled};
+    ghost use Rattle.exec_words.specs.Inbox.{without_mail, sent, is_dropped, spare_places, word_signalled, has_mail, batch_taken, batch_handed, shut};
 
     /// An open mailbox with a fresh wake word, and a place for a wake of the root.
     pub fn new(alloc: Global) -> Result<Self, AllocError>
     where
         F: Drop,
         C: Drop,
-        ensures inbox { IfOk result (λ m. m.inbox
-            ≡ record { messages = []; places = 1; closed = false; published = 0; taken = 0 }) }
+        ensures inbox { IfOk result (λ m. m.inbox ≡ without_mail 1) }
         ensures waker { IfOk result (λ m. m.waker
             ≡ record { target = wait.None; latch = false; batch = 0 }) }
     {
@@ -64,5 +62,34 @@ impl<F, C> Mailbox<F, C> {
             self.waker.wake();
         }
         Ok(())
+    }
+
+    /// Makes places, as `Inbox::reserve` does.
+    pub fn reserve(&mut self, alloc: Global, n: usize) -> Result<(), AllocError>
+        ensures places { OnOk result (self.new.inbox ≡ record self.old.inbox { places = max self.old.inbox.places n }) }
+        ensures kept { OnErr result (self.new.inbox ≡ self.old.inbox) }
+        ensures waker { self.new.waker ≡ self.old.waker }
+    {
+        self.inbox.reserve(alloc, n)
+    }
+
+    /// Takes all messages as one batch, as `Inbox::take` does. `batch` must be empty.
+    pub fn take(&mut self, batch: &mut Reserved<Message<F, C>>) -> bool
+        requires { batch.old.values ≡ [] }
+        ensures answer { result ≡ has_mail self.old.inbox }
+        ensures taken { self.new ≡ record self.old { inbox = batch_taken self.old.inbox batch.old } }
+        ensures handed { batch.new ≡ batch_handed self.old.inbox batch.old }
+    {
+        self.inbox.take(batch)
+    }
+
+    /// Closes the inbox, as `Inbox::close` does. `batch` must be empty.
+    pub fn close(&mut self, batch: &mut Reserved<Message<F, C>>) -> bool
+        requires { batch.old.values ≡ [] }
+        ensures answer { result ≡ has_mail self.old.inbox }
+        ensures closed { self.new ≡ record self.old { inbox = shut (batch_taken self.old.inbox batch.old) } }
+        ensures handed { batch.new ≡ batch_handed self.old.inbox batch.old }
+    {
+        self.inbox.close(batch)
     }
 }

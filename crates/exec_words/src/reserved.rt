@@ -12,8 +12,7 @@ use std::collections::VecDeque;
 use std::marker::Model;
 use std::mem;
 
-/// Values in order, in places that were reserved before. Only `with_places` and `reserve` take
-/// memory.
+/// Values in order, in reserved places. Only `with_places` and `reserve` take memory.
 #[derive(Drop)]
 pub struct Reserved<T> {
     values: VecDeque<T>,
