@@ -1,0 +1,4 @@
+pub mod Totals
+pub mod Sets
+pub mod Keeps
+pub mod Seats

@@ -1,0 +1,11 @@
+//! The idle set and the search count of a pool, as running threads share them.
+#![tactic(auto)]
+
+pub mod plays;
+pub mod steps;
+pub mod view;
+
+/// The word of a table that is the idle set.
+pub const SET: usize = 0;
+/// The word of a table that is the search count.
+pub const COUNT: usize = 1;
