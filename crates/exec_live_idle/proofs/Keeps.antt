@@ -71,6 +71,9 @@ bounded workers set_ count views k =
     let a : total (shares set_) views ≤ total (λ u. 3 * width u) views = total_le (shares set_) (λ u. 3 * width u) views (λ j u at. shares_le workers set_ u (k.each_seat j u at)) in
     let b = total_thrice width views in omega (arith, a, b, k.counted, k.few)
 
+pub held_within : (workers : ℕ) (set_ : List Bool) (count : ℕ) (views : List View) (id : ℕ) (v : View) → Kept workers set_ count views → get_elem? views id ≡ some v → v.held ≤ count
+held_within workers set_ count views id v k at = let a = total_at (shares set_) views id v at in omega (arith, a, k.counted)
+
 -- no seat has published a worker whose own seat hasn't
 pub unpublished : (workers : ℕ) (set_ : List Bool) (count : ℕ) (views : List View) (id : ℕ) (v : View) → Kept workers set_ count views → get_elem? views id ≡ some v → v.number < v.end → v.published ≡ false
     → total (publishes v.number) views ≡ 0

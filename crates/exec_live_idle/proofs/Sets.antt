@@ -8,10 +8,11 @@ use Rattle.std.specs.List.{position_or_len}
 use Rattle.std.proofs.lemmas.List.Sums.{position_or_len_is}
 use Rattle.std.proofs.lemmas.Bool.{lt-ltb}
 use Rattle.std.specs.Int.{bit_at, bit_not, trailing_zeros}
-use Rattle.std.proofs.lemmas.Nat.Bits.{bit_at_lowest, bit_at-suc, bit_at_set_same, bit_at_set_other, bit_at_clear_same, bit_at_clear_other, bit_at-trailing_zeros}
+use Rattle.std.proofs.lemmas.Nat.Bits.{bit_at_lowest, bit_at-zero, bit_at-suc, bit_at_set_same, bit_at_set_other, bit_at_clear_same, bit_at_clear_other, bit_at-trailing_zeros}
 use Rattle.std.proofs.lemmas.List.{ext_get_or, get_or-set_same, get_or-set_other, length-set, get_or_past}
 use Rattle.exec_words.specs.Idle.{is_in, lowest_of}
-use Rattle.exec_live_idle.specs.Words.{bits_of, set_of}
+use Rattle.std.proofs.lemmas.Nat.{one_shl}
+use Rattle.exec_live_idle.specs.Words.{bits_of, set_of, publish, withdraw, MovesSet}
 
 length-bits : (n word : ℕ) → length (bits_of n word) ≡ n
 length-bits zero word = refl
@@ -79,3 +80,17 @@ length-set_of word = length-bits 64 word
 
 pub in_changed_here : (word k : ℕ) (b : Bool) → k < 64 → is_in (set (set_of word) k b) k ≡ b
 in_changed_here word k b within = get_or-set_same (set_of word) k b false (omega (arith, length-set_of word))
+
+pub in_lowest : (word : ℕ) → 0 < word → word < 2 ^ 64 → is_in (set_of word) (trailing_zeros w64 word) ≡ true
+in_lowest word some_bit small = let t = bit_at-trailing_zeros w64 word some_bit small in in_set word (trailing_zeros w64 word) t.0 ∙ ap (λ (d : ℕ). d == 1) t.1
+
+-- the word 0 is the empty set
+pub none_in : (i : ℕ) → is_in (set_of 0) i ≡ false
+none_in i = dite (dec_le 64 i) (λ (past : 64 ≤ i). out_of_set 0 i past) (λ within. in_set 0 i (omega arith) ∙ ap (λ (d : ℕ). d == 1) (bit_at-zero i))
+
+-- what the or, and the and of a bit make of the set
+pub moves_publish : (word k : ℕ) → k < 64 → MovesSet (publish k) word (bit_or word (2 ^ k))
+moves_publish word k within count = let bit : bit_of k ≡ 2 ^ k = one_shl k 64 within in let e : set_of (bit_or word (2 ^ k)) ≡ set (set_of word) k true = rw bit at (set_with word k within) in rw e refl
+
+pub moves_withdraw : (word k : ℕ) → k < 64 → MovesSet (withdraw k) word (bit_and word (2 ^ 64 - 1 - 2 ^ k))
+moves_withdraw word k within count = let bit : bit_of k ≡ 2 ^ k = one_shl k 64 within in let e : set_of (bit_and word (2 ^ 64 - 1 - 2 ^ k)) ≡ set (set_of word) k false = rw bit at (set_without word k within) in rw e refl
