@@ -14,7 +14,7 @@ use Rattle.exec_words.specs.Idle.{is_in, lowest_of}
 use Rattle.exec_live_idle.specs.declared.view.View.{View}
 use Rattle.exec_live_idle.specs.Words.{set_of}
 use Rattle.exec_live_idle.specs.Live.{Kept, LiveIdle, next_number, own_number, with_counts, joined, first_view}
-use Rattle.exec_live_idle.specs.Plays.{published, withdrawn, claimed, counted, looks, publishes, withdraws, claims, reads, adds, subtracts, begins}
+use Rattle.exec_live_idle.specs.Plays.{published, looked, withdrawn, claimed, counted, looks, publishes, withdraws, claims, reads, adds, subtracts, begins}
 use Rattle.exec_live_idle.proofs.Sets.{bit_of, in_changed, in_changed_here, set_with, set_without, lowest_in, in_lowest, none_in}
 use Rattle.exec_live_idle.proofs.Seats.{splits, joins, begins as begins_}
 use Rattle.exec_live_idle.proofs.Keeps.{Differ, bounded, counts, held_within, publishes_kept, claims_kept, withdraws_kept, withdraws_claimed}
@@ -45,9 +45,12 @@ module _ {S : Type 0} (workers slots id : ℕ) (me : Me S View) (f : ℕ → ℕ
       )
 
 module _ {S : Type 0} (workers slots id : ℕ) (me : Me S View) where
-  pub look : Allows (LiveIdle workers) slots id me 0 (λ n. n) (looks (step slots 0 0 0 none) me)
-  look = on_set workers slots id me (λ n. n) (looks (step slots 0 0 0 none) me)
-      (λ word count views k at small. (me.0, subst (Kept workers (set_of word) count) (sym (set_again views id me.0 at)) k, refl))
+  looked_kept : (word count : ℕ) (views : List View) → me.0.number < me.0.end → Kept workers (set_of word) count views → get_elem? views id ≡ some me.0 → Kept workers (set_of word) count (set views id (looked me.0 word))
+  looked_kept word count views live k at = counts workers (set_of word) count count views id me.0 me.0.held me.0.saw (word == 0) k at live (k.each_seat id me.0 at).held refl
+
+  pub look : me.0.number < me.0.end → Allows (LiveIdle workers) slots id me 0 (λ n. n) (looks (step slots 0 0 0 none) me)
+  look live = on_set workers slots id me (λ n. n) (looks (step slots 0 0 0 none) me)
+      (λ word count views k at small. (looked me.0 word, looked_kept word count views live k at, refl))
 
   pub publish_ : me.0.number < me.0.end → me.0.number < 64 → me.0.number < me.0.workers → me.0.published ≡ false
       → Allows (LiveIdle workers) slots id me 0 (λ n. bit_or n (bit_of me.0.number)) (publishes (step slots 0 (bit_of me.0.number) 0 none) me)
@@ -102,17 +105,17 @@ module _ {S : Type 0} (workers slots id : ℕ) (me : Me S View) where
               rw hit (subst (λ (n : ℕ). (w : View) × Kept workers (set_of left) count (set views id w) × claims (step slots 0 seen left none) me n (w, me.1)) (sym e)
               (claim_hit seen count views live some_bit small holds (subst (λ (n : ℕ). Kept workers (set_of n) count views) e k) at)))
           (λ (ne : word ≢ seen). let miss : eqb word seen ≡ false = ne_eqb word seen ne in
-              rw miss (me.0, subst (Kept workers (set_of word) count) (sym (set_again views id me.0 at)) k, ((λ e. absurd (ne e)), λ _. refl))))
+              rw miss (looked me.0 word, looked_kept word count views live k at, ((λ e. absurd (ne e)), λ _. refl))))
 
   pub read_ : me.0.number < me.0.end → Allows (LiveIdle workers) slots id me 1 (λ n. n) (reads (step slots 1 0 0 none) me)
   read_ live = on_count workers slots id me (λ n. n) (reads (step slots 1 0 0 none) me)
-      (λ word count views k at. (counted me.0 count me.0.held, counts workers (set_of word) count count views id me.0 me.0.held count k at live (k.each_seat id me.0 at).held refl, refl))
+      (λ word count views k at. (counted me.0 count me.0.held, counts workers (set_of word) count count views id me.0 me.0.held count false k at live (k.each_seat id me.0 at).held refl, refl))
 
   pub add_ : me.0.number < me.0.end → me.0.held < 2 → Allows (LiveIdle workers) slots id me 1 (λ n. (n + 1) % 2 ^ 64) (adds (step slots 1 1 0 none) me)
   add_ live few = on_count workers slots id me (λ n. (n + 1) % 2 ^ 64) (adds (step slots 1 1 0 none) me)
       (λ word count views k at. let room = bounded workers (set_of word) count views k in let whole : (count + 1) % 2 ^ 64 ≡ count + 1 = omega (arith, room) in (
         counted me.0 count (me.0.held + 1),
-        rw whole (counts workers (set_of word) count (count + 1) views id me.0 (me.0.held + 1) count k at live (omega (arith, few)) (omega arith)),
+        rw whole (counts workers (set_of word) count (count + 1) views id me.0 (me.0.held + 1) count false k at live (omega (arith, few)) (omega arith)),
         (room, (λ other. rw whole refl), refl),
       ))
 
@@ -120,8 +123,8 @@ module _ {S : Type 0} (workers slots id : ℕ) (me : Me S View) where
   subtract_ live holds = on_count workers slots id me (λ n. (n + (2 ^ 64 - 1)) % 2 ^ 64) (subtracts (step slots 1 1 0 none) me)
       (λ word count views k at. let room = bounded workers (set_of word) count views k in let enough = held_within workers (set_of word) count views id me.0 k at in
         let some_count : 0 < count = omega (arith, enough, holds) in let whole : (count + (2 ^ 64 - 1)) % 2 ^ 64 ≡ count - 1 = omega (arith, some_count, room) in (
-        counted me.0 count (me.0.held - 1),
-        rw whole (counts workers (set_of word) count (count - 1) views id me.0 (me.0.held - 1) count k at live (let most = (k.each_seat id me.0 at).held in omega (arith, most)) (omega (arith, some_count, holds))),
+        counted me.0 (count - 1) (me.0.held - 1),
+        rw whole (counts workers (set_of word) count (count - 1) views id me.0 (me.0.held - 1) (count - 1) false k at live (let most = (k.each_seat id me.0 at).held in omega (arith, most)) (omega (arith, some_count, holds))),
         (some_count, (λ other. rw whole refl), refl),
       ))
 
@@ -129,12 +132,12 @@ module _ {S : Type 0} (workers slots id : ℕ) (me : Me S View) where
       → (w : View) × Kept workers (set_of word) (either (eqb count 0) 1 count) (set views id w) × begins (step slots 1 0 1 none) me count (w, me.1)
   begin_at word count views live few k at (yes e) = let hit : eqb count 0 ≡ true = eq-eqb count 0 e in (
     counted me.0 count (me.0.held + 1),
-    rw hit (counts workers (set_of word) count 1 views id me.0 (me.0.held + 1) count k at live (omega (arith, few)) (omega (arith, e))),
+    rw hit (counts workers (set_of word) count 1 views id me.0 (me.0.held + 1) count false k at live (omega (arith, few)) (omega (arith, e))),
     ((λ _ other. rw e refl), rw hit refl),
   )
   begin_at word count views live few k at (no ne) = let miss : eqb count 0 ≡ false = ne_eqb count 0 ne in (
     counted me.0 count me.0.held,
-    rw miss (counts workers (set_of word) count count views id me.0 me.0.held count k at live (omega (arith, few)) refl),
+    rw miss (counts workers (set_of word) count count views id me.0 me.0.held count false k at live (omega (arith, few)) refl),
     ((λ e. absurd (ne e)), rw miss (ap (λ (h : ℕ). (counted me.0 count h, me.1)) (omega arith))),
   )
 

@@ -118,10 +118,10 @@ not_true false never = refl
 not_true true never = absurd (never refl)
 
 -- a seat's counts change, and the count with them
-pub counts : (workers : ℕ) (set_ : List Bool) (count left : ℕ) (views : List View) (id : ℕ) (v : View) (held saw : ℕ) → Kept workers set_ count views → get_elem? views id ≡ some v → v.number < v.end → held ≤ 2
-    → left + v.held ≡ count + held → Kept workers set_ left (set views id record v { held = held; saw = saw })
-counts workers set_ count left views id v held saw k at live few moved =
-    let w : View = record v { held = held; saw = saw } in let s = k.each_seat id v at in
+pub counts : (workers : ℕ) (set_ : List Bool) (count left : ℕ) (views : List View) (id : ℕ) (v : View) (held saw : ℕ) (empty : Bool) → Kept workers set_ count views → get_elem? views id ≡ some v → v.number < v.end → held ≤ 2
+    → left + v.held ≡ count + held → Kept workers set_ left (set views id record v { held = held; saw = saw; empty = empty })
+counts workers set_ count left views id v held saw empty k at live few moved =
+    let w : View = record v { held = held; saw = saw; empty = empty } in let s = k.each_seat id v at in
     replaced workers set_ set_ count left views id v w k at refl refl
         record { pool = s.pool; held = few; spent = λ e. absurd (omega arith); worker = s.worker }
         (let t = total_set (shares set_) views id v w at in omega (arith, t, moved, k.counted))
@@ -130,9 +130,9 @@ counts workers set_ count left views id v held saw k at live few moved =
 -- a seat publishes its worker
 pub publishes_kept : (workers : ℕ) (set_ after : List Bool) (count : ℕ) (views : List View) (id : ℕ) (v : View) → Kept workers set_ count views → get_elem? views id ≡ some v → v.number < v.end → v.number < workers → v.published ≡ false
     → is_in after v.number ≡ true → ((i : ℕ) → i ≢ v.number → is_in after i ≡ is_in set_ i)
-    → Kept workers after count (set views id record v { published = true })
+    → Kept workers after count (set views id record v { published = true; empty = false })
 publishes_kept workers set_ after count views id v k at live pool down here others =
-    let w : View = record v { published = true } in let s = k.each_seat id v at in
+    let w : View = record v { published = true; empty = false } in let s = k.each_seat id v at in
     let none = unpublished workers set_ count views id v k at live down in
     let lacks : is_in set_ v.number ≡ false = not_true (is_in set_ v.number) (λ up. let one = (k.each_bit v.number up).1 in omega (arith, none, one)) in
     let differ : Differ v.number after set_ = record { more_has = here; less_lacks = lacks; others = others } in
@@ -166,9 +166,9 @@ clears workers set_ after count views id v w k kept at differ number end mine fe
 
 -- a claim
 pub claims_kept : (workers : ℕ) (set_ after : List Bool) (count : ℕ) (views : List View) (id : ℕ) (v : View) (k : ℕ) (lot : List ℕ) → Kept workers set_ count views → get_elem? views id ≡ some v → Differ k set_ after → 0 < v.held
-    → Kept workers after count (set views id record v { held = v.held - 1; claims = lot })
+    → Kept workers after count (set views id record v { held = v.held - 1; claims = lot; empty = false })
 claims_kept workers set_ after count views id v k lot kept at differ holds =
-    let w : View = record v { held = v.held - 1; claims = lot } in let s = kept.each_seat id v at in
+    let w : View = record v { held = v.held - 1; claims = lot; empty = false } in let s = kept.each_seat id v at in
     clears workers set_ after count views id v w k kept at differ refl refl
         record { pool = s.pool; held = omega (arith, s.held); spent = λ e. absurd (let h = (s.spent e).0 in omega (arith, h, holds)); worker = s.worker }
         (omega (arith, holds))
@@ -176,9 +176,9 @@ claims_kept workers set_ after count views id v k lot kept at differ holds =
 
 -- a withdrawal whose bit is there
 pub withdraws_kept : (workers : ℕ) (set_ after : List Bool) (count : ℕ) (views : List View) (id : ℕ) (v : View) → Kept workers set_ count views → get_elem? views id ≡ some v → v.published ≡ true → Differ v.number set_ after
-    → Kept workers after count (set views id record v { published = false })
+    → Kept workers after count (set views id record v { published = false; empty = false })
 withdraws_kept workers set_ after count views id v kept at up differ =
-    let w : View = record v { published = false } in let s = kept.each_seat id v at in
+    let w : View = record v { published = false; empty = false } in let s = kept.each_seat id v at in
     clears workers set_ after count views id v w v.number kept at differ refl refl
         record { pool = s.pool; held = s.held; spent = λ e. ((s.spent e).0, refl); worker = λ e. absurd (cc) }
         (rw (up, differ.less_lacks) (omega arith))
@@ -187,9 +187,9 @@ withdraws_kept workers set_ after count views id v kept at up differ =
 -- a withdrawal whose bit is gone
 pub withdraws_claimed : (workers : ℕ) (set_ after : List Bool) (count : ℕ) (views : List View) (id : ℕ) (v : View) → Kept workers set_ count views → get_elem? views id ≡ some v → v.published ≡ true → v.held < 2
     → is_in set_ v.number ≡ false → ((i : ℕ) → is_in after i ≡ is_in set_ i)
-    → Kept workers after count (set views id record v { published = false; held = v.held + 1 })
+    → Kept workers after count (set views id record v { published = false; held = v.held + 1; empty = false })
 withdraws_claimed workers set_ after count views id v kept at up few gone same =
-    let w : View = record v { published = false; held = v.held + 1 } in let s = kept.each_seat id v at in
+    let w : View = record v { published = false; held = v.held + 1; empty = false } in let s = kept.each_seat id v at in
     let even : total (shares after) views ≡ total (shares set_) views = total_same (shares after) (shares set_) views (λ u. rw (same u.number) refl) in
     let one : shares after v ≡ v.held + 1 = rw (up, same v.number, gone) refl in
     replaced workers set_ after count count views id v w kept at refl refl

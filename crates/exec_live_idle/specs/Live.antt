@@ -58,18 +58,18 @@ pub record LiveIdle {S : Type 0} (workers : ℕ) (s : State S View) : Type 0 whe
 
 -- the first seat has all numbers
 abbrev pub first_view : ℕ → View
-first_view workers = record { workers = workers; number = 0; end = 2 ^ 32; published = false; held = 0; saw = 0; claims = [] }
+first_view workers = record { workers = workers; number = 0; end = 2 ^ 32; published = false; held = 0; saw = 0; empty = false; claims = [] }
 
 -- a seat is made: the seat that it comes from goes on with the next number, and the new one has its number
 abbrev pub next_number : View → View
 next_number v = record v { number = v.number + 1 }
 
 abbrev pub own_number : View → View
-own_number v = record { workers = v.workers; number = v.number; end = v.number + 1; published = false; held = 0; saw = 0; claims = [] }
+own_number v = record { workers = v.workers; number = v.number; end = v.number + 1; published = false; held = 0; saw = 0; empty = false; claims = [] }
 
 -- a seat is joined to another: its counts go over, and nothing is left of it
 abbrev pub with_counts : View → View → View
 with_counts v w = record v { held = v.held + w.held }
 
 abbrev pub joined : View
-joined = record { workers = 0; number = 0; end = 0; published = false; held = 0; saw = 0; claims = [] }
+joined = record { workers = 0; number = 0; end = 0; published = false; held = 0; saw = 0; empty = false; claims = [] }

@@ -8,23 +8,26 @@ use Rattle.exec_live_idle.specs.Words.{set_of, MovesSet, MovesCount, publish, wi
 
 -- the views after the steps
 abbrev pub published : View → View
-published v = record v { published = true }
+published v = record v { published = true; empty = false }
+
+abbrev pub looked : View → ℕ → View
+looked v word = record v { empty = word == 0 }
 
 -- a withdrawal takes over the count of whoever claimed the worker
 abbrev pub withdrawn : View → Bool → View
-withdrawn v found = record v { published = false; held = v.held + (if found then 0 else 1) }
+withdrawn v found = record v { published = false; held = v.held + (if found then 0 else 1); empty = false }
 
 -- a claim hands a count over
 abbrev pub claimed : View → ℕ → View
-claimed v worker = record v { held = v.held - 1; claims = v.claims ++ worker ∷ [] }
+claimed v worker = record v { held = v.held - 1; claims = v.claims ++ worker ∷ []; empty = false }
 
 abbrev pub counted : View → ℕ → ℕ → View
-counted v found held = record v { held = held; saw = found }
+counted v saw held = record v { held = held; saw = saw; empty = false }
 
 module _ {S : Type 0} where
   -- a load of the set
   abbrev pub looks : Step S → Me S View → ℕ → Me S View → Type 0
-  looks st m n m' = m' ≡ m
+  looks st m n m' = m' ≡ (looked m.0 n, m.1)
 
   -- the or of the worker's bit
   abbrev pub publishes : Step S → Me S View → ℕ → Me S View → Type 0
@@ -37,7 +40,7 @@ module _ {S : Type 0} where
   -- the exchange of the set for one without its lowest bit; or the set was another
   abbrev pub claims : Step S → Me S View → ℕ → Me S View → Type 0
   claims st m n m' = (n ≡ st.first → (worker : ℕ) × (lowest_of (set_of n) ≡ Some worker) × (worker < m.0.workers) × MovesSet (withdraw worker) n st.second × (m' ≡ (claimed m.0 worker, m.1)))
-      × (n ≢ st.first → m' ≡ m)
+      × (n ≢ st.first → m' ≡ (looked m.0 n, m.1))
 
   -- a load of the count
   abbrev pub reads : Step S → Me S View → ℕ → Me S View → Type 0
@@ -47,7 +50,7 @@ module _ {S : Type 0} where
   adds st m n m' = (n + 1 < 2 ^ 64) × MovesCount add n ((n + st.first) % 2 ^ 64) × (m' ≡ (counted m.0 n (m.0.held + 1), m.1))
 
   abbrev pub subtracts : Step S → Me S View → ℕ → Me S View → Type 0
-  subtracts st m n m' = (0 < n) × MovesCount subtract n ((n + (2 ^ 64 - st.first)) % 2 ^ 64) × (m' ≡ (counted m.0 n (m.0.held - 1), m.1))
+  subtracts st m n m' = (0 < n) × MovesCount subtract n ((n + (2 ^ 64 - st.first)) % 2 ^ 64) × (m' ≡ (counted m.0 (n - 1) (m.0.held - 1), m.1))
 
   -- the exchange of the count 0 to 1; or the count was another
   abbrev pub begins : Step S → Me S View → ℕ → Me S View → Type 0

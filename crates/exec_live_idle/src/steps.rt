@@ -4,10 +4,10 @@
 //! A step names the table's words and the seat. The clause `same` says that the seat is the same,
 //! `view` what it knows afterwards.
 
-ghost use Rattle.std.specs.Prelude.{◌≡◌, ◌≢◌, ◌+◌, ◌-◌, ◌^◌, ◌<◌, ◌==◌, if◌then◌else◌, true, false, Some, IfOk, OnOk, IfErr, OnErr, ◌≤◌, bit_or, bit_and, []};
+ghost use Rattle.std.specs.Prelude.{◌≡◌, ◌≢◌, ◌+◌, ◌-◌, ◌^◌, ◌<◌, ◌==◌, if◌then◌else◌, true, false, Some, IfOk, OnOk, IfErr, ◌≤◌, bit_or, bit_and, []};
 ghost use Rattle.exec_words.specs.Idle.{is_in, lowest_of};
 ghost use Rattle.exec_live_idle.specs.Words.{set_of, MovesSet, MovesCount, publish as publishing, withdraw as withdrawing, add as adding, subtract as subtracting};
-ghost use Rattle.exec_live_idle.specs.Plays.{published, withdrawn, claimed, counted};
+ghost use Rattle.exec_live_idle.specs.Plays.{published, looked, withdrawn, claimed, counted};
 ghost use Rattle.exec_live_idle.specs.Live.{next_number, own_number, with_counts};
 ghost use Rattle.exec_live_idle.specs.Seats.{IsAt, SameSeat, view_of};
 
@@ -19,7 +19,7 @@ use crate::{COUNT, SET};
 pub fn load_set(words: &Words, seat: &mut Place) -> u64
     requires { IsAt words.now seat.old }
     ensures same { SameSeat seat.old seat.new }
-    ensures view { view_of seat.new ≡ view_of seat.old }
+    ensures view { view_of seat.new ≡ looked (view_of seat.old) result }
 {
     words.load::<Look>(seat, SET)
 }
@@ -69,7 +69,7 @@ pub fn claim_exchange(words: &Words, seat: &mut Place, seen: u64) -> Result<usiz
     ensures view { IfOk result (λ worker. view_of seat.new
         ≡ claimed (view_of seat.old) worker) }
     ensures found { IfErr result (λ found. found ≢ seen) }
-    ensures kept { OnErr result (view_of seat.new ≡ view_of seat.old) }
+    ensures kept { IfErr result (λ found. view_of seat.new ≡ looked (view_of seat.old) found) }
 {
     let worker = seen.trailing_zeros() as usize;
     let found = words.compare_exchange::<Claim>(seat, SET, seen, seen & !(1 << worker));
@@ -106,7 +106,7 @@ pub fn subtract(words: &Words, seat: &mut Place) -> u64
     ensures some { 0 < result }
     ensures step { MovesCount subtracting result (result - 1) }
     ensures view { view_of seat.new
-        ≡ counted (view_of seat.old) result ((view_of seat.old).held - 1) }
+        ≡ counted (view_of seat.old) (result - 1) ((view_of seat.old).held - 1) }
 {
     words.fetch_sub::<Subtract>(seat, COUNT, 1)
 }

@@ -15,8 +15,11 @@ pub struct View {
     pub published: bool,
     /// How many search counts the seat holds.
     pub held: u64,
-    /// The search count that its last step on the count found.
+    /// The search count at its last step on the count, without the one that this step brought or
+    /// took.
     pub saw: u64,
+    /// Its last step of all found the set empty.
+    pub empty: bool,
     /// The workers that it claimed, in order. The field stands for a list of any length.
     pub claims: [u64; 0],
 }

@@ -7,5 +7,5 @@ pub load-requires : goal.load-requires
 load-requires c = let q = c.requires in let words = c.args.words.now in let seat = c.args.seat.now in (
   q.0,
   subst (λ (n : ℕ). 0 < n) (sym q.1) (omega arith),
-  look words.key words.table_id.slots seat.id seat.me,
+  look words.key words.table_id.slots seat.id seat.me q.2,
 )
