@@ -2,3 +2,5 @@ pub mod Words
 pub mod Live
 pub mod Plays
 pub mod Seats
+pub mod Idle
+pub mod Notify

@@ -1,7 +1,10 @@
 //! The idle set and the search count of a pool, as running threads share them.
 #![tactic(auto)]
 
+pub mod idle;
+pub mod notify;
 pub mod plays;
+pub mod seat;
 pub mod steps;
 pub mod view;
 
