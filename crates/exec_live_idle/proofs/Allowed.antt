@@ -114,8 +114,8 @@ module _ {S : Type 0} (workers slots id : ℕ) (me : Me S View) where
   pub add_ : me.0.number < me.0.end → me.0.held < 2 → Allows (LiveIdle workers) slots id me 1 (λ n. (n + 1) % 2 ^ 64) (adds (step slots 1 1 0 none) me)
   add_ live few = on_count workers slots id me (λ n. (n + 1) % 2 ^ 64) (adds (step slots 1 1 0 none) me)
       (λ word count views k at. let room = bounded workers (set_of word) count views k in let whole : (count + 1) % 2 ^ 64 ≡ count + 1 = omega (arith, room) in (
-        counted me.0 count (me.0.held + 1),
-        rw whole (counts workers (set_of word) count (count + 1) views id me.0 (me.0.held + 1) count false k at live (omega (arith, few)) (omega arith)),
+        counted me.0 me.0.saw (me.0.held + 1),
+        rw whole (counts workers (set_of word) count (count + 1) views id me.0 (me.0.held + 1) me.0.saw false k at live (omega (arith, few)) (omega arith)),
         (room, (λ other. rw whole refl), refl),
       ))
 

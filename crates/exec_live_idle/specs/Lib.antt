@@ -4,3 +4,4 @@ pub mod Plays
 pub mod Seats
 pub mod Idle
 pub mod Notify
+pub mod Search

@@ -47,7 +47,7 @@ module _ {S : Type 0} where
   reads st m n m' = m' ≡ (counted m.0 n m.0.held, m.1)
 
   abbrev pub adds : Step S → Me S View → ℕ → Me S View → Type 0
-  adds st m n m' = (n + 1 < 2 ^ 64) × MovesCount add n ((n + st.first) % 2 ^ 64) × (m' ≡ (counted m.0 n (m.0.held + 1), m.1))
+  adds st m n m' = (n + 1 < 2 ^ 64) × MovesCount add n ((n + st.first) % 2 ^ 64) × (m' ≡ (counted m.0 m.0.saw (m.0.held + 1), m.1))
 
   abbrev pub subtracts : Step S → Me S View → ℕ → Me S View → Type 0
   subtracts st m n m' = (0 < n) × MovesCount subtract n ((n + (2 ^ 64 - st.first)) % 2 ^ 64) × (m' ≡ (counted m.0 (n - 1) (m.0.held - 1), m.1))

@@ -1,6 +1,6 @@
 //! The idle set and the search count, and a seat at them.
 
-ghost use Rattle.std.specs.Prelude.{◌≡◌, ◌+◌, ◌^◌, ◌<◌, ◌≤◌, ◌-◌, ℕ, ◌↔◌, if◌then◌else◌, IsTrue, true, false, IfOk, IfSome, IfNone};
+ghost use Rattle.std.specs.Prelude.{◌≡◌, ◌+◌, ◌^◌, ◌<◌, ◌≤◌, ◌-◌, ◌↔◌, if◌then◌else◌, IsTrue, true, false, IfOk, IfSome, IfNone};
 ghost use Rattle.exec_live_idle.specs.Idle.{knows, IsSeatOf, IsSame};
 ghost use Rattle.exec_live_idle.specs.Live.{first_view, next_number, own_number, with_counts};
 ghost use Rattle.exec_words.specs.Idle.{is_in};
@@ -155,8 +155,8 @@ impl Idle {
         requires at { IsSeatOf self.now seat.old }
         requires room { (knows seat.old).held < 2 }
         ensures same { IsSame seat.old seat.new }
-        ensures view { (found : ℕ) × (knows seat.new
-            ≡ counted (knows seat.old) found ((knows seat.old).held + 1)) }
+        ensures view { knows seat.new
+            ≡ counted (knows seat.old) (knows seat.old).saw ((knows seat.old).held + 1) }
     {
         steps::add(&self.words.shared, &mut seat.place);
     }

@@ -1,9 +1,11 @@
 //! The idle set and the search count of a pool, as running threads share them.
 #![tactic(auto)]
 
+pub mod backlog;
 pub mod idle;
 pub mod notify;
 pub mod plays;
+pub mod searcher;
 pub mod seat;
 pub mod steps;
 pub mod view;

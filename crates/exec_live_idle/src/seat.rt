@@ -25,3 +25,12 @@ pub struct IdleSeat {
     ghost workers: { place.me.0.workers ≤ 64 },
     ghost last: { place.me.0.end ≤ 2 ^ 32 },
 }
+
+impl IdleSeat {
+    /// The seat's number: of the worker whose it is.
+    pub fn number(&self) -> u64
+        ensures { result ≡ self.now.place.me.0.number }
+    {
+        self.number
+    }
+}

@@ -93,7 +93,7 @@ pub fn add(words: &Words, seat: &mut Place) -> u64
     ensures same { SameSeat seat.old seat.new }
     ensures step { MovesCount adding result (result + 1) }
     ensures view { view_of seat.new
-        ≡ counted (view_of seat.old) result ((view_of seat.old).held + 1) }
+        ≡ counted (view_of seat.old) (view_of seat.old).saw ((view_of seat.old).held + 1) }
 {
     words.fetch_add::<Add>(seat, COUNT, 1)
 }

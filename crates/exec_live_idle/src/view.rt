@@ -15,8 +15,8 @@ pub struct View {
     pub published: bool,
     /// How many search counts the seat holds.
     pub held: u64,
-    /// The search count at its last step on the count, without the one that this step brought or
-    /// took.
+    /// The search count as its last load, exchange or return of a count left it or found it. To add
+    /// one tells nothing.
     pub saw: u64,
     /// Its last step of all found the set empty.
     pub empty: bool,
