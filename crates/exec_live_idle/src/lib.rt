@@ -4,6 +4,7 @@
 pub mod backlog;
 pub mod idle;
 pub mod notify;
+pub mod park;
 pub mod plays;
 pub mod searcher;
 pub mod seat;

@@ -13,9 +13,9 @@ use std::sync::Wait;
 /// A worker's part in searching and parking: its seat at the idle set, whether it holds a search
 /// count, and where its next search starts.
 pub struct Searcher<'a> {
-    idle: &'a Idle,
-    seat: IdleSeat,
-    searching: bool,
+    pub(crate) idle: &'a Idle,
+    pub(crate) seat: IdleSeat,
+    pub(crate) searching: bool,
     rng: u32,
     ghost seated: { IsSeatOf idle.now seat },
     ghost worker: { (knows seat).number < (knows seat).workers },
