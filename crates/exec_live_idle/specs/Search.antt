@@ -55,3 +55,16 @@ module _ {B : Type 0} where
     Parks v b Wait w d = (seen : B) × looks b false seen × Waits v seen w d
     Parks v b Run w d = (seen : B) × looks b true seen × Reruns v seen w d
     Parks v b Search w d = (seen : B) × looks b false seen × Finds v seen w d
+
+  -- Looks that ask for a search, each with a search that moves nothing: from v, b and the seed to w, d and the next seed
+  module _ (looks peers : B → Bool → B → Type 0) (steals : B → ℕ → Bool → B → Type 0) (kicks : B → B → Type 0) (v : View) (b : B) (seed : ℕ) where
+    pub data Rounds : View → B → ℕ → Type 0 where
+      NoRound : Rounds v b seed
+      OneMore : (u x w : View) (c y d : B) (at next : ℕ) → Rounds u c at → Parks looks peers kicks u c Search x y → (Skips x y at w d next ⊎ Scans steals x y at false w d next) → Rounds w d next
+
+    -- the rounds end with a look that asks for none, or with a search that moves values
+    abbrev pub LooksTo : Park → View → B → ℕ → Type 0
+    LooksTo park w d next = (u : View) × (c : B) × Rounds u c next × Parks looks peers kicks u c park w d
+
+    abbrev pub SearchesTo : View → B → ℕ → Type 0
+    SearchesTo w d next = (u : View) × (x : View) × (c : B) × (y : B) × (at : ℕ) × Rounds u c at × Parks looks peers kicks u c Search x y × Scans steals x y at true w d next

@@ -3,7 +3,8 @@
 ghost use Rattle.std.specs.Prelude.{◌≡◌, ◌≢◌, ◌+◌, ◌-◌, ◌<◌, ◌≤◌, ◌⊎◌, true, false, IsTrue, IsFalse, not, ◌↔◌, if◌then◌else◌};
 ghost use Rattle.exec_live_idle.specs.Idle.{knows, IsSame};
 ghost use Rattle.exec_live_idle.specs.Plays.{published, withdrawn, counted};
-ghost use Rattle.exec_live_idle.specs.Search.{Leaves, Reruns, Finds, Waits, Parks};
+ghost use Rattle.exec_live_idle.specs.Search.{Leaves, Parks, LooksTo, SearchesTo};
+ghost use Rattle.exec_words.specs.declared.idle.Park.TheVariants.{Wait, Run};
 
 use crate::backlog::Backlog;
 use crate::searcher::Searcher;
@@ -110,6 +111,39 @@ impl<'a> Searcher<'a> {
         if !self.idle.withdraw(&mut self.seat) {
             self.idle.subtract(&mut self.seat);
         }
+    }
+
+    /// Publishes the worker and looks once more, and searches whenever the look asks for it, until a
+    /// search moves values or a look asks for none. True leaves the worker withdrawn: it runs again,
+    /// perhaps with a count. False leaves it published, to wait. The caller must have ended a
+    /// publication, and the worker's own run queue must be empty.
+    pub fn publish_and_look<R: Wait, B: Backlog>(&mut self, rt: &R, backlog: &mut B) -> bool
+        requires unpublished { (knows self.old.seat).published ≡ false }
+        requires pool { B.pool backlog.old ≡ (knows self.old.seat).workers }
+        ensures idle { self.new.idle ≡ self.old.idle }
+        ensures seat { IsSame self.old.seat self.new.seat }
+        ensures pool { B.pool backlog.new ≡ B.pool backlog.old }
+        ensures waits { IsFalse result
+            → LooksTo B.looks B.peers B.steals B.kicks (knows self.old.seat) backlog.old self.old.rng
+                Wait (knows self.new.seat) backlog.new self.new.rng }
+        ensures runs { IsTrue result
+            → LooksTo B.looks B.peers B.steals B.kicks (knows self.old.seat) backlog.old self.old.rng
+                Run (knows self.new.seat) backlog.new self.new.rng
+            ⊎ SearchesTo B.looks B.peers B.steals B.kicks (knows self.old.seat) backlog.old
+                self.old.rng (knows self.new.seat) backlog.new self.new.rng }
+    {
+        for _ in rt.forever() {
+            match self.prepare_park(rt, backlog) {
+                Park::Wait => return false,
+                Park::Run => return true,
+                Park::Search => {
+                    if self.search(rt, backlog) {
+                        return true;
+                    }
+                }
+            }
+        }
+        unreachable!()
     }
 
     /// Withdraws the worker once its wait is over, before it runs anything else. Where a claim took
