@@ -5,3 +5,4 @@ pub mod Seats
 pub mod Idle
 pub mod Notify
 pub mod Search
+pub mod Examples

@@ -1,6 +1,7 @@
 //! What a worker's search reaches of its pool.
 
-ghost use Rattle.std.specs.Prelude.{◌≡◌, ℕ, ◌<◌, ◌≤◌, Bool, true, false, IsFalse};
+ghost use Rattle.std.specs.Prelude.{◌≡◌, ℕ, ◌<◌, ◌≤◌, Bool, true, false, IsTrue, IsFalse};
+ghost use Rattle.exec_base.specs.Io.{Rose};
 ghost use Rattle.exec_live_idle.specs.Idle.{knows, IsSeatOf, IsSame};
 ghost use Rattle.exec_live_idle.specs.Notify.{HoldsStill};
 
@@ -13,7 +14,7 @@ pub trait Backlog {
     /// How many workers the pool has.
     ghost pool: { Self → ℕ };
 
-    /// How many steals moved nothing. It never falls.
+    /// How many steals moved nothing. It never falls, and stands still at the end of `u64`.
     ghost dry: { Self → ℕ };
 
     /// What a look at the global queue that finds values, or none, may make of it.
@@ -52,8 +53,9 @@ pub trait Backlog {
     fn steal<R: Wait>(&mut self, rt: &R, start: usize) -> bool
         requires { start < pool self.old }
         ensures pool { pool self.new ≡ pool self.old }
-        ensures dry { IsFalse result → dry self.old < dry self.new }
         ensures never_falls { dry self.old ≤ dry self.new }
+        ensures moved { IsTrue result → dry self.new ≡ dry self.old }
+        ensures dry { IsFalse result → Rose (dry self.old) (dry self.new) }
         ensures steals { steals self.old start result self.new };
 
     /// Wakes a published worker for a backlog, as `Idle::notify` does. The caller's worker must not

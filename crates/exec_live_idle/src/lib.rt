@@ -2,7 +2,9 @@
 #![tactic(auto)]
 
 pub mod backlog;
+pub mod examples;
 pub mod idle;
+pub mod laws;
 pub mod notify;
 pub mod park;
 pub mod plays;

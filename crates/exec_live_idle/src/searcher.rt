@@ -1,6 +1,7 @@
 //! A worker's part in searching and parking.
 
 ghost use Rattle.std.specs.Prelude.{◌≡◌, ◌+◌, ◌*◌, ◌%◌, ◌^◌, ◌<◌, ◌≤◌, ◌⊎◌, true, false, IsTrue, IsFalse, if◌then◌else◌};
+ghost use Rattle.exec_base.specs.Io.{Rose};
 ghost use Rattle.exec_live_idle.specs.Idle.{knows, IsSeatOf, IsSame};
 ghost use Rattle.exec_live_idle.specs.Plays.{published, withdrawn, counted};
 ghost use Rattle.exec_live_idle.specs.Search.{xorshift, counts_of, MaySearch, MayNot, Scans, Skips, Leaves, Reruns, Finds, Parks};
@@ -74,7 +75,7 @@ impl<'a> Searcher<'a> {
                 (knows self.new.seat) backlog.new self.new.rng
             ⊎ (Scans B.steals (knows self.old.seat) backlog.old self.old.rng
                 false (knows self.new.seat) backlog.new self.new.rng
-                × (B.dry backlog.old < B.dry backlog.new)) }
+                × Rose (B.dry backlog.old) (B.dry backlog.new)) }
     {
         let workers = backlog.workers();
         if workers == 1 || !self.may_search(workers) {
