@@ -21,6 +21,10 @@ MaySearch v w = ((v.held ≡ 1) × (w ≡ v)) ⊎ ((v.held ≡ 0) × (w ≡ coun
 abbrev pub MayNot : View → View → Type 0
 MayNot v w = ((v.workers ≡ 1) × (w ≡ v)) ⊎ ((v.held ≡ 0) × (w ≡ counted v w.saw 0) × (v.workers ≤ 2 * w.saw))
 
+-- the seat is as before, but for its counts, and what it saw and claimed
+abbrev pub StaysUp : View → View → Type 0
+StaysUp v w = w ≡ record v { held = w.held; saw = w.saw; empty = w.empty; claims = w.claims }
+
 module _ {B : Type 0} where
   -- a search that goes over the queues, from the worker on that the generator picks
   abbrev pub Scans : (B → ℕ → Bool → B → Type 0) → View → B → ℕ → Bool → View → B → ℕ → Type 0

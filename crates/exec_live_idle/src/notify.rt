@@ -18,7 +18,8 @@ pub trait Rouse {
     /// Wakes the worker of this number. The caller must name one that there is.
     fn wake<R: Wait>(&mut self, rt: &R, worker: usize)
         requires { worker < workers self.old }
-        ensures { wakes self.old worker self.new };
+        ensures workers { workers self.new ≡ workers self.old }
+        ensures wakes { wakes self.old worker self.new };
 }
 
 impl Idle {
@@ -29,6 +30,7 @@ impl Idle {
         requires room { (knows seat.old).held < 2 }
         requires workers { (knows seat.old).workers ≤ W.workers rouse.old }
         ensures same { IsSame seat.old seat.new }
+        ensures workers { W.workers rouse.new ≡ W.workers rouse.old }
         ensures notified { Notified W.wakes (knows seat.old) rouse.old (knows seat.new) rouse.new }
     {
         for _ in rt.forever() {
@@ -53,6 +55,7 @@ impl Idle {
         requires room { (knows seat.old).held < 2 }
         requires workers { (knows seat.old).workers ≤ W.workers rouse.old }
         ensures same { IsSame seat.old seat.new }
+        ensures workers { W.workers rouse.new ≡ W.workers rouse.old }
         ensures notified { Notified W.wakes (knows seat.old) rouse.old (knows seat.new) rouse.new }
     {
         for _ in rt.forever() {
@@ -82,6 +85,7 @@ impl Idle {
         requires some { 0 < seen }
         requires workers { (knows seat.old).workers ≤ W.workers rouse.old }
         ensures same { IsSame seat.old seat.new }
+        ensures workers { W.workers rouse.new ≡ W.workers rouse.old }
         ensures again { IsTrue result → (rouse.new ≡ rouse.old)
             × ReturnedOne (knows seat.old) (knows seat.new) }
         ensures done { IsFalse result

@@ -123,6 +123,14 @@ impl<'a> Searcher<'a> {
         ensures idle { self.new.idle ≡ self.old.idle }
         ensures seat { IsSame self.old.seat self.new.seat }
         ensures pool { B.pool backlog.new ≡ B.pool backlog.old }
+        ensures view { knows self.new.seat ≡ record (knows self.old.seat) {
+          published = not result;
+          held = (knows self.new.seat).held;
+          saw = (knows self.new.seat).saw;
+          empty = (knows self.new.seat).empty;
+          claims = (knows self.new.seat).claims;
+        } }
+        ensures free { IsFalse result → (knows self.new.seat).held ≡ 0 }
         ensures waits { IsFalse result
             → LooksTo B.looks B.peers B.steals B.kicks (knows self.old.seat) backlog.old self.old.rng
                 Wait (knows self.new.seat) backlog.new self.new.rng }

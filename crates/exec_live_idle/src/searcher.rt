@@ -58,6 +58,13 @@ impl<'a> Searcher<'a> {
         seat
     }
 
+    /// Whether the worker holds a search count.
+    pub fn is_searching(&self) -> bool
+        ensures { counts_of result ≡ (knows self.now.seat).held }
+    {
+        self.searching
+    }
+
     /// Goes over the other run queues once, and moves half of the first backlog that it finds into
     /// the worker's own. Answers whether it moved any. A worker that holds no count takes one first,
     /// unless half of the workers search already; it stays held until the worker leaves the search
