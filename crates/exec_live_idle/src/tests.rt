@@ -4,12 +4,14 @@ ghost use Rattle.exec_live_idle.specs.Live.{next_number};
 ghost use Rattle.exec_live_idle.specs.Plays.{published, withdrawn};
 
 mod fake;
+mod play;
 mod player;
 
 use crate::searcher::Searcher;
 use crate::seat::{Idle, IdleSeat};
 use exec_words::idle::Park;
 use fake::FakePool;
+use play::{Line, Op, play};
 use player::Player;
 use std::process::Abort;
 use std::test::Fail;
@@ -38,6 +40,25 @@ fn withdraw(idle: &Idle, mut seat: IdleSeat) -> (IdleSeat, bool)
 {
     let found = idle.withdraw(&mut seat);
     (seat, found)
+}
+
+/// Publishes on another thread.
+fn publish_there<R: Threads + Sync>(rt: &R, idle: &Idle, seat: IdleSeat) -> IdleSeat
+    requires at { IsSeatOf idle.now seat }
+    requires worker { (knows seat).number < (knows seat).workers }
+    requires unpublished { (knows seat).published ≡ false }
+    ensures same { IsSame seat result }
+    ensures view { knows result ≡ published (knows seat) }
+{
+    let (seat, ()) = join(
+        rt,
+        || -> IdleSeat
+            ensures same { IsSame seat.entry result }
+            ensures view { knows result ≡ published (knows seat.entry) }
+        { publish(idle, seat) },
+        || {},
+    );
+    seat
 }
 
 #[test]
@@ -110,4 +131,84 @@ fn a_park_looks_at_four_things(rt: HostRuntime) -> Result<(), Fail> {
     zero.end(&rt);
     one.end(&rt);
     Ok(())
+}
+
+/// Five values on worker 2: two of them, and then one of three, are stolen. A lone value stays.
+#[test]
+fn searches_move_half_of_a_backlog(rt: HostRuntime) -> Result<(), Fail> {
+    play(
+        &rt,
+        rt.alloc(),
+        3,
+        &[
+            Line(Op::Batch(2, 5), 0, 0, None),
+            Line(Op::Search(0, true), 0, 1, None),
+            Line(Op::Pops(0, 2), 0, 1, None),
+            Line(Op::Search(1, true), 0, 2, None),
+            Line(Op::Pops(1, 1), 0, 2, None),
+            Line(Op::Pops(2, 1), 0, 2, None),
+            Line(Op::Search(1, false), 0, 2, None),
+            Line(Op::Leave(0), 0, 1, None),
+            Line(Op::Leave(1), 0, 0, None),
+            Line(Op::Leave(2), 0, 0, None),
+        ],
+    )
+}
+
+/// Each push wakes a worker. Those that return the last count hand it on.
+#[test]
+fn pushes_wake_one_worker_each(rt: HostRuntime) -> Result<(), Fail> {
+    play(
+        &rt,
+        rt.alloc(),
+        5,
+        &[
+            Line(Op::Park(4, Park::Wait), 16, 0, None),
+            Line(Op::Park(3, Park::Wait), 24, 0, None),
+            Line(Op::Park(1, Park::Wait), 26, 0, None),
+            Line(Op::Park(0, Park::Wait), 27, 0, None),
+            Line(Op::Park(2, Park::Wait), 31, 0, None),
+            Line(Op::Push, 30, 1, Some(0)),
+            Line(Op::Push, 28, 2, Some(1)),
+            Line(Op::Push, 24, 3, Some(2)),
+            Line(Op::Finish(0, true), 24, 3, None),
+            Line(Op::Park(0, Park::Run), 24, 2, None),
+            Line(Op::Finish(1, true), 24, 2, None),
+            Line(Op::Park(1, Park::Run), 24, 1, None),
+            Line(Op::Finish(2, true), 24, 1, None),
+            Line(Op::Park(2, Park::Run), 16, 1, Some(3)),
+            Line(Op::Leave(0), 16, 1, None),
+            Line(Op::Finish(3, true), 16, 1, None),
+            Line(Op::Leave(3), 0, 1, Some(4)),
+            Line(Op::Finish(4, true), 0, 1, None),
+            Line(Op::Leave(4), 0, 0, None),
+        ],
+    )
+}
+
+/// A count that is held lets another worker wait; without one, a backlog makes a searcher.
+#[test]
+fn a_look_finds_what_is_left(rt: HostRuntime) -> Result<(), Fail> {
+    play(
+        &rt,
+        rt.alloc(),
+        2,
+        &[
+            Line(Op::Push, 0, 0, None),
+            Line(Op::Park(0, Park::Run), 0, 0, None),
+            Line(Op::Take, 0, 0, None),
+            Line(Op::Search(1, false), 0, 1, None),
+            Line(Op::Park(0, Park::Wait), 1, 1, None),
+            Line(Op::Finish(0, false), 0, 1, None),
+            Line(Op::Leave(1), 0, 0, None),
+            Line(Op::Batch(1, 2), 0, 0, None),
+            Line(Op::Park(0, Park::Search), 0, 1, None),
+            Line(Op::Leave(0), 0, 0, None),
+            Line(Op::Look(0, true), 0, 1, None),
+            Line(Op::Leave(0), 0, 0, None),
+            Line(Op::Pops(0, 1), 0, 0, None),
+            Line(Op::Look(0, false), 1, 0, None),
+            Line(Op::Finish(0, false), 0, 0, None),
+        ],
+    )
 }

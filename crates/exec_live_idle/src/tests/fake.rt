@@ -25,6 +25,15 @@ impl Rouse for Bell {
     }
 }
 
+impl Bell {
+    /// Nobody was woken.
+    pub fn silence(&mut self)
+        ensures { self.new.workers ≡ self.old.workers }
+    {
+        self.woken = [false; 64];
+    }
+}
+
 /// What the worker `own` reaches of a pool: how many values each queue holds.
 #[derive(Drop)]
 pub struct FakePool {
@@ -49,6 +58,24 @@ impl FakePool {
                 workers,
                 woken: [false; 64],
             },
+        }
+    }
+
+    /// More values in a worker's queue.
+    pub fn put(&mut self, worker: usize, count: usize)
+        ensures { self.new.bell ≡ self.old.bell }
+    {
+        if let Some(queue) = self.queues.get_mut(worker) {
+            *queue = queue.saturating_add(count);
+        }
+    }
+
+    /// Fewer values in a worker's queue.
+    pub fn pop(&mut self, worker: usize, count: usize)
+        ensures { self.new.bell ≡ self.old.bell }
+    {
+        if let Some(queue) = self.queues.get_mut(worker) {
+            *queue = queue.saturating_sub(count);
         }
     }
 
