@@ -1,6 +1,5 @@
 -- Each step may be made: the rule of the idle set holds after it.
-use Rattle.std.proofs.Common.{◌≡◌, ◌≢◌, ℕ, zero, suc, ◌+◌, ◌-◌, ◌*◌, ◌%◌, ◌^◌, ◌<◌, ◌≤◌, ◌==◌, eqb, Bool, true, false, List, [], ◌∷◌, ◌++◌, set, slice_index, bit_or, bit_and, sym, refl, ap, ◌∙◌, subst, eq-eqb, ne_eqb, arith}
-use Rattle.std.specs.Prelude.{if◌then◌else◌, Some}
+use Rattle.std.proofs.Common.{◌≡◌, ◌≢◌, ℕ, ◌+◌, ◌-◌, ◌%◌, ◌^◌, ◌<◌, ◌≤◌, ◌==◌, eqb, Bool, true, false, List, [], ◌∷◌, ◌++◌, set, slice_index, bit_or, bit_and, sym, refl, ap, ◌∙◌, subst, eq-eqb, ne_eqb, arith}
 use mathlib.Core.Logic.{dite}
 use mathlib.Core.Option.{none, some}
 use native.Mathlib.Decide.{ℕ_discrete}
@@ -8,16 +7,15 @@ use prog.Atomic.{either}
 use lib.ListN.{get_elem?}
 use mir.Syntax.{w64}
 use Rattle.std.specs.Int.{bit_not, trailing_zeros}
-use Rattle.atomic_table.specs.Table.{State, Me, step, opening, Allows, Splits, Joins, keeps}
-use Rattle.atomic_table.proofs.Lists.{set_again}
-use Rattle.exec_words.specs.Idle.{is_in, lowest_of}
+use Rattle.atomic_table.specs.Table.{Me, step, opening, Allows, Splits, Joins, keeps}
+use Rattle.exec_words.specs.Idle.{is_in}
 use Rattle.exec_live_idle.specs.declared.view.View.{View}
 use Rattle.exec_live_idle.specs.Words.{set_of}
 use Rattle.exec_live_idle.specs.Live.{Kept, LiveIdle, next_number, own_number, with_counts, joined, first_view}
 use Rattle.exec_live_idle.specs.Plays.{published, looked, withdrawn, claimed, counted, looks, publishes, withdraws, claims, reads, adds, subtracts, begins}
 use Rattle.exec_live_idle.proofs.Sets.{bit_of, in_changed, in_changed_here, set_with, set_without, lowest_in, in_lowest, none_in}
 use Rattle.exec_live_idle.proofs.Seats.{splits, joins, begins as begins_}
-use Rattle.exec_live_idle.proofs.Keeps.{Differ, bounded, counts, held_within, publishes_kept, claims_kept, withdraws_kept, withdraws_claimed}
+use Rattle.exec_live_idle.proofs.Keeps.{bounded, counts, held_within, publishes_kept, claims_kept, withdraws_kept, withdraws_claimed}
 
 module _ {S : Type 0} (workers slots id : ℕ) (me : Me S View) (f : ℕ → ℕ) (told : ℕ → Me S View → Type 0) where
   pub on_set : ((word count : ℕ) (views : List View) → Kept workers (set_of word) count views → get_elem? views id ≡ some me.0 → word < 2 ^ 64 → (w : View) × Kept workers (set_of (f word)) count (set views id w) × told word (w, me.1))
@@ -67,8 +65,8 @@ module _ {S : Type 0} (workers slots id : ℕ) (me : Me S View) where
   withdrawn_kept word count views false k at low up few is = let i : ℕ = me.0.number in
       withdraws_claimed workers (set_of word) (set (set_of word) i false) count views id me.0 k at up few is
       (λ j. dite (ℕ_discrete j i)
-          (λ (e : j ≡ i). ap (is_in (set (set_of word) i false)) e ∙ in_changed_here word i false low ∙ sym is ∙ ap (is_in (set_of word)) (sym e))
-          (λ (ne : j ≢ i). in_changed (set_of word) i j false ne))
+      (λ (e : j ≡ i). ap (is_in (set (set_of word) i false)) e ∙ in_changed_here word i false low ∙ sym is ∙ ap (is_in (set_of word)) (sym e))
+      (λ (ne : j ≢ i). in_changed (set_of word) i j false ne))
   withdrawn_kept word count views true k at low up few is = let i : ℕ = me.0.number in let none_more : me.0.held + 0 ≡ me.0.held = omega arith in
       rw none_more (withdraws_kept workers (set_of word) (set (set_of word) i false) count views id me.0 k at up
       record { more_has = is; less_lacks = in_changed_here word i false low; others = λ j ne. sym (in_changed (set_of word) i j false ne) })
@@ -101,11 +99,11 @@ module _ {S : Type 0} (workers slots id : ℕ) (me : Me S View) where
   claim_ seen live some_bit small holds = let left : ℕ = bit_and seen (bit_not w64 (bit_of (trailing_zeros w64 seen))) in
       on_set workers slots id me (λ n. either (eqb n seen) left n) (claims (step slots 0 seen left none) me)
       (λ word count views k at low. dite (ℕ_discrete word seen)
-          (λ (e : word ≡ seen). let hit : eqb word seen ≡ true = eq-eqb word seen e in
-              rw hit (subst (λ (n : ℕ). (w : View) × Kept workers (set_of left) count (set views id w) × claims (step slots 0 seen left none) me n (w, me.1)) (sym e)
-              (claim_hit seen count views live some_bit small holds (subst (λ (n : ℕ). Kept workers (set_of n) count views) e k) at)))
-          (λ (ne : word ≢ seen). let miss : eqb word seen ≡ false = ne_eqb word seen ne in
-              rw miss (looked me.0 word, looked_kept word count views live k at, ((λ e. absurd (ne e)), λ _. refl))))
+      (λ (e : word ≡ seen). let hit : eqb word seen ≡ true = eq-eqb word seen e in
+      rw hit (subst (λ (n : ℕ). (w : View) × Kept workers (set_of left) count (set views id w) × claims (step slots 0 seen left none) me n (w, me.1)) (sym e)
+      (claim_hit seen count views live some_bit small holds (subst (λ (n : ℕ). Kept workers (set_of n) count views) e k) at)))
+      (λ (ne : word ≢ seen). let miss : eqb word seen ≡ false = ne_eqb word seen ne in
+      rw miss (looked me.0 word, looked_kept word count views live k at, ((λ e. absurd (ne e)), λ _. refl))))
 
   pub read_ : me.0.number < me.0.end → Allows (LiveIdle workers) slots id me 1 (λ n. n) (reads (step slots 1 0 0 none) me)
   read_ live = on_count workers slots id me (λ n. n) (reads (step slots 1 0 0 none) me)
@@ -122,7 +120,7 @@ module _ {S : Type 0} (workers slots id : ℕ) (me : Me S View) where
   pub subtract_ : me.0.number < me.0.end → 0 < me.0.held → Allows (LiveIdle workers) slots id me 1 (λ n. (n + (2 ^ 64 - 1)) % 2 ^ 64) (subtracts (step slots 1 1 0 none) me)
   subtract_ live holds = on_count workers slots id me (λ n. (n + (2 ^ 64 - 1)) % 2 ^ 64) (subtracts (step slots 1 1 0 none) me)
       (λ word count views k at. let room = bounded workers (set_of word) count views k in let enough = held_within workers (set_of word) count views id me.0 k at in
-        let some_count : 0 < count = omega (arith, enough, holds) in let whole : (count + (2 ^ 64 - 1)) % 2 ^ 64 ≡ count - 1 = omega (arith, some_count, room) in (
+      let some_count : 0 < count = omega (arith, enough, holds) in let whole : (count + (2 ^ 64 - 1)) % 2 ^ 64 ≡ count - 1 = omega (arith, some_count, room) in (
         counted me.0 (count - 1) (me.0.held - 1),
         rw whole (counts workers (set_of word) count (count - 1) views id me.0 (me.0.held - 1) (count - 1) false k at live (let most = (k.each_seat id me.0 at).held in omega (arith, most)) (omega (arith, some_count, holds))),
         (some_count, (λ other. rw whole refl), refl),

@@ -1,16 +1,16 @@
 -- Each change of a view that a step makes keeps the rule of the idle set.
-use Rattle.std.proofs.Common.{◌≡◌, ◌≢◌, ℕ, zero, suc, ◌+◌, ◌-◌, ◌*◌, ◌^◌, ◌<◌, ◌≤◌, ◌==◌, eqb, Bool, true, false, List, [], ◌∷◌, ◌++◌, set, sym, refl, ap, ◌∙◌, subst, ⊎_elim, ◌⊎◌, le_refl, eq-eqb, ne_eqb, arith}
+use Rattle.std.proofs.Common.{◌≡◌, ◌≢◌, ℕ, ◌+◌, ◌-◌, ◌*◌, ◌^◌, ◌<◌, ◌≤◌, ◌==◌, Bool, true, false, List, set, sym, refl, ap, ◌∙◌, subst, ⊎_elim, eq-eqb, ne_eqb, arith}
 use Rattle.std.proofs.lemmas.Bool.Decides.{nat_tests}
 use Rattle.std.specs.Prelude.{if◌then◌else◌, nat_le, nat_lt}
 use native.Mathlib.Decide.{dec_le, ℕ_discrete}
 use mathlib.Core.Logic.{dite}
-use mathlib.Core.Option.{some, some-injective}
+use mathlib.Core.Option.{some}
 use lib.ListN.{get_elem?}
-use Rattle.atomic_table.proofs.Lists.{at_set, at_snoc}
+use Rattle.atomic_table.proofs.Lists.{at_set}
 use Rattle.exec_words.specs.Idle.{is_in}
 use Rattle.exec_live_idle.specs.declared.view.View.{View}
-use Rattle.exec_live_idle.specs.Live.{total, publishes, awaits, shares, width, has_number, IsSeat, Kept}
-use Rattle.exec_live_idle.proofs.Totals.{Each, total_set, total_push, total_at, total_le, total_parts, total_gap, total_thrice, total_same}
+use Rattle.exec_live_idle.specs.Live.{total, publishes, shares, width, has_number, IsSeat, Kept}
+use Rattle.exec_live_idle.proofs.Totals.{Each, total_set, total_at, total_le, total_parts, total_gap, total_thrice, total_same}
 
 -- one of two sets has the worker k besides
 pub record Differ (k : ℕ) (more less : List Bool) : Type 0 where
@@ -123,9 +123,9 @@ pub counts : (workers : ℕ) (set_ : List Bool) (count left : ℕ) (views : List
 counts workers set_ count left views id v held saw empty k at live few moved =
     let w : View = record v { held = held; saw = saw; empty = empty } in let s = k.each_seat id v at in
     replaced workers set_ set_ count left views id v w k at refl refl
-        record { pool = s.pool; held = few; spent = λ e. absurd (omega arith); worker = s.worker }
-        (let t = total_set (shares set_) views id v w at in omega (arith, t, moved, k.counted))
-        (same_bits workers set_ set_ count left views id v w k at refl refl (λ i up. up))
+    record { pool = s.pool; held = few; spent = λ e. absurd (omega arith); worker = s.worker }
+    (let t = total_set (shares set_) views id v w at in omega (arith, t, moved, k.counted))
+    (same_bits workers set_ set_ count left views id v w k at refl refl (λ i up. up))
 
 -- a seat publishes its worker
 pub publishes_kept : (workers : ℕ) (set_ after : List Bool) (count : ℕ) (views : List View) (id : ℕ) (v : View) → Kept workers set_ count views → get_elem? views id ≡ some v → v.number < v.end → v.number < workers → v.published ≡ false
@@ -140,17 +140,19 @@ publishes_kept workers set_ after count views id v k at live pool down here othe
     let before : shares after v ≡ v.held = rw down (omega arith) in
     let now : shares after w ≡ v.held = rw here (omega arith) in
     replaced workers set_ after count count views id v w k at refl refl
-        record { pool = s.pool; held = s.held; spent = λ e. absurd (omega arith); worker = λ _. pool }
-        (let t = total_set (shares after) views id v w at in omega (arith, t, more, none, before, now, k.counted))
-        (λ i up. dite (ℕ_discrete i v.number)
-            (λ (e : i ≡ v.number). subst (λ (n : ℕ). (n < workers) × (total (publishes n) (set views id w) ≡ 1)) (sym e)
-                (pool, let t = total_set (publishes v.number) views id v w at in
-                    let p : publishes v.number v ≡ 0 = rw down refl in
-                    let q : publishes v.number w ≡ 1 = rw (eq-eqb v.number v.number refl) refl in omega (arith, t, none, p, q)))
-            (λ (ne : i ≢ v.number). let old = k.each_bit i (sym (others i ne) ∙ up) in
-                let t = total_set (publishes i) views id v w at in
-                let p : publishes i v ≡ 0 = rw down refl in
-                let q : publishes i w ≡ 0 = rw (ne_eqb v.number i (λ e. ne (sym e))) refl in (old.0, omega (arith, t, old.1, p, q))))
+    record { pool = s.pool; held = s.held; spent = λ e. absurd (omega arith); worker = λ _. pool }
+    (let t = total_set (shares after) views id v w at in omega (arith, t, more, none, before, now, k.counted))
+    (λ i up. dite (ℕ_discrete i v.number)
+    (λ (e : i ≡ v.number). subst (λ (n : ℕ). (n < workers) × (total (publishes n) (set views id w) ≡ 1)) (sym e) (
+      pool,
+      let t = total_set (publishes v.number) views id v w at in
+          let p : publishes v.number v ≡ 0 = rw down refl in
+          let q : publishes v.number w ≡ 1 = rw (eq-eqb v.number v.number refl) refl in omega (arith, t, none, p, q),
+    ))
+    (λ (ne : i ≢ v.number). let old = k.each_bit i (sym (others i ne) ∙ up) in
+    let t = total_set (publishes i) views id v w at in
+    let p : publishes i v ≡ 0 = rw down refl in
+    let q : publishes i w ≡ 0 = rw (ne_eqb v.number i (λ e. ne (sym e))) refl in (old.0, omega (arith, t, old.1, p, q))))
 
 -- a bit is cleared, of a worker whose seat has published it, and the seat that clears it has one count fewer, or has withdrawn
 pub clears : (workers : ℕ) (set_ after : List Bool) (count : ℕ) (views : List View) (id : ℕ) (v w : View) (k : ℕ) → Kept workers set_ count views → get_elem? views id ≡ some v → Differ k set_ after → w.number ≡ v.number → w.end ≡ v.end → IsSeat workers w
@@ -159,10 +161,10 @@ clears workers set_ after count views id v w k kept at differ number end mine fe
     let one = (kept.each_bit k differ.more_has).1 in
     let more = awaits_more k set_ after views differ in
     replaced workers set_ after count count views id v w kept at number end mine
-        (let t = total_set (shares after) views id v w at in omega (arith, t, more, one, fewer, kept.counted))
-        (λ i up. let ne : i ≢ k = λ e. let clash : true ≡ false = sym up ∙ ap (is_in after) e ∙ differ.less_lacks in absurd (cc) in
-            let old = kept.each_bit i (differ.others i ne ∙ up) in
-            let t = total_set (publishes i) views id v w at in let p = published i ne in (old.0, omega (arith, t, p, old.1)))
+    (let t = total_set (shares after) views id v w at in omega (arith, t, more, one, fewer, kept.counted))
+    (λ i up. let ne : i ≢ k = λ e. let clash : true ≡ false = sym up ∙ ap (is_in after) e ∙ differ.less_lacks in absurd (cc) in
+    let old = kept.each_bit i (differ.others i ne ∙ up) in
+    let t = total_set (publishes i) views id v w at in let p = published i ne in (old.0, omega (arith, t, p, old.1)))
 
 -- a claim
 pub claims_kept : (workers : ℕ) (set_ after : List Bool) (count : ℕ) (views : List View) (id : ℕ) (v : View) (k : ℕ) (lot : List ℕ) → Kept workers set_ count views → get_elem? views id ≡ some v → Differ k set_ after → 0 < v.held
@@ -170,9 +172,9 @@ pub claims_kept : (workers : ℕ) (set_ after : List Bool) (count : ℕ) (views 
 claims_kept workers set_ after count views id v k lot kept at differ holds =
     let w : View = record v { held = v.held - 1; claims = lot; empty = false } in let s = kept.each_seat id v at in
     clears workers set_ after count views id v w k kept at differ refl refl
-        record { pool = s.pool; held = omega (arith, s.held); spent = λ e. absurd (let h = (s.spent e).0 in omega (arith, h, holds)); worker = s.worker }
-        (omega (arith, holds))
-        (λ i ne. refl)
+    record { pool = s.pool; held = omega (arith, s.held); spent = λ e. absurd (let h = (s.spent e).0 in omega (arith, h, holds)); worker = s.worker }
+    (omega (arith, holds))
+    (λ i ne. refl)
 
 -- a withdrawal whose bit is there
 pub withdraws_kept : (workers : ℕ) (set_ after : List Bool) (count : ℕ) (views : List View) (id : ℕ) (v : View) → Kept workers set_ count views → get_elem? views id ≡ some v → v.published ≡ true → Differ v.number set_ after
@@ -180,9 +182,9 @@ pub withdraws_kept : (workers : ℕ) (set_ after : List Bool) (count : ℕ) (vie
 withdraws_kept workers set_ after count views id v kept at up differ =
     let w : View = record v { published = false; empty = false } in let s = kept.each_seat id v at in
     clears workers set_ after count views id v w v.number kept at differ refl refl
-        record { pool = s.pool; held = s.held; spent = λ e. ((s.spent e).0, refl); worker = λ e. absurd (cc) }
-        (rw (up, differ.less_lacks) (omega arith))
-        (λ i ne. rw up (rw (ne_eqb v.number i (λ e. ne (sym e))) refl))
+    record { pool = s.pool; held = s.held; spent = λ e. ((s.spent e).0, refl); worker = λ e. absurd (cc) }
+    (rw (up, differ.less_lacks) (omega arith))
+    (λ i ne. rw up (rw (ne_eqb v.number i (λ e. ne (sym e))) refl))
 
 -- a withdrawal whose bit is gone
 pub withdraws_claimed : (workers : ℕ) (set_ after : List Bool) (count : ℕ) (views : List View) (id : ℕ) (v : View) → Kept workers set_ count views → get_elem? views id ≡ some v → v.published ≡ true → v.held < 2
@@ -193,9 +195,9 @@ withdraws_claimed workers set_ after count views id v kept at up few gone same =
     let even : total (shares after) views ≡ total (shares set_) views = total_same (shares after) (shares set_) views (λ u. rw (same u.number) refl) in
     let one : shares after v ≡ v.held + 1 = rw (up, same v.number, gone) refl in
     replaced workers set_ after count count views id v w kept at refl refl
-        record { pool = s.pool; held = omega (arith, few); spent = λ e. absurd (let clash : true ≡ false = sym up ∙ (s.spent e).1 in cc); worker = λ e. absurd (cc) }
-        (let t = total_set (shares after) views id v w at in omega (arith, t, even, one, kept.counted))
-        (λ i up'. let old = kept.each_bit i (sym (same i) ∙ up') in
-            let t = total_set (publishes i) views id v w at in
-            let ne : i ≢ v.number = λ e. let clash : true ≡ false = sym up' ∙ same i ∙ ap (is_in set_) e ∙ gone in absurd (cc) in
-            let p : publishes i v ≡ 0 = rw up (rw (ne_eqb v.number i (λ e. ne (sym e))) refl) in (old.0, omega (arith, t, p, old.1)))
+    record { pool = s.pool; held = omega (arith, few); spent = λ e. absurd (let clash : true ≡ false = sym up ∙ (s.spent e).1 in cc); worker = λ e. absurd (cc) }
+    (let t = total_set (shares after) views id v w at in omega (arith, t, even, one, kept.counted))
+    (λ i up'. let old = kept.each_bit i (sym (same i) ∙ up') in
+    let t = total_set (publishes i) views id v w at in
+    let ne : i ≢ v.number = λ e. let clash : true ≡ false = sym up' ∙ same i ∙ ap (is_in set_) e ∙ gone in absurd (cc) in
+    let p : publishes i v ≡ 0 = rw up (rw (ne_eqb v.number i (λ e. ne (sym e))) refl) in (old.0, omega (arith, t, p, old.1)))

@@ -1,5 +1,5 @@
 -- The set as a word: what the or, the and and the exchange of one bit make of it.
-use Rattle.std.proofs.Common.{◌≡◌, ◌≢◌, ℕ, zero, suc, ◌+◌, ◌-◌, ◌*◌, ◌/◌, ◌%◌, ◌^◌, ◌<◌, ◌≤◌, ◌==◌, Bool, true, false, List, [], ◌∷◌, length, get_or, set, bit_or, bit_and, sym, refl, ap, ◌∙◌, arith}
+use Rattle.std.proofs.Common.{◌≡◌, ◌≢◌, ℕ, zero, suc, ◌-◌, ◌*◌, ◌/◌, ◌%◌, ◌^◌, ◌<◌, ◌≤◌, ◌==◌, Bool, true, false, List, length, get_or, set, bit_or, bit_and, sym, refl, ap, ◌∙◌, arith}
 use native.Mathlib.Decide.{dec_le, ℕ_discrete}
 use mathlib.Core.Logic.{dite}
 use mir.Syntax.{w64}
@@ -28,9 +28,9 @@ bits_with : (n word left k : ℕ) (b : Bool) → k < n → (bit_at left k == 1) 
 bits_with n word left k b within here others =
     ext_get_or false (bits_of n left) (set (bits_of n word) k b) (length-bits n left ∙ sym (length-bits n word) ∙ sym (length-set (bits_of n word) k b))
     (λ i inside. let low : i < n = omega (arith, length-bits n left, inside) in let long : k < length (bits_of n word) = omega (arith, length-bits n word) in
-      dite (ℕ_discrete i k)
-      (λ (e : i ≡ k). bits-at n left i low ∙ ap (λ (j : ℕ). bit_at left j == 1) e ∙ here ∙ sym (get_or-set_same (bits_of n word) k b false long) ∙ ap (λ (j : ℕ). get_or (set (bits_of n word) k b) j false) (sym e))
-      (λ (ne : i ≢ k). bits-at n left i low ∙ ap (λ (d : ℕ). d == 1) (others i low ne) ∙ sym (bits-at n word i low) ∙ sym (get_or-set_other (bits_of n word) k i b false ne)))
+    dite (ℕ_discrete i k)
+    (λ (e : i ≡ k). bits-at n left i low ∙ ap (λ (j : ℕ). bit_at left j == 1) e ∙ here ∙ sym (get_or-set_same (bits_of n word) k b false long) ∙ ap (λ (j : ℕ). get_or (set (bits_of n word) k b) j false) (sym e))
+    (λ (ne : i ≢ k). bits-at n left i low ∙ ap (λ (d : ℕ). d == 1) (others i low ne) ∙ sym (bits-at n word i low) ∙ sym (get_or-set_other (bits_of n word) k i b false ne)))
 
 here-first : (set_ : List Bool) (k : ℕ) → k < length set_ → get_or set_ k false ≡ true → ((i : ℕ) → i < k → get_or set_ i false ≡ false) → lowest_of set_ ≡ Some k
 here-first l k inside here lower =

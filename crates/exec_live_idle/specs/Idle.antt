@@ -1,5 +1,5 @@
 -- What a contract sees of an idle set and of a seat at it.
-use Rattle.std.specs.Prelude.{◌≡◌, ℕ, ◌<◌, Bool, true, false}
+use Rattle.std.specs.Prelude.{◌≡◌, ◌<◌}
 use Rattle.crossbeam_utils.specs.Padded.{padded_value}
 use Rattle.exec_live_idle.specs.declared.view.View.{View}
 use Rattle.exec_live_idle.specs.declared.seat.Idle.{Idle}

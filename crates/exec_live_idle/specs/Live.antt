@@ -1,4 +1,27 @@
 -- The rule of a live idle set: what holds between any two atomic steps.
+--
+-- Two words are shared. The set has a bit for each worker: it is in while the worker is published, about to sleep or
+-- asleep, and nobody has claimed it. The count is how many search counts there are: each is the duty to look for work, or
+-- to hand that duty on.
+--
+-- A seat is a right to step, with what its holder knows: its number, whether it has published its worker, and how many
+-- counts it holds. The seat of a number below the number of workers is that worker's; all others are of callers, who
+-- only wake. Each number has one seat. Who may do what:
+--
+-- - A worker publishes itself by the or of its bit, if it isn't published, and withdraws by the and that takes its bit out.
+-- - Whoever holds a count may claim: an exchange of the set for one without its lowest bit. The claim hands the count
+--   over to that worker. It takes it when it withdraws, since it finds its bit gone.
+-- - Anyone may add a count, which the seat holds then, or exchange 0 for 1. Whoever holds one may subtract it, and is told
+--   whether others are left.
+--
+-- Why no claim is lost, and no worker is claimed twice. A bit that is in belongs to one seat, which has published it and not
+-- withdrawn it (`each_bit`): a claim of that bit has somebody who will take its count. A published seat whose bit is gone
+-- was claimed, since only a claim takes out another's bit. So the count is what all seats hold, and one for each such seat
+-- (`counted`): a claim takes one from the claimer's part and puts it into the other, and a withdrawal moves it from there
+-- to what the worker holds. Whoever finds the count 0 knows that nobody holds one, and that no claimed worker is on its
+-- way.
+--
+-- The count fits its word, since a seat holds at most two counts and there are at most 2^32 seats (`few`).
 use Rattle.std.specs.Prelude.{◌≡◌, ℕ, ◌+◌, ◌-◌, ◌^◌, ◌<◌, ◌≤◌, ◌==◌, nat_le, nat_lt, Bool, true, false, if◌then◌else◌, List, [], ◌∷◌}
 use mathlib.Core.Option.{some}
 use lib.ListN.{get_elem?}
@@ -40,6 +63,7 @@ pub record IsSeat (workers : ℕ) (v : View) : Type 0 where
   pub spent : v.end ≤ v.number → (v.held ≡ 0) × (v.published ≡ false)
   pub worker : v.published ≡ true → v.number < workers
 
+-- the rule over the set and the count, and the views of all seats
 pub record Kept (workers : ℕ) (set : List Bool) (count : ℕ) (views : List View) : Type 0 where
   -- the count is what the seats hold, and one for each published worker whose bit is gone: it was claimed
   pub counted : count ≡ total (shares set) views
@@ -47,9 +71,11 @@ pub record Kept (workers : ℕ) (set : List Bool) (count : ℕ) (views : List Vi
   pub each_bit : (i : ℕ) → is_in set i ≡ true → (i < workers) × (total (publishes i) views ≡ 1)
   -- no two seats have one number
   pub each_number : (i : ℕ) → total (has_number i) views ≤ 1
+  -- there are at most 2^32 numbers
   pub few : total width views ≤ 2 ^ 32
   pub each_seat : (j : ℕ) (v : View) → get_elem? views j ≡ some v → IsSeat workers v
 
+-- the rule of the table: its words are such a set and count
 pub record LiveIdle {S : Type 0} (workers : ℕ) (s : State S View) : Type 0 where
   pub set : ℕ
   pub count : ℕ

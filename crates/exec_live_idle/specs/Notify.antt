@@ -1,5 +1,5 @@
 -- What a wake by the idle set makes of the seat that wakes, and of what it wakes by.
-use Rattle.std.specs.Prelude.{◌≡◌, ℕ, ◌-◌, ◌<◌, ◌⊎◌, Bool, true, List, [], ◌∷◌, ◌++◌}
+use Rattle.std.specs.Prelude.{◌≡◌, ℕ, ◌-◌, ◌<◌, ◌⊎◌, true, [], ◌∷◌, ◌++◌}
 use Rattle.exec_live_idle.specs.declared.view.View.{View}
 
 -- the seat is as before, but for what it saw and claimed

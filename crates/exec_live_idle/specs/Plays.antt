@@ -1,6 +1,6 @@
 -- What each step of an idle set tells the seat that makes it: which transition it was, of the word that it found, and
 -- what the seat knows then.
-use Rattle.std.specs.Prelude.{◌≡◌, ◌≢◌, ℕ, ◌+◌, ◌-◌, ◌%◌, ◌^◌, ◌<◌, ◌==◌, if◌then◌else◌, Bool, true, false, List, [], ◌∷◌, ◌++◌, Some, bit_or, bit_and}
+use Rattle.std.specs.Prelude.{◌≡◌, ◌≢◌, ℕ, ◌+◌, ◌-◌, ◌%◌, ◌^◌, ◌<◌, ◌==◌, if◌then◌else◌, Bool, true, false, [], ◌∷◌, ◌++◌, Some, bit_or, bit_and}
 use Rattle.atomic_table.specs.Table.{Me, Step}
 use Rattle.exec_words.specs.Idle.{is_in, lowest_of}
 use Rattle.exec_live_idle.specs.declared.view.View.{View}

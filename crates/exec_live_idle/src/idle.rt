@@ -1,4 +1,9 @@
-//! The idle set and the search count, and a seat at them.
+//! The calls on an idle set, each by a seat.
+//!
+//! A worker's seat publishes and withdraws its worker. Any seat adds, returns and hands over search
+//! counts: what it holds is a number in its view, and each call asks for what it takes. A claim may
+//! wait, since an exchange that is lost is tried again; each other call is one atomic step. Ports
+//! the `Idle` of `commonware_runtime`'s `iouring::idle`.
 
 ghost use Rattle.std.specs.Prelude.{◌≡◌, ◌+◌, ◌^◌, ◌<◌, ◌≤◌, ◌-◌, ◌↔◌, if◌then◌else◌, IsTrue, true, false, IfOk, IfSome, IfNone};
 ghost use Rattle.exec_live_idle.specs.Idle.{knows, IsSeatOf, IsSame};
@@ -7,8 +12,8 @@ ghost use Rattle.exec_words.specs.Idle.{is_in};
 ghost use Rattle.exec_live_idle.specs.Words.{set_of};
 ghost use Rattle.exec_live_idle.specs.Plays.{published, looked, withdrawn, claimed, counted};
 
-use crate::steps;
 use crate::seat::{Idle, IdleSeat};
+use crate::steps;
 use atomic_table::Table;
 use crossbeam_utils::CachePadded;
 use std::alloc::{AllocError, Global};

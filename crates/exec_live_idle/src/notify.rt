@@ -1,4 +1,12 @@
 //! Wakes of workers that are published.
+//!
+//! A wake reserves a search count, claims the lowest published worker, which gets the count, and
+//! wakes it. A kick, for a backlog in a run queue, does so only where there is no count. A push into
+//! the global queue wakes a worker each time.
+//!
+//! A wake that finds nobody to claim returns its count. While it held it, a kick may have seen the
+//! count and done nothing, and a worker may have published itself since. So whoever returns the last
+//! count looks again. Ports `notify` and `notify_global` of `commonware_runtime`'s `iouring::idle`.
 
 ghost use Rattle.std.specs.Prelude.{◌≡◌, ℕ, ◌<◌, ◌≤◌, ◌+◌, IsTrue, IsFalse};
 ghost use Rattle.exec_live_idle.specs.Idle.{knows, IsSeatOf, IsSame};

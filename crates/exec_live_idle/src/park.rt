@@ -1,4 +1,12 @@
 //! How a worker leaves a search and parks.
+//!
+//! A parking worker publishes itself, returns its count, and only then looks for work once more. A
+//! push or a kick publishes its work first and then looks for a published worker or a count. So one
+//! of the two sees the other: no work is left where all sleep. The trait's looks ask for a seat that
+//! has published, which keeps that order.
+//!
+//! Where a count is there, the worker waits without a look at the run queues: whoever holds the
+//! count finds the backlog, or hands the duty on with its last return.
 
 ghost use Rattle.std.specs.Prelude.{◌≡◌, ◌≢◌, ◌+◌, ◌-◌, ◌<◌, ◌≤◌, ◌⊎◌, true, false, IsTrue, IsFalse, not, ◌↔◌, if◌then◌else◌};
 ghost use Rattle.exec_live_idle.specs.Idle.{knows, IsSame};
@@ -133,12 +141,12 @@ impl<'a> Searcher<'a> {
         ensures free { IsFalse result → (knows self.new.seat).held ≡ 0 }
         ensures waits { IsFalse result
             → LooksTo B.looks B.peers B.steals B.kicks (knows self.old.seat) backlog.old self.old.rng
-                Wait (knows self.new.seat) backlog.new self.new.rng }
+            Wait (knows self.new.seat) backlog.new self.new.rng }
         ensures runs { IsTrue result
             → LooksTo B.looks B.peers B.steals B.kicks (knows self.old.seat) backlog.old self.old.rng
-                Run (knows self.new.seat) backlog.new self.new.rng
+            Run (knows self.new.seat) backlog.new self.new.rng
             ⊎ SearchesTo B.looks B.peers B.steals B.kicks (knows self.old.seat) backlog.old
-                self.old.rng (knows self.new.seat) backlog.new self.new.rng }
+            self.old.rng (knows self.new.seat) backlog.new self.new.rng }
     {
         for _ in rt.forever() {
             match self.prepare_park(rt, backlog) {

@@ -1,4 +1,10 @@
 //! A worker's part in searching and parking.
+//!
+//! A worker with nothing to run searches: it goes over the other run queues once. It holds a search
+//! count from then on, also where the search moved nothing, until it leaves the search or parks. So
+//! a searcher is in one of four states: withdrawn or published, and with a count or without. Each
+//! call says in which it may be made. What it reaches of the pool, and its own run queue, are lent
+//! to each call. Ports the `Searcher` of `commonware_runtime`'s `iouring::idle`.
 
 ghost use Rattle.std.specs.Prelude.{◌≡◌, ◌+◌, ◌*◌, ◌%◌, ◌^◌, ◌<◌, ◌≤◌, ◌⊎◌, true, false, IsTrue, IsFalse, if◌then◌else◌};
 ghost use Rattle.exec_base.specs.Io.{Rose};
@@ -79,10 +85,10 @@ impl<'a> Searcher<'a> {
             true (knows self.new.seat) backlog.new self.new.rng }
         ensures dry { IsFalse result
             → Skips (knows self.old.seat) backlog.old self.old.rng
-                (knows self.new.seat) backlog.new self.new.rng
+            (knows self.new.seat) backlog.new self.new.rng
             ⊎ (Scans B.steals (knows self.old.seat) backlog.old self.old.rng
-                false (knows self.new.seat) backlog.new self.new.rng
-                × Rose (B.dry backlog.old) (B.dry backlog.new)) }
+            false (knows self.new.seat) backlog.new self.new.rng
+            × Rose (B.dry backlog.old) (B.dry backlog.new)) }
     {
         let workers = backlog.workers();
         if workers == 1 || !self.may_search(workers) {

@@ -73,7 +73,11 @@ pub fn claim_exchange(words: &Words, seat: &mut Place, seen: u64) -> Result<usiz
 {
     let worker = seen.trailing_zeros() as usize;
     let found = words.compare_exchange::<Claim>(seat, SET, seen, seen & !(1 << worker));
-    if found == seen { Ok(worker) } else { Err(found) }
+    if found == seen {
+        Ok(worker)
+    } else {
+        Err(found)
+    }
 }
 
 /// Loads the search count.

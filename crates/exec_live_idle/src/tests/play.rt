@@ -51,7 +51,14 @@ pub fn play<R: Wait + Abort>(
 {
     let (idle, mut caller) = Idle::new(alloc, workers)?;
     let mut players = gather(rt, alloc, &idle, &mut caller, workers);
-    replay(rt, &idle, &mut caller, players.as_mut_slice(), workers, lines);
+    replay(
+        rt,
+        &idle,
+        &mut caller,
+        players.as_mut_slice(),
+        workers,
+        lines,
+    );
     while let Some(player) = players.pop() {
         player.end(rt);
     }
@@ -112,7 +119,10 @@ fn replay<R: Wait + Abort>(
         assert!(rt; pool.bell.workers == workers);
         assert_eq!(rt; idle.look(caller), line.1);
         assert_eq!(rt; idle.count(caller), line.2);
-        assert_eq!(rt; pool.bell.woken.iter().position(|is_woken| *is_woken), line.3);
+        assert_eq!(rt;
+            pool.bell.woken.iter().position(|is_woken| *is_woken),
+            line.3
+        );
     }
 }
 
@@ -144,7 +154,10 @@ fn act<R: Wait + Abort>(rt: &R, players: &mut [Player<'_>], pool: &mut FakePool,
             let player = players.get_mut(worker).expect(rt, "a worker");
             assert_eq!(rt; player.search(rt, pool), answer);
         }
-        Op::Leave(worker) => players.get_mut(worker).expect(rt, "a worker").leave(rt, pool),
+        Op::Leave(worker) => players
+            .get_mut(worker)
+            .expect(rt, "a worker")
+            .leave(rt, pool),
         Op::Finish(worker, answer) => {
             let player = players.get_mut(worker).expect(rt, "a worker");
             assert_eq!(rt; player.finish(rt), answer);

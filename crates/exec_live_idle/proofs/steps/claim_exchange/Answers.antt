@@ -6,7 +6,6 @@ use Rattle.exec_live_idle.specs.declared.view.View.{View}
 use Rattle.exec_live_idle.specs.Words.{set_of}
 use Rattle.exec_live_idle.specs.Plays.{claimed}
 use Rattle.exec_live_idle.specs.Seats.{view_of}
-use mathlib.Core.Option.{none}
 use mir.Syntax.{w64}
 use Rattle.std.specs.Int.{trailing_zeros}
 use Rattle.exec_live_idle.proofs.Sets.{lowest_in, moves_withdraw}

@@ -1,5 +1,4 @@
-use Rattle.std.proofs.Common.{◌≡◌, sym, subst, ℕ, ◌<◌, arith}
-use mathlib.Core.Option.{none}
+use Rattle.std.proofs.Common.{sym, subst, ℕ, ◌<◌, arith}
 use Rattle.exec_live_idle.proofs.Allowed.{begin_}
 use Rattle.exec_live_idle.proofs.steps.count_exchange.Goals as goal
 

@@ -1,4 +1,4 @@
-use Rattle.std.proofs.Common.{◌≡◌, sym, subst, ℕ, ◌<◌, arith}
+use Rattle.std.proofs.Common.{sym, subst, ℕ, ◌<◌, arith}
 use Rattle.exec_live_idle.proofs.Allowed.{make_}
 use Rattle.exec_live_idle.proofs.steps.next_seat.Goals as goal
 

@@ -1,4 +1,4 @@
-use Rattle.std.proofs.Common.{◌≡◌, sym, subst, ℕ, ◌<◌, arith}
+use Rattle.std.proofs.Common.{sym, subst, ℕ, ◌<◌, arith}
 use Rattle.exec_live_idle.proofs.Allowed.{join_}
 use Rattle.exec_live_idle.proofs.steps.take_over.Goals as goal
 

@@ -1,4 +1,4 @@
-use Rattle.std.proofs.Common.{◌≡◌, sym, subst, ℕ, ◌<◌, bit_and, arith}
+use Rattle.std.proofs.Common.{sym, subst, ℕ, ◌<◌, bit_and, arith}
 use mathlib.Core.Option.{none}
 use mir.Syntax.{w64}
 use Rattle.std.specs.Int.{bit_not}

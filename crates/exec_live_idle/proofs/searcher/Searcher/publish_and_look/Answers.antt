@@ -1,4 +1,4 @@
-use Rattle.std.proofs.Common.{◌≡◌, refl, sym, false, inl, inr, ap, ◌∙◌, subst, ℕ, Bool, ⊎_elim, ◌⊎◌}
+use Rattle.std.proofs.Common.{◌≡◌, refl, false, inl, inr, ap, ◌∙◌, subst, ℕ, ⊎_elim, ◌⊎◌}
 use Rattle.exec_words.specs.declared.idle.Park.{Park}
 use Rattle.exec_words.specs.declared.idle.Park.TheVariants.{Search}
 use Rattle.exec_live_idle.specs.declared.view.View.{View}
@@ -37,7 +37,7 @@ loop-preserved g c =
     let b = g.B.Backlog in let before = c.loop in let looked = c.prepare_park.new in let after = c.search.new in
     let v : View = knows before.self.seat in let x : View = knows looked.self.seat in let w : View = knows after.self.seat in
     let parks : Parks b.looks b.peers b.kicks v before.backlog Search x looked.backlog
-        = subst (λ (p : Park). Parks b.looks b.peers b.kicks v before.backlog p x looked.backlog) c.in-Search.is c.prepare_park.ensures.parks in
+    = subst (λ (p : Park). Parks b.looks b.peers b.kicks v before.backlog p x looked.backlog) c.in-Search.is c.prepare_park.ensures.parks in
     let dry = c.search.ensures.dry c.if-search.false in
     let moved : Skips x looked.backlog looked.self.rng w after.backlog after.self.rng ⊎ Scans b.steals x looked.backlog looked.self.rng false w after.backlog after.self.rng = ⊎_elim (λ skip. inl skip) (λ scan. inr scan.0) dry in
     let kept : Fields x w = searched x w (⊎_elim (λ skip. inr skip.0) (λ scan. inl scan.0) moved) in
