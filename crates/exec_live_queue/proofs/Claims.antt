@@ -1,0 +1,132 @@
+-- A thief's claim keeps the rule.
+use Rattle.std.proofs.Common.{◌≡◌, ◌≢◌, ℕ, zero, suc, ◌+◌, ◌-◌, ◌*◌, ◌/◌, ◌%◌, ◌<◌, ◌≤◌, ◌⊎◌, eqb, List, [], ◌∷◌, ◌++◌, map, length, set, take, drop, sym, refl, ap, ◌∙◌, subst, inl, inr, ⊎_elim, le_refl, length-append, length-take-le, append-nil, arith}
+use mathlib.Core.Option.{none, some, some-injective}
+use lib.ListN.{get_elem?, length-map}
+use prog.Atomic.{either}
+use Rattle.std.specs.Prelude.{Option, Some, None}
+use Rattle.std.specs.List.{sum_by}
+use Rattle.std.proofs.lemmas.List.Sums.{sum_by-append}
+use Rattle.atomic_table.specs.Table.{State, Act, step, Valid, carried_after, homes_after, Allows}
+use Rattle.atomic_table.proofs.Lists.{set_here, at_longer}
+use Rattle.exec_words.specs.Queue.{claimed}
+use Rattle.exec_live_queue.specs.declared.view.Own.{Own}
+use Rattle.exec_live_queue.specs.declared.view.Theft.{Theft}
+use Rattle.exec_live_queue.specs.declared.view.View.{View}
+use Rattle.exec_live_queue.specs.declared.view.Stage.{Stage}
+use Rattle.exec_live_queue.specs.declared.view.Stage.TheVariants.{Owns, Idle, SawHead, SawTail, Claimed}
+use Rattle.exec_live_queue.specs.Numbers.{head_word, filled, Outside, BesideClaim, InOrder}
+use Rattle.exec_live_queue.specs.Pure.{queue_at}
+use Rattle.exec_live_queue.specs.Live.{labels, Homes, HomeAt, FullAt, weight_of, Knows, AsLogged, Kept, LiveQueue}
+use Rattle.exec_live_queue.specs.Plays.{Sat, half, hand, take_all, at_head, claimed_view, Claims, claims}
+use Rattle.exec_live_queue.proofs.Hands.{AllHome, take_behind, take_valid, take_carried, take_length, all_full}
+use Rattle.exec_live_queue.proofs.Orders.{gap_fits, claimed_order}
+use Rattle.exec_live_queue.proofs.Labels.{weigh_runs, labels_at, labels_length, at_drop, at_take, at_within, at_appended, at_either, window, window_length}
+use Rattle.exec_live_queue.proofs.Rebuild.{Puts, exchanges, thief_steps, there}
+use Rattle.exec_live_queue.proofs.Looks.{count_of_word, gap_of_word}
+use Rattle.exec_live_queue.proofs.Thieves.{moved, sees_here}
+
+-- k more labels below the front
+claimed_weight : (w : ℕ → ℕ) (start real k : ℕ) (ls : List ℕ) → start ≤ real → sum_by w (ls ++ labels real k) + sum_by w (labels start (real - start)) ≡ sum_by w ls + sum_by w (labels start (real + k - start))
+claimed_weight w start real k ls le =
+    let n : ℕ = real - start in let e : real + k - start ≡ n + k = omega arith in let h : start + n ≡ real = omega arith in
+    let a = sum_by-append w ls (labels real k) in let b = weigh_runs w start n k in let c : sum_by w (labels (start + n) k) ≡ sum_by w (labels real k) = ap (λ (x : ℕ). sum_by w (labels x k)) h in rw e (omega (arith, a, b, c))
+
+-- no other seat holds a claim where there is no gap
+others_know : {T : Type 0} (tail real claimed holder k j id : ℕ) (t : Theft T) (st : Stage) → Knows tail real 0 claimed holder j t st → Knows tail (real + k) k k id j t st
+others_know tail real claimed holder k j id t Owns n = n
+others_know tail real claimed holder k j id t Idle n = tt
+others_know tail real claimed holder k j id t SawHead n = omega (arith, n)
+others_know tail real claimed holder k j id t SawTail n = (omega (arith, n.0), n.1)
+others_know tail real claimed holder k j id t Claimed n = absurd (omega (arith, n.1))
+
+module _ {T : Type 0} where
+  -- the oldest k values that the owner has queued at this front
+  abbrev Oldest : Own T → ℕ → ℕ → List T
+  Oldest d real k = take k (take (d.tail - real) (drop (real - d.start) d.log))
+
+  at_oldest : (d : Own T) (real k j : ℕ) → j < k → real + k ≤ d.tail → get_elem? (Oldest d real k) j ≡ get_elem? d.log (real - d.start + j)
+  at_oldest d real k j lt few = let le : real + k ≤ d.tail = few in at_take (take (d.tail - real) (drop (real - d.start) d.log)) k j lt ∙ at_take (drop (real - d.start) d.log) (d.tail - real) j (omega arith) ∙ at_drop d.log (real - d.start) j
+
+  oldest_length : (d : Own T) (real k : ℕ) → d.start ≤ real → d.start + length d.log ≡ d.tail → real + k ≤ d.tail → length (Oldest d real k) ≡ k
+  oldest_length d real k begun long few = let a : d.start ≤ real = begun in let b : d.start + length d.log ≡ d.tail = long in let c : real + k ≤ d.tail = few in
+      let wide = window_length d.log (real - d.start) (d.tail - real) (omega arith) in length-take-le k (take (d.tail - real) (drop (real - d.start) d.log)) (omega (arith, wide))
+
+  -- what a thief has taken, with the values of k more labels
+  logged_more : (d : Own T) (t t' : Theft T) (real k : ℕ) (xs : List T) → AsLogged d t → t'.claims ≡ t.claims ++ labels real k → t'.lot ≡ t.lot ++ xs → length xs ≡ k
+      → ((j : ℕ) → j < k → (x : T) × (get_elem? xs j ≡ some x) × (get_elem? d.log (real + j - d.start) ≡ some x)) → AsLogged d t'
+  logged_more d t t' real k xs old cs lot len each = (
+    ap length lot ∙ (let a = length-append t.lot xs in let b = length-append t.claims (labels real k) in let c = labels_length real k in let e = old.0 in omega (arith, a, b, c, e, len)) ∙ sym (ap length cs),
+    λ i l e. ⊎_elim
+        (λ (before : get_elem? t.claims i ≡ some l). let o = old.1 i l before in (o.0, subst (λ (zs : List T). get_elem? zs i ≡ some o.0) (sym lot) (at_longer t.lot xs i o.0 o.1), o.2))
+        (λ (behind : (length t.claims ≤ i) × (get_elem? (labels real k) (i - length t.claims) ≡ some l)).
+        let j : ℕ = i - length t.claims in let run = labels_at real k j l behind.1 in let is : l ≡ real + j = run.1 in let g = each j run.0 in let same : length t.lot ≡ length t.claims = old.0 in
+        let place : length t.lot + j ≡ i = omega (arith, behind.0) in let index : real + j - d.start ≡ l - d.start = omega arith in (
+          g.0,
+          subst (λ (zs : List T). get_elem? zs i ≡ some g.0) (sym lot) (subst (λ (n : ℕ). get_elem? (t.lot ++ xs) n ≡ some g.0) place (at_appended t.lot xs j g.0 g.1)),
+          subst (λ (n : ℕ). get_elem? d.log n ≡ some g.0) index g.2,
+        ))
+        (at_either t.claims (labels real k) i l (subst (λ (ls : List ℕ). get_elem? ls i ≡ some l) cs e)),
+  )
+
+  -- the rule after the exchange, at which the slots of the claim went out with the thief
+  claimed_kept : (start : ℕ) (s : State (Option T) (View T)) (q : LiveQueue start s) (id k : ℕ) (v : View T) (xs : List T) → get_elem? s.views id ≡ some v → v.stage ≢ Owns
+      → half v.theft ≡ k → v.theft.at ≡ q.kept.real → q.kept.gap ≡ 0 → 0 < k → k ≤ 128 → q.kept.real + k + k ≤ q.view.own.tail → xs ≡ Oldest q.view.own q.kept.real k
+      → LiveQueue start record { words = head_word (q.kept.real + k) k ∷ q.view.own.tail ∷ []; homes = homes_after s.homes [] (take_all q.kept.real (map Some xs)); views = set s.views id (claimed_view v xs) }
+  claimed_kept start s q id k v xs at thief halves sees unclaimed pos small few is =
+      let n = q.kept in let real : ℕ = n.real in let d : Own T = q.view.own in let t : ℕ = d.tail in let order : InOrder d real 0 n.claimed = subst (λ (g : ℕ). InOrder d real g n.claimed) unclaimed n.order in
+      let w : t + 0 ≤ real + 256 = order.within in let begun : d.start ≤ real = order.begun in let long : d.start + length d.log ≡ t + d.aside = n.long in
+      let z : d.aside ≡ 0 = ⊎_elim (λ (e : d.aside ≡ 0). e) (λ (kept : (d.aside ≡ 128) × (real ≡ t) × (0 ≡ 0)). let e : real ≡ t = kept.1 in absurd (omega arith)) order.aside in
+      let len : length xs ≡ k = ap length is ∙ oldest_length d real k begun (omega arith) (omega arith) in let many : length (map {A = T} Some xs) ≡ k = length-map xs Some ∙ len in
+      let homes' : Homes T = homes_after s.homes [] (take_all real (map Some xs)) in let new : View T = claimed_view v xs in
+      moved start s q id v new (head_word (real + k) k ∷ t ∷ []) homes' (real + k) k k id at thief (take_length (map Some xs) s.homes [] real ∙ n.slots) refl (claimed_order d real n.claimed k order z pos small few)
+      (λ l le (lt : l < t + d.aside). let f = n.full l (omega arith) lt in (f.0, f.1, take_behind (map Some xs) s.homes [] real l (omega (arith, many)) (omega arith) ∙ f.2))
+      (λ l (le : t + d.aside ≤ l) lt beside outside. ⊎_elim
+      (λ (before : l + k < real + k + 256). take_behind (map Some xs) s.homes [] real l (omega (arith, many)) (omega arith) ∙ n.free l le (omega arith) (inl (omega (arith, unclaimed))) outside)
+      (λ (behind : real + k + 256 + k ≤ l + k). absurd (omega arith)) beside)
+      (λ j u ne e. others_know t real n.claimed n.holder k j id u.theft u.stage (subst (λ (g : ℕ). Knows t real g n.claimed n.holder j u.theft u.stage) unclaimed (n.each_seat j u e)))
+      (refl, pos, ap (λ (a : ℕ). a + k) sees, ap (λ (h : ℕ). v.theft.at + h) halves, (let e : half v.theft ≤ k = omega (arith, halves) in e))
+      (logged_more d v.theft new.theft real k xs (n.each_lot id v at) (λ i. v.theft.claims ++ labels (sees i) (halves i)) refl len
+      (λ j lt. let f = n.full (real + j) (omega arith) (omega arith) in let index : real - d.start + j ≡ real + j - d.start = omega arith in
+      (f.0, ap (λ (ys : List T). get_elem? ys j) is ∙ at_oldest d real k j lt (omega arith) ∙ ap (get_elem? d.log) index ∙ f.1, f.1)))
+      (λ _. (new, set_here s.views id new (there s.views id v at), refl))
+      (λ weigh. let starts : d.start ≡ start = n.from in let p = claimed_weight weigh start real k v.theft.claims (omega arith) in
+      let e : sum_by weigh (v.theft.claims ++ labels v.theft.at (half v.theft)) ≡ sum_by weigh (v.theft.claims ++ labels real k) = λ i. sum_by weigh (v.theft.claims ++ labels (sees i) (halves i)) in omega (arith, p, e))
+
+  -- the slots of the claim were home
+  claim_home : (start : ℕ) (s : State (Option T) (View T)) (q : LiveQueue start s) (k : ℕ) (xs : List T) → q.kept.real + k ≤ q.view.own.tail → xs ≡ Oldest q.view.own q.kept.real k → length xs ≡ k
+      → AllHome s.homes q.kept.real (map Some xs)
+  claim_home start s q k xs few is len = let n = q.kept in let real : ℕ = n.real in let d : Own T = q.view.own in let begun : d.start ≤ real = n.order.begun in
+      all_full xs s.homes real (λ j x e. let lt : j < length xs = at_within xs j x e in let f = n.full (real + j) (omega arith) (omega arith) in let index : real - d.start + j ≡ real + j - d.start = omega arith in
+      let same : f.0 ≡ x = some-injective f.0 x (sym f.1 ∙ ap (get_elem? d.log) (sym index) ∙ sym (at_oldest d real k j (omega arith) few) ∙ ap (λ (ys : List T). get_elem? ys j) (sym is) ∙ e) in
+      subst (λ (y : T). HomeAt s.homes (real + j) (Some y)) same f.2)
+
+  claimed_pure : (d : Own T) (real k : ℕ) → d.start ≤ real → real + k ≤ d.tail → claimed (queue_at d real 0) k ≡ queue_at d (real + k) k
+  claimed_pure d real k begun few = let a : d.start ≤ real = begun in let b : real + k ≤ d.tail = few in
+      let m : ℕ = d.tail - (real + k) in let e : real + k - d.start ≡ real - d.start + k = omega arith in let h : d.tail - real ≡ k + m = omega arith in
+      let values : drop k (take (d.tail - real) (drop (real - d.start) d.log)) ≡ take m (drop (real + k - d.start) d.log)
+      = ap (λ (n : ℕ). drop k (take n (drop (real - d.start) d.log))) h ∙ sym (window d.log (real - d.start) k m) ∙ ap (λ (n : ℕ). take m (drop n d.log)) (sym e) in
+      ap (λ (xs : List T). record { real = real + k; gap = k; values = xs; held = take d.aside (drop (d.tail - d.start) d.log) }) values
+
+  pub claims_rule : (start id : ℕ) (me : Sat T) (old new : ℕ) → me.0.stage ≡ SawTail → me.1 ≡ [] → old / 512 ≡ me.0.theft.at → old % 512 ≡ 0 → me.0.theft.at + 2 ≤ me.0.theft.upto → new ≡ head_word (me.0.theft.at + half me.0.theft) (half me.0.theft)
+      → Allows (LiveQueue start) 256 id me 0 (λ n. either (eqb n old) new n) (claims (step 256 0 old new none) me)
+  claims_rule start id me old new st empty sees_at unclaimed two writes = thief_steps start id 0 me [] (λ n. either (eqb n old) new n) (claims (step 256 0 old new none) me) empty (λ s q at.
+      let n = q.kept in let real : ℕ = n.real in let d : Own T = q.view.own in let v : View T = me.0 in let hw : ℕ = head_word real n.gap in let ws : List ℕ = hw ∷ d.tail ∷ [] in let small : n.gap < 512 = gap_fits d real n.gap n.claimed n.order in
+      let thief : v.stage ≢ Owns = λ e. let clash : SawTail ≡ Owns = sym st ∙ e in cc in let free : v.stage ≢ Claimed = λ e. let clash : SawTail ≡ Claimed = sym st ∙ e in cc in
+      let k : ℕ = half v.theft in let knew : (v.theft.at ≤ real) × (v.theft.upto ≤ d.tail) = subst (λ (x : Stage). Knows d.tail real n.gap n.claimed n.holder id v.theft x) st (n.each_seat id v at) in
+      exchanges start s ws [] id hw old new (Claims v) (λ m'. m' ≡ (at_head v hw, me.1))
+      (λ e. let r : real ≡ v.theft.at = sym (count_of_word real n.gap small) ∙ ap (λ (x : ℕ). x / 512) e ∙ sees_at in
+      let g : n.gap ≡ 0 = sym (gap_of_word real n.gap small) ∙ ap (λ (x : ℕ). x % 512) e ∙ unclaimed in
+      let w : d.tail + n.gap ≤ real + 256 = n.order.within in let begun : d.start ≤ real = n.order.begun in let long : d.start + length d.log ≡ d.tail + d.aside = n.long in let upto : v.theft.upto ≤ d.tail = knew.1 in
+      let few : real + k + k ≤ d.tail = omega arith in let pos : 0 < k = omega arith in let most : k ≤ 128 = omega arith in let xs : List T = Oldest d real k in
+      let z : d.aside ≡ 0 = ⊎_elim (λ (h : d.aside ≡ 0). h) (λ (kept : (d.aside ≡ 128) × (real ≡ d.tail) × (n.gap ≡ 0)). let h : real ≡ d.tail = kept.1 in absurd (omega arith)) n.order.aside in
+      let len : length xs ≡ k = oldest_length d real k begun (omega arith) (omega arith) in let many : length (map {A = T} Some xs) ≤ 256 = (let a : length (map {A = T} Some xs) ≡ length xs = length-map xs Some in omega (arith, a, len)) in
+      let said : (claimed (queue_at d v.theft.at 0) k ≡ queue_at d (v.theft.at + k) k) × (xs ≡ take k (queue_at d v.theft.at 0).values) × (hand real (map {A = T} Some xs) ≡ hand v.theft.at (map Some xs))
+      = (subst (λ (R : ℕ). claimed (queue_at d R 0) k ≡ queue_at d (R + k) k) r (claimed_pure d real k begun (omega arith)), ap (λ (R : ℕ). Oldest d R k) r, ap (λ (R : ℕ). hand R (map {A = T} Some xs)) r) in
+      subst (λ (x : ℕ). Puts start s 0 x (Claims v) ws [] id) (sym (writes ∙ ap (λ (R : ℕ). head_word (R + k) k) (sym r))) (
+        claimed_view v xs,
+        take_all real (map Some xs),
+        take_valid (map Some xs) s.homes [] real many (claim_home start s q k xs (omega arith) refl len),
+        claimed_kept start s q id k v xs at thief refl (sym r) g pos most few refl,
+        (d, said.0, xs, said.1, len, most, ap (λ (c : List (ℕ × Option T)). (claimed_view v xs, c)) (take_carried (map Some xs) [] real ∙ append-nil (hand real (map Some xs)) ∙ said.2)),
+      ))
+      (λ ne. let p = sees_here start id me [] thief free empty s q at in p))

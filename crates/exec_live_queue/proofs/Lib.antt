@@ -1,0 +1,17 @@
+pub mod Claims
+pub mod Hands
+pub mod Labels
+pub mod Looks
+pub mod Moves
+pub mod Opened
+pub mod Orders
+pub mod Overflows
+pub mod Owners
+pub mod Pops
+pub mod Publishes
+pub mod Rebuild
+pub mod Releases
+pub mod Returns
+pub mod Standing
+pub mod Steals
+pub mod Thieves

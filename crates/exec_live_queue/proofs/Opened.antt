@@ -1,0 +1,66 @@
+-- A new queue meets the rule.
+use Rattle.std.proofs.Common.{◌≡◌, ℕ, zero, suc, ◌+◌, ◌-◌, ◌%◌, ◌^◌, ◌<◌, ◌≤◌, ◌⊎◌, List, [], ◌∷◌, map, length, replicate, sym, refl, ap, ◌∙◌, subst, inl, inr, le_refl, mod-lt, arith}
+use Rattle.std.proofs.lemmas.List.{length-replicate}
+use mathlib.Core.Option.{none, some, some-injective, some-ne-none}
+use lib.ListN.{get_elem?, length-map}
+use Rattle.std.specs.Prelude.{Option, Some, None}
+use Rattle.std.specs.List.{sum_by}
+use Rattle.atomic_table.specs.Table.{State, opening}
+use Rattle.exec_live_queue.specs.declared.view.View.{View}
+use Rattle.exec_live_queue.specs.declared.view.Stage.TheVariants.{Owns}
+use Rattle.exec_live_queue.specs.Numbers.{head_word, InOrder}
+use Rattle.exec_live_queue.specs.Live.{labels, weight_of, Knows, AsLogged, LiveQueue, opened}
+
+no_label : (a n : ℕ) (w : ℕ → ℕ) → n ≡ 0 → sum_by w (labels a n) ≡ 0
+unfolding labels
+no_label a zero w e = refl
+no_label a (suc n) w e = absurd (omega arith)
+
+module _ {T : Type 0} where
+  home_among : (n k : ℕ) → k < n → get_elem? (map {A = Option T} some (replicate n None)) k ≡ some (some None)
+  home_among zero k lt = absurd (omega arith)
+  home_among (suc n) zero lt = refl
+  home_among (suc n) (suc k) lt = home_among n k (omega arith)
+
+  one : (v : View T) (j : ℕ) (u : View T) → get_elem? (v ∷ []) j ≡ some u → (j ≡ 0) × (v ≡ u)
+  one v zero u e = (refl, some-injective v u e)
+  one v (suc j) u e = absurd (some-ne-none u (sym e))
+
+  pub opens : (start n : ℕ) (ws : List ℕ) (xs : List (Option T)) → start + 512 ≤ 2 ^ 55 → n ≡ 256 → xs ≡ replicate n None → ws ≡ head_word start 0 ∷ start ∷ [] → LiveQueue start (opening ws xs (opened start))
+  opens start n ws xs small wide free words =
+      let v : View T = opened start in let len : length (map some xs) ≡ n = length-map xs some ∙ ap length free ∙ length-replicate n None in let level : start - start ≡ 0 = omega arith in
+      let only : (j : ℕ) (u : View T) → get_elem? (v ∷ []) j ≡ some u → (j ≡ 0) × (v ≡ u) = one v in record {
+        view = v;
+        seated = refl;
+        owns = refl;
+        kept = record {
+          real = start;
+          gap = 0;
+          claimed = 0;
+          holder = 0;
+          from = refl;
+          slots = len ∙ wide;
+          words = words;
+          order = record {
+            begun = le_refl start;
+            behind = le_refl start;
+            within = omega arith;
+            counted = omega arith;
+            claim = inl (refl, refl);
+            aside = inl refl;
+            out_free = inl refl;
+            out_beside = inl refl;
+            saw_before = le_refl start;
+            saw_room = le_refl (start + 0);
+            saw_still = λ _. inl refl;
+            saw_lone = λ _ _. (refl, refl);
+          };
+          long = refl;
+          full = λ l le lt. absurd (omega arith);
+          free = λ l le lt beside outside. ap (λ (ys : List (Option T)). get_elem? (map some ys) (l % 256)) free ∙ home_among n (l % 256) (let m : l % 256 < 256 = mod-lt l (omega arith) in omega (arith, wide, m));
+          each_seat = λ j u e. let is = only j u e in subst (λ (x : View T). Knows start start 0 0 0 j x.theft x.stage) is.1 is.0;
+          each_lot = λ j u e. let is = only j u e in subst (λ (x : View T). AsLogged v.own x.theft) is.1 (refl, λ i l nowhere. absurd (some-ne-none l (sym nowhere)));
+          held = λ pos. absurd (omega arith);
+          told = λ w. sym (no_label start (start - start) w level);
+        };
+      }

@@ -1,0 +1,129 @@
+-- A full queue flows over, and shows again what it kept: both keep the rule.
+use Rattle.std.proofs.Common.{◌≡◌, ◌≢◌, ℕ, zero, suc, ◌+◌, ◌-◌, ◌*◌, ◌/◌, ◌%◌, ◌^◌, ◌<◌, ◌≤◌, ◌⊎◌, eqb, List, [], ◌∷◌, ◌++◌, map, length, set, take, drop, sym, refl, ap, ap₂, ◌∙◌, subst, inl, inr, ⊎_elim, le_refl, length-append, length-drop, append-nil, arith}
+use Rattle.std.proofs.Math.Nat.{add-mod_right}
+use Rattle.std.proofs.lemmas.List.{length-take-le}
+use mathlib.Core.Option.{none, some, some-injective}
+use lib.ListN.{get_elem?, length-map}
+use prog.Atomic.{either}
+use Rattle.std.specs.Prelude.{Option, Some, None}
+use Rattle.std.specs.List.{sum_by}
+use Rattle.std.proofs.lemmas.List.Sums.{sum_by-append}
+use Rattle.atomic_table.specs.Table.{State, Act, keeps, step, Valid, carried_after, homes_after, Allows}
+use Rattle.atomic_table.proofs.Lists.{at_longer}
+use Rattle.exec_words.specs.Queue.{overflowed, newest, restored}
+use Rattle.exec_live_queue.specs.declared.view.Own.{Own}
+use Rattle.exec_live_queue.specs.declared.view.View.{View}
+use Rattle.exec_live_queue.specs.declared.view.Stage.TheVariants.{Owns}
+use Rattle.exec_live_queue.specs.Numbers.{head_word, filled, Outside, BesideClaim, InOrder}
+use Rattle.exec_live_queue.specs.Pure.{queue_at}
+use Rattle.exec_live_queue.specs.Live.{labels, Homes, HomeAt, FullAt, weight_of, Kept, LiveQueue}
+use Rattle.exec_live_queue.specs.Plays.{Sat, hand, take_all, whole, overflowed_view, Overflowed, flows_over, missed, restored_view, restores}
+use Rattle.exec_live_queue.proofs.Hands.{AllHome, take_before, take_valid, take_carried, take_length, hand_turn, all_full}
+use Rattle.exec_live_queue.proofs.Orders.{gap_fits, overflowed_order, restored_order}
+use Rattle.exec_live_queue.proofs.Labels.{weigh_runs, at_drop, at_take, at_within, at_appended, window_of_end, window_length}
+use Rattle.exec_live_queue.proofs.Rebuild.{Puts, exchanges, rebuilt, owner_steps}
+use Rattle.exec_live_queue.proofs.Looks.{count_of_word, gap_of_word, lays_here}
+
+-- what left and what was relabelled are the 256 labels below the new front
+overflowed_weight : (w : ℕ → ℕ) (start real tail : ℕ) (handed kept : List ℕ) → start ≤ real → real + 256 ≡ tail
+    → sum_by w (handed ++ labels (real + 128) 128) + sum_by w (kept ++ labels real 128) + sum_by w (labels start (real - start)) ≡ sum_by w handed + sum_by w kept + sum_by w (labels start (tail - start))
+overflowed_weight w start real tail handed kept le full =
+    let n : ℕ = real - start in let e : tail - start ≡ n + 256 = omega arith in let h : start + n ≡ real = omega arith in
+    let a = sum_by-append w handed (labels (real + 128) 128) in let b = sum_by-append w kept (labels real 128) in let c = weigh_runs w start n 256 in
+    let d : sum_by w (labels (start + n) 256) ≡ sum_by w (labels real 128) + sum_by w (labels (real + 128) 128) = ap (λ (x : ℕ). sum_by w (labels x 256)) h ∙ weigh_runs w real 128 128 in rw e (omega (arith, a, b, c, d))
+
+module _ {T : Type 0} where
+  -- the values of a full queue: what the log has at its labels
+  at_whole : (d : Own T) (j : ℕ) → d.saw_real + 256 ≡ d.tail → j < 256 → get_elem? (whole d) j ≡ get_elem? d.log (d.saw_real - d.start + j)
+  at_whole d j full lt = let h : d.saw_real + 256 ≡ d.tail = full in at_take (drop (d.saw_real - d.start) d.log) (d.tail - d.saw_real) j (omega arith) ∙ at_drop d.log (d.saw_real - d.start) j
+
+  pub whole_length : (d : Own T) → d.start ≤ d.saw_real → d.start + length d.log ≡ d.tail → d.saw_real + 256 ≡ d.tail → length (whole d) ≡ 256
+  whole_length d begun long full = let a : d.start ≤ d.saw_real = begun in let b : d.start + length d.log ≡ d.tail = long in let c : d.saw_real + 256 ≡ d.tail = full in
+      let e : 256 ≡ d.tail - d.saw_real = omega arith in window_length d.log (d.saw_real - d.start) (d.tail - d.saw_real) (omega arith) ∙ sym e
+
+  -- the rule after the exchange, at which the newest half went out with the owner
+  overflowed_kept : (start : ℕ) (s : State (Option T) (View T)) (v : View T) (k : Kept start v s) → get_elem? s.views 0 ≡ some v → v.stage ≡ Owns
+      → v.own.aside ≡ 0 → k.real ≡ v.own.saw_real → k.gap ≡ 0 → v.own.saw_real + 256 ≡ v.own.tail → v.own.tail + 128 + 256 ≤ 2 ^ 55
+      → LiveQueue start record { words = head_word v.own.tail 0 ∷ v.own.tail ∷ []; homes = homes_after s.homes [] (take_all (v.own.saw_real + 128) (map Some (drop 128 (whole v.own)))); views = set s.views 0 (overflowed_view v) }
+  overflowed_kept start s v k at owns aside sees unclaimed full room =
+      let t : ℕ = v.own.tail in let real : ℕ = v.own.saw_real in let o = k.order in let z : v.own.aside ≡ 0 = aside in let is : k.real ≡ real = sees in let b : v.own.start ≤ k.real = o.begun in let f : real + 256 ≡ t = full in
+      let order : InOrder v.own k.real 0 k.claimed = subst (λ (g : ℕ). InOrder v.own k.real g k.claimed) unclaimed o in let long : v.own.start + length v.own.log ≡ t + v.own.aside = k.long in
+      let W : List T = whole v.own in let wide : length W ≡ 256 = whole_length v.own (omega arith) (omega arith) full in let kept : List T = take 128 W in
+      let half : length kept ≡ 128 = length-take-le 128 W (omega arith) in let out : List (Option T) = map Some (drop 128 W) in let many : length out ≡ 128 = length-map (drop 128 W) Some ∙ (let e = length-drop 128 W in omega (arith, e)) in
+      rebuilt start s v (overflowed_view v) k (head_word t 0 ∷ t ∷ []) (homes_after s.homes [] (take_all (real + 128) out)) t 0 at owns owns k.from (take_length out s.homes [] (real + 128) ∙ k.slots) refl
+      (overflowed_order v.own k.real k.claimed (v.own.log ++ kept) (v.own.exported ++ labels (real + 128) 128) (v.own.relabelled ++ labels real 128) order o.behind room)
+      (let a = length-append v.own.log kept in omega (arith, a)) (le_refl t) o.behind (λ pos. absurd (omega (arith, pos, unclaimed))) (λ pos. absurd (omega (arith, pos)))
+      (λ l le (lt : l < t + 128). let j : ℕ = l - t in let old : ℕ = real + j in let back : old + 256 ≡ l = omega arith in let g = k.full old (omega arith) (omega arith) in
+      let index : real - v.own.start + j ≡ old - v.own.start = omega arith in let place : length v.own.log + j ≡ l - v.own.start = omega arith in
+      let here : get_elem? kept j ≡ some g.0 = at_take W 128 j (omega arith) ∙ at_whole v.own j full (omega arith) ∙ ap (get_elem? v.own.log) index ∙ g.1 in
+      let turn : l % 256 ≡ old % 256 = ap (λ (n : ℕ). n % 256) (sym back) ∙ add-mod_right old 256 in (
+        g.0,
+        subst (λ (i : ℕ). get_elem? (v.own.log ++ kept) i ≡ some g.0) place (at_appended v.own.log kept j g.0 here),
+        ap (get_elem? (homes_after s.homes [] (take_all (real + 128) out))) turn ∙ take_before out s.homes [] (real + 128) old (omega arith) (omega (arith, many)) ∙ g.2,
+      ))
+      (λ l (le : t + 128 ≤ l) (lt : l < t + 256) beside (outside : Outside (t + 128) 128 l). absurd (⊎_elim (λ (h : l < t + 128). omega arith) (λ (h : t + 128 + 128 ≤ l). omega arith) outside))
+      refl (λ l x e. at_longer v.own.log kept l x e)
+      (λ weigh. let starts : v.own.start ≡ start = k.from in let p = overflowed_weight weigh start real t v.own.exported v.own.relabelled (omega arith) full in let q : sum_by weigh (labels start (k.real - start)) ≡ sum_by weigh (labels start (real - start)) = ap (λ (n : ℕ). sum_by weigh (labels start (n - start))) sees in omega (arith, p, q))
+
+  -- the newest half was home
+  newest_home : (start : ℕ) (s : State (Option T) (View T)) (v : View T) (k : Kept start v s) → v.own.aside ≡ 0 → k.real ≡ v.own.saw_real → v.own.saw_real + 256 ≡ v.own.tail
+      → AllHome s.homes (v.own.saw_real + 128) (map Some (drop 128 (whole v.own)))
+  newest_home start s v k aside sees full = let real : ℕ = v.own.saw_real in let o = k.order in let z : v.own.aside ≡ 0 = aside in let is : k.real ≡ real = sees in let b : v.own.start ≤ k.real = o.begun in let f : real + 256 ≡ v.own.tail = full in
+      let long : v.own.start + length v.own.log ≡ v.own.tail + v.own.aside = k.long in let wide : length (whole v.own) ≡ 256 = whole_length v.own (omega arith) (omega arith) full in
+      all_full (drop 128 (whole v.own)) s.homes (real + 128) (λ j x e.
+      let at : get_elem? (whole v.own) (128 + j) ≡ some x = sym (at_drop (whole v.own) 128 j) ∙ e in let near : 128 + j < length (whole v.own) = at_within (whole v.own) (128 + j) x at in
+      let l : ℕ = real + 128 + j in let g = k.full l (omega arith) (omega arith) in let index : real - v.own.start + (128 + j) ≡ l - v.own.start = omega arith in
+      let same : g.0 ≡ x = some-injective g.0 x (sym g.1 ∙ ap (get_elem? v.own.log) (sym index) ∙ sym (at_whole v.own (128 + j) full (omega arith)) ∙ at) in
+      subst (λ (y : T). HomeAt s.homes l (Some y)) same g.2)
+
+  -- the queue after the exchange
+  overflowed_pure : (v : View T) → v.own.start ≤ v.own.saw_real → v.own.start + length v.own.log ≡ v.own.tail → v.own.saw_real + 256 ≡ v.own.tail
+      → queue_at (overflowed_view v).own v.own.tail 0 ≡ overflowed (queue_at v.own v.own.saw_real 0)
+  overflowed_pure v begun long full =
+      let d = v.own in let a : d.start ≤ d.saw_real = begun in let b : d.start + length d.log ≡ d.tail = long in let c : d.saw_real + 256 ≡ d.tail = full in
+      let wide : length (whole d) ≡ 256 = whole_length d begun long full in let kept : List T = take 128 (whole d) in let half : 128 ≡ length kept = sym (length-take-le 128 (whole d) (omega arith)) in
+      let gone : d.tail - d.tail ≡ 0 = omega arith in let values : take (d.tail - d.tail) (drop (d.tail - d.start) (d.log ++ kept)) ≡ [] = ap (λ (n : ℕ). take n (drop (d.tail - d.start) (d.log ++ kept))) gone in
+      let held : take 128 (drop (d.tail - d.start) (d.log ++ kept)) ≡ kept = window_of_end d.log kept (d.tail - d.start) 128 (omega arith) half in
+      λ i. record { real = sym full i; gap = 0; values = values i; held = held i }
+
+  pub flows_over_rule : (start id : ℕ) (me : Sat T) (old new : ℕ) → me.0.stage ≡ Owns → me.0.own.aside ≡ 0 → me.0.own.out_len ≡ 0 → me.1 ≡ []
+      → old / 512 ≡ me.0.own.saw_real → old % 512 ≡ 0 → me.0.own.saw_real + 256 ≡ me.0.own.tail → me.0.own.tail + 128 + 256 ≤ 2 ^ 55 → new ≡ head_word me.0.own.tail 0
+      → Allows (LiveQueue start) 256 id me 0 (λ n. either (eqb n old) new n) (flows_over (step 256 0 old new none) me)
+  flows_over_rule start id me old new owns aside none_out empty sees_real unclaimed full room writes = owner_steps start id 0 me [] (λ n. either (eqb n old) new n) (flows_over (step 256 0 old new none) me) owns empty (λ s k at0.
+      let v : View T = me.0 in let hw : ℕ = head_word k.real k.gap in let ws : List ℕ = hw ∷ v.own.tail ∷ [] in let small : k.gap < 512 = gap_fits v.own k.real k.gap k.claimed k.order in
+      let out : List (Option T) = map Some (drop 128 (whole v.own)) in let z : v.own.aside ≡ 0 = aside in
+      exchanges start s ws [] 0 hw old new (Overflowed v) (missed (step 256 0 old new none) me hw)
+      (λ e. let r : k.real ≡ v.own.saw_real = sym (count_of_word k.real k.gap small) ∙ ap (λ (n : ℕ). n / 512) e ∙ sees_real in
+      let g : k.gap ≡ 0 = sym (gap_of_word k.real k.gap small) ∙ ap (λ (n : ℕ). n % 512) e ∙ unclaimed in
+      let b : v.own.start ≤ k.real = k.order.begun in let long : v.own.start + length v.own.log ≡ v.own.tail + v.own.aside = k.long in let f : v.own.saw_real + 256 ≡ v.own.tail = full in
+      let many : length out ≤ 256 = (let w = whole_length v.own (omega arith) (omega arith) full in let a : length out ≡ length (drop 128 (whole v.own)) = length-map (drop 128 (whole v.own)) Some in let c = length-drop 128 (whole v.own) in omega (arith, w, a, c)) in
+      let further : v.own.saw_real + 128 + 256 ≡ v.own.tail + 128 = omega arith in
+      let carried : hand (v.own.saw_real + 128) out ++ [] ≡ hand (v.own.tail + 128) out = append-nil (hand (v.own.saw_real + 128) out) ∙ sym (hand_turn (v.own.saw_real + 128) out) ∙ ap (λ (n : ℕ). hand n out) further in
+      subst (λ (x : ℕ). Puts start s 0 x (Overflowed v) ws [] 0) (sym writes) (
+        overflowed_view v,
+        take_all (v.own.saw_real + 128) out,
+        take_valid out s.homes [] (v.own.saw_real + 128) many (newest_home start s v k aside r full),
+        overflowed_kept start s v k at0 owns aside r g full room,
+        (overflowed_pure v (omega arith) (omega arith) full, ap (λ (c : List (ℕ × Option T)). (overflowed_view v, c)) (take_carried out [] (v.own.saw_real + 128) ∙ carried)),
+      ))
+      (λ ne. lays_here start me (λ room. 0) (λ r. omega arith) owns aside none_out s k at0))
+
+  -- the rule after the store that shows again what was kept
+  restored_kept : (start : ℕ) (s : State (Option T) (View T)) (v : View T) (k : Kept start v s) → get_elem? s.views 0 ≡ some v → v.stage ≡ Owns → v.own.aside ≡ 128
+      → LiveQueue start record { words = head_word k.real k.gap ∷ (v.own.tail + v.own.aside) ∷ []; homes = s.homes; views = set s.views 0 (restored_view v) }
+  restored_kept start s v k at owns half =
+      let t : ℕ = v.own.tail in let real : ℕ = k.real in let gap : ℕ = k.gap in let whole : t + v.own.aside + 0 ≡ t + v.own.aside = omega arith in
+      rebuilt start s v (restored_view v) k (head_word real gap ∷ (t + v.own.aside) ∷ []) s.homes real gap at owns owns k.from k.slots refl (restored_order v.own real gap k.claimed k.order half)
+      (k.long ∙ sym whole) (omega arith) (le_refl real) (λ q. (q, refl)) (λ q. q)
+      (λ l le lt. k.full l le (omega arith)) (λ l le lt beside outside. k.free l (omega arith) lt beside outside) refl (λ l x e. e) (λ weight. refl)
+
+  restored_pure : (v : View T) (gap : ℕ) → queue_at (restored_view v).own v.own.tail gap ≡ restored (queue_at v.own v.own.tail gap)
+  restored_pure v gap = let d = v.own in let e : d.tail + d.aside - d.tail ≡ d.aside = omega arith in
+      ap (λ (n : ℕ). record { real = d.tail; gap = gap; values = take n (drop (d.tail - d.start) d.log); held = [] }) e
+
+  pub restore_rule : (start id : ℕ) (me : Sat T) (new : ℕ) → me.0.stage ≡ Owns → me.0.own.aside ≡ 128 → new ≡ me.0.own.tail + me.0.own.aside
+      → Allows (LiveQueue start) 256 id me 1 (λ _. new) (λ _. restores (step 256 1 new 0 none) me new)
+  restore_rule start id me new owns half writes = owner_steps start id 1 me me.1 (λ _. new) (λ _. restores (step 256 1 new 0 none) me new) owns refl (λ s k at.
+      let ws : List ℕ = head_word k.real k.gap ∷ me.0.own.tail ∷ [] in
+      subst (λ (x : ℕ). Puts start s 1 x (restores (step 256 1 new 0 none) me new) ws me.1 0) (sym writes)
+      (restored_view me.0, keeps, tt, restored_kept start s me.0 k at owns half, ((λ gap. restored_pure me.0 gap), refl)))

@@ -1,0 +1,203 @@
+-- What an owner's calls do to its view, step after step.
+use Rattle.std.proofs.Common.{◌≡◌, ◌≢◌, ℕ, zero, suc, ◌+◌, ◌-◌, ◌*◌, ◌/◌, ◌%◌, ◌^◌, ◌<◌, ◌≤◌, ◌⊎◌, min, List, [], ◌∷◌, ◌++◌, length, take, drop, map, replicate, sym, refl, ap, ◌∙◌, subst, inl, inr, ⊎_elim, arith}
+use mathlib.Core.Option.{none, some}
+use mathlib.Core.Logic.{dite}
+use native.Mathlib.Decide.{ℕ_discrete, dec_le}
+use Rattle.std.proofs.Common.{Bool, cond, lt_of_not-le, le-leb}
+use Rattle.std.proofs.lemmas.Bool.{lt-leb}
+use Rattle.exec_words.specs.Head.{room_at, is_spent}
+use lib.ListN.{get_elem?}
+use Rattle.std.specs.Prelude.{Option, Some, None}
+use Rattle.atomic_table.specs.Table.{step}
+use Rattle.exec_live_queue.specs.declared.view.Own.{Own}
+use Rattle.exec_live_queue.specs.declared.view.View.{View}
+use Rattle.exec_live_queue.specs.declared.view.Stage.TheVariants.{Owns}
+use Rattle.exec_live_queue.specs.Numbers.{InOrder}
+use Rattle.exec_live_queue.specs.Plays.{Sat, Told, room, saw, out, hand, after_pop, laid, returned, Found, popped_view, Popped, values_of, published_view, Overflowed, overflowed_view, restored_view, whole}
+use Rattle.exec_live_queue.specs.Seats.{IsSeen, AtRest}
+use Rattle.exec_live_queue.specs.Calls.{looked, HasLooked, HasPopped, HasPublished, HasOverflowed, fully, AtHand, Fills, AfterSteal}
+use Rattle.exec_live_queue.specs.declared.view.Theft.{Theft}
+use Rattle.exec_words.specs.declared.queue.whole.Steal.{Steal}
+use Rattle.exec_words.specs.declared.queue.whole.Steal.TheVariants as steal
+use Rattle.exec_live_queue.specs.Live.{labels}
+use Rattle.exec_live_queue.proofs.Overflows.{whole_length}
+use Rattle.atomic_table.specs.Table.{rest}
+use Rattle.std.proofs.Common.{length-append, length-drop, append-nil}
+use Rattle.std.proofs.lemmas.List.{length-take-le}
+
+pub room_seen : (tail left len : ℕ) → tail < 2 ^ 55 - 512 → len ≤ left → len ≤ cond (is_spent tail) 0 left
+room_seen tail left len lt fits = let e : cond (is_spent tail) 0 left ≡ left = ap (λ (b : Bool). cond b 0 left) (lt-leb (2 ^ 55 - 512) tail lt) in omega (arith, fits, e)
+
+room_cases : (tail left len : ℕ) → len ≤ cond (is_spent tail) 0 left → (len ≡ 0) ⊎ ((len ≤ left) × (tail < 2 ^ 55 - 512))
+room_cases tail left len fits = dite (dec_le (2 ^ 55 - 512) tail)
+    (λ spent. inl (let e : cond (is_spent tail) 0 left ≡ 0 = ap (λ (b : Bool). cond b 0 left) (le-leb (2 ^ 55 - 512) tail spent) in omega (arith, fits, e)))
+    (λ ne. let lt : tail < 2 ^ 55 - 512 = lt_of_not-le ne in let e : cond (is_spent tail) 0 left ≡ left = ap (λ (b : Bool). cond b 0 left) (lt-leb (2 ^ 55 - 512) tail lt) in inr (omega (arith, fits, e), lt))
+
+module _ {T : Type 0} where
+  -- a look
+  pub laid_looked : (f : ℕ → ℕ) (m m' : Sat T) (n : ℕ) → laid f (step 256 0 0 0 none) m n m' → HasLooked m.0.own m'.0.own
+  laid_looked f m m' n l = let d = m.0.own in let o = l.0.1 in subst (λ (x : Sat T). HasLooked d x.0.own) (sym l.1) (refl, o.saw_before)
+
+  -- one that took nothing
+  pub looks_at : (f : ℕ → ℕ) (m m' : Sat T) (n : ℕ) → AtRest m → f (room m.0.own.tail (n / 512) (n % 512)) ≡ 0 → laid f (step 256 0 0 0 none) m n m' → AtRest m' × HasLooked m.0.own m'.0.own
+  looks_at f m m' n r dry l = let t : ℕ = m.0.own.tail in
+      (subst AtRest (sym (l.1 ∙ ap (λ (k : ℕ). (out (saw m.0 (n / 512) (n % 512)) t k, hand t (replicate {A = Option T} k None))) dry)) (r.0, refl, r.2, refl, r.4, r.5), laid_looked f m m' n l)
+
+  pub looks : (m m' : Sat T) (n : ℕ) → AtRest m → laid (λ room. 0) (step 256 0 0 0 none) m n m' → AtRest m' × HasLooked m.0.own m'.0.own
+  looks m m' n r l = looks_at (λ _. 0) m m' n r refl l
+
+  -- a look leaves the tail
+  pub own_tail : (d d' : Own T) → HasLooked d d' → d'.tail ≡ d.tail
+  own_tail d d' h = ap (λ (x : Own T). x.tail) h.0
+
+  -- a look after a look
+  pub looks_on : (a b d : Own T) → HasLooked a b → HasLooked b d → HasLooked a d
+  looks_on a b d h k = (k.0 ∙ ap (λ (x : Own T). looked x d) h.0, omega (arith, h.1, k.1))
+
+  -- a pop after a look
+  pub pops_on : (a b d : Own T) (x : T) → HasLooked a b → HasPopped b x d → HasPopped a x d
+  pops_on a b d x h k = (
+    k.0,
+    subst (λ (y : Own T). get_elem? y.log (k.0 - y.start) ≡ some x) h.0 k.1,
+    omega (arith, h.1, k.2),
+    k.3,
+    k.4 ∙ ap (λ (y : Own T). record (looked y d) { popped = y.popped ++ k.0 ∷ [] }) h.0,
+  )
+
+  -- a pop, and the look at which its slot went back
+  pub pops_off : (m m1 m2 : Sat T) (x y : T) (n gap : ℕ) → AtRest m → m1.0 ≡ popped_view m.0 m.0.own.saw_real gap → get_elem? m.0.own.log (m.0.own.saw_real - m.0.own.start) ≡ some y → x ≡ y
+      → returned (step 256 0 0 0 none) m1 n m2 → AtRest m2 × HasPopped m.0.own x m2.0.own
+  pops_off m m1 m2 x y n gap r view at same back =
+      let d = m.0.own in let real : ℕ = d.saw_real in let o = back.0.1 in
+      let past : real + 1 ≤ n / 512 = subst (λ (v : View T). v.own.saw_real ≤ n / 512) view o.saw_before in
+      subst (λ (z : Sat T). AtRest z × HasPopped d x z.0.own) (sym back.1)
+      (subst (λ (v : View T). AtRest (record v { own = record v.own { saw_real = n / 512; saw_gap = n % 512; out_at = v.own.tail; out_len = 0 } }, [])
+      × HasPopped d x (record v.own { saw_real = n / 512; saw_gap = n % 512; out_at = v.own.tail; out_len = 0 })) (sym view)
+      ((r.0, refl, r.2, refl, r.4, r.5), (real, at ∙ ap some (sym same), omega arith, omega (arith, past), refl)))
+
+  -- a head that was found in place of the one that was seen leaves fewer values, or as many and no claim
+  pub fewer : (d : Own T) (seen n tail : ℕ) → IsSeen d seen → Found d n → n ≢ seen → d.saw_real < tail → 2 * (tail - n / 512) + min (n % 512) 1 < 2 * (tail - seen / 512) + min (seen % 512) 1
+  fewer d seen n tail s f ne any = let o = f.1 in let before : d.saw_real ≤ n / 512 = o.saw_before in let a : seen / 512 ≡ d.saw_real = s.0 in let b : seen % 512 ≡ d.saw_gap = s.1 in
+      dite (ℕ_discrete (n / 512) d.saw_real)
+      (λ e. ⊎_elim (λ (same : n % 512 ≡ d.saw_gap). absurd (ne (omega arith))) (λ (free : n % 512 ≡ 0). let differs : n % 512 ≢ seen % 512 = λ h. ne (omega arith) in omega arith) (o.saw_still e))
+      (λ other. omega arith)
+
+  -- the head that was found is the one that was seen last
+  pub laid_seen : (f : ℕ → ℕ) (m m' : Sat T) (n : ℕ) → laid f (step 256 0 0 0 none) m n m' → IsSeen m'.0.own n
+  laid_seen f m m' n l = let o = l.0.1 in subst (λ (x : Sat T). IsSeen x.0.own n) (sym l.1) (refl, refl, o.begun, o.behind, o.within)
+
+  same_value : (a b : ℕ) (x y : T) → hand a (Some x ∷ []) ≡ hand b (Some y ∷ []) → x ≡ y
+  same_value a b x y e = let h : x ∷ [] ≡ y ∷ [] = ap values_of e in cc
+
+  -- the slot that a pop took
+  pub pops_out : (m m1 : Sat T) (real gap : ℕ) → AtRest m → Popped m.0 m.0.own.saw_real gap m1 → real ≡ m.0.own.saw_real
+      → (m1.0.stage ≡ Owns) × (((m1.0.own.out_at ≡ real + 256) × (m1.0.own.out_len ≡ 1)) × ((x : T) × (m1.1 ≡ hand (real + 256) (Some x ∷ []))))
+  pops_out m m1 real gap r p same = let turn : m.0.own.saw_real + 256 ≡ real + 256 = ap (λ (n : ℕ). n + 256) (sym same) in (
+    ap (λ (z : Sat T). z.0.stage) p.3 ∙ r.0,
+    ((ap (λ (z : Sat T). z.0.own.out_at) p.3 ∙ turn, ap (λ (z : Sat T). z.0.own.out_len) p.3), (p.1, ap (λ (z : Sat T). z.1) p.3 ∙ ap (λ (n : ℕ). hand n (Some p.1 ∷ [])) turn)),
+  )
+
+  -- the whole pop
+  pub pops_back : (m m1 m2 : Sat T) (x : T) (real n gap : ℕ) → AtRest m → Popped m.0 m.0.own.saw_real gap m1 → real ≡ m.0.own.saw_real → m1.1 ≡ hand (real + 256) (Some x ∷ [])
+      → returned (step 256 0 0 0 none) m1 n m2 → AtRest m2 × HasPopped m.0.own x m2.0.own
+  pops_back m m1 m2 x real n gap r p same took back =
+      pops_off m m1 m2 x p.1 n (after_pop m.0.own.saw_real gap).gap r (ap (λ (z : Sat T). z.0) p.3) p.2 (same_value (real + 256) (m.0.own.saw_real + 256) x p.1 (sym took ∙ ap (λ (z : Sat T). z.1) p.3)) back
+
+  -- a look that took the one free slot that it asked for
+  pub took_one : (m m' : Sat T) (n : ℕ) → laid (λ room. min room 1) (step 256 0 0 0 none) m n m' → m.0.own.tail - n / 512 + n % 512 < 256
+      → (m'.0.own.out_at ≡ m.0.own.tail) × (m'.0.own.out_len ≡ 1) × (m'.1 ≡ hand m.0.own.tail (None ∷ []))
+  took_one m m' n l lt = let t : ℕ = m.0.own.tail in let o = l.0.1 in let b : n / 512 ≤ t = o.behind in let one : min (room t (n / 512) (n % 512)) 1 ≡ 1 = omega arith in
+      let is : m' ≡ (out (saw m.0 (n / 512) (n % 512)) t 1, hand t (None ∷ [])) = l.1 ∙ ap (λ (k : ℕ). (out (saw m.0 (n / 512) (n % 512)) t k, hand t (replicate {A = Option T} k None))) one in
+      (ap (λ (x : Sat T). x.0.own.out_at) is, ap (λ (x : Sat T). x.0.own.out_len) is, ap (λ (x : Sat T). x.1) is)
+
+  took_none : (m m' : Sat T) (n : ℕ) → laid (λ room. min room 1) (step 256 0 0 0 none) m n m' → 256 ≤ m.0.own.tail - n / 512 + n % 512 → min (room m.0.own.tail (n / 512) (n % 512)) 1 ≡ 0
+  took_none m m' n l le = let t : ℕ = m.0.own.tail in let b : n / 512 ≤ t = l.0.1.behind in omega arith
+
+  -- one that found no room
+  pub looks_full : (m m' : Sat T) (n : ℕ) → AtRest m → laid (λ room. min room 1) (step 256 0 0 0 none) m n m' → 256 ≤ m.0.own.tail - n / 512 + n % 512 → AtRest m' × HasLooked m.0.own m'.0.own
+  looks_full m m' n r l le = looks_at (λ room. min room 1) m m' n r (took_none m m' n l le) l
+
+  -- the slot was filled
+  pub filled_one : (m m1 : Sat T) (label : ℕ) (x : T) → m.1 ≡ hand label (None ∷ []) → m1 ≡ (m.0, rest m.1 ++ (label % 256, Some x) ∷ []) → m1 ≡ (m.0, hand label (Some x ∷ []))
+  filled_one m m1 label x had e = e ∙ ap (λ (l : List (ℕ × Option T)). (m.0, rest l ++ (label % 256, Some x) ∷ [])) had
+
+  -- a value was published after a look
+  pub published_after : (m m1 m2 : Sat T) (xs : List T) → AtRest m → HasLooked m.0.own m1.0.own → m1.0.stage ≡ Owns → m1.0.own.tail + length xs + 256 ≤ 2 ^ 55 → m2 ≡ (published_view m1.0 xs, [])
+      → AtRest m2 × HasPublished m.0.own xs m2.0.own
+  published_after m m1 m2 xs r h owns bound e = let a = m.0.own in let b = m1.0.own in
+      let long : b.start + length b.log ≡ b.tail = subst (λ (d : Own T). d.start + length d.log ≡ d.tail) (sym h.0) r.5 in let longer = length-append b.log xs in
+      let log : b.start + length (b.log ++ xs) ≡ b.tail + length xs = omega arith in
+      subst (λ (z : Sat T). AtRest z × HasPublished a xs z.0.own) (sym e)
+      ((owns, refl, ap (λ (d : Own T). d.aside) h.0 ∙ r.2, refl, bound, log), (ap (λ (d : Own T). record d { tail = d.tail + length xs; log = d.log ++ xs; out_len = 0 }) h.0, h.1))
+
+  -- a queue flowed over after a look, and shows again what it kept
+  pub overflowed_after : (m m1 m2 m3 : Sat T) → AtRest m → HasLooked m.0.own m1.0.own → m1.0.stage ≡ Owns → m1.0.own.start ≤ m1.0.own.saw_real → m1.0.own.saw_real + 256 ≡ m1.0.own.tail → m.0.own.tail + 512 ≤ 2 ^ 55
+      → Overflowed m1.0 m2 → m3 ≡ (restored_view m2.0, m2.1)
+      → HasOverflowed m.0.own m3.0.own × AtHand m3 0 (drop 128 (fully m.0.own))
+  overflowed_after m m1 m2 m3 r h owns begun full bound o e =
+      let a = m.0.own in let b = m1.0.own in let aside : a.aside ≡ 0 = r.2 in let tail : b.tail ≡ a.tail = ap (λ (d : Own T). d.tail) h.0 in let start : b.start ≡ a.start = ap (λ (d : Own T). d.start) h.0 in
+      let log : b.log ≡ a.log = ap (λ (d : Own T). d.log) h.0 in let n1 : b.saw_real + 256 ≡ b.tail = full in let real : b.saw_real ≡ a.tail - 256 = omega arith in let further : b.saw_real + 128 ≡ a.tail - 128 = omega arith in
+      let vals : whole b ≡ fully a = λ i. take (tail i - real i) (drop (real i - start i) (log i)) in
+      let is : m3 ≡ (restored_view (overflowed_view m1.0), hand (b.tail + 128) (map Some (drop 128 (whole b)))) = e ∙ ap (λ (z : Sat T). (restored_view z.0, z.1)) o.1 in
+      let wide : length (fully a) ≡ 256 = ap length (sym vals) ∙ whole_length b begun (let l : a.start + length a.log ≡ a.tail = r.5 in subst (λ (d : Own T). d.start + length d.log ≡ d.tail) (sym h.0) l) full in
+      let kept : length (take 128 (fully a)) ≡ 128 = length-take-le 128 (fully a) (omega arith) in let gone = length-drop 128 (fully a) in
+      let own : m3.0.own ≡ record (looked a m3.0.own) { tail = a.tail + 128; log = a.log ++ take 128 (fully a); exported = a.exported ++ labels (a.tail - 128) 128; relabelled = a.relabelled ++ labels (a.tail - 256) 128 }
+      = subst (λ (z : Sat T). z.0.own ≡ record (looked a z.0.own) { tail = a.tail + 128; log = a.log ++ take 128 (fully a); exported = a.exported ++ labels (a.tail - 128) 128; relabelled = a.relabelled ++ labels (a.tail - 256) 128 }) (sym is)
+      (ap (λ (d : Own T). record d { tail = d.tail + 128; aside = 0; log = d.log ++ take 128 (whole b); out_at = b.tail + 128; out_len = 128; saw_real = b.tail; saw_gap = 0; exported = d.exported ++ labels (b.saw_real + 128) 128; relabelled = d.relabelled ++ labels b.saw_real 128 }) h.0
+      ∙ (λ i. record a { tail = a.tail + 128; aside = sym aside i; log = a.log ++ take 128 (vals i); out_at = b.tail + 128; out_len = 128; saw_real = b.tail; saw_gap = 0; exported = a.exported ++ labels (further i) 128; relabelled = a.relabelled ++ labels (real i) 128 })) in
+      let long : a.start + length a.log ≡ a.tail = r.5 in let more = length-append a.log (take 128 (fully a)) in (
+        (omega (arith, h.1), wide, ap (λ (z : Sat T). z.0.own.saw_real) is ∙ tail, own),
+        (
+          ap (λ (z : Sat T). z.0.stage) is ∙ owns,
+          ap (λ (z : Sat T). z.0.own.aside) is,
+          (let t : m3.0.own.tail ≡ a.tail + 128 = ap (λ (d : Own T). d.tail) own in omega arith),
+          ap (λ (d : Own T). d.start + length d.log) own ∙ (let j : a.start + length (a.log ++ take 128 (fully a)) ≡ a.tail + 128 = omega arith in j) ∙ sym (ap (λ (d : Own T). d.tail) own),
+          ap (λ (z : Sat T). z.0.own.out_at) is ∙ sym (ap (λ (z : Sat T). z.0.own.tail) is),
+          ap (λ (z : Sat T). z.0.own.out_len) is ∙ (let j : 128 ≡ length (drop 128 (fully a)) + 0 = omega arith in j),
+          ap (λ (z : Sat T). z.1) is ∙ (λ i. hand (tail i + 128) (map Some (drop 128 (vals i)))) ∙ ap (λ (n : ℕ). hand n (map Some (drop 128 (fully a)))) (let j : a.tail + 128 ≡ m3.0.own.tail + 0 = (let t : m3.0.own.tail ≡ a.tail + 128 = ap (λ (d : Own T). d.tail) own in omega arith) in j)
+              ∙ sym (append-nil (hand (m3.0.own.tail + 0) (map Some (drop 128 (fully a))))),
+        ),
+      )
+
+  -- where another head without a claim was seen, a value has left
+  pub newer : (d d' : Own T) (seen n : ℕ) → IsSeen d seen → IsSeen d' n → Found d n → n ≢ seen → d.saw_gap ≡ 0 → d.saw_real < d'.saw_real
+  newer d d' seen n s s' f ne unclaimed = let o = f.1 in let before : d.saw_real ≤ n / 512 = o.saw_before in let a : seen / 512 ≡ d.saw_real = s.0 in let b : seen % 512 ≡ d.saw_gap = s.1 in let c : n / 512 ≡ d'.saw_real = s'.0 in
+      let u : d.saw_gap ≡ 0 = unclaimed in
+      dite (ℕ_discrete (n / 512) d.saw_real)
+      (λ e. ⊎_elim (λ (same : n % 512 ≡ d.saw_gap). absurd (ne (omega arith))) (λ (free : n % 512 ≡ 0). absurd (ne (omega arith))) (o.saw_still e))
+      (λ other. omega arith)
+
+  -- the room that was seen is still there
+  pub room_stays : (d : Own T) (n tail len : ℕ) → Found d n → tail ≡ d.tail → d.tail + 256 ≤ 2 ^ 55 → len ≤ room_at record { real = d.saw_real; gap = d.saw_gap } tail → (len ≤ room d.tail (n / 512) (n % 512)) × (len ≤ 256) × (tail + len + 256 ≤ 2 ^ 55)
+  room_stays d n tail len f is bound fits = let o = f.1 in let a : d.saw_real ≤ n / 512 = o.saw_before in let b : n / 512 ≤ d.tail = o.behind in let c : d.saw_real + n % 512 ≤ n / 512 + d.saw_gap = o.saw_room in let e : tail ≡ d.tail = is in
+      let left : ℕ = 256 - (tail - d.saw_real) - d.saw_gap in
+      ⊎_elim (λ (full : len ≡ 0). (omega arith, omega arith, omega arith))
+      (λ (some_room : (len ≤ left) × (tail < 2 ^ 55 - 512)). let g : len ≤ 256 - (tail - d.saw_real) - d.saw_gap = some_room.0 in let h = some_room.1 in (omega arith, omega arith, omega arith)) (room_cases tail left len fits)
+
+  -- all free slots were taken
+  pub took_room : (m m' : Sat T) (n : ℕ) → laid (λ room. room) (step 256 0 0 0 none) m n m' → AtRest m
+      → (m'.0.own.out_at ≡ m.0.own.tail) × (m'.0.own.out_len ≡ room m.0.own.tail (n / 512) (n % 512)) × (m'.0.stage ≡ Owns) × (m'.0.own.aside ≡ 0) × (m'.0.own.tail ≡ m.0.own.tail) × Fills m' m'.0 m.0.own.tail (room m.0.own.tail (n / 512) (n % 512)) []
+  took_room m m' n l r = let is = l.1 in let t : ℕ = m.0.own.tail in let here : t ≡ t + 0 = omega arith in let free : List (Option T) = replicate (room t (n / 512) (n % 512)) None in (
+    ap (λ (x : Sat T). x.0.own.out_at) is,
+    ap (λ (x : Sat T). x.0.own.out_len) is,
+    ap (λ (x : Sat T). x.0.stage) is ∙ r.0,
+    ap (λ (x : Sat T). x.0.own.aside) is ∙ r.2,
+    ap (λ (x : Sat T). x.0.own.tail) is,
+    (λ i. (m'.0, (ap (λ (x : Sat T). x.1) is ∙ ap (λ (k : ℕ). hand k free) here ∙ sym (append-nil (hand (t + 0) free))) i)),
+  )
+
+  -- those that a batch of this length needs, and the others
+  pub free_slots : (m m' : Sat T) (n tail len : ℕ) → laid (λ room. room) (step 256 0 0 0 none) m n m' → AtRest m → tail ≡ m.0.own.tail → len ≤ room m.0.own.tail (n / 512) (n % 512)
+      → Fills m' m'.0 tail (len + (room m.0.own.tail (n / 512) (n % 512) - len)) []
+  free_slots m m' n tail len l r is fits = let all : ℕ = room m.0.own.tail (n / 512) (n % 512) in let split : all ≡ len + (all - len) = omega arith in
+      (took_room m m' n l r).5 ∙ (λ j. (m'.0, hand (sym is j + 0) (replicate {A = Option T} (split j) None) ++ []))
+
+  -- a batch that was published after a look
+  pub published_on : (a b d : Own T) (xs : List T) → HasLooked a b → HasPublished b xs d → HasPublished a xs d
+  published_on a b d xs h k = (k.0 ∙ ap (λ (y : Own T). record (looked y d) { tail = y.tail + length xs; log = y.log ++ xs }) h.0, omega (arith, h.1, k.1))
+
+  -- a steal after a look
+  pub steals_on : (a b d : Own T) (t t' : Theft T) (answer : Steal) → HasLooked a b → AfterSteal b t d t' answer → AfterSteal a t d t' answer
+  steals_on a b d t t' (steal.Moved n) h k = (k.0, k.1, k.2, k.3, published_on a b d k.0 h k.4, k.5)
+  steals_on a b d t t' steal.Nothing h k = (looks_on a b d h k.0, k.1, subst (λ (n : ℕ). (2 ^ 55 - 512 ≤ n) ⊎ ((128 < n - d.saw_real + d.saw_gap) ⊎ ((0 < t'.gap) ⊎ (t'.upto < t'.at + 2)))) (own_tail a b h) k.2)
+  steals_on a b d t t' (steal.Again head) h k = (looks_on a b d h k.0, k.1, k.2, k.3, k.4)

@@ -1,0 +1,101 @@
+-- The owner's pops keep the rule: by an exchange, and of a lone value by a store.
+use Rattle.std.proofs.Common.{◌≡◌, ◌≢◌, ℕ, zero, suc, ◌+◌, ◌-◌, ◌*◌, ◌/◌, ◌%◌, ◌<◌, ◌≤◌, ◌⊎◌, eqb, List, [], ◌∷◌, ◌++◌, length, set, take, drop, sym, refl, ap, ◌∙◌, subst, inl, inr, ⊎_elim, le_refl, arith}
+use mathlib.Core.Option.{none, some}
+use lib.ListN.{get_elem?}
+use prog.Atomic.{either}
+use Rattle.std.specs.Prelude.{Option, Some, None}
+use Rattle.std.specs.List.{sum_by}
+use Rattle.std.proofs.lemmas.List.Sums.{sum_by_push}
+use Rattle.atomic_table.specs.Table.{State, Act, step, Valid, carried_after, homes_after, Allows}
+use Rattle.std.proofs.Math.Nat.{add-mod_right}
+use Rattle.exec_words.specs.Queue.{popped}
+use Rattle.exec_live_queue.specs.declared.view.Own.{Own}
+use Rattle.exec_live_queue.specs.declared.view.View.{View}
+use Rattle.exec_live_queue.specs.declared.view.Stage.TheVariants.{Owns}
+use Rattle.exec_live_queue.specs.Numbers.{head_word, filled, Outside, BesideClaim, InOrder}
+use Rattle.exec_live_queue.specs.Pure.{queue_at}
+use Rattle.exec_live_queue.specs.Live.{labels, Homes, HomeAt, FullAt, weight_of, Kept, LiveQueue}
+use Rattle.exec_live_queue.specs.Plays.{Sat, after_pop, hand, take_all, popped_view, Popped, pops, pops_last, missed}
+use Rattle.exec_live_queue.proofs.Hands.{take_behind, take_length}
+use Rattle.exec_live_queue.proofs.Orders.{outside_none, gap_fits, pop_gap, popped_order}
+use Rattle.exec_live_queue.proofs.Labels.{weigh_runs, weigh_one, window}
+use Rattle.exec_live_queue.proofs.Rebuild.{Puts, exchanges, rebuilt, owner_steps}
+use Rattle.exec_live_queue.proofs.Looks.{count_of_word, gap_of_word, lays_here}
+
+-- one more label below the front
+popped_weight : (w : ℕ → ℕ) (start real : ℕ) (ls : List ℕ) → start ≤ real → sum_by w (ls ++ real ∷ []) + sum_by w (labels start (real - start)) ≡ sum_by w ls + sum_by w (labels start (real + 1 - start))
+popped_weight w start real ls le =
+    let n : ℕ = real - start in let e : real + 1 - start ≡ n + 1 = omega arith in let h : start + n ≡ real = omega arith in
+    let a = sum_by_push w ls real in let b = weigh_runs w start n 1 in let c = weigh_one w (start + n) in let d : w (start + n) ≡ w real = ap w h in rw e (omega (arith, a, b, c, d))
+
+-- free labels after a pop were free before it
+was_free : (real gap gap' claimed l : ℕ) → ((gap ≡ 0) × (gap' ≡ 0)) ⊎ ((0 < gap) × (gap' ≡ gap + 1)) → l < real + 256 → BesideClaim (real + 1) gap' claimed l → BesideClaim real gap claimed l
+was_free real gap gap' claimed l wide lt beside = ⊎_elim
+    (λ (e : (gap ≡ 0) × (gap' ≡ 0)). inl (omega (arith, e.0, lt)))
+    (λ (g : (0 < gap) × (gap' ≡ gap + 1)). ⊎_elim (λ (b : l + gap' < real + 1 + 256). inl (omega (arith, g.1, b))) (λ (b : real + 1 + 256 + claimed ≤ l + gap'). inr (omega (arith, g.1, b))) beside) wide
+
+module _ {T : Type 0} where
+  -- the rule after a pop, at which the front slot went out with the owner
+  popped_kept : (start : ℕ) (s : State (Option T) (View T)) (v : View T) (k : Kept start v s) (x : T) (gap' : ℕ) → get_elem? s.views 0 ≡ some v → v.stage ≡ Owns → v.own.aside ≡ 0 → v.own.out_len ≡ 0 → k.real < v.own.tail
+      → ((k.gap ≡ 0) × (gap' ≡ 0)) ⊎ ((0 < k.gap) × (gap' ≡ k.gap + 1))
+      → LiveQueue start record { words = head_word (k.real + 1) gap' ∷ v.own.tail ∷ []; homes = homes_after s.homes [] (take_all k.real (Some x ∷ [])); views = set s.views 0 (popped_view v k.real gap') }
+  popped_kept start s v k x gap' at owns aside none_out any wide =
+      let t : ℕ = v.own.tail in let real : ℕ = k.real in let gap : ℕ = k.gap in let o = k.order in let w : t + gap ≤ real + 256 = o.within in let z : v.own.aside ≡ 0 = aside in
+      let homes' : Homes T = homes_after s.homes [] (take_all real (Some x ∷ [])) in let b : v.own.start ≤ real = o.begun in
+      rebuilt start s v (popped_view v real gap') k (head_word (real + 1) gap' ∷ t ∷ []) homes' (real + 1) gap' at owns owns k.from
+      (take_length (Some x ∷ []) s.homes [] real ∙ k.slots) refl (popped_order v.own real gap gap' k.claimed (v.own.popped ++ real ∷ []) o aside any wide) k.long (le_refl t) (omega arith)
+      (λ pos. ⊎_elim (λ (e : (gap ≡ 0) × (gap' ≡ 0)). absurd (omega (arith, pos, e.0))) (λ (g : (0 < gap) × (gap' ≡ gap + 1)). (omega (arith, g.1), omega (arith, g.1))) wide)
+      (λ pos. ⊎_elim (λ (e : (gap ≡ 0) × (gap' ≡ 0)). absurd (omega (arith, pos, e.1))) (λ (g : (0 < gap) × (gap' ≡ gap + 1)). g.0) wide)
+      (λ l le (lt : l < t + v.own.aside). let f = k.full l (omega arith) lt in (f.0, f.1, take_behind (Some x ∷ []) s.homes [] real l (omega arith) (omega arith) ∙ f.2))
+      (λ l (le : t + v.own.aside ≤ l) lt beside (outside : Outside (real + 256) 1 l). let near : l < real + 256 = ⊎_elim (λ (h : l < real + 256). h) (λ (h : real + 256 + 1 ≤ l). absurd (omega arith)) outside in
+      take_behind (Some x ∷ []) s.homes [] real l (omega arith) near ∙ k.free l le (omega arith) (was_free real gap gap' k.claimed l wide near beside) (outside_none v.own.out_at v.own.out_len l none_out))
+      refl (λ l y e. e)
+      (λ weigh. let starts : v.own.start ≡ start = k.from in let p = popped_weight weigh start real v.own.popped (omega arith) in omega (arith, p))
+
+  -- the queue after it is the one whose front value was popped
+  popped_pure : (v : View T) (real gap : ℕ) → v.own.start ≤ real → real < v.own.tail
+      → queue_at (popped_view v real (after_pop real gap).gap).own (real + 1) (after_pop real gap).gap ≡ popped (queue_at v.own real gap)
+  popped_pure v real gap begun any =
+      let m : ℕ = v.own.tail - (real + 1) in let e : real + 1 - v.own.start ≡ real - v.own.start + 1 = omega arith in let h : v.own.tail - real ≡ 1 + m = omega arith in
+      rw (e, h) (ap (λ (xs : List T). record (popped (queue_at v.own real gap)) { values = xs }) (window v.own.log (real - v.own.start) 1 m))
+
+  hand_of : (real : ℕ) (x : T) → carried_after [] (take_all real (Some x ∷ [])) ≡ hand (real + 256) (Some x ∷ [])
+  hand_of real x = ap (λ (n : ℕ). (n, Some x) ∷ []) (sym (add-mod_right real 256))
+
+  -- what a pop gives, where it writes the head after it
+  pops_here : (start : ℕ) (me : Sat T) (s : State (Option T) (View T)) (k : Kept start me.0 s) → get_elem? s.views 0 ≡ some me.0 → me.0.stage ≡ Owns → me.0.own.aside ≡ 0 → me.0.own.out_len ≡ 0 → k.real < me.0.own.tail
+      → Puts start s 0 (head_word (k.real + 1) (after_pop k.real k.gap).gap) (Popped me.0 k.real k.gap) (head_word k.real k.gap ∷ me.0.own.tail ∷ []) [] 0
+  pops_here start me s k at owns aside none_out any =
+      let v : View T = me.0 in let real : ℕ = k.real in let gap : ℕ = k.gap in let z : v.own.aside ≡ 0 = aside in let f = k.full real (le_refl real) (omega arith) in
+      let gap' : ℕ = (after_pop real gap).gap in (
+        popped_view v real gap',
+        take_all real (Some f.0 ∷ []),
+        (tt, f.2),
+        popped_kept start s v k f.0 gap' at owns aside none_out any (pop_gap real gap),
+        (popped_pure v real gap k.order.begun any, f.0, f.1, ap (λ (c : List (ℕ × Option T)). (popped_view v real gap', c)) (hand_of real f.0)),
+      )
+
+  pub pops_rule : (start id : ℕ) (me : Sat T) (old new : ℕ) → me.0.stage ≡ Owns → me.0.own.aside ≡ 0 → me.0.own.out_len ≡ 0 → me.1 ≡ []
+      → old / 512 ≡ me.0.own.saw_real → old % 512 ≡ me.0.own.saw_gap → me.0.own.saw_real < me.0.own.tail → new ≡ head_word (me.0.own.saw_real + 1) (after_pop me.0.own.saw_real me.0.own.saw_gap).gap
+      → Allows (LiveQueue start) 256 id me 0 (λ n. either (eqb n old) new n) (pops (step 256 0 old new none) me)
+  pops_rule start id me old new owns aside none_out empty sees_real sees_gap any writes = owner_steps start id 0 me [] (λ n. either (eqb n old) new n) (pops (step 256 0 old new none) me) owns empty (λ s k at0.
+      let hw : ℕ = head_word k.real k.gap in let ws : List ℕ = hw ∷ me.0.own.tail ∷ [] in let small : k.gap < 512 = gap_fits me.0.own k.real k.gap k.claimed k.order in
+      exchanges start s ws [] 0 hw old new (Popped me.0 me.0.own.saw_real me.0.own.saw_gap) (missed (step 256 0 old new none) me hw)
+      (λ e. let r : k.real ≡ me.0.own.saw_real = sym (count_of_word k.real k.gap small) ∙ ap (λ (n : ℕ). n / 512) e ∙ sees_real in
+      let g : k.gap ≡ me.0.own.saw_gap = sym (gap_of_word k.real k.gap small) ∙ ap (λ (n : ℕ). n % 512) e ∙ sees_gap in
+      let there : k.real < me.0.own.tail = subst (λ (n : ℕ). n < me.0.own.tail) (sym r) any in
+      subst (λ (x : ℕ). Puts start s 0 x (Popped me.0 me.0.own.saw_real me.0.own.saw_gap) ws [] 0) (sym writes)
+      (subst (λ (R : ℕ). Puts start s 0 (head_word (R + 1) (after_pop R me.0.own.saw_gap).gap) (Popped me.0 R me.0.own.saw_gap) ws [] 0) r
+      (subst (λ (G : ℕ). Puts start s 0 (head_word (k.real + 1) (after_pop k.real G).gap) (Popped me.0 k.real G) ws [] 0) g (pops_here start me s k at0 owns aside none_out there))))
+      (λ ne. lays_here start me (λ room. 0) (λ r. omega arith) owns aside none_out s k at0))
+
+  -- no thief can take a lone value, so the owner's store finds the head that it saw
+  pub pops_last_rule : (start id : ℕ) (me : Sat T) (new : ℕ) → me.0.stage ≡ Owns → me.0.own.aside ≡ 0 → me.0.own.out_len ≡ 0 → me.1 ≡ []
+      → me.0.own.saw_gap ≡ 0 → me.0.own.saw_real + 1 ≡ me.0.own.tail → new ≡ head_word (me.0.own.saw_real + 1) 0
+      → Allows (LiveQueue start) 256 id me 0 (λ _. new) (λ _. pops_last (step 256 0 new 0 none) me new)
+  pops_last_rule start id me new owns aside none_out empty unclaimed lone writes = owner_steps start id 0 me [] (λ _. new) (λ _. pops_last (step 256 0 new 0 none) me new) owns empty (λ s k at0.
+      let ws : List ℕ = head_word k.real k.gap ∷ me.0.own.tail ∷ [] in let is = k.order.saw_lone unclaimed (omega arith) in
+      let there : k.real < me.0.own.tail = omega (arith, is.0, lone) in
+      subst (λ (x : ℕ). Puts start s 0 x (Popped me.0 me.0.own.saw_real 0) ws [] 0) (sym writes)
+      (subst (λ (R : ℕ). Puts start s 0 (head_word (R + 1) 0) (Popped me.0 R 0) ws [] 0) is.0
+      (subst (λ (G : ℕ). Puts start s 0 (head_word (k.real + 1) (after_pop k.real G).gap) (Popped me.0 k.real G) ws [] 0) is.1 (pops_here start me s k at0 owns aside none_out there))))

@@ -1,0 +1,41 @@
+-- How the seat of an owner stands between its calls.
+use Rattle.std.proofs.Common.{◌≡◌, ℕ, zero, suc, ◌+◌, ◌-◌, ◌<◌, ◌≤◌, List, [], ◌∷◌, ◌++◌, length, map, replicate, sym, refl, ap, ◌∙◌, subst, length-drop, arith}
+use Rattle.std.specs.Prelude.{Option, Some, None, drop}
+use Rattle.atomic_table.specs.declared.shared.Shared.{Shared}
+use Rattle.exec_live_queue.specs.declared.view.View.{View}
+use Rattle.exec_live_queue.specs.Plays.{hand, values_of}
+use Rattle.exec_live_queue.specs.Seats.{Place, Rests}
+use Rattle.exec_live_queue.specs.Calls.{HandsOut}
+use Rattle.exec_live_queue.specs.Handles.{Stands}
+use Rattle.exec_live_queue.proofs.Hands.{no_values}
+use Rattle.exec_live_queue.proofs.Looks.{nothing_left}
+
+module _ {T : Type 0} where
+  values_hand : (xs : List T) (a b j : ℕ) → values_of (hand a (map Some xs) ++ hand b (replicate j None)) ≡ xs
+  values_hand [] a b j = no_values j b
+  values_hand (x ∷ xs) a b j = ap (λ (l : List T). x ∷ l) (values_hand xs (suc a) b j)
+
+  parts : (xs : List T) → 0 < length xs → (x : T) × (ys : List T) × (xs ≡ x ∷ ys)
+  parts [] pos = absurd (omega arith)
+  parts (x ∷ xs) pos = (x, xs, refl)
+
+module _ {T P : Type 0} where
+  pub handed : (words : Shared (Option T) (View T) ℕ P) (seat : Place T) (j : ℕ) (xs : List T) → HandsOut words seat j xs → values_of seat.me.1 ≡ xs
+  handed words seat j xs h = ap values_of h.1.6 ∙ values_hand xs (seat.me.0.own.tail + j) seat.me.0.own.tail j
+
+  pub stands_rest : (words : Shared (Option T) (View T) ℕ P) (seat : Place T) (tail left : ℕ) → tail ≡ seat.me.0.own.tail → left ≡ 0 → Rests words seat → Stands words seat tail left
+  stands_rest words seat tail left is dry r = (is, omega (arith, dry), (λ _. r), (λ pos. absurd (omega (arith, pos, dry))))
+
+  pub stands_hands : (words : Shared (Option T) (View T) ℕ P) (seat : Place T) (tail left j : ℕ) (xs : List T) → tail ≡ seat.me.0.own.tail → left + j ≡ 128 → 0 < left → length xs ≡ left → HandsOut words seat j xs → Stands words seat tail left
+  stands_hands words seat tail left j xs is sum pos len h = let e : values_of seat.me.1 ≡ xs = handed words seat j xs h in let place : 128 - left ≡ j = omega arith in
+      (is, omega arith, (λ dry. absurd (omega arith)), (λ _. (subst (λ (n : ℕ). HandsOut words seat n (values_of seat.me.1)) (sym place) (subst (HandsOut words seat j) (sym e) h), ap length e ∙ len)))
+
+  -- the next value of an overflow
+  pub next_of : (words : Shared (Option T) (View T) ℕ P) (seat : Place T) (tail left : ℕ) → Stands words seat tail left → 0 < left
+      → (x : T) × (xs : List T) × HandsOut words seat (128 - left) (x ∷ xs) × (values_of seat.me.1 ≡ x ∷ xs) × (length xs + 1 ≡ left)
+  next_of words seat tail left s pos = let h = s.3 pos in let p = parts (values_of seat.me.1) (omega (arith, h.1, pos)) in let n = ap length p.2 in
+      (p.0, p.1, subst (HandsOut words seat (128 - left)) p.2 h.0, p.2, omega (arith, n, h.1))
+
+  -- the last one was handed out
+  pub last_of : (words : Shared (Option T) (View T) ℕ P) (seat : Place T) (j left : ℕ) (xs : List T) → HandsOut words seat j xs → length xs + 1 ≡ left → left ≡ 1 → j ≡ 128 → HandsOut words seat 128 []
+  last_of words seat j left xs h len one is = let dry : xs ≡ [] = nothing_left xs (omega (arith, len, one)) in subst (λ (n : ℕ). HandsOut words seat n []) is (subst (HandsOut words seat j) dry h)

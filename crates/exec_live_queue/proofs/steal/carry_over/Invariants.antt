@@ -1,0 +1,12 @@
+use Rattle.std.proofs.Common.{◌≡◌, ℕ, ◌+◌, List, [], length}
+use Rattle.exec_live_queue.specs.Seats.{SameSeat}
+use Rattle.exec_live_queue.specs.Calls.{Fills, Empties}
+use Rattle.exec_live_queue.proofs.Moves.{Carrying}
+use Rattle.exec_live_queue.proofs.steal.carry_over.Given as goal
+
+abbrev pub invariant-loop-i : goal.invariant-loop-i
+invariant-loop-i g l = record {
+  same : SameSeat l.fn.from l.from × SameSeat l.fn.seat l.seat;
+  moved : (xs : List g.row.T.Denot) (r : ℕ) → length xs ≡ l.count → Empties l.fn.from.me l.fn.from.me.0 l.at 0 xs → Fills l.fn.seat.me l.fn.seat.me.0 l.tail (l.count + r) []
+      → Carrying l.from.me l.fn.from.me.0 l.at l.seat.me l.fn.seat.me.0 l.tail r xs l.i;
+}

@@ -1,0 +1,19 @@
+use Rattle.std.proofs.Common.{◌≡◌, sym, refl, subst, ap, ◌∙◌, ℕ, ◌+◌, ◌-◌, ◌*◌, ◌/◌, ◌%◌, ◌<◌, eqb, arith}
+use mathlib.Core.Option.{none}
+use prog.Atomic.{either}
+use Rattle.atomic_table.specs.Table.{step, Allows}
+use Rattle.exec_live_queue.specs.Live.{LiveQueue}
+use Rattle.exec_live_queue.specs.Numbers.{head_word}
+use Rattle.exec_live_queue.proofs.Looks.{gap_of_word}
+use Rattle.exec_live_queue.specs.Plays.{publishes}
+use Rattle.exec_live_queue.proofs.Publishes.{publish_rule}
+use Rattle.exec_live_queue.proofs.steps.publish.Goals as goal
+
+pub store-requires : goal.store-requires
+store-requires g c = let q = c.requires in let key = c.args.words.now.key in let id = c.args.seat.now.id in let me = c.args.seat.now.me in
+    let new = c.args.tail in (
+      q.0.0,
+      subst (λ (n : ℕ). 1 < n) (sym q.0.1) (omega arith),
+      subst (λ (n : ℕ). Allows (LiveQueue key) n id me 1 (λ _. new) (λ _. publishes (step n 1 new 0 none) me new)) (sym q.0.2)
+          (publish_rule key id me q.5 q.6 new q.1 q.2 q.3 q.7 q.8 (omega arith) q.9),
+    )

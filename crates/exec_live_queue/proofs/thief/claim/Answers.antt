@@ -1,0 +1,20 @@
+use Rattle.std.proofs.Common.{◌≡◌, sym, refl, subst, ap, ◌∙◌, ℕ, ◌+◌, ◌-◌, ◌*◌, ◌/◌, ◌%◌, ◌<◌, eqb, arith}
+use mathlib.Core.Option.{none}
+use prog.Atomic.{either}
+use Rattle.atomic_table.specs.Table.{step, Allows}
+use Rattle.exec_live_queue.specs.Live.{LiveQueue}
+use Rattle.exec_live_queue.specs.Numbers.{head_word}
+use Rattle.exec_live_queue.proofs.Looks.{gap_of_word}
+use Rattle.exec_live_queue.specs.Plays.{claims}
+use Rattle.exec_live_queue.proofs.Claims.{claims_rule}
+use Rattle.exec_live_queue.proofs.thief.claim.Goals as goal
+
+pub compare_exchange-requires : goal.compare_exchange-requires
+compare_exchange-requires g c = let q = c.requires.may in let seen = c.requires.seen in let key = c.args.words.now.key in let id = c.args.seat.now.id in let me = c.args.seat.now.me in
+    let old = c.args.seen in let new = c.real_of.result * 512 + c.args.count * 512 + c.args.count in
+    let real : c.real_of.result ≡ me.0.theft.at = c.real_of.ensures ∙ seen.0 in let half = c.requires.half in (
+      q.0.0,
+      subst (λ (n : ℕ). 0 < n) (sym q.0.1) (omega arith),
+      subst (λ (n : ℕ). Allows (LiveQueue key) n id me 0 (λ x. either (eqb x old) new x) (claims (step n 0 old new none) me)) (sym q.0.2)
+          (claims_rule key id me old new q.1 q.4 seen.0 seen.1 q.3 (omega arith)),
+    )

@@ -1,0 +1,7 @@
+pub mod Calls
+pub mod Handles
+pub mod Live
+pub mod Numbers
+pub mod Plays
+pub mod Pure
+pub mod Seats

@@ -1,0 +1,73 @@
+//! The owner's push of one value.
+
+ghost use Rattle.std.specs.Prelude.{◌≡◌, ◌-◌, ◌^◌, ◌<◌, [], ◌∷◌, None};
+ghost use Rattle.exec_live_queue.specs.Calls.{AfterPush, AfterTry, PushLeaves};
+ghost use Rattle.exec_live_queue.specs.Plays.{hand, published_view};
+ghost use Rattle.exec_live_queue.specs.Seats.{IsAt, Rests, SameSeat};
+ghost use Rattle.exec_live_queue.specs.declared.view.Stage.TheVariants.{Owns};
+
+use crate::answers::{Push, Try};
+use crate::head::{gap_of, real_of};
+use crate::slots::put;
+use crate::steps::{flow_over, publish, restore, take_one};
+use crate::view::{Place, Words};
+use crate::{HALF, SLOTS, SPENT};
+
+/// Publishes a value behind the others, by at most two tries: a head that has changed since the
+/// first leaves room for the value, or has a claim.
+pub fn push<T>(words: &Words<T>, seat: &mut Place<T>, tail: u64, value: T) -> Push<T>
+    requires rests { Rests words.now seat.old }
+    requires tail { tail ≡ seat.old.me.0.own.tail }
+    ensures same { SameSeat seat.old seat.new }
+    ensures pushed { AfterPush seat.old.me.0.own value seat.new.me.0.own result }
+    ensures leaves { PushLeaves words.now seat.new seat.old.me.0.own result }
+{
+    if tail >= SPENT {
+        return Push::Spent(value);
+    }
+    match try_push(words, seat, tail, value) {
+        Try::Done(push) => push,
+        Try::Missed(value) => match try_push(words, seat, tail, value) {
+            Try::Done(push) => push,
+            Try::Missed(value) => Push::Claimed(value),
+        },
+    }
+}
+
+fn try_push<T>(words: &Words<T>, seat: &mut Place<T>, tail: u64, value: T) -> Try<T>
+    requires rests { Rests words.now seat.old }
+    requires tail { tail ≡ seat.old.me.0.own.tail }
+    requires unspent { tail < 2 ^ 55 - 512 }
+    ensures same { SameSeat seat.old seat.new }
+    ensures tried { AfterTry words.now seat.old.me.0.own value seat.new result }
+{
+    let seen = take_one(words, seat);
+    let len = tail - real_of(seen);
+    let gap = gap_of(seen);
+    if len + gap < SLOTS {
+        publish_one(words, seat, tail, value);
+        return Try::Done(Push::Pushed((len + 1) as usize));
+    }
+    if gap > 0 {
+        return Try::Done(Push::Claimed(value));
+    }
+    if flow_over(words, seat, seen) != seen {
+        return Try::Missed(value);
+    }
+    restore(words, seat, tail + HALF);
+    Try::Done(Push::Overflow(value))
+}
+
+// Fills the one slot that is out with the owner, and shows it.
+fn publish_one<T>(words: &Words<T>, seat: &mut Place<T>, tail: u64, value: T)
+    requires at { IsAt words.now seat.old }
+    requires owns { (seat.old.me.0.stage ≡ Owns) × (seat.old.me.0.own.aside ≡ 0) }
+    requires tail { tail ≡ seat.old.me.0.own.tail }
+    requires unspent { tail < 2 ^ 55 - 512 }
+    requires out { (seat.old.me.0.own.out_at ≡ tail) × (seat.old.me.0.own.out_len ≡ 1) × (seat.old.me.1 ≡ hand tail (None ∷ [])) }
+    ensures same { SameSeat seat.old seat.new }
+    ensures published { seat.new.me ≡ (published_view seat.old.me.0 (value ∷ []), []) }
+{
+    put(words, seat, tail, value);
+    publish(words, seat, tail + 1);
+}

@@ -1,0 +1,147 @@
+//! A run queue that running threads share: the queue, the seats of its thieves, and its owner.
+//!
+//! The words and slots lie in one place of their own cache lines, which the queue and its owner
+//! hold together. Whoever acts on the queue has a seat. A queue is made with its first seat, from
+//! which the seats of all thieves are split off before it becomes the owner's. What a contract sees
+//! of each is in `specs/Handles.antt`.
+
+ghost use Rattle.std.specs.Prelude.{◌≡◌, ◌≢◌, ◌+◌, ◌^◌, ◌<◌, ◌≤◌, ◌⊎◌, [], IfOk, IsTrue, IsFalse};
+ghost use Rattle.exec_live_queue.specs.Calls.{AfterSteal, HasKept};
+ghost use Rattle.exec_live_queue.specs.Live.{opened};
+ghost use Rattle.exec_live_queue.specs.Plays.{newcomer};
+ghost use Rattle.exec_live_queue.specs.declared.view.Stage.TheVariants.{Owns};
+
+use crate::SLOTS;
+use crate::head::head_of;
+use crate::inner::{Inner, words_of};
+use crate::owner::Owner;
+use crate::steal::{NoPause, Pause, take_aim};
+use crate::thief::another;
+use crate::view::Place;
+use atomic_table::Table;
+use crossbeam_utils::CachePadded;
+use exec_words::queue::Steal;
+use std::alloc::{AllocError, Global};
+use std::marker::Model;
+use std::sync::Arc;
+
+/// A queue, from which others steal.
+#[derive(Drop)]
+pub struct Queue<T> {
+    inner: Arc<Inner<T>, Global>,
+    start: u64,
+}
+
+impl<T> Model for Queue<T> {
+    ghost use Rattle.std.specs.Prelude.{◌≡◌, ◌+◌, ◌^◌, ◌≤◌};
+    ghost use Rattle.crossbeam_utils.specs.Padded.{padded_value};
+    ghost use Rattle.exec_live_queue.specs.Handles.{Shown};
+
+    ghost Value = { Shown };
+
+    ghost view = { λ q. record { table = (padded_value q.inner.value).shared.table_id; start = q.start } };
+
+    ghost invariant = { λ q. ((padded_value q.inner.value).shared.table_id.words ≡ 2) × ((padded_value q.inner.value).shared.table_id.slots ≡ 256) × (q.start + 512 ≤ 2 ^ 55) };
+}
+
+/// A seat at a queue.
+#[derive(Drop)]
+pub struct QueueSeat<T> {
+    place: Place<T>,
+}
+
+impl<T> Model for QueueSeat<T> {
+    ghost use Rattle.std.specs.Prelude.{◌≡◌, ◌≢◌, []};
+    ghost use Rattle.exec_live_queue.specs.Handles.{Seated};
+    ghost use Rattle.exec_live_queue.specs.declared.view.Stage.TheVariants.{Claimed};
+
+    ghost Value = { Seated T };
+
+    ghost view = { λ s. record { table = s.place.table_id; view = s.place.me.0 } };
+
+    ghost invariant = { λ s. (s.place.me.1 ≡ []) × (s.place.me.0.stage ≢ Claimed) };
+}
+
+impl<T> Queue<T> {
+    /// An empty queue whose first value gets the count 0, and its first seat.
+    pub fn shared(alloc: Global) -> Result<(Self, QueueSeat<T>), AllocError>
+    where
+        T: Drop,
+        ensures { IfOk result (λ r. (r.0.start ≡ 0) × (r.1.table ≡ r.0.table) × (r.1.view ≡ opened 0)) }
+    {
+        Queue::at(alloc, 0)
+    }
+
+    /// An empty queue whose first value gets the count `start`, and its first seat. The caller must
+    /// take a count that isn't past that at which a queue is spent.
+    pub fn at(alloc: Global, start: u64) -> Result<(Self, QueueSeat<T>), AllocError>
+    where
+        T: Drop,
+        requires { start + 512 ≤ 2 ^ 55 }
+        ensures { IfOk result (λ r. (r.0.start ≡ start) × (r.1.table ≡ r.0.table) × (r.1.view ≡ opened start)) }
+    {
+        let words = [head_of(start, 0), start];
+        let (table, place) = Table::vacant(alloc, &words, SLOTS as usize, &start)?;
+        let inner = Arc::new(alloc, CachePadded::new(table))?;
+        Ok((Queue { inner, start }, QueueSeat { place }))
+    }
+
+    /// One more seat, a thief's, split off any seat at this queue.
+    pub fn seat(&self, from: &mut QueueSeat<T>) -> QueueSeat<T>
+        requires { from.old.table ≡ self.now.table }
+        ensures same { from.new ≡ from.old }
+        ensures seat { result ≡ record { table = self.now.table; view = newcomer } }
+    {
+        QueueSeat {
+            place: another(words_of(&self.inner), &mut from.place),
+        }
+    }
+
+    /// The owner, for the first seat of this queue as it was made. The only other answer is that no
+    /// more handles fit.
+    pub fn owner(&self, first: QueueSeat<T>) -> Result<Owner<T>, AllocError>
+        requires { first ≡ record { table = self.now.table; view = opened self.now.start } }
+        ensures { IfOk result (λ o. o ≡ record { table = self.now.table; own = (opened self.now.start).own; handed = [] }) }
+    {
+        let QueueSeat { place } = first;
+        Ok(Owner::seated(Arc::try_clone(&self.inner)?, place, self.start))
+    }
+
+    /// Whether a thief may claim half of the values, by the head and the tail that this call loads:
+    /// no claim is held, and there are two values at least.
+    pub fn is_stealable(&self, seat: &mut QueueSeat<T>) -> bool
+        requires seat { (seat.old.table ≡ self.now.table) × (seat.old.view.stage ≢ Owns) }
+        ensures same { (seat.new.table ≡ seat.old.table) × (seat.new.view.stage ≢ Owns) }
+        ensures kept { HasKept seat.old.view.theft seat.new.view.theft }
+        ensures stealable { IsTrue result → (seat.new.view.theft.gap ≡ 0) × (seat.new.view.theft.at + 2 ≤ seat.new.view.theft.upto) }
+        ensures dry { IsFalse result → (0 < seat.new.view.theft.gap) ⊎ (seat.new.view.theft.upto < seat.new.view.theft.at + 2) }
+    {
+        take_aim(words_of(&self.inner), &mut seat.place).is_some()
+    }
+
+    /// One try of a steal: half of the values of this queue, rounded down, move to the end of the
+    /// thief's own queue, in order. The seat must be a thief's at this queue.
+    pub fn steal_once(&self, seat: &mut QueueSeat<T>, into: &mut Owner<T>) -> Steal
+        requires seat { (seat.old.table ≡ self.now.table) × (seat.old.view.stage ≢ Owns) }
+        requires whole { into.old.handed ≡ [] }
+        ensures same { (seat.new.table ≡ seat.old.table) × (seat.new.view.stage ≢ Owns) × (into.new.table ≡ into.old.table) × (into.new.handed ≡ []) }
+        ensures stolen { AfterSteal into.old.own seat.old.view.theft into.new.own seat.new.view.theft result }
+    {
+        self.steal_paused(seat, into, &mut NoPause)
+    }
+
+    /// The same, and the thief is held up between its claim and its release.
+    pub fn steal_paused<P: Pause>(
+        &self,
+        seat: &mut QueueSeat<T>,
+        into: &mut Owner<T>,
+        pause: &mut P,
+    ) -> Steal
+        requires seat { (seat.old.table ≡ self.now.table) × (seat.old.view.stage ≢ Owns) }
+        requires whole { into.old.handed ≡ [] }
+        ensures same { (seat.new.table ≡ seat.old.table) × (seat.new.view.stage ≢ Owns) × (into.new.table ≡ into.old.table) × (into.new.handed ≡ []) }
+        ensures stolen { AfterSteal into.old.own seat.old.view.theft into.new.own seat.new.view.theft result }
+    {
+        into.steal(words_of(&self.inner), &mut seat.place, pause)
+    }
+}
