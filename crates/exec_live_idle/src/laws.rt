@@ -1,7 +1,7 @@
 //! The transitions by which the steps are described are those of `exec_words`' `PureIdle`, each by
 //! its name: each law calls it.
 
-ghost use Rattle.std.specs.Prelude.{◌≡◌, ◌+◌, ◌^◌, ◌<◌, IfOk, OnOk, Some, IsSome};
+ghost use Rattle.std.specs.Prelude.{◌≡◌, ◌+◌, ◌^◌, ◌<◌, ◌↔◌, IsOk, IfOk, OnOk, Some, IsSome};
 ghost use Rattle.exec_words.specs.Idle.{lowest_of};
 ghost use Rattle.exec_live_idle.specs.Words.{publish, withdraw, add, subtract};
 
@@ -24,6 +24,7 @@ pub fn a_withdrawal(idle: &mut PureIdle, worker: usize) -> bool
 /// A claim withdraws the lowest worker.
 pub fn a_claim(idle: &mut PureIdle, seen: &WorkerSet) -> Result<usize, WorkerSet>
     requires { IsSome (lowest_of seen.now.has) }
+    ensures same { IsOk result ↔ (idle.old.published ≡ seen.now.has) }
     ensures lowest { IfOk result (λ worker. lowest_of idle.old.published ≡ Some worker) }
     ensures claimed { IfOk result (λ worker. idle.new ≡ withdraw worker idle.old) }
 {
@@ -46,7 +47,8 @@ pub fn a_subtraction(idle: &mut PureIdle) -> usize
 
 /// The exchange of the count 0 to 1 adds one.
 pub fn an_exchange(idle: &mut PureIdle) -> Result<(), usize>
-    ensures { OnOk result (idle.new ≡ add idle.old) }
+    ensures none { IsOk result ↔ (idle.old.count ≡ 0) }
+    ensures added { OnOk result (idle.new ≡ add idle.old) }
 {
     idle.count_exchange()
 }

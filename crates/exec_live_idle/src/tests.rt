@@ -1,12 +1,11 @@
-ghost use Rattle.std.specs.Prelude.{◌≡◌, ◌<◌, ◌≤◌, ◌+◌, true, false};
-ghost use Rattle.std.specs.Thread.{IsSync};
+ghost use Rattle.std.specs.Prelude.{◌≡◌, ◌<◌, ◌+◌, false};
 ghost use Rattle.exec_live_idle.specs.Idle.{knows, IsSeatOf, IsSame};
 ghost use Rattle.exec_live_idle.specs.Live.{next_number};
-ghost use Rattle.exec_live_idle.specs.Plays.{published, withdrawn};
 
 mod fake;
 mod play;
 mod player;
+mod threads;
 
 use crate::searcher::Searcher;
 use crate::seat::{Idle, IdleSeat};
@@ -16,155 +15,6 @@ use play::{Line, Op, play};
 use player::Player;
 use std::process::Abort;
 use std::test::Fail;
-use std::thread::{Threads, join};
-
-/// Publishes the worker of a seat.
-fn publish(idle: &Idle, mut seat: IdleSeat) -> IdleSeat
-    requires at { IsSeatOf idle.now seat }
-    requires worker { (knows seat).number < (knows seat).workers }
-    requires unpublished { (knows seat).published ≡ false }
-    ensures same { IsSame seat result }
-    ensures view { knows result ≡ published (knows seat) }
-{
-    idle.set_bit(&mut seat);
-    seat
-}
-
-/// Withdraws it, and tells whether its bit was there.
-fn withdraw(idle: &Idle, mut seat: IdleSeat) -> (IdleSeat, bool)
-    requires at { IsSeatOf idle.now seat }
-    requires worker { (knows seat).number < (knows seat).workers }
-    requires published { (knows seat).published ≡ true }
-    requires room { (knows seat).held < 2 }
-    ensures same { IsSame seat result.0 }
-    ensures view { knows result.0 ≡ withdrawn (knows seat) result.1 }
-{
-    let found = idle.withdraw(&mut seat);
-    (seat, found)
-}
-
-/// Publishes on another thread.
-fn publish_there<R: Threads + Sync>(rt: &R, idle: &Idle, seat: IdleSeat) -> IdleSeat
-    requires at { IsSeatOf idle.now seat }
-    requires worker { (knows seat).number < (knows seat).workers }
-    requires unpublished { (knows seat).published ≡ false }
-    ensures same { IsSame seat result }
-    ensures view { knows result ≡ published (knows seat) }
-{
-    let (seat, ()) = join(
-        rt,
-        || -> IdleSeat
-            requires at { IsSeatOf idle.now seat }
-            requires worker { (knows seat).number < (knows seat).workers }
-            requires unpublished { (knows seat).published ≡ false }
-            ensures same { IsSame seat result }
-            ensures view { knows result ≡ published (knows seat) }
-        { publish(idle, seat) },
-        || {},
-    );
-    seat
-}
-
-/// Withdraws on another thread.
-fn withdraw_there<R: Threads + Sync>(rt: &R, idle: &Idle, seat: IdleSeat) -> (IdleSeat, bool)
-    requires at { IsSeatOf idle.now seat }
-    requires worker { (knows seat).number < (knows seat).workers }
-    requires published { (knows seat).published ≡ true }
-    requires room { (knows seat).held < 2 }
-    ensures same { IsSame seat result.0 }
-    ensures view { knows result.0 ≡ withdrawn (knows seat) result.1 }
-{
-    let (answer, ()) = join(
-        rt,
-        || -> (IdleSeat, bool)
-            requires at { IsSeatOf idle.now seat }
-            requires worker { (knows seat).number < (knows seat).workers }
-            requires published { (knows seat).published ≡ true }
-            requires room { (knows seat).held < 2 }
-            ensures same { IsSame seat result.0 }
-            ensures view { knows result.0 ≡ withdrawn (knows seat) result.1 }
-        { withdraw(idle, seat) },
-        || {},
-    );
-    answer
-}
-
-/// Publishes two workers at once, each on a thread of its own.
-fn publish_both<R: Threads + Sync>(
-    rt: &R,
-    idle: &Idle,
-    one: IdleSeat,
-    two: IdleSeat,
-) -> (IdleSeat, IdleSeat)
-    requires at { IsSeatOf idle.now one × IsSeatOf idle.now two }
-    requires worker { (knows one).number < (knows one).workers }
-    requires other { (knows two).number < (knows two).workers }
-    requires unpublished { ((knows one).published ≡ false) × ((knows two).published ≡ false) }
-    ensures same { IsSame one result.0 × IsSame two result.1 }
-    ensures view { knows result.0 ≡ published (knows one) }
-    ensures other_view { knows result.1 ≡ published (knows two) }
-{
-    join(
-        rt,
-        || -> IdleSeat
-            requires at { IsSeatOf idle.now one }
-            requires worker { (knows one).number < (knows one).workers }
-            requires unpublished { (knows one).published ≡ false }
-            ensures same { IsSame one result }
-            ensures view { knows result ≡ published (knows one) }
-        { publish(idle, one) },
-        || -> IdleSeat
-            requires at { IsSeatOf idle.now two }
-            requires worker { (knows two).number < (knows two).workers }
-            requires unpublished { (knows two).published ≡ false }
-            ensures same { IsSame two result }
-            ensures view { knows result ≡ published (knows two) }
-        { publish(idle, two) },
-    )
-}
-
-/// A worker publishes, waits until its seat is taken back, and withdraws, while two others do.
-fn publish_three<R: Threads + Sync>(
-    rt: &R,
-    idle: &Idle,
-    zero: IdleSeat,
-    one: IdleSeat,
-    two: IdleSeat,
-) -> (IdleSeat, IdleSeat, IdleSeat)
-    requires at { IsSeatOf idle.now zero × IsSeatOf idle.now one × IsSeatOf idle.now two }
-    requires worker { (knows zero).number < (knows zero).workers }
-    requires next { (knows one).number < (knows one).workers }
-    requires last { (knows two).number < (knows two).workers }
-    requires unpublished { ((knows zero).published ≡ false) × ((knows one).published ≡ false)
-        × ((knows two).published ≡ false) }
-    ensures same { IsSame zero result.0 × IsSame one result.1 × IsSame two result.2 }
-    ensures view { knows result.0 ≡ published (knows zero) }
-    ensures next_view { knows result.1 ≡ published (knows one) }
-    ensures last_view { knows result.2 ≡ published (knows two) }
-{
-    let (zero, (one, two)) = join(
-        rt,
-        || -> IdleSeat
-            requires at { IsSeatOf idle.now zero }
-            requires worker { (knows zero).number < (knows zero).workers }
-            requires unpublished { (knows zero).published ≡ false }
-            ensures same { IsSame zero result }
-            ensures view { knows result ≡ published (knows zero) }
-        { publish(idle, zero) },
-        || -> (IdleSeat, IdleSeat)
-            requires sync { IsSync R.row }
-            requires at { IsSeatOf idle.now one × IsSeatOf idle.now two }
-            requires worker { (knows one).number < (knows one).workers }
-            requires other { (knows two).number < (knows two).workers }
-            requires unpublished { ((knows one).published ≡ false)
-                × ((knows two).published ≡ false) }
-            ensures same { IsSame one result.0 × IsSame two result.1 }
-            ensures view { knows result.0 ≡ published (knows one) }
-            ensures other_view { knows result.1 ≡ published (knows two) }
-        { publish_both(rt, idle, one, two) },
-    );
-    (zero, one, two)
-}
 
 #[test]
 fn a_claim_takes_the_lowest_worker(rt: HostRuntime) -> Result<(), Fail> {
@@ -316,46 +166,4 @@ fn a_look_finds_what_is_left(rt: HostRuntime) -> Result<(), Fail> {
             Line(Op::Finish(0, false), 0, 0, None),
         ],
     )
-}
-
-/// Three workers publish and withdraw at once, each on a thread of its own.
-#[test]
-fn three_threads_publish_at_once(rt: HostRuntime) -> Result<(), Fail> {
-    let (idle, mut caller) = Idle::new(rt.alloc(), 3)?;
-    let zero = idle.seat(&mut caller);
-    let one = idle.seat(&mut caller);
-    let two = idle.seat(&mut caller);
-    let (zero, one, two) = publish_three(&rt, &idle, zero, one, two);
-    idle.add(&mut caller);
-    assert_eq!(rt; idle.look(&mut caller), 7);
-    assert_eq!(rt; idle.claim(&rt, &mut caller), Some(0));
-    let ((_, found_zero), (_, found_two)) = join(
-        &rt,
-        || withdraw(&idle, zero),
-        || withdraw(&idle, two),
-    );
-    let (_, found_one) = withdraw(&idle, one);
-    assert!(rt; !found_zero && found_one && found_two);
-    assert_eq!(rt; idle.count(&mut caller), 1);
-    Ok(())
-}
-
-/// Three workers publish and withdraw one after the other, each on a thread of its own.
-#[test]
-fn three_threads_publish_in_turn(rt: HostRuntime) -> Result<(), Fail> {
-    let (idle, mut caller) = Idle::new(rt.alloc(), 3)?;
-    let zero = idle.seat(&mut caller);
-    let one = idle.seat(&mut caller);
-    let two = idle.seat(&mut caller);
-    let zero = publish_there(&rt, &idle, zero);
-    let one = publish_there(&rt, &idle, one);
-    let two = publish_there(&rt, &idle, two);
-    idle.add(&mut caller);
-    assert_eq!(rt; idle.claim(&rt, &mut caller), Some(0));
-    let (mut zero, found_zero) = withdraw_there(&rt, &idle, zero);
-    let (_, found_two) = withdraw_there(&rt, &idle, two);
-    let (_, found_one) = withdraw_there(&rt, &idle, one);
-    assert!(rt; !found_zero && found_one && found_two);
-    assert!(rt; idle.subtract(&mut zero));
-    Ok(())
 }
