@@ -72,18 +72,18 @@ fn code(words: &mut SplitWhitespace<'_>) -> Result<u16, Fault> {
 }
 
 /// Eight bytes to send or write.
-fn eight_bytes(alloc: Global) -> Result<WriteBuffers, Fault> {
+fn eight_bytes(alloc: Global) -> Result<IoBufs, Fault> {
     let bytes = Vec::from_array(alloc, [1u8, 2, 3, 4, 5, 6, 7, 8])?;
     let mut bufs = IoBufs::new(alloc);
     if bufs.push(alloc, IoBuf::from(bytes)).is_err() {
         return Err(Fault::Memory(AllocError));
     }
-    Ok(WriteBuffers::from(bufs))
+    Ok(bufs)
 }
 
 /// A write of eight bytes.
 fn write(alloc: Global, state: WriteAtState) -> Result<Request, Fault> {
-    let write = eight_bytes(alloc)?;
+    let write = WriteBuffers::from(eight_bytes(alloc)?);
     if write.remaining_len() > 8 || state.is_syncing() {
         return Err(Fault::Condition);
     }
@@ -93,7 +93,10 @@ fn write(alloc: Global, state: WriteAtState) -> Result<Request, Fault> {
 /// A request of this kind.
 pub fn request(alloc: Global, words: &mut SplitWhitespace<'_>) -> Result<Request, Fault> {
     Ok(match words.next() {
-        Some("send") => Request::Send(SendRequest::new(3, eight_bytes(alloc)?, None)),
+        Some("send") => {
+            let write = WriteBuffers::from(eight_bytes(alloc)?);
+            Request::Send(SendRequest::new(3, write, None))
+        }
         Some("read") => {
             let mut buf = IoBufMut::with_capacity(alloc, 8)?;
             buf.set_len(8);
