@@ -1,17 +1,16 @@
 -- The owner's loads of the head keep the rule.
-use Rattle.std.proofs.Common.{◌≡◌, ◌≢◌, ℕ, zero, suc, ◌+◌, ◌-◌, ◌*◌, ◌/◌, ◌%◌, ◌<◌, ◌≤◌, ◌⊎◌, List, [], ◌∷◌, ◌++◌, length, set, replicate, sym, refl, ap, ◌∙◌, subst, inl, inr, ⊎_elim, le_refl, arith}
+use Rattle.std.proofs.Common.{◌≡◌, ℕ, ◌+◌, ◌-◌, ◌/◌, ◌%◌, ◌<◌, ◌≤◌, List, [], ◌∷◌, ◌++◌, length, set, replicate, sym, refl, ap, ◌∙◌, subst, inl, ⊎_elim, le_refl, arith}
 use Rattle.std.proofs.lemmas.Nat.{div-mul-add, mod-mul-add}
 use mathlib.Core.Option.{none, some}
 use lib.ListN.{get_elem?}
 use Rattle.std.proofs.lemmas.List.{append-nil, length-replicate}
-use Rattle.std.specs.Prelude.{Option, Some, None, slice_index}
-use Rattle.atomic_table.specs.Table.{State, Me, Act, step, Valid, carried_after, homes_after, stepped, Allows}
-use Rattle.exec_live_queue.specs.declared.view.Own.{Own}
+use Rattle.std.specs.Prelude.{Option, None}
+use Rattle.atomic_table.specs.Table.{State, step, Valid, homes_after, Allows}
 use Rattle.exec_live_queue.specs.declared.view.View.{View}
 use Rattle.exec_live_queue.specs.declared.view.Stage.TheVariants.{Owns}
-use Rattle.exec_live_queue.specs.Numbers.{head_word, filled, Outside, BesideClaim, InOrder}
-use Rattle.exec_live_queue.specs.Live.{Homes, HomeAt, FullAt, Kept, LiveQueue}
-use Rattle.exec_live_queue.specs.Plays.{Sat, Told, room, hand, take_all, saw, out, Found, laid}
+use Rattle.exec_live_queue.specs.Numbers.{head_word, InOrder}
+use Rattle.exec_live_queue.specs.Live.{Kept, LiveQueue}
+use Rattle.exec_live_queue.specs.Plays.{Sat, room, hand, take_all, saw, out, laid}
 use Rattle.exec_live_queue.proofs.Hands.{take_before, take_behind, take_valid, take_carried, take_length, all_free}
 use Rattle.exec_live_queue.proofs.Orders.{outside_none, gap_fits, laid_order}
 use Rattle.exec_live_queue.proofs.Rebuild.{Gives, rebuilt, owner_steps}

@@ -1,13 +1,11 @@
 -- Values that go from slot to slot: what a seat carries after each of them.
-use Rattle.std.proofs.Common.{◌≡◌, ◌≢◌, ℕ, zero, suc, ◌+◌, ◌-◌, ◌*◌, ◌/◌, ◌%◌, ◌^◌, ◌<◌, ◌≤◌, ◌⊎◌, List, [], ◌∷◌, ◌++◌, length, map, replicate, sym, refl, ap, ◌∙◌, subst, inl, inr, ⊎_elim, length-append, append-nil, append_assoc, arith}
+use Rattle.std.proofs.Common.{◌≡◌, ℕ, suc, ◌+◌, ◌-◌, ◌%◌, ◌<◌, List, [], ◌∷◌, ◌++◌, length, map, replicate, sym, refl, ap, ◌∙◌, subst, length-append, append-nil, append_assoc, arith}
 use Rattle.std.proofs.lemmas.List.{replicate_more, length-replicate, map-append}
 use lib.ListN.{length-map}
 use mathlib.Core.Option.{none}
 use Rattle.std.specs.Prelude.{Option, Some, None, slice_get, drop}
 use Rattle.atomic_table.specs.Table.{step, rest, turned}
-use Rattle.exec_live_queue.specs.declared.view.Own.{Own}
 use Rattle.exec_live_queue.specs.declared.view.View.{View}
-use Rattle.exec_live_queue.specs.declared.view.Stage.TheVariants.{Owns}
 use Rattle.exec_live_queue.specs.Plays.{Sat, hand, returned, values_of, published_view}
 use Rattle.exec_live_queue.specs.Seats.{AtRest}
 use Rattle.exec_live_queue.specs.Calls.{HasLooked, AtHand, Fills, Empties}

@@ -1,10 +1,10 @@
 -- The numbers of a run queue after each step.
-use Rattle.std.proofs.Common.{◌≡◌, ℕ, zero, suc, ◌+◌, ◌-◌, ◌*◌, ◌/◌, ◌%◌, ◌^◌, ◌<◌, ◌≤◌, ◌⊎◌, List, sym, refl, ap, ◌∙◌, subst, inl, inr, ⊎_elim, le_refl, arith}
+use Rattle.std.proofs.Common.{◌≡◌, ℕ, ◌+◌, ◌-◌, ◌^◌, ◌<◌, ◌≤◌, ◌⊎◌, List, refl, ap, inl, inr, ⊎_elim, le_refl, arith}
 use mathlib.Core.Logic.{dite}
 use native.Mathlib.Decide.{dec_le, ℕ_discrete}
 use Rattle.std.proofs.Common.{lt_of_not-le, Bool, cond, ne_eqb}
 use Rattle.exec_live_queue.specs.declared.view.Own.{Own}
-use Rattle.exec_live_queue.specs.Numbers.{head_word, Outside, BesideClaim, InOrder}
+use Rattle.exec_live_queue.specs.Numbers.{Outside, InOrder}
 use Rattle.exec_live_queue.specs.Plays.{room, after_pop}
 
 -- no label is out where none is

@@ -1,22 +1,22 @@
 -- A full queue flows over, and shows again what it kept: both keep the rule.
-use Rattle.std.proofs.Common.{◌≡◌, ◌≢◌, ℕ, zero, suc, ◌+◌, ◌-◌, ◌*◌, ◌/◌, ◌%◌, ◌^◌, ◌<◌, ◌≤◌, ◌⊎◌, eqb, List, [], ◌∷◌, ◌++◌, map, length, set, take, drop, sym, refl, ap, ap₂, ◌∙◌, subst, inl, inr, ⊎_elim, le_refl, length-append, length-drop, append-nil, arith}
+use Rattle.std.proofs.Common.{◌≡◌, ℕ, ◌+◌, ◌-◌, ◌/◌, ◌%◌, ◌^◌, ◌<◌, ◌≤◌, eqb, List, [], ◌∷◌, ◌++◌, map, length, set, take, drop, sym, refl, ap, ◌∙◌, subst, ⊎_elim, le_refl, length-append, length-drop, append-nil, arith}
 use Rattle.std.proofs.Math.Nat.{add-mod_right}
 use Rattle.std.proofs.lemmas.List.{length-take-le}
 use mathlib.Core.Option.{none, some, some-injective}
 use lib.ListN.{get_elem?, length-map}
 use prog.Atomic.{either}
-use Rattle.std.specs.Prelude.{Option, Some, None}
+use Rattle.std.specs.Prelude.{Option, Some}
 use Rattle.std.specs.List.{sum_by}
 use Rattle.std.proofs.lemmas.List.Sums.{sum_by-append}
-use Rattle.atomic_table.specs.Table.{State, Act, keeps, step, Valid, carried_after, homes_after, Allows}
+use Rattle.atomic_table.specs.Table.{State, keeps, step, homes_after, Allows}
 use Rattle.atomic_table.proofs.Lists.{at_longer}
-use Rattle.exec_words.specs.Queue.{overflowed, newest, restored}
+use Rattle.exec_words.specs.Queue.{overflowed, restored}
 use Rattle.exec_live_queue.specs.declared.view.Own.{Own}
 use Rattle.exec_live_queue.specs.declared.view.View.{View}
 use Rattle.exec_live_queue.specs.declared.view.Stage.TheVariants.{Owns}
-use Rattle.exec_live_queue.specs.Numbers.{head_word, filled, Outside, BesideClaim, InOrder}
+use Rattle.exec_live_queue.specs.Numbers.{head_word, Outside, InOrder}
 use Rattle.exec_live_queue.specs.Pure.{queue_at}
-use Rattle.exec_live_queue.specs.Live.{labels, Homes, HomeAt, FullAt, weight_of, Kept, LiveQueue}
+use Rattle.exec_live_queue.specs.Live.{labels, HomeAt, Kept, LiveQueue}
 use Rattle.exec_live_queue.specs.Plays.{Sat, hand, take_all, whole, overflowed_view, Overflowed, flows_over, missed, restored_view, restores}
 use Rattle.exec_live_queue.proofs.Hands.{AllHome, take_before, take_valid, take_carried, take_length, hand_turn, all_full}
 use Rattle.exec_live_queue.proofs.Orders.{gap_fits, overflowed_order, restored_order}

@@ -1,5 +1,5 @@
 -- What an owner's calls do to its view, step after step.
-use Rattle.std.proofs.Common.{◌≡◌, ◌≢◌, ℕ, zero, suc, ◌+◌, ◌-◌, ◌*◌, ◌/◌, ◌%◌, ◌^◌, ◌<◌, ◌≤◌, ◌⊎◌, min, List, [], ◌∷◌, ◌++◌, length, take, drop, map, replicate, sym, refl, ap, ◌∙◌, subst, inl, inr, ⊎_elim, arith}
+use Rattle.std.proofs.Common.{◌≡◌, ◌≢◌, ℕ, ◌+◌, ◌-◌, ◌*◌, ◌/◌, ◌%◌, ◌^◌, ◌<◌, ◌≤◌, ◌⊎◌, min, List, [], ◌∷◌, ◌++◌, length, take, drop, map, replicate, sym, refl, ap, ◌∙◌, subst, inl, inr, ⊎_elim, arith}
 use mathlib.Core.Option.{none, some}
 use mathlib.Core.Logic.{dite}
 use native.Mathlib.Decide.{ℕ_discrete, dec_le}
@@ -12,10 +12,9 @@ use Rattle.atomic_table.specs.Table.{step}
 use Rattle.exec_live_queue.specs.declared.view.Own.{Own}
 use Rattle.exec_live_queue.specs.declared.view.View.{View}
 use Rattle.exec_live_queue.specs.declared.view.Stage.TheVariants.{Owns}
-use Rattle.exec_live_queue.specs.Numbers.{InOrder}
-use Rattle.exec_live_queue.specs.Plays.{Sat, Told, room, saw, out, hand, after_pop, laid, returned, Found, popped_view, Popped, values_of, published_view, Overflowed, overflowed_view, restored_view, whole}
+use Rattle.exec_live_queue.specs.Plays.{Sat, room, saw, out, hand, after_pop, laid, returned, Found, popped_view, Popped, values_of, published_view, Overflowed, overflowed_view, restored_view, whole}
 use Rattle.exec_live_queue.specs.Seats.{IsSeen, AtRest}
-use Rattle.exec_live_queue.specs.Calls.{looked, HasLooked, HasPopped, HasPublished, HasOverflowed, fully, AtHand, Fills, AfterSteal}
+use Rattle.exec_live_queue.specs.Calls.{looked, HasLooked, HasPopped, HasPublished, HasOverflowed, fully, AtHand, Fills, AfterSteal, HasKept}
 use Rattle.exec_live_queue.specs.declared.view.Theft.{Theft}
 use Rattle.exec_words.specs.declared.queue.Steal.{Steal}
 use Rattle.exec_words.specs.declared.queue.Steal.TheVariants as steal
@@ -201,3 +200,9 @@ module _ {T : Type 0} where
   steals_on a b d t t' (steal.Moved n) h k = (k.0, k.1, k.2, k.3, published_on a b d k.0 h k.4, k.5)
   steals_on a b d t t' steal.Nothing h k = (looks_on a b d h k.0, k.1, subst (λ (n : ℕ). (2 ^ 55 - 512 ≤ n) ⊎ ((128 < n - d.saw_real + d.saw_gap) ⊎ ((0 < t'.gap) ⊎ (t'.upto < t'.at + 2)))) (own_tail a b h) k.2)
   steals_on a b d t t' (steal.Again head) h k = (looks_on a b d h k.0, k.1, k.2, k.3, k.4)
+
+  -- a steal after tries that took nothing
+  pub steals_after : (d d' : Own T) (t t1 t' : Theft T) (answer : Steal) → HasKept t t1 → AfterSteal d t1 d' t' answer → AfterSteal d t d' t' answer
+  steals_after d d' t t1 t' (steal.Moved n) h k = (k.0, k.1, k.2, k.3, k.4, (k.5.0 ∙ ap (λ (ls : List ℕ). ls ++ labels t'.at n) h.0, k.5.1 ∙ ap (λ (xs : List T). xs ++ k.0) h.1))
+  steals_after d d' t t1 t' steal.Nothing h k = (k.0, (k.1.0 ∙ h.0, k.1.1 ∙ h.1), k.2)
+  steals_after d d' t t1 t' (steal.Again head) h k = (k.0, (k.1.0 ∙ h.0, k.1.1 ∙ h.1), k.2, k.3, k.4)

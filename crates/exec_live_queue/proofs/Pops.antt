@@ -1,20 +1,19 @@
 -- The owner's pops keep the rule: by an exchange, and of a lone value by a store.
-use Rattle.std.proofs.Common.{◌≡◌, ◌≢◌, ℕ, zero, suc, ◌+◌, ◌-◌, ◌*◌, ◌/◌, ◌%◌, ◌<◌, ◌≤◌, ◌⊎◌, eqb, List, [], ◌∷◌, ◌++◌, length, set, take, drop, sym, refl, ap, ◌∙◌, subst, inl, inr, ⊎_elim, le_refl, arith}
+use Rattle.std.proofs.Common.{◌≡◌, ℕ, ◌+◌, ◌-◌, ◌/◌, ◌%◌, ◌<◌, ◌≤◌, ◌⊎◌, eqb, List, [], ◌∷◌, ◌++◌, set, sym, refl, ap, ◌∙◌, subst, inl, inr, ⊎_elim, le_refl, arith}
 use mathlib.Core.Option.{none, some}
 use lib.ListN.{get_elem?}
 use prog.Atomic.{either}
-use Rattle.std.specs.Prelude.{Option, Some, None}
+use Rattle.std.specs.Prelude.{Option, Some}
 use Rattle.std.specs.List.{sum_by}
 use Rattle.std.proofs.lemmas.List.Sums.{sum_by_push}
-use Rattle.atomic_table.specs.Table.{State, Act, step, Valid, carried_after, homes_after, Allows}
+use Rattle.atomic_table.specs.Table.{State, step, carried_after, homes_after, Allows}
 use Rattle.std.proofs.Math.Nat.{add-mod_right}
 use Rattle.exec_words.specs.Queue.{popped}
-use Rattle.exec_live_queue.specs.declared.view.Own.{Own}
 use Rattle.exec_live_queue.specs.declared.view.View.{View}
 use Rattle.exec_live_queue.specs.declared.view.Stage.TheVariants.{Owns}
-use Rattle.exec_live_queue.specs.Numbers.{head_word, filled, Outside, BesideClaim, InOrder}
+use Rattle.exec_live_queue.specs.Numbers.{head_word, Outside, BesideClaim}
 use Rattle.exec_live_queue.specs.Pure.{queue_at}
-use Rattle.exec_live_queue.specs.Live.{labels, Homes, HomeAt, FullAt, weight_of, Kept, LiveQueue}
+use Rattle.exec_live_queue.specs.Live.{labels, Homes, Kept, LiveQueue}
 use Rattle.exec_live_queue.specs.Plays.{Sat, after_pop, hand, take_all, popped_view, Popped, pops, pops_last, missed}
 use Rattle.exec_live_queue.proofs.Hands.{take_behind, take_length}
 use Rattle.exec_live_queue.proofs.Orders.{outside_none, gap_fits, pop_gap, popped_order}

@@ -1,8 +1,8 @@
 -- The owner's store of the tail, which shows what it wrote, keeps the rule.
-use Rattle.std.proofs.Common.{◌≡◌, ◌≢◌, ℕ, zero, suc, ◌+◌, ◌-◌, ◌^◌, ◌%◌, ◌<◌, ◌≤◌, ◌⊎◌, List, [], ◌∷◌, ◌++◌, map, length, set, sym, refl, ap, ◌∙◌, subst, inl, inr, ⊎_elim, le_refl, lt_of_not-le, length-append, arith}
+use Rattle.std.proofs.Common.{◌≡◌, ℕ, ◌+◌, ◌-◌, ◌^◌, ◌<◌, ◌≤◌, List, [], ◌∷◌, ◌++◌, map, length, set, sym, refl, ap, ◌∙◌, subst, inr, le_refl, lt_of_not-le, length-append, arith}
 use mathlib.Core.Option.{none, some}
 use mathlib.Core.Logic.{dite}
-use native.Mathlib.Decide.{ℕ_discrete, dec_le}
+use native.Mathlib.Decide.{dec_le}
 use lib.ListN.{get_elem?, length-map}
 use Rattle.std.specs.Prelude.{Option, Some, None}
 use Rattle.atomic_table.specs.Table.{State, step, homes_after, Allows}
@@ -12,8 +12,8 @@ use Rattle.atomic_table.proofs.Lists.{at_longer}
 use Rattle.exec_live_queue.specs.declared.view.Own.{Own}
 use Rattle.exec_live_queue.specs.declared.view.View.{View}
 use Rattle.exec_live_queue.specs.declared.view.Stage.TheVariants.{Owns}
-use Rattle.exec_live_queue.specs.Numbers.{head_word, filled, Outside, BesideClaim, InOrder}
-use Rattle.exec_live_queue.specs.Live.{Homes, HomeAt, FullAt, Kept, LiveQueue}
+use Rattle.exec_live_queue.specs.Numbers.{head_word}
+use Rattle.exec_live_queue.specs.Live.{Homes, Kept, LiveQueue}
 use Rattle.exec_words.specs.Queue.{published}
 use Rattle.exec_live_queue.specs.Pure.{queue_at}
 use Rattle.exec_live_queue.specs.Plays.{Sat, hand, give_all, values_of, published_view, publishes}

@@ -1,28 +1,28 @@
 -- A thief's release keeps the rule.
-use Rattle.std.proofs.Common.{◌≡◌, ◌≢◌, ℕ, zero, suc, ◌+◌, ◌-◌, ◌*◌, ◌/◌, ◌%◌, ◌<◌, ◌≤◌, ◌⊎◌, eqb, List, [], ◌∷◌, ◌++◌, length, set, replicate, sym, refl, ap, ◌∙◌, subst, inl, inr, ⊎_elim, le_refl, lt_of_not-le, arith}
+use Rattle.std.proofs.Common.{◌≡◌, ◌≢◌, ℕ, ◌+◌, ◌%◌, ◌<◌, ◌≤◌, eqb, List, [], ◌∷◌, length, set, replicate, sym, refl, ap, ◌∙◌, subst, inl, inr, ⊎_elim, lt_of_not-le, arith}
 use Rattle.std.proofs.lemmas.List.{length-replicate}
 use mathlib.Core.Option.{none, some}
 use mathlib.Core.Logic.{dite}
 use native.Mathlib.Decide.{dec_le}
 use lib.ListN.{get_elem?}
 use prog.Atomic.{either}
-use Rattle.std.specs.Prelude.{Option, Some, None}
-use Rattle.atomic_table.specs.Table.{State, Act, keeps, step, Valid, carried_after, homes_after, Allows}
+use Rattle.std.specs.Prelude.{Option, None}
+use Rattle.atomic_table.specs.Table.{State, keeps, step, homes_after, Allows}
 use Rattle.atomic_table.proofs.Lists.{set_here}
 use Rattle.exec_live_queue.specs.declared.view.Own.{Own}
 use Rattle.exec_live_queue.specs.declared.view.Theft.{Theft}
 use Rattle.exec_live_queue.specs.declared.view.View.{View}
 use Rattle.exec_live_queue.specs.declared.view.Stage.{Stage}
 use Rattle.exec_live_queue.specs.declared.view.Stage.TheVariants.{Owns, Idle, SawHead, SawTail, Claimed}
-use Rattle.exec_live_queue.specs.Numbers.{head_word, filled, Outside, BesideClaim, InOrder}
+use Rattle.exec_live_queue.specs.Numbers.{head_word}
 use Rattle.exec_words.specs.Queue.{released}
 use Rattle.exec_live_queue.specs.Pure.{queue_at}
-use Rattle.exec_live_queue.specs.Live.{Homes, HomeAt, FullAt, Knows, Kept, LiveQueue}
+use Rattle.exec_live_queue.specs.Live.{Homes, Knows, LiveQueue}
 use Rattle.exec_live_queue.specs.Plays.{Sat, hand, give_all, Widened, releases}
-use Rattle.exec_live_queue.proofs.Hands.{AllHome, give_before, give_behind, give_here, give_valid, give_carried, give_length, free_at, hand_turn}
+use Rattle.exec_live_queue.proofs.Hands.{give_before, give_behind, give_here, give_valid, give_carried, give_length, free_at, hand_turn}
 use Rattle.exec_live_queue.proofs.Orders.{gap_fits, released_order}
 use Rattle.exec_live_queue.proofs.Rebuild.{Puts, exchanges, thief_steps, there}
-use Rattle.exec_live_queue.proofs.Looks.{count_of_word, gap_of_word}
+use Rattle.exec_live_queue.proofs.Looks.{gap_of_word}
 use Rattle.exec_live_queue.proofs.Thieves.{moved}
 
 -- no other seat holds this claim

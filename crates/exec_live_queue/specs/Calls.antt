@@ -1,5 +1,5 @@
 -- What the calls of an owner and of a thief do, as their seats know it.
-use Rattle.std.specs.Prelude.{◌≡◌, ◌≢◌, ℕ, ◌+◌, ◌-◌, ◌*◌, ◌^◌, ◌<◌, ◌≤◌, ◌⊎◌, List, [], ◌∷◌, ◌++◌, length, map, take, drop, replicate, Option, Some, None}
+use Rattle.std.specs.Prelude.{◌≡◌, ◌≢◌, ℕ, ◌+◌, ◌-◌, ◌^◌, ◌<◌, ◌≤◌, ◌⊎◌, List, [], ◌∷◌, ◌++◌, length, map, take, drop, replicate, Option, Some, None}
 use mathlib.Core.Option.{some}
 use lib.ListN.{get_elem?}
 use Rattle.atomic_table.specs.declared.shared.Shared.{Shared}
@@ -79,6 +79,10 @@ module _ {T : Type 0} where
   AfterSteal d t d' t' (steal.Moved n) = (xs : List T) × (length xs ≡ n) × (0 < n) × (n ≤ 128) × HasPublished d xs d' × HasTaken t n xs t'
   AfterSteal d t d' t' steal.Nothing = HasLooked d d' × HasKept t t' × MayTakeNothing d d' t'
   AfterSteal d t d' t' (steal.Again head) = HasLooked d d' × HasKept t t' × (head.real ≡ t'.at) × (head.gap ≡ t'.gap) × ((head.real ≢ t'.was) ⊎ (0 < head.gap))
+
+  -- what a whole steal does, whose last try moved so many values
+  abbrev pub AfterInto : Own T → Theft T → Own T → Theft T → ℕ → Type 0
+  AfterInto d t d' t' n = (n ≡ 0 → AfterSteal d t d' t' steal.Nothing) × (0 < n → AfterSteal d t d' t' (steal.Moved n))
 
   -- the values that were put so far into the slots behind this label, and r more slots that are empty
   abbrev pub Fills : Sat T → View T → ℕ → ℕ → List T → Type 0

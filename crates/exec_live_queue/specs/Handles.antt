@@ -1,13 +1,11 @@
 -- What contracts see of a queue, of its owner and of a thief.
-use Rattle.std.specs.Prelude.{◌≡◌, ◌≢◌, ℕ, ◌+◌, ◌-◌, ◌^◌, ◌<◌, ◌≤◌, List, [], length, Option}
+use Rattle.std.specs.Prelude.{◌≡◌, ℕ, ◌-◌, ◌<◌, ◌≤◌, List, length, Option}
 use Rattle.atomic_table.specs.Seated.{TableId}
 use Rattle.atomic_table.specs.declared.shared.Shared.{Shared}
 use Rattle.exec_live_queue.specs.declared.view.Own.{Own}
 use Rattle.exec_live_queue.specs.declared.view.View.{View}
-use Rattle.exec_live_queue.specs.declared.view.Stage.TheVariants.{Owns, Claimed}
-use Rattle.exec_live_queue.specs.Live.{opened}
 use Rattle.exec_live_queue.specs.Plays.{values_of}
-use Rattle.exec_live_queue.specs.Seats.{Place, IsAt, Rests}
+use Rattle.exec_live_queue.specs.Seats.{Place, Rests}
 use Rattle.exec_live_queue.specs.Calls.{HandsOut}
 
 -- which queue it is, and the count of its first value

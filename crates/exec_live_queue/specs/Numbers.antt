@@ -1,5 +1,5 @@
 -- The numbers of a run queue, and which labels stand where.
-use Rattle.std.specs.Prelude.{◌≡◌, ℕ, ◌+◌, ◌*◌, ◌^◌, ◌<◌, ◌≤◌, ◌⊎◌, List, [], ◌∷◌}
+use Rattle.std.specs.Prelude.{◌≡◌, ℕ, ◌+◌, ◌*◌, ◌^◌, ◌<◌, ◌≤◌, ◌⊎◌}
 use Rattle.exec_live_queue.specs.declared.view.Own.{Own}
 
 -- the head as a word: the count of the front value, and the gap below it

@@ -1,12 +1,11 @@
 -- What each step of a run queue tells the seat that makes it.
-use Rattle.std.specs.Prelude.{◌≡◌, ◌≢◌, ℕ, zero, suc, ◌+◌, ◌-◌, ◌*◌, ◌/◌, ◌%◌, ◌^◌, ◌<◌, ◌≤◌, List, [], ◌∷◌, ◌++◌, length, map, take, drop, replicate, min, Option, Some, None}
-use Rattle.atomic_table.specs.Table.{State, Me, Step, Act, keeps, takes, gives, chain}
+use Rattle.std.specs.Prelude.{◌≡◌, ◌≢◌, ℕ, suc, ◌+◌, ◌-◌, ◌/◌, ◌%◌, ◌^◌, ◌<◌, ◌≤◌, List, [], ◌∷◌, ◌++◌, length, map, take, replicate, Option, Some, None}
+use Rattle.atomic_table.specs.Table.{Me, Step, Act, keeps, takes, gives, chain}
 use Rattle.exec_live_queue.specs.declared.view.Own.{Own}
 use Rattle.exec_live_queue.specs.declared.view.Theft.{Theft}
 use Rattle.exec_live_queue.specs.declared.view.View.{View}
-use Rattle.exec_live_queue.specs.declared.view.Stage.{Stage}
-use Rattle.exec_live_queue.specs.declared.view.Stage.TheVariants.{Owns, Idle, SawHead, SawTail, Claimed}
-use Rattle.exec_live_queue.specs.Numbers.{head_word, filled, InOrder}
+use Rattle.exec_live_queue.specs.declared.view.Stage.TheVariants.{Idle, SawHead, SawTail, Claimed}
+use Rattle.exec_live_queue.specs.Numbers.{head_word, InOrder}
 use mathlib.Core.Option.{some}
 use lib.ListN.{get_elem?}
 use Rattle.exec_words.specs.declared.head.Head.{Head}

@@ -5,11 +5,8 @@ use Rattle.atomic_table.specs.Table.{step, rest}
 use Rattle.atomic_table.specs.declared.shared.Seat.{Seat}
 use Rattle.atomic_table.specs.declared.shared.Shared.{Shared}
 use Rattle.exec_live_queue.specs.declared.view.Own.{Own}
-use Rattle.exec_live_queue.specs.declared.view.Theft.{Theft}
 use Rattle.exec_live_queue.specs.declared.view.View.{View}
-use Rattle.exec_live_queue.specs.declared.view.Live.{Live}
 use Rattle.exec_live_queue.specs.declared.view.Stage.TheVariants.{Owns, SawTail, Claimed}
-use Rattle.exec_live_queue.specs.Numbers.{head_word}
 use Rattle.exec_live_queue.specs.Plays.{Sat, hand, laid, returned, pops, pops_last, flows_over, publishes, restores, saw_head, saw_tail, claims, releases}
 
 abbrev pub Place : Type 0 → Type 0

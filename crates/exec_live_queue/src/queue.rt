@@ -6,7 +6,7 @@
 //! of each is in `specs/Handles.antt`.
 
 ghost use Rattle.std.specs.Prelude.{◌≡◌, ◌≢◌, ◌+◌, ◌^◌, ◌<◌, ◌≤◌, ◌⊎◌, [], IfOk, IsTrue, IsFalse};
-ghost use Rattle.exec_live_queue.specs.Calls.{AfterSteal, HasKept};
+ghost use Rattle.exec_live_queue.specs.Calls.{AfterInto, AfterSteal, HasKept};
 ghost use Rattle.exec_live_queue.specs.Live.{opened};
 ghost use Rattle.exec_live_queue.specs.Plays.{newcomer};
 ghost use Rattle.exec_live_queue.specs.declared.view.Stage.TheVariants.{Owns};
@@ -23,7 +23,7 @@ use crossbeam_utils::CachePadded;
 use exec_words::queue::Steal;
 use std::alloc::{AllocError, Global};
 use std::marker::Model;
-use std::sync::Arc;
+use std::sync::{Arc, Wait};
 
 /// A queue, from which others steal.
 #[derive(Drop)]
@@ -143,5 +143,23 @@ impl<T> Queue<T> {
         ensures stolen { AfterSteal into.old.own seat.old.view.theft into.new.own seat.new.view.theft result }
     {
         into.steal(words_of(&self.inner), &mut seat.place, pause)
+    }
+
+    /// Steals until a try doesn't find that the head has changed since it was loaded. Answers how
+    /// many values moved.
+    pub fn steal_into<R: Wait>(&self, rt: &R, seat: &mut QueueSeat<T>, into: &mut Owner<T>) -> usize
+        requires seat { (seat.old.table ≡ self.now.table) × (seat.old.view.stage ≢ Owns) }
+        requires whole { into.old.handed ≡ [] }
+        ensures same { (seat.new.table ≡ seat.old.table) × (seat.new.view.stage ≢ Owns) × (into.new.table ≡ into.old.table) × (into.new.handed ≡ []) }
+        ensures stolen { AfterInto into.old.own seat.old.view.theft into.new.own seat.new.view.theft result }
+    {
+        'tries: for _ in rt.forever() {
+            match self.steal_once(seat, into) {
+                Steal::Moved(count) => return count,
+                Steal::Nothing => return 0,
+                Steal::Again(_) => {}
+            }
+        }
+        unreachable!()
     }
 }

@@ -41,8 +41,9 @@ fn drain(owner: &mut Owner<u64>)
     ensures { owner.new.handed ≡ [] }
 {
     'left: loop {
-        if owner.next_overflowed().is_none() {
-            return;
+        match owner.next_overflowed() {
+            Some(_) => {}
+            None => return,
         }
     }
 }

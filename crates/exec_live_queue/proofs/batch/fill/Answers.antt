@@ -1,4 +1,4 @@
-use Rattle.std.proofs.Common.{◌≡◌, ℕ, ◌+◌, ◌-◌, ◌<◌, ◌≤◌, List, [], length, drop, rules, refl, sym, ap, subst, ◌∙◌, length-drop, arith}
+use Rattle.std.proofs.Common.{◌≡◌, ◌+◌, List, [], length, drop, refl, sym, ap, subst, ◌∙◌, length-drop, arith}
 use Rattle.exec_live_queue.proofs.Moves.{Filling, fill_front, fill_step, fill_all}
 use Rattle.exec_live_queue.proofs.Looks.{nothing_left}
 use Rattle.exec_live_queue.proofs.batch.fill.Goals as goal

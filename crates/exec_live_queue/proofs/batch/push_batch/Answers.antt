@@ -1,9 +1,8 @@
-use Rattle.std.proofs.Common.{◌≡◌, ℕ, ◌+◌, ◌-◌, ◌/◌, ◌%◌, ◌<◌, ◌≤◌, List, [], length, map, replicate, rules, refl, sym, ap, subst, ◌∙◌, arith}
-use Rattle.std.specs.Prelude.{Some, None}
+use Rattle.std.proofs.Common.{◌≡◌, ℕ, ◌-◌, ◌/◌, ◌%◌, [], length, sym, ap, subst, ◌∙◌, arith}
 use Rattle.exec_live_queue.specs.declared.view.View.{View}
-use Rattle.exec_live_queue.specs.Plays.{hand, room, published_view}
+use Rattle.exec_live_queue.specs.Plays.{room, published_view}
 use Rattle.exec_live_queue.specs.Calls.{Fills}
-use Rattle.exec_live_queue.proofs.Owners.{laid_looked, own_tail, room_stays, took_room, free_slots, published_after}
+use Rattle.exec_live_queue.proofs.Owners.{laid_looked, room_stays, took_room, free_slots, published_after}
 use Rattle.exec_live_queue.proofs.batch.push_batch.Goals as goal
 
 pub overflow_sub-free-4 : goal.overflow_sub-free-4

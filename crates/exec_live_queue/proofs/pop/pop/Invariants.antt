@@ -1,4 +1,4 @@
-use Rattle.std.proofs.Common.{◌≡◌, ◌+◌, ◌-◌, ◌*◌, ◌/◌, ◌%◌, ◌≤◌, min}
+use Rattle.std.proofs.Common.{◌+◌, ◌-◌, ◌*◌, ◌/◌, ◌%◌, min}
 use Rattle.exec_live_queue.specs.Seats.{Rests, IsSeen, SameSeat}
 use Rattle.exec_live_queue.specs.Calls.{HasLooked}
 use Rattle.exec_live_queue.proofs.pop.pop.Given as goal

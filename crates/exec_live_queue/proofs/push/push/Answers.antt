@@ -1,2 +1,0 @@
-use Rattle.std.proofs.Common.{◌≡◌, arith}
-use Rattle.exec_live_queue.proofs.push.push.Goals as goal

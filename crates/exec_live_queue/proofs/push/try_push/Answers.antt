@@ -1,7 +1,7 @@
-use Rattle.std.proofs.Common.{◌≡◌, ℕ, ◌+◌, ◌-◌, ◌%◌, ◌/◌, ◌<◌, ◌≤◌, ◌⊎◌, ⊎_elim, min, [], ◌∷◌, rules, refl, sym, ap, subst, ◌∙◌, arith}
+use Rattle.std.proofs.Common.{ℕ, ◌+◌, ◌<◌, min, [], ◌∷◌, refl, sym, ap, ◌∙◌, arith}
 use Rattle.std.specs.Prelude.{None}
 use Rattle.exec_live_queue.specs.Plays.{hand}
-use Rattle.exec_live_queue.proofs.Owners.{took_one, looks_full, looks, looks_on, laid_looked, laid_seen, published_after, overflowed_after, own_tail, newer}
+use Rattle.exec_live_queue.proofs.Owners.{took_one, looks_full, looks, looks_on, laid_looked, laid_seen, overflowed_after, own_tail, newer}
 use Rattle.exec_live_queue.proofs.push.try_push.Goals as goal
 
 pub overflow_sub-len : goal.overflow_sub-len

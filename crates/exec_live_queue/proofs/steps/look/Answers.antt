@@ -1,6 +1,5 @@
-use Rattle.std.proofs.Common.{◌≡◌, rules, sym, subst, ℕ, ◌<◌, ◌≤◌, le_refl, arith}
+use Rattle.std.proofs.Common.{sym, subst, ℕ, ◌<◌, arith}
 use mathlib.Core.Option.{none}
-use Rattle.std.specs.Prelude.{min}
 use Rattle.atomic_table.specs.Table.{step, Allows}
 use Rattle.exec_live_queue.specs.Live.{LiveQueue}
 use Rattle.exec_live_queue.specs.Plays.{laid}

@@ -1,10 +1,8 @@
-use Rattle.std.proofs.Common.{◌≡◌, sym, refl, subst, ap, ◌∙◌, ℕ, ◌+◌, ◌-◌, ◌*◌, ◌/◌, ◌%◌, ◌<◌, eqb, arith}
+use Rattle.std.proofs.Common.{◌≡◌, sym, subst, ap, ◌∙◌, ℕ, ◌+◌, ◌<◌, arith}
 use mathlib.Core.Option.{none}
-use prog.Atomic.{either}
 use Rattle.atomic_table.specs.Table.{step, Allows}
 use Rattle.exec_live_queue.specs.Live.{LiveQueue}
 use Rattle.exec_live_queue.specs.Numbers.{head_word}
-use Rattle.exec_live_queue.proofs.Looks.{gap_of_word}
 use Rattle.exec_live_queue.specs.Plays.{pops_last}
 use Rattle.exec_live_queue.proofs.Pops.{pops_last_rule}
 use Rattle.exec_live_queue.proofs.steps.pop_last.Goals as goal

@@ -1,4 +1,4 @@
-use Rattle.std.proofs.Common.{◌≡◌, rules, sym, subst, ℕ, ◌<◌, ◌≤◌, le_refl, arith}
+use Rattle.std.proofs.Common.{rules, sym, subst, ℕ, ◌<◌, arith}
 use mathlib.Core.Option.{none}
 use Rattle.std.specs.Prelude.{min}
 use Rattle.atomic_table.specs.Table.{step, Allows}

@@ -1,11 +1,4 @@
-use Rattle.std.proofs.Common.{◌≡◌, sym, refl, subst, ap, ◌∙◌, ℕ, ◌+◌, ◌-◌, ◌*◌, ◌/◌, ◌%◌, ◌<◌, eqb, arith}
-use mathlib.Core.Option.{none}
-use prog.Atomic.{either}
-use Rattle.atomic_table.specs.Table.{step, Splits}
-use Rattle.exec_live_queue.specs.Live.{LiveQueue}
-use Rattle.exec_live_queue.specs.Numbers.{head_word}
-use Rattle.exec_live_queue.proofs.Looks.{gap_of_word}
-use Rattle.exec_live_queue.specs.Plays.{newcomer}
+use Rattle.std.proofs.Common.{sym, subst, ℕ, ◌<◌, arith}
 use Rattle.exec_live_queue.proofs.Thieves.{splits}
 use Rattle.exec_live_queue.proofs.thief.another.Goals as goal
 

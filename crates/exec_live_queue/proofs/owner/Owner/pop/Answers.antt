@@ -1,4 +1,4 @@
-use Rattle.std.proofs.Common.{◌≡◌, subst}
+use Rattle.std.proofs.Common.{subst}
 use Rattle.std.specs.Prelude.{IfSome}
 use Rattle.exec_live_queue.specs.Handles.{Owned}
 use Rattle.exec_live_queue.specs.Calls.{HasPopped}

@@ -1,6 +1,5 @@
 use Rattle.std.proofs.Common.{◌≡◌, ℕ, ◌+◌, length, length-drop, refl, sym, ap, subst, ◌∙◌, arith}
 use Rattle.std.specs.Prelude.{drop}
-use Rattle.atomic_table.specs.declared.shared.Shared.{Shared}
 use Rattle.exec_live_queue.specs.declared.answers.Push.{Push}
 use Rattle.exec_live_queue.specs.Plays.{values_of}
 use Rattle.exec_live_queue.specs.Handles.{Owned, Stands}

@@ -1,4 +1,4 @@
-use Rattle.std.proofs.Common.{◌≡◌, [], ◌∷◌, ℕ, refl, ap, ◌∙◌, rules, arith}
+use Rattle.std.proofs.Common.{[], ◌∷◌, ℕ, refl, ap}
 use Rattle.std.proofs.Common.{replicate}
 use Rattle.std.specs.Prelude.{None}
 use Rattle.exec_live_queue.proofs.Opened.{opens}
