@@ -18,7 +18,7 @@ use Rattle.exec_abstract.specs.declared.state.Message.TheVariants as message
 use Rattle.exec_abstract.specs.Choice.{Payer, Choice}
 use Rattle.exec_abstract.specs.Choice.Payer.{ByRequest, BySleeper, ByAct, ByCall, ByStop}
 use Rattle.exec_abstract.specs.Choice.Choice.{Plain, Passes, Pays, Posts}
-use Rattle.exec_abstract.specs.Ranges.{last_moment}
+use Rattle.exec_base.specs.declared.limits.TheConstants.{LAST_MOMENT}
 use Rattle.exec_abstract.specs.Same.{is_none, is_number}
 use Rattle.exec_abstract.specs.World.{Seat, Task, Common, seat_of, task_of, request_of}
 use Rattle.exec_abstract.specs.Tests.{is_awake, has_ended, is_flying, all_left, set_seat, set_request}
@@ -57,7 +57,7 @@ is_enabled s (action.Work i) = may_work s (seat_of s i)
 is_enabled s (action.Spawn j k) = may_call s j
 is_enabled s (action.Wake j t) = may_call s j && nat_lt t (length s.tasks)
 is_enabled s (action.GoOn j) = may_go_on s j
-is_enabled s (action.Clock d) = nat_le (s.clock + d) last_moment
+is_enabled s (action.Clock d) = nat_le (s.clock + d) LAST_MOMENT
 is_enabled s (action.Land r n) = may_land s r n
 is_enabled s (action.SetBusy i) = not (has_ended (seat_of s i).phase)
 is_enabled s (action.EndPoll i) = not (has_ended (seat_of s i).phase)

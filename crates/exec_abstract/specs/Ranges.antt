@@ -1,5 +1,5 @@
 -- What follows from a configuration.
-use Rattle.std.specs.Prelude.{ℕ, zero, suc, ◌+◌, ◌-◌, ◌*◌, ◌/◌, ◌^◌, ◌==◌, if◌then◌else◌, nat_le, max}
+use Rattle.std.specs.Prelude.{ℕ, zero, suc, ◌+◌, ◌-◌, ◌*◌, ◌/◌, ◌==◌, if◌then◌else◌, nat_le, max}
 use Rattle.exec_abstract.specs.declared.config.Configuration.{Configuration}
 use Rattle.exec_abstract.specs.declared.config.Spin.{Spin}
 
@@ -23,14 +23,6 @@ ticks_needed c = (horizon c + (c.tick - 1)) / c.tick + 2
 -- how many slots the timeout wheel has: the next power of two, which is at most 2^20
 abbrev pub wheel_slots : Configuration → ℕ
 wheel_slots c = doubled_up_to 20 1 (ticks_needed c)
-
--- the longest timeout: 30 years of 365 days, in nanoseconds
-abbrev pub longest_timeout : ℕ
-longest_timeout = 946080000000000000
-
--- the clock never passes this moment, in nanoseconds
-abbrev pub last_moment : ℕ
-last_moment = 2 ^ 62
 
 -- the largest spin budget, in iterations: a budget that is 0 at first stays so
 abbrev pub largest_spin : Spin → ℕ

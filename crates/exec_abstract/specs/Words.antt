@@ -4,7 +4,7 @@ use Rattle.exec_abstract.specs.declared.config.Word.{Word}
 use Rattle.exec_abstract.specs.declared.config.Word.TheVariants as word
 use Rattle.exec_abstract.specs.declared.state.Code.{Code}
 use Rattle.exec_abstract.specs.declared.state.Code.TheVariants as code
-use Rattle.exec_abstract.specs.Ranges.{longest_timeout}
+use Rattle.exec_base.specs.declared.limits.TheConstants.{LONGEST_TIMEOUT}
 use Rattle.exec_abstract.specs.World.{Own, Task, Common, no_task, task_of}
 use Rattle.exec_abstract.specs.Tests.{is_empty, is_settled, waits_for_nothing}
 use Rattle.exec_abstract.specs.Same.{is_none}
@@ -115,7 +115,7 @@ script_asked _ = 0
 -- the end of the sleep that the word asks for: one that is longer than may be is cut
 abbrev pub sleep_asked : ℕ → Word → Option ℕ
 sleep_asked sampled (word.Sleep zero) = None
-sleep_asked sampled (word.Sleep (suc time)) = Some (sampled + min (suc time) longest_timeout)
+sleep_asked sampled (word.Sleep (suc time)) = Some (sampled + min (suc time) LONGEST_TIMEOUT)
 sleep_asked sampled _ = None
 
 abbrev pub newest_held : Task → Option ℕ

@@ -11,16 +11,16 @@ use Rattle.exec_machine.specs.Allowed.{owes_wake}
 use Rattle.exec_machine.specs.After.{woken}
 use Rattle.exec_core.specs.declared.place.Place.{Place}
 use Rattle.exec_core.specs.declared.root.Root.{Root}
-use Rattle.exec_driver.specs.declared.driver.Driver.{Driver}
+use Rattle.exec_first_driver.specs.declared.driver.Driver.{Driver}
 use Rattle.exec_core.specs.declared.executor.Core.{Core}
 use Rattle.exec_core.specs.View.{task_view, world}
-use Rattle.exec_driver.specs.Operations.{operations_view}
-use Rattle.exec_driver.specs.Books.{Books, Shows, request_at}
+use Rattle.exec_first_driver.specs.Operations.{operations_view}
+use Rattle.exec_first_driver.specs.Books.{Books, Shows, request_at}
 use Rattle.exec_machine.specs.declared.state.Sleeper.{Sleeper}
 use Rattle.exec_machine.specs.Allowed.{sleeper_owes}
-use Rattle.exec_driver.specs.declared.sleepers.Timers.{Timers}
-use Rattle.exec_driver.specs.Sleeps.{Sleeps, sleeper_at}
-use Rattle.exec_core.proofs.Naps.{still_asleep}
+use Rattle.exec_first_driver.specs.declared.sleepers.Timers.{Timers}
+use Rattle.exec_first_driver.specs.Sleeps.{Sleeps, sleeper_at}
+use Rattle.exec_core.proofs.Sleeping.{still_asleep}
 use Rattle.exec_core.specs.Sound.{SoundAt, StepsTo, IsRoot, Suits}
 use Rattle.exec_core.proofs.Steps.{shown, world_shown, as_many, root_among}
 

@@ -5,12 +5,12 @@ use Rattle.std.proofs.lemmas.Bool.{cases_lt, and_right, and_parts, lt-leb, leb-t
 use Rattle.std.specs.List.{list_any}
 use Rattle.exec_machine.specs.Allowed.{is_due}
 use Rattle.exec_machine.specs.After.{flown}
-use Rattle.exec_driver.specs.declared.driver.Driver.{Driver}
-use Rattle.exec_driver.specs.declared.sleepers.Timers.{Timers}
-use Rattle.exec_driver.specs.Sleeps.{is_nap_over}
-use Rattle.exec_driver.specs.Operations.{operations_view}
-use Rattle.exec_driver.specs.Books.{one_if, Shows, ShowsSame, SameOwed, SameCounts, SameRing, SameStaged}
-use Rattle.exec_driver.proofs.Flights.{flown_same}
+use Rattle.exec_first_driver.specs.declared.driver.Driver.{Driver}
+use Rattle.exec_first_driver.specs.declared.sleepers.Timers.{Timers}
+use Rattle.exec_first_driver.specs.Sleeps.{is_sleep_over}
+use Rattle.exec_first_driver.specs.Operations.{operations_view}
+use Rattle.exec_first_driver.specs.Books.{one_if, Shows, ShowsSame, SameOwed, SameCounts, SameRing, SameStaged}
+use Rattle.exec_first_driver.proofs.Flights.{flown_same}
 use Rattle.exec_core.specs.declared.executor.Core.{Core}
 use Rattle.exec_core.specs.declared.place.AfterCallbacks.{AfterCallbacks}
 use Rattle.exec_core.specs.declared.place.AfterCallbacks.TheVariants as then
@@ -416,15 +416,15 @@ after_reap_height service true = (1, refl, refl)
 after_reap_height service false = (7, refl, refl)
 
 -- the same sleepers, and as many of them to be woken
-pub weigh_naps : (h : ℕ) (k : Core) (u : Timers) → u.sleepers.items ≡ k.timers.sleepers.items → u.wakes.items ≡ k.timers.wakes.items → weigh h (signs (record k { timers = u })) ≡ weigh h (signs k)
-weigh_naps h k u zs wakes =
+pub weigh_sleepers : (h : ℕ) (k : Core) (u : Timers) → u.sleepers.items ≡ k.timers.sleepers.items → u.wakes.items ≡ k.timers.wakes.items → weigh h (signs (record k { timers = u })) ≡ weigh h (signs k)
+weigh_sleepers h k u zs wakes =
     weigh_same h (signs k) (signs (record k { timers = u })) (record {
       flag = refl;
       callbacks = ap (nat_lt 0) (omega (arith, ap length wakes));
       completions = refl;
       submissions = refl;
       deadlines = refl;
-      sleepers = ap (list_any (is_nap_over k.clock)) zs;
+      sleepers = ap (list_any (is_sleep_over k.clock)) zs;
       stale = refl;
       latched = refl;
       cancels = refl;

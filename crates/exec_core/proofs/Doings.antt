@@ -5,6 +5,7 @@ use Rattle.std.proofs.lemmas.Bool.{cases_eq, cases_lt, true≢false}
 use Rattle.std.proofs.lemmas.List.{length_push, length-set, get_or_push, get_or_append_left, get_or_past}
 use Rattle.std.proofs.lemmas.Option.{slice_get_within}
 use Rattle.exec_base.specs.declared.error.Error.TheVariants.{Timeout}
+use Rattle.exec_base.specs.declared.limits.TheConstants.{LONGEST_TIMEOUT}
 use Rattle.exec_outcomes.specs.declared.outcome.Kind.{Kind}
 use Rattle.exec_outcomes.specs.declared.outcome.Kind.TheVariants as kind
 use Rattle.exec_outcomes.specs.declared.outcome.Outcome.TheVariants.{Failure}
@@ -18,15 +19,14 @@ use Rattle.exec_machine.specs.declared.state.Waiting.TheVariants as waiting
 use Rattle.exec_machine.specs.declared.state.Request.{Request}
 use Rattle.exec_machine.specs.declared.state.Sleeper.{Sleeper}
 use Rattle.exec_machine.specs.Choice.Choice.{ByTask, ByItself}
-use Rattle.exec_machine.specs.Ranges.{longest_timeout}
 use Rattle.exec_machine.specs.World.{Operation, no_sleeper}
 use Rattle.exec_machine.specs.Allowed.{is_polled_by, is_resolved, is_asleep, next_place, next_word, newest_held, kind_asked, sleep_asked, deadline_of, Goes}
 use Rattle.exec_machine.specs.After.{new_request, new_operation, new_sleeper, target_asked, length_asked, place_after_pass, woken_phase}
-use Rattle.exec_driver.specs.declared.driver.Driver.{Driver}
-use Rattle.exec_driver.specs.declared.sleepers.Timers.{Timers}
-use Rattle.exec_driver.specs.Operations.{operations_view}
-use Rattle.exec_driver.specs.Books.{Books, Shows, request_at}
-use Rattle.exec_driver.specs.Sleeps.{Sleeps, sleeper_at}
+use Rattle.exec_first_driver.specs.declared.driver.Driver.{Driver}
+use Rattle.exec_first_driver.specs.declared.sleepers.Timers.{Timers}
+use Rattle.exec_first_driver.specs.Operations.{operations_view}
+use Rattle.exec_first_driver.specs.Books.{Books, Shows, request_at}
+use Rattle.exec_first_driver.specs.Sleeps.{Sleeps, sleeper_at}
 use Rattle.exec_core.specs.declared.place.Place.TheVariants as place
 use Rattle.exec_core.specs.declared.root.Root.{Root}
 use Rattle.exec_core.specs.declared.executor.Core.{Core}
@@ -157,7 +157,7 @@ waits c d p q s goes newest going b shows ep =
     same_request x y e = ap number_of e
 
 -- the end of a sleep of some time
-pub sleep_of : (s d : ℕ) (w : Option Word) → w ≡ Some (word.Sleep d) → 0 < d → sleep_asked s w ≡ Some (s + min d longest_timeout)
+pub sleep_of : (s d : ℕ) (w : Option Word) → w ≡ Some (word.Sleep d) → 0 < d → sleep_asked s w ≡ Some (s + min d LONGEST_TIMEOUT)
 sleep_of s zero w e some = absurd (omega (arith, some))
 sleep_of s (suc d) w e some = ap (sleep_asked s) e
 

@@ -10,8 +10,8 @@ use Rattle.exec_machine.specs.declared.state.Request.{Request}
 use Rattle.exec_machine.specs.declared.state.Sleeper.{Sleeper}
 use Rattle.exec_machine.specs.Allowed.{is_awake, has_ended, is_polled_by, is_not_before, is_timed, is_timed_at, is_due, is_asleep, is_asleep_until}
 use Rattle.exec_machine.specs.Text.{is_quiet}
-use Rattle.exec_driver.specs.Sleeps.{is_nap_over}
-use Rattle.exec_driver.proofs.Sleeping.{none_over, none_sleeps}
+use Rattle.exec_first_driver.specs.Sleeps.{is_sleep_over}
+use Rattle.exec_first_driver.proofs.Sleeping.{none_over, none_sleeps}
 use Rattle.exec_core.specs.declared.place.WaitsIn.{WaitsIn}
 use Rattle.exec_core.specs.declared.place.WaitsIn.TheVariants as stay
 use Rattle.exec_core.specs.declared.place.Place.{Place}
@@ -21,7 +21,7 @@ use Rattle.exec_core.specs.Sound.{IsNextMoment}
 use Rattle.exec_core.specs.Credit.{height, signs, weigh, credit}
 use Rattle.exec_core.specs.Minds.{Knowledge, Keeps, Minds, Proceeds, IsAtRest, is_top, is_due_at, is_due_now}
 use Rattle.exec_core.specs.Minds.Rests.{Stays, Lies}
-use Rattle.exec_core.proofs.Lulls.{or_none}
+use Rattle.exec_core.proofs.Resting.{or_none}
 use Rattle.exec_core.proofs.Credits.{rises_to, owes_due}
 use Rattle.exec_core.proofs.Keeping.{minds_top}
 
@@ -69,7 +69,7 @@ not_timed x (Some v) m h = by (x.worker == 0) h
     by true h = absurd (true≢false h)
     by false h = refl
 
-asleep_over : (u m : ℕ) → u ≤ m → (z : Sleeper) → is_asleep_until 0 u z ≡ true → is_nap_over m z ≡ true
+asleep_over : (u m : ℕ) → u ≤ m → (z : Sleeper) → is_asleep_until 0 u z ≡ true → is_sleep_over m z ≡ true
 asleep_over u m le z h =
     let parts = and_parts (is_asleep 0 z) _ h in
     and_from (is_asleep 0 z) _ parts.0 (le-leb z.until m (omega (arith, eqb-true z.until u parts.1, le)))
@@ -82,7 +82,7 @@ due_by c u m next le =
     let zs = c.timers.sleepers.items in
     ⊎_elim
     (λ (h : list_any (is_timed_at 0 u) rs ≡ true). or_left (list_any (is_due 0 m) rs) _ (any_weaker (is_timed_at 0 u) (is_due 0 m) (λ x g. due_at x x.timer u m le g) rs h))
-    (λ (h : list_any (is_asleep_until 0 u) zs ≡ true). or_right (list_any (is_due 0 m) rs) _ (any_weaker (is_asleep_until 0 u) (is_nap_over m) (asleep_over u m le) zs h))
+    (λ (h : list_any (is_asleep_until 0 u) zs ≡ true). or_right (list_any (is_due 0 m) rs) _ (any_weaker (is_asleep_until 0 u) (is_sleep_over m) (asleep_over u m le) zs h))
     (or_cases (list_any (is_timed_at 0 u) rs) (list_any (is_asleep_until 0 u) zs) next.0)
 
 pub none_due_before : (c : Core) (u m : ℕ) → IsNextMoment c (Some u) → m < u → is_due_at c m ≡ false

@@ -12,12 +12,12 @@ use Rattle.exec_machine.specs.declared.state.Sleeper.{Sleeper}
 use Rattle.exec_machine.specs.World.{no_request, no_sleeper}
 use Rattle.exec_machine.specs.Allowed.{is_resolved, is_some_number, owes_wake, sleeper_owes, MayPend}
 use Rattle.exec_machine.specs.After.{flown, enrolled, expired, reaped}
-use Rattle.exec_driver.specs.declared.driver.Driver.{Driver}
-use Rattle.exec_driver.specs.declared.sleepers.Timers.{Timers}
-use Rattle.exec_driver.specs.Books.{Books, Shows, request_at, outputs_due, SameToDo, SameOwed, SameCounts}
-use Rattle.exec_driver.specs.Operations.{operations_view}
-use Rattle.exec_driver.specs.Sleeps.{Sleeps, sleeper_at}
-use Rattle.exec_driver.proofs.Flights.{map_at, flown_same}
+use Rattle.exec_first_driver.specs.declared.driver.Driver.{Driver}
+use Rattle.exec_first_driver.specs.declared.sleepers.Timers.{Timers}
+use Rattle.exec_first_driver.specs.Books.{Books, Shows, request_at, outputs_due, SameToDo, SameOwed, SameCounts}
+use Rattle.exec_first_driver.specs.Operations.{operations_view}
+use Rattle.exec_first_driver.specs.Sleeps.{Sleeps, sleeper_at}
+use Rattle.exec_first_driver.proofs.Flights.{map_at, flown_same}
 use Rattle.exec_core.specs.declared.place.AfterCallbacks.{AfterCallbacks}
 use Rattle.exec_core.specs.declared.place.AfterCallbacks.TheVariants as then
 use Rattle.exec_core.specs.declared.place.Service.{Service}
@@ -26,7 +26,7 @@ use Rattle.exec_core.specs.declared.root.Root.{Root}
 use Rattle.exec_core.specs.declared.executor.Core.{Core}
 use Rattle.exec_core.specs.Minds.{IsFollowed, IsUnpaid, IsTold, IsUnready, Knowledge, Known, Keeps, knows, knows_reap, knows_then, is_called, is_nothing, is_top, place_after_reap}
 use Rattle.exec_core.specs.Credit.{height, callbacks_of, may_stage_now}
-use Rattle.exec_core.proofs.Lulls.{or_none}
+use Rattle.exec_core.proofs.Resting.{or_none}
 use Rattle.exec_core.specs.View.{world}
 use Rattle.exec_core.specs.Minds.Knowledge.{Nothing, Told, Unready, Entered, Unasked}
 
@@ -153,7 +153,7 @@ unready_same flag d e t n todo owed counts u =
       low = u.low;
       wakes = owed.0 ∙ u.wakes;
       resources = owed.2 ∙ u.resources;
-      naps = u.naps;
+      sleepers = u.sleepers;
       staged = ap (λ (x : ℕ). nat_lt 0 x && nat_lt e.in_flight n) counts.0 ∙ ap (λ (x : ℕ). nat_lt 0 d.queued && nat_lt x n) counts.1 ∙ u.staged;
     }
 
@@ -189,7 +189,7 @@ unready_by c told h =
     let a = or_none c.root.flag _ h in
     let b = or_none (nat_lt 0 (callbacks_of c)) _ a.1 in
     let z = no_callbacks c b.0 in
-    record { told = told; low = a.0; wakes = z.0; resources = z.2; naps = z.3; staged = b.1 }
+    record { told = told; low = a.0; wakes = z.0; resources = z.2; sleepers = z.3; staged = b.1 }
 
 -- a worker that knows nothing more in its callbacks, or that it told all
 
@@ -296,10 +296,10 @@ same_requests d e same = wakes_along d.requests.items d.requests.items e.request
 
 -- sleepers are told, and owe no other wakes
 
-pub napped_keeps : {a : Bool} {j : Knowledge} {ph : WorkerPhase} {r : Root} {d : Driver} {n : ℕ} (t u : Timers) (k : Knowledge) → Keeps a j ph r d t n → Sleeps t →
+pub sleeping_keeps : {a : Bool} {j : Knowledge} {ph : WorkerPhase} {r : Root} {d : Driver} {n : ℕ} (t u : Timers) (k : Knowledge) → Keeps a j ph r d t n → Sleeps t →
     ((z : ℕ) → (sleeper_at u.sleepers.items z).task ≡ (sleeper_at t.sleepers.items z).task) →
     ((z : ℕ) → (sleeper_at u.sleepers.items z).wakes_paid ≡ (sleeper_at t.sleepers.items z).wakes_paid) → Known k ph r.flag d u n → Keeps a k ph r d u n
-napped_keeps {r = r} {d = d} t u k m s tasks paid known =
+sleeping_keeps {r = r} {d = d} t u k m s tasks paid known =
     record {
       order = m.order;
       followed = followed_sleepers r.waiting d.requests.items t.sleepers.items u.sleepers.items tasks m.followed;

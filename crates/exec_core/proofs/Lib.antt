@@ -6,12 +6,12 @@ pub mod Goings
 pub mod Keeping
 pub mod Lines
 pub mod Looks
-pub mod Lulls
 pub mod Moments
-pub mod Naps
 pub mod Polls
 pub mod Powers
+pub mod Resting
 pub mod Rounds
 pub mod Settled
+pub mod Sleeping
 pub mod Steps
 pub mod Words

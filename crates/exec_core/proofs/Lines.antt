@@ -1,6 +1,7 @@
 -- The lines of the steps that are not the worker's.
 use Rattle.std.proofs.Common.{◌≡◌, ℕ, zero, suc, ◌+◌, true, false, [], ◌∷◌, refl, sym, ap, subst, arith}
 use Rattle.std.proofs.lemmas.Bool.{false≢true, leb-true}
+use Rattle.exec_base.specs.declared.limits.TheConstants.{LAST_MOMENT}
 use Rattle.exec_outcomes.specs.declared.outcome.OpResult.{OpResult}
 use Rattle.exec_machine.specs.declared.step.Action.{Action}
 use Rattle.exec_machine.specs.declared.step.Action.TheVariants as action
@@ -9,7 +10,7 @@ use Rattle.exec_machine.specs.declared.event.Event.TheVariants as event
 use Rattle.exec_machine.specs.declared.event.Said.TheVariants.{Did, Refused}
 use Rattle.exec_machine.specs.declared.state.Rest.{Rest}
 use Rattle.exec_machine.specs.Choice.Choice.{Plain}
-use Rattle.exec_machine.specs.Allowed.{is_enabled, last_moment}
+use Rattle.exec_machine.specs.Allowed.{is_enabled}
 use Rattle.exec_machine.specs.After.{roused_at}
 use Rattle.exec_core.specs.declared.executor.Core.{Core}
 use Rattle.exec_core.specs.View.{world, worker_view}
@@ -29,7 +30,7 @@ moves c by r s on e =
           begun = s.time.begun;
           ordered = s.time.ordered;
           not_after = omega (arith, s.time.not_after);
-          bounded = leb-true (c.clock + by) last_moment on;
+          bounded = leb-true (c.clock + by) LAST_MOMENT on;
         };
         root = s.root;
         books = s.books;

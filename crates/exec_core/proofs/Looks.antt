@@ -5,8 +5,8 @@ use Rattle.exec_machine.specs.Choice.{Choice}
 use Rattle.exec_machine.specs.World.{World}
 use Rattle.exec_machine.specs.Allowed.{Allowed}
 use Rattle.exec_machine.specs.After.{after}
-use Rattle.exec_driver.specs.declared.driver.Driver.{Driver}
-use Rattle.exec_driver.specs.Books.{ShowsSame, SameOwed, SameCounts, SameRing, SameStaged}
+use Rattle.exec_first_driver.specs.declared.driver.Driver.{Driver}
+use Rattle.exec_first_driver.specs.Books.{ShowsSame, SameOwed, SameCounts, SameRing, SameStaged}
 use Rattle.exec_core.specs.declared.place.Place.{Place}
 use Rattle.exec_core.specs.declared.executor.Core.{Core}
 use Rattle.exec_core.specs.Sound.{StepsTo}

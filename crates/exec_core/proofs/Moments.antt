@@ -6,8 +6,8 @@ use Rattle.std.proofs.lemmas.Bool.{cases_lt, and_from, and_parts, or_parts, or_l
 use Rattle.exec_machine.specs.declared.state.Request.{Request}
 use Rattle.exec_machine.specs.declared.state.Sleeper.{Sleeper}
 use Rattle.exec_machine.specs.Allowed.{is_none, is_timed, is_timed_at, is_not_before, is_asleep, is_asleep_until}
-use Rattle.exec_driver.specs.Books.{IsNextTimer}
-use Rattle.exec_driver.specs.Sleeps.{IsNextSleep}
+use Rattle.exec_first_driver.specs.Books.{IsNextTimer}
+use Rattle.exec_first_driver.specs.Sleeps.{IsNextSleep}
 use Rattle.exec_core.specs.declared.executor.Core.{Core}
 use Rattle.exec_core.specs.Sound.{IsNextMoment}
 

@@ -21,10 +21,10 @@ use Rattle.exec_machine.specs.declared.state.Request.{Request}
 use Rattle.exec_machine.specs.declared.state.Phase.TheVariants as phase
 use Rattle.exec_machine.specs.World.{Task}
 use Rattle.exec_machine.specs.After.{place_after_got, without_newest}
-use Rattle.exec_driver.specs.declared.driver.Driver.{Driver}
+use Rattle.exec_first_driver.specs.declared.driver.Driver.{Driver}
 use Rattle.exec_core.specs.View.{task_view}
-use Rattle.exec_driver.specs.Operations.{operations_view}
-use Rattle.exec_driver.specs.Books.{Books, Shows, request_at}
+use Rattle.exec_first_driver.specs.Operations.{operations_view}
+use Rattle.exec_first_driver.specs.Books.{Books, Shows, request_at}
 use Rattle.exec_core.proofs.Steps.{shown, world_shown, as_many}
 use Rattle.exec_core.specs.Sound.{SoundAt, StepsTo, IsRoot}
 

@@ -5,9 +5,10 @@ use Rattle.std.specs.Int.{IsPowerOfTwo}
 use Rattle.std.proofs.Math.Pow.{pow_pos}
 use Rattle.std.proofs.Math.Nat.{pow-le-pow_right, pow-suc}
 use Rattle.std.proofs.lemmas.Bool.{cases_Bool, cases_lt, and_parts, leb-true, eqb-true}
+use Rattle.exec_base.specs.declared.limits.TheConstants.{LONGEST_TIMEOUT}
 use Rattle.exec_machine.specs.declared.config.Configuration.{Configuration}
 use Rattle.exec_machine.specs.declared.config.Field.{Field}
-use Rattle.exec_machine.specs.Ranges.{doubled_up_to, first_out_of, first_out_of_range, tested_parts, is_within, longest_timeout, ticks_needed}
+use Rattle.exec_machine.specs.Ranges.{doubled_up_to, first_out_of, first_out_of_range, tested_parts, is_within, ticks_needed}
 
 -- a power of two that is n or more, and of which the half is less, is the first such
 least : (j m n : ℕ) → j ≤ m → n ≤ 2 ^ j → 2 ^ m / 2 < max 1 n → j ≡ m
@@ -77,9 +78,9 @@ pub record InRange (c : Configuration) : Type 0 where
   pub workers : c.workers ≡ 1
   pub interval : 1 ≤ c.interval
   pub ring : (1 ≤ c.ring) × (c.ring ≤ 32768)
-  pub tick : (1 ≤ c.tick) × (c.tick ≤ longest_timeout)
-  pub connect : (1 ≤ c.connect) × (c.connect ≤ longest_timeout)
-  pub rw : (1 ≤ c.rw) × (c.rw ≤ longest_timeout)
+  pub tick : (1 ≤ c.tick) × (c.tick ≤ LONGEST_TIMEOUT)
+  pub connect : (1 ≤ c.connect) × (c.connect ≤ LONGEST_TIMEOUT)
+  pub rw : (1 ≤ c.rw) × (c.rw ≤ LONGEST_TIMEOUT)
   pub layout : ticks_needed c ≤ 2 ^ 20
 
 pub in_range : (c : Configuration) → first_out_of_range c ≡ None → InRange c
@@ -89,9 +90,9 @@ in_range c h =
       workers = eqb-true c.workers 1 t.0;
       interval = (within 1 (2 ^ 32 - 1) c.interval t.1.0).0;
       ring = within 1 32768 c.ring t.1.1.0;
-      tick = within 1 longest_timeout c.tick t.1.1.1.0;
-      connect = within 1 longest_timeout c.connect t.1.1.1.1.0;
-      rw = within 1 longest_timeout c.rw t.1.1.1.1.1.0;
+      tick = within 1 LONGEST_TIMEOUT c.tick t.1.1.1.0;
+      connect = within 1 LONGEST_TIMEOUT c.connect t.1.1.1.1.0;
+      rw = within 1 LONGEST_TIMEOUT c.rw t.1.1.1.1.1.0;
       layout = leb-true (ticks_needed c) (2 ^ 20) t.1.1.1.1.1.1.1.1.1.0;
     }
 

@@ -5,7 +5,7 @@ use Rattle.std.specs.List.{list_all}
 use Rattle.std.proofs.lemmas.List.Sums.{sum_by-cons}
 use Rattle.exec_machine.specs.declared.state.Request.{Request}
 use Rattle.exec_machine.specs.Allowed.{is_resolved, is_settled}
-use Rattle.exec_driver.specs.Books.{request_at, one_if, Tracks, is_unresolved, is_unreleased}
+use Rattle.exec_first_driver.specs.Books.{request_at, one_if, Tracks, is_unresolved, is_unreleased}
 
 settled_bool : (a b c : Bool) → not b ≡ false → (b && not c) ≡ false → (not a || (b && c)) ≡ true
 settled_bool a false c h k = cc

@@ -15,11 +15,11 @@ use Rattle.exec_machine.specs.Allowed.{Allowed, is_enabled}
 use Rattle.exec_machine.specs.After.{after, flown}
 use Rattle.exec_core.specs.declared.place.Place.{Place}
 use Rattle.exec_core.specs.declared.root.Root.{Root}
-use Rattle.exec_driver.specs.declared.driver.Driver.{Driver}
+use Rattle.exec_first_driver.specs.declared.driver.Driver.{Driver}
 use Rattle.exec_core.specs.declared.executor.Core.{Core}
 use Rattle.exec_core.specs.View.{world, worker_view}
-use Rattle.exec_driver.specs.Operations.{operations_view}
-use Rattle.exec_driver.specs.Books.{Books, Shows}
+use Rattle.exec_first_driver.specs.Operations.{operations_view}
+use Rattle.exec_first_driver.specs.Books.{Books, Shows}
 use Rattle.exec_core.specs.Places.{class_of, Holds, AtPlace}
 use Rattle.exec_core.specs.Sound.{SoundAt, StepsTo, Applies, IsRoot, Suits}
 

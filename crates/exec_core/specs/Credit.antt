@@ -6,8 +6,8 @@
 use Rattle.std.specs.Prelude.{ℕ, Bool, true, false, not, ◌+◌, ◌-◌, ◌*◌, ◌==◌, ◌&&◌, ◌||◌, nat_le, nat_lt, length}
 use Rattle.std.specs.List.{list_any}
 use Rattle.exec_machine.specs.Allowed.{is_due}
-use Rattle.exec_driver.specs.Books.{one_if}
-use Rattle.exec_driver.specs.Sleeps.{is_nap_over}
+use Rattle.exec_first_driver.specs.Books.{one_if}
+use Rattle.exec_first_driver.specs.Sleeps.{is_sleep_over}
 use Rattle.exec_core.specs.declared.place.AfterCallbacks.{AfterCallbacks}
 use Rattle.exec_core.specs.declared.place.AfterCallbacks.TheVariants as then
 use Rattle.exec_core.specs.declared.place.AfterService.{AfterService}
@@ -132,7 +132,7 @@ signs c =
       completions = has_completions c;
       submissions = may_stage_now c || not c.driver.poll_armed;
       deadlines = list_any (is_due 0 c.clock) c.driver.requests.items;
-      sleepers = list_any (is_nap_over c.clock) c.timers.sleepers.items;
+      sleepers = list_any (is_sleep_over c.clock) c.timers.sleepers.items;
       stale = nat_lt c.sampled c.clock;
       latched = c.words.wake.signalled;
       cancels = nat_lt 0 c.driver.entered_cancels;

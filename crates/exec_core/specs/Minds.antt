@@ -17,10 +17,10 @@ use Rattle.exec_core.specs.declared.place.Service.{Service}
 use Rattle.exec_machine.specs.Allowed.{is_awake, has_ended, is_resolved, is_due}
 use Rattle.exec_machine.specs.Text.{is_quiet}
 use Rattle.exec_machine.specs.Progress.{is_closing, is_quiet_step, quiet_bound, IsRested, NothingLeft}
-use Rattle.exec_driver.specs.declared.driver.Driver.{Driver}
-use Rattle.exec_driver.specs.declared.sleepers.Timers.{Timers}
-use Rattle.exec_driver.specs.Books.{request_at, outputs_due}
-use Rattle.exec_driver.specs.Sleeps.{is_nap_over, sleeper_at}
+use Rattle.exec_first_driver.specs.declared.driver.Driver.{Driver}
+use Rattle.exec_first_driver.specs.declared.sleepers.Timers.{Timers}
+use Rattle.exec_first_driver.specs.Books.{request_at, outputs_due}
+use Rattle.exec_first_driver.specs.Sleeps.{is_sleep_over, sleeper_at}
 use Rattle.exec_core.specs.declared.place.AfterCallbacks.{AfterCallbacks}
 use Rattle.exec_core.specs.declared.place.AfterCallbacks.TheVariants as then
 use Rattle.exec_core.specs.declared.place.OwnLook.{OwnLook}
@@ -111,7 +111,7 @@ pub record IsUnready (flag : Bool) (d : Driver) (t : Timers) (ring : ℕ) : Type
   pub low : flag ≡ false
   pub wakes : d.wakes.items ≡ []
   pub resources : d.resources.items ≡ []
-  pub naps : t.wakes.items ≡ []
+  pub sleepers : t.wakes.items ≡ []
   pub staged : (nat_lt 0 d.queued && nat_lt d.in_flight ring) ≡ false
 
 -- A closing worker doesn't go to sleep for good, and needs to know only what it told.
@@ -155,7 +155,7 @@ place_after_reap service last (r ∷ landed) = Reap service last
 
 -- nothing is due at the moment
 abbrev pub is_due_at : Core → ℕ → Bool
-is_due_at c m = list_any (is_due 0 m) c.driver.requests.items || list_any (is_nap_over m) c.timers.sleepers.items
+is_due_at c m = list_any (is_due 0 m) c.driver.requests.items || list_any (is_sleep_over m) c.timers.sleepers.items
 
 abbrev pub is_due_now : Core → Bool
 is_due_now c = is_due_at c c.clock

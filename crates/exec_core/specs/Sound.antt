@@ -1,6 +1,7 @@
 -- What holds of an executor between two steps, and what a step does.
 use Rattle.std.specs.Prelude.{◌≡◌, ℕ, true, false, ◌||◌, ◌-◌, ◌^◌, ◌<◌, ◌≤◌, List, Option, Some, None, length, slice_get, slice_index}
 use Rattle.std.specs.List.{list_any}
+use Rattle.exec_base.specs.declared.limits.TheConstants.{LAST_MOMENT}
 use Rattle.exec_machine.specs.declared.config.Configuration.{Configuration}
 use Rattle.exec_machine.specs.declared.config.Word.{Word}
 use Rattle.exec_machine.specs.declared.config.Word.TheVariants as word
@@ -19,8 +20,8 @@ use Rattle.exec_core.specs.declared.place.Place.{Place}
 use Rattle.exec_core.specs.declared.root.Root.{Root}
 use Rattle.exec_core.specs.declared.executor.Core.{Core}
 use Rattle.exec_core.specs.View.{world}
-use Rattle.exec_driver.specs.Books.{Books}
-use Rattle.exec_driver.specs.Sleeps.{Sleeps, sleeper_at}
+use Rattle.exec_first_driver.specs.Books.{Books}
+use Rattle.exec_first_driver.specs.Sleeps.{Sleeps, sleeper_at}
 use Rattle.exec_core.specs.Places.{class_of, Holds, AtPlace}
 
 -- the ranges of a configuration that sums rest on
@@ -58,7 +59,7 @@ pub record IsInTime (start before sampled clock : ℕ) : Type 0 where
   pub begun : start ≤ before
   pub ordered : before ≤ sampled
   pub not_after : sampled ≤ clock
-  pub bounded : clock ≤ 2 ^ 62
+  pub bounded : clock ≤ LAST_MOMENT
 
 -- an executor whose worker is at the place
 pub record SoundAt (p : Place) (c : Core) : Type 0 where

@@ -2,7 +2,7 @@
 use Rattle.std.specs.Prelude.{false, [], ◌∷◌, Some, replicate}
 use Rattle.exec_machine.specs.declared.state.Call.TheVariants.{Nothing}
 use Rattle.exec_machine.specs.World.{World, Worker, Task}
-use Rattle.exec_driver.specs.Operations.{operations_view}
+use Rattle.exec_first_driver.specs.Operations.{operations_view}
 use Rattle.exec_core.specs.declared.root.Root.{Root}
 use Rattle.exec_core.specs.declared.executor.Core.{Core}
 

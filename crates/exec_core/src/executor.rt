@@ -8,8 +8,8 @@ use crate::place::Place;
 use crate::root::Root;
 use crate::sizes::{ring_size, wheel_slots};
 use exec_base::limits::LAST_MOMENT;
-use exec_driver::driver::Driver;
-use exec_driver::sleepers::Timers;
+use exec_first_driver::driver::Driver;
+use exec_first_driver::sleepers::Timers;
 use exec_machine::config::{Configuration, Word};
 use exec_machine::event::{Event, Line, Said};
 use exec_machine::state::{Phase, Rest, TaskPhase, Waiting, WorkerPhase};
@@ -110,15 +110,15 @@ impl Core {
     ghost use Rattle.std.specs.Prelude.{◌<◌};
 
     /// An executor whose root has this script, and is queued.
-    pub fn new(alloc: Global, config: Configuration, script: Vec<Word>) -> Result<Self, AllocError>
+    pub fn new(alloc: Global, config: Configuration, script: Vec<Word>) -> Self
         requires config { first_out_of_range config ≡ None }
         requires script { SendsBytes script.items }
-        ensures config { IfOk result (λ core. core.config ≡ config) }
-        ensures begins { IfOk result (λ core. world core ≡ first_world script.items) }
-        ensures stands { IfOk result Stands }
-        ensures bounded { IfOk result (λ core. credit core < quiet_bound config (world core)) }
+        ensures config { result.config ≡ config }
+        ensures begins { world result ≡ first_world script.items }
+        ensures stands { Stands result }
+        ensures bounded { credit result < quiet_bound config (world result) }
     {
-        Ok(Core {
+        Core {
             config,
             clock: 0,
             place: Place::BeginTurn,
@@ -153,7 +153,7 @@ impl Core {
             set_closed: false,
             queue_closed: false,
             stopped: false,
-        })
+        }
     }
 
     /// Whether the step may be taken.

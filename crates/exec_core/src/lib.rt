@@ -3,7 +3,7 @@
 //! `executor.rt` has the whole of it and what stands around a step: whether one may be taken, and what became of
 //! it. A worker's step goes by its place (`place.rt`), and each group of places is a file: `turn`, `poll`,
 //! `callbacks`, `service`, `look`, `wait`, `closing`. The requests and the ring of the worker are the crate
-//! `exec_driver`.
+//! `exec_first_driver`.
 #![tactic(auto)]
 
 pub mod callbacks;

@@ -9,8 +9,8 @@
 ghost use Rattle.exec_machine.specs.Choice.Choice.{Plain};
 ghost use Rattle.exec_core.specs.Sound.{SoundAt, StepsTo, Suits};
 ghost use Rattle.std.specs.Prelude.{◌≡◌, ◌||◌, true, nat_lt};
-ghost use Rattle.exec_driver.specs.Books.{Books};
-ghost use Rattle.exec_driver.specs.Sleeps.{Sleeps};
+ghost use Rattle.exec_first_driver.specs.Books.{Books};
+ghost use Rattle.exec_first_driver.specs.Sleeps.{Sleeps};
 ghost use Rattle.exec_core.specs.Credit.{callbacks_of, may_stage_now};
 ghost use Rattle.exec_core.specs.Minds.{Minds, Proceeds, is_top, is_due_now};
 ghost use Rattle.exec_core.specs.Turns.{place_of_next_turn};

@@ -13,7 +13,7 @@
 
 ghost use Rattle.std.specs.Prelude.{◌≡◌, true, false, [], ◌<◌, ◌^◌, ◌↔◌, IsTrue, IfOk};
 ghost use Rattle.exec_machine.specs.Allowed.{fires_at as moment_of, is_first_due, round_from};
-ghost use Rattle.exec_driver.specs.Found.{IsUnenrolled, NeedsCancel};
+ghost use Rattle.exec_first_driver.specs.Found.{IsUnenrolled, NeedsCancel};
 ghost use Rattle.exec_machine.specs.Choice.Choice.{Plain, Samples};
 ghost use Rattle.exec_core.specs.View.{worker_view};
 ghost use Rattle.exec_core.specs.Sound.{SoundAt, StepsTo, Suits, IsConfig, IsSized, IsInTime};

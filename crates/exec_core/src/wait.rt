@@ -9,8 +9,8 @@
 ghost use Rattle.std.specs.Prelude.{◌≡◌, false};
 ghost use Rattle.exec_machine.specs.Allowed.{is_polled_by, has_ended};
 ghost use Rattle.exec_machine.specs.Choice.Choice.{Plain};
-ghost use Rattle.exec_driver.specs.Books.{Books};
-ghost use Rattle.exec_driver.specs.Sleeps.{Sleeps};
+ghost use Rattle.exec_first_driver.specs.Books.{Books};
+ghost use Rattle.exec_first_driver.specs.Sleeps.{Sleeps};
 ghost use Rattle.exec_core.specs.Sound.{Sound, SoundAt, StepsTo, Suits, IsNextMoment};
 ghost use Rattle.std.specs.Prelude.{◌⊎◌, ◌<◌, ◌||◌, ◌&&◌, not, true, nat_le};
 ghost use Rattle.exec_machine.specs.Text.{is_quiet};

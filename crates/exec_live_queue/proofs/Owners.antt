@@ -16,8 +16,8 @@ use Rattle.exec_live_queue.specs.Plays.{Sat, room, saw, out, hand, after_pop, la
 use Rattle.exec_live_queue.specs.Seats.{IsSeen, AtRest}
 use Rattle.exec_live_queue.specs.Calls.{looked, HasLooked, HasPopped, HasPublished, HasOverflowed, fully, AtHand, Fills, AfterSteal, HasKept}
 use Rattle.exec_live_queue.specs.declared.view.Theft.{Theft}
-use Rattle.exec_words.specs.declared.queue.whole.Steal.{Steal}
-use Rattle.exec_words.specs.declared.queue.whole.Steal.TheVariants as steal
+use Rattle.exec_words.specs.declared.queue.Steal.{Steal}
+use Rattle.exec_words.specs.declared.queue.Steal.TheVariants as steal
 use Rattle.exec_live_queue.specs.Live.{labels}
 use Rattle.exec_live_queue.proofs.Overflows.{whole_length}
 use Rattle.atomic_table.specs.Table.{rest}

@@ -3,8 +3,8 @@ use Rattle.std.specs.Prelude.{◌≡◌, ◌≢◌, ℕ, ◌+◌, ◌-◌, ◌^�
 use mathlib.Core.Option.{some}
 use lib.ListN.{get_elem?}
 use Rattle.atomic_table.specs.declared.shared.Shared.{Shared}
-use Rattle.exec_words.specs.declared.queue.whole.Steal.{Steal}
-use Rattle.exec_words.specs.declared.queue.whole.Steal.TheVariants as steal
+use Rattle.exec_words.specs.declared.queue.Steal.{Steal}
+use Rattle.exec_words.specs.declared.queue.Steal.TheVariants as steal
 use Rattle.exec_live_queue.specs.declared.view.Own.{Own}
 use Rattle.exec_live_queue.specs.declared.view.Theft.{Theft}
 use Rattle.exec_live_queue.specs.declared.view.View.{View}

@@ -2,9 +2,10 @@
 --
 -- `Allowed c w i event choice`: worker i may take a step with this event in the state w. Where the event
 -- leaves something open, the choice says it; elsewhere the choice is `Plain`.
-use Rattle.std.specs.Prelude.{◌≡◌, ◌⊎◌, ℕ, zero, suc, Bool, true, false, not, ◌+◌, ◌-◌, ◌/◌, ◌%◌, ◌<◌, ◌==◌, ◌&&◌, ◌||◌, if◌then◌else◌, nat_le, nat_lt, min, List, [], ◌∷◌, Option, Some, None, length, drop, count_by, slice_get, slice_index_or, unwrap_or, ◌*◌, ◌^◌}
+use Rattle.std.specs.Prelude.{◌≡◌, ◌⊎◌, ℕ, zero, suc, Bool, true, false, not, ◌+◌, ◌-◌, ◌/◌, ◌%◌, ◌<◌, ◌==◌, ◌&&◌, ◌||◌, if◌then◌else◌, nat_le, nat_lt, min, List, [], ◌∷◌, Option, Some, None, length, drop, count_by, slice_get, slice_index_or, unwrap_or, ◌*◌}
 use Rattle.std.specs.List.{list_any, list_all, find}
 use Rattle.exec_base.specs.declared.error.Error.TheVariants.{Timeout}
+use Rattle.exec_base.specs.declared.limits.TheConstants.{LAST_MOMENT, LONGEST_TIMEOUT}
 use Rattle.exec_outcomes.specs.declared.outcome.Kind.{Kind}
 use Rattle.exec_outcomes.specs.declared.outcome.Kind.TheVariants as kind
 use Rattle.exec_outcomes.specs.declared.outcome.Outcome.{Outcome}
@@ -32,7 +33,7 @@ use Rattle.exec_machine.specs.declared.state.Request.{Request}
 use Rattle.exec_machine.specs.declared.state.Sleeper.{Sleeper}
 use Rattle.exec_machine.specs.Choice.{Choice}
 use Rattle.exec_machine.specs.Choice.Choice.{Plain, Passes, ClosesQueue, Samples, ByTask, PaidByRequest, PaidBySleeper, ByItself}
-use Rattle.exec_machine.specs.Ranges.{ring_size, wheel_slots, longest_timeout}
+use Rattle.exec_machine.specs.Ranges.{ring_size, wheel_slots}
 use Rattle.exec_machine.specs.World.{World, Worker, Task, worker_of, task_of, operation_of, request_of, sleeper_of, no_request, asked_of, cursor_of, judged_of}
 
 -- tests
@@ -158,7 +159,7 @@ kind_asked _ = None
 -- the end of the sleep that a word asks for: a sleep of 0 is none, and a longer one than may be is cut
 abbrev pub sleep_asked : ℕ → Option Word → Option ℕ
 sleep_asked sampled (Some (word.Sleep zero)) = None
-sleep_asked sampled (Some (word.Sleep (suc d))) = Some (sampled + min (suc d) longest_timeout)
+sleep_asked sampled (Some (word.Sleep (suc d))) = Some (sampled + min (suc d) LONGEST_TIMEOUT)
 sleep_asked sampled _ = None
 
 abbrev pub newest_held : Task → Option ℕ
@@ -360,15 +361,11 @@ Allowed c w i End Plain =
     × (list_all (λ other. other.left) w.workers ≡ true) × (list_all (λ t. not (is_none t.home) || is_done t.phase) w.tasks ≡ true)
 Allowed c w i event choice = ⊥
 
--- the clock never passes this moment
-abbrev pub last_moment : ℕ
-last_moment = 2 ^ 62
-
 -- A step that may be taken: of a worker that is there, awake and not ended; of the clock, as far as it goes; of
 -- the kernel, for an operation that it has, with a result that it may give; a stray wake of a sleeping worker.
 abbrev pub is_enabled : World → Action → Bool
 is_enabled w (action.Work i) = is_awake (worker_of w i).rest && not (has_ended (worker_of w i).phase)
-is_enabled w (action.Clock d) = nat_le (w.clock + d) last_moment
+is_enabled w (action.Clock d) = nat_le (w.clock + d) LAST_MOMENT
 is_enabled w (action.Land r n) =
     is_flying (request_of w r).phase && is_lawful (window_of (asked_of (operation_of w r)) (cursor_of (operation_of w r))) n
 is_enabled w (action.Stir i) = not (is_awake (worker_of w i).rest)

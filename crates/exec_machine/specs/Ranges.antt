@@ -1,5 +1,6 @@
 -- The ranges of a configuration, and what follows from it.
 use Rattle.std.specs.Prelude.{ℕ, zero, suc, Bool, ◌+◌, ◌-◌, ◌/◌, ◌^◌, ◌==◌, ◌&&◌, if◌then◌else◌, nat_le, max, List, [], ◌∷◌, Option, Some, None}
+use Rattle.exec_base.specs.declared.limits.TheConstants.{LONGEST_TIMEOUT}
 use Rattle.exec_machine.specs.declared.config.Configuration.{Configuration}
 use Rattle.exec_machine.specs.declared.config.Field.{Field}
 use Rattle.exec_machine.specs.declared.config.Field.TheVariants as field
@@ -22,10 +23,6 @@ ticks_needed c = (max c.connect c.rw + (c.tick - 1)) / c.tick + 2
 abbrev pub wheel_slots : Configuration → ℕ
 wheel_slots c = doubled_up_to 20 1 (ticks_needed c)
 
--- the longest timeout: 30 years of 365 days, in nanoseconds
-abbrev pub longest_timeout : ℕ
-longest_timeout = 946080000000000000
-
 abbrev pub is_within : ℕ → ℕ → ℕ → Bool
 is_within least most n = nat_le least n && nat_le n most
 
@@ -34,8 +31,8 @@ is_within least most n = nat_le least n && nat_le n most
 abbrev pub tested_parts : Configuration → List (Field × ℕ × Bool)
 tested_parts c =
     (field.Workers, c.workers, (c.workers == 1)) ∷ (field.Interval, c.interval, is_within 1 (2 ^ 32 - 1) c.interval)
-    ∷ (field.Ring, c.ring, is_within 1 32768 c.ring) ∷ (field.Tick, c.tick, is_within 1 longest_timeout c.tick)
-    ∷ (field.Connect, c.connect, is_within 1 longest_timeout c.connect) ∷ (field.Rw, c.rw, is_within 1 longest_timeout c.rw)
+    ∷ (field.Ring, c.ring, is_within 1 32768 c.ring) ∷ (field.Tick, c.tick, is_within 1 LONGEST_TIMEOUT c.tick)
+    ∷ (field.Connect, c.connect, is_within 1 LONGEST_TIMEOUT c.connect) ∷ (field.Rw, c.rw, is_within 1 LONGEST_TIMEOUT c.rw)
     ∷ (field.Spin, c.spin.budget, (c.spin.budget == 0) && nat_le c.spin.most (2 ^ 32 - 1) && nat_le c.spin.quick (2 ^ 32 - 1) && nat_le c.spin.iterations (2 ^ 32 - 1))
     ∷ (field.Files, c.files, nat_le c.files 64) ∷ (field.Sockets, c.sockets, nat_le c.sockets 1024)
     ∷ (field.Layout, c.tick, nat_le (ticks_needed c) (2 ^ 20)) ∷ []

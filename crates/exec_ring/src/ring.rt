@@ -59,6 +59,10 @@ pub trait Ring {
         ensures answer { result ≡ next_completion (state self.old) }
         ensures after { state self.new ≡ reaped (state self.old) };
 
+    /// The first completion, which stays there. None where there is none.
+    fn peek(&self) -> Option<Completion>
+        ensures { result ≡ next_completion (state self.now) };
+
     /// Whether no completion is there, so that `reap` would answer None.
     fn is_quiet(&self) -> bool
         ensures { result ≡ has_no_completion (state self.now) };

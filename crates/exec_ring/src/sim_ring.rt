@@ -221,6 +221,17 @@ impl SimRing {
         }
     }
 
+    /// The first completion that was not reaped.
+    fn first_completion(&self) -> Option<Completion>
+        ensures { result ≡ next_completion self.now }
+    {
+        match self.posted.front() {
+            Some(first) if first.wakes == 0 => Some(first.completion),
+            None if self.wakes == 0 => None,
+            _ => Some(Completion::wake(true)),
+        }
+    }
+
     /// Whether no completion is there.
     fn has_no_completion(&self) -> bool
         ensures { result ≡ has_none_posted self.now }
@@ -330,6 +341,10 @@ impl Ring for SimRing {
 
     fn reap(&mut self) -> Option<Completion> {
         self.take_completion()
+    }
+
+    fn peek(&self) -> Option<Completion> {
+        self.first_completion()
     }
 
     fn is_quiet(&self) -> bool {

@@ -1,5 +1,5 @@
 -- How the text is read: what an error of a piece says of the whole, and a text that is too long.
-use Rattle.std.proofs.Common.{◌≡◌, ℕ, ◌+◌, ◌<◌, ◌≤◌, List, ◌++◌, Option, Some, None, ap, subst, ◌∙◌, arith, length, length-append}
+use Rattle.std.proofs.Common.{◌≡◌, ℕ, ◌+◌, ◌<◌, ◌≤◌, List, Option, Some, None, ap, subst, ◌∙◌, arith, length, length-append}
 use Rattle.exec_base.specs.Io.{Rose}
 use Rattle.exec_run.specs.declared.trace_error.TraceError.{TraceError}
 use Rattle.exec_run.specs.declared.trace_error.TraceError.TheVariants.{ReadFault, TooLong, Syntax, Config, WriteFault, NoMemory}

@@ -26,7 +26,7 @@ use Rattle.exec_run.specs.Reading.{CannotRead, CannotRun}
 use Rattle.exec_run.specs.Explains.{IsCauseOf, Explains, complaint_line}
 use Rattle.exec_run.specs.Log.{Gave, GaveFront, AreTaken, GaveFrontOfLog}
 use Rattle.exec_run.specs.Steps.{BrokeBy, standing, Leads, Breaks, Complains}
-use Rattle.exec_run.proofs.StepLemmas.{goes_done, lines_done, none_taken, all_taken, no_front, broke_between}
+use Rattle.exec_run.proofs.StepLemmas.{goes_done, lines_done, all_taken, broke_between}
 
 -- a slice of one word that is this text
 pub one_word : (words : List (String Global)) (word : String Global) (text : List ℕ) → 1 ≤ length words → length words < 2 → word ≡ get_or words 0 word → bytes_eq (string_bytes word) text ≡ true → map string_bytes words ≡ text ∷ []
@@ -97,11 +97,6 @@ front_logged quiet p c steps old mid new is_new same_steps breaks same =
 pub all_logged : (quiet : Bool) (p : Plan) (c : Core) (v : Standing) (steps : List Step) (old mid new : Option (List ℕ)) → IsNew p c → steps ≡ p.steps → Leads quiet c.config (standing c) steps v old mid → new ≡ mid → GaveFrontOfLog quiet p old new
 all_logged quiet p c v steps old mid new is_new same_steps leads same =
     front_logged quiet p c steps old mid new is_new same_steps (broke_between quiet c.config (standing c) v steps steps old mid (all_taken steps) leads) same
-
--- nothing was logged
-pub none_logged : (quiet : Bool) (p : Plan) (old : Option (List ℕ)) → GaveFrontOfLog quiet p old old
-none_logged quiet p old =
-    record { taken = []; are_taken = none_taken p.steps; lines = []; log = record { has_lines = refl; choices = []; runs = tt; solo = refl; rests = awake }; gave = no_front old (text_of_log (told_lines quiet [])) }
 
 -- why a text is not run is why the run ends
 pub cause_of : (e : TraceError) (source : Option (List ℕ)) (text : List ℕ) (read read' written written' : ℕ) → IsTextIn source text → CannotRun e text → read' ≡ read → written' ≡ written → IsCauseOf e source read read' written written'

@@ -1,6 +1,7 @@
 -- What a run wrote: the whole log, or a front of it.
 use Rattle.std.specs.Prelude.{◌≡◌, ℕ, Bool, ◌≤◌, ◌⊎◌, List, [], ◌∷◌, ◌++◌, Option, None, sum_by}
 use Rattle.std.specs.Io.KnownBytes.{append_known}
+use Rattle.exec_base.specs.declared.limits.TheConstants.{MOST_STEPS}
 use Rattle.exec_machine.specs.declared.event.Line.{Line}
 use Rattle.exec_machine.specs.declared.step.Step.{Step}
 use Rattle.exec_machine.specs.declared.step.Step.TheVariants.{Work}
@@ -8,14 +9,14 @@ use Rattle.exec_machine.specs.Grammar.{Plan, IsTraceOf, count_of}
 use Rattle.exec_machine.specs.Ranges.{first_out_of_range}
 use Rattle.exec_machine.specs.Progress.{IsLogOf}
 use Rattle.exec_machine.specs.Text.{text_of_log, told_lines}
-use Rattle.exec_run.specs.Refusal.{IsTextIn, most_steps}
+use Rattle.exec_run.specs.Refusal.{IsTextIn}
 
 -- The source held a trace of this plan, which is not too long and whose configuration is in its ranges.
 pub record HasPlan (source : Option (List ℕ)) (p : Plan) : Type 0 where
   pub text : List ℕ
   pub read : IsTextIn source text
   pub spelled : IsTraceOf text p
-  pub few : sum_by count_of p.steps ≤ most_steps
+  pub few : sum_by count_of p.steps ≤ MOST_STEPS
   pub in_range : first_out_of_range p.config ≡ None
 
 -- The sink was given these bytes, where it is known what it was given.

@@ -2,6 +2,7 @@
 use Rattle.std.specs.Prelude.{◌≡◌, ℕ, Bool, true, false, ◌+◌, ◌^◌, ◌<◌, ◌≤◌, ◌⊎◌, List, [], ◌∷◌, ◌++◌, Option, Some, IfSome, String, string_bytes, map, length, sum_by, codes}
 use Rattle.std.specs.Fmt.{decimal}
 use Rattle.std.specs.declared.alloc.Global.{Global}
+use Rattle.exec_base.specs.declared.limits.TheConstants.{MOST_STEPS}
 use Rattle.exec_base.specs.Io.{Rose}
 use Rattle.exec_machine.specs.declared.config.OutOfRange.{OutOfRange}
 use Rattle.exec_machine.specs.Grammar.{Plan, IsTraceOf, IsFirstFault, count_of}
@@ -13,10 +14,6 @@ use Rattle.exec_run.specs.declared.complaint.Complaint.TheVariants.{Usage, ReadF
 -- the most bytes that a trace may have
 abbrev pub most_bytes : ℕ
 most_bytes = 2 ^ 26
-
--- the most steps that a trace may ask for
-abbrev pub most_steps : ℕ
-most_steps = 2 ^ 24
 
 -- the text was all of what the source held, where that is known, and it's not too long
 pub record IsTextIn (source : Option (List ℕ)) (text : List ℕ) : Type 0 where
@@ -35,7 +32,7 @@ pub record HasTooManySteps (source : Option (List ℕ)) (count : ℕ) : Type 0 w
   pub plan : Plan
   pub spelled : IsTraceOf text plan
   pub counted : count ≡ sum_by count_of plan.steps
-  pub more : most_steps < count
+  pub more : MOST_STEPS < count
 
 -- The source held a text, and this line is the first at which it is no trace.
 pub record HasFault (source : Option (List ℕ)) (line : ℕ) : Type 0 where
@@ -51,7 +48,7 @@ IsTooLong source count = HasTooManyBytes source count ⊎ HasTooManySteps source
 pub record IsOutOfRange (text : List ℕ) (it : OutOfRange) : Type 0 where
   pub plan : Plan
   pub spelled : IsTraceOf text plan
-  pub few : sum_by count_of plan.steps ≤ most_steps
+  pub few : sum_by count_of plan.steps ≤ MOST_STEPS
   pub first : first_out_of_range plan.config ≡ Some it
 
 -- The source held such a text.

@@ -12,8 +12,6 @@ mod ranges;
 mod reading;
 mod running;
 mod stepping;
-#[cfg(test)]
-mod tests;
 mod trace_error;
 mod writing;
 

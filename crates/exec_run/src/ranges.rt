@@ -3,14 +3,13 @@
 ghost use Rattle.std.specs.Prelude.{◌≡◌, ◌==◌, ◌&&◌, ◌^◌, ◌-◌, nat_le};
 ghost use Rattle.exec_machine.specs.Ranges.{first_out_of_range, tested_parts, ticks_needed, is_within};
 
+use exec_base::limits::LONGEST_TIMEOUT;
 use exec_machine::config::{Configuration, Field, OutOfRange, Spin};
 
 /// The most that a count of 32 bits can be.
 const MOST_COUNT: u64 = 4_294_967_295;
 /// The most operations that a ring can hold.
 const MOST_OPERATIONS: u64 = 32_768;
-/// The longest timeout, in nanoseconds: 30 years of 365 days.
-const LONGEST_TIMEOUT: u64 = 946_080_000_000_000_000;
 /// The most files.
 const MOST_FILES: u64 = 64;
 /// The most sockets.

@@ -14,14 +14,13 @@ ghost use Rattle.exec_run.specs.Reading.{ReadsPiece, CannotTake, CannotRead, IsC
 use crate::ranges::first_out_of_range;
 use crate::trace_error::TraceError;
 use exec_base::io::{Failed, Input};
+use exec_base::limits::MOST_STEPS;
 use exec_machine::config::Trace;
 use exec_text::{ReadError, read_trace, total_steps};
 use std::alloc::Global;
 
 /// The most bytes that a text may have.
 const MOST_BYTES: usize = 67_108_864;
-/// The most steps that a trace may ask for.
-const MOST_STEPS: u128 = 16_777_216;
 /// The most bytes that one call reads.
 const PIECE: usize = 4096;
 
@@ -79,7 +78,7 @@ pub fn check(alloc: Global, text: &[u8]) -> Result<Trace, TraceError>
         Err(ReadError::NoMemory) => return Err(TraceError::NoMemory),
     };
     let total = total_steps(trace.steps.as_slice());
-    if total > MOST_STEPS {
+    if total > u128::from(MOST_STEPS) {
         return Err(TraceError::TooLong(total));
     }
     if let Some(part) = first_out_of_range(trace.config) {

@@ -178,7 +178,7 @@ pub fn log_trace<O: Output>(
     ensures front { OnErr result (GaveFrontOfLog quiet (plan_of trace)
         (O.given sink.old) (O.given sink.new)) }
 {
-    let mut core = Core::new(alloc, trace.config, trace.root)?;
+    let mut core = Core::new(alloc, trace.config, trace.root);
     take_steps(alloc, &mut core, sink, quiet, trace.steps.as_slice())?;
     flush_all(sink)
 }

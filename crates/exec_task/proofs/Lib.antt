@@ -1,5 +1,3 @@
-pub mod Handed
 pub mod Maps
-pub mod Meanwhiles
 pub mod Rights
 pub mod Rounds

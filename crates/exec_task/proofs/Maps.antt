@@ -1,28 +1,11 @@
 -- A task set by the numbers of its tasks.
-use Rattle.std.proofs.Common.{◌≡◌, ◌≢◌, ℕ, zero, suc, ◌<◌, ◌⊎◌, ◌++◌, ◌∷◌, replicate, ◌%◌, ◌==◌, Bool, true, false, cond, List, [], length, set, get_or, get_or-set_same, get_or-set_other, inl, inr, Option, Some, None, refl, ap, sym, ◌∙◌, subst}
+use Rattle.std.proofs.Common.{◌≡◌, ℕ, zero, suc, ◌<◌, ◌⊎◌, ◌++◌, ◌∷◌, replicate, ◌%◌, List, [], length, set, get_or, get_or-set_same, get_or-set_other, Option, Some, None, refl, sym, ◌∙◌, arith}
 use Rattle.std.proofs.lemmas.List.{length-set}
-use Rattle.std.proofs.lemmas.Bool.{cases_Bool, cases_eq, eqb-true}
-use Rattle.std.specs.Ordering.{is_eq, nat_cmp}
-use Rattle.std.specs.declared.cmp.Ordering.TheVariants.{Less, Equal, Greater}
-use Rattle.std.specs.BTreeMap.{BTreeMap, is_at, UpdatesBy}
+use Rattle.std.proofs.lemmas.Bool.Decides.{nat_tests}
+use Rattle.std.specs.Ordering.{nat_cmp}
+use Rattle.std.specs.BTreeMap.{BTreeMap, UpdatesBy}
 use Rattle.exec_base.specs.declared.task_no.TaskNo.{TaskNo}
-use Rattle.exec_task.specs.TaskSet.{Set, at_number, shard_at, shard_of, held, AreAtHome, ShardChanges, Changes}
-use Rattle.exec_task.specs.Drained.{TakesNewest}
-
-not_equal : (less equal : Bool) → equal ≡ false → is_eq (cond less Less (cond equal Equal Greater)) ≡ false
-not_equal true equal is = refl
-not_equal false equal is = ap (λ e. is_eq (cond e Equal Greater)) is
-
--- another number isn't this one
-pub is_at-other : (number other : ℕ) → other ≢ number → is_at (nat_cmp number) other ≡ false
-is_at-other number other apart =
-    elim (cases_Bool (number == other)) [
-      | inl e ↦ absurd (apart (sym (eqb-true number other e)))
-      | inr e ↦ not_equal _ _ e
-    ]
-
-some_none : {X : Type 0} {x : X} → Some x ≡ None → ⊥
-some_none e = cc
+use Rattle.exec_task.specs.TaskSet.{Set, at_number, shard_at, shard_of, AreAtHome, ShardChanges, Changes, TakesNewest}
 
 -- an empty shard holds nothing
 nothing : {T : Type 0} (count index : ℕ) (number : ℕ) → at_number {T = T} (get_or (replicate count []) index []) number ≡ None
@@ -34,20 +17,14 @@ module _ {T : Type 0} where
   -- what a map's own clause says, by numbers
   pub shard_changes : (old new : BTreeMap ℕ T) (number : ℕ) (task : Option T) → UpdatesBy nat_cmp (nat_cmp number) old new task → ShardChanges old.entries new.entries number task
   shard_changes old new number task updates =
-      record { changed = updates.1; others = λ other apart. updates.2 other (is_at-other number other apart) }
+      record { changed = updates.1; others = λ other apart. updates.2 other (grind (arith, nat_tests)) }
 
   -- a change of the number's shard is a change of the set
   pub changes : (s : Set T) (shard : List (ℕ × T)) (number : TaskNo) (task : Option T) → shard_of s number < length s.shards → ShardChanges (shard_at s (shard_of s number)) shard number.0 task → Changes s (record s { shards = set s.shards (shard_of s number) shard }) number task
   changes s shard number task there change =
       record {
-        changed = rw (length-set s.shards (shard_of s number) shard, get_or-set_same s.shards (shard_of s number) shard [] there) change.changed;
-        others =
-            λ other apart.
-            elim (cases_eq (shard_of s other) (shard_of s number)) [
-              | inl e ↦
-                  rw (length-set s.shards (shard_of s number) shard, e, get_or-set_same s.shards (shard_of s number) shard [] there) (change.others other.0 apart)
-              | inr e ↦ rw (length-set s.shards (shard_of s number) shard, get_or-set_other s.shards (shard_of s number) (shard_of s other) shard [] e) refl
-            ];
+        changed = grind (arith, length-set, get_or-set_same, change.changed);
+        others = λ other apart. grind (arith, length-set, get_or-set_same, get_or-set_other, change.others other.0 apart);
       }
 
   -- nothing is held, and all of it is at home
@@ -57,32 +34,15 @@ module _ {T : Type 0} where
   -- what is held is at home after a change of its shard
   pub home_after : (shards : List (List (ℕ × T))) (shard : List (ℕ × T)) (index number : ℕ) (task : Option T) → AreAtHome shards → index < length shards → ((task ≡ None) ⊎ (number % length shards ≡ index)) → ShardChanges (get_or shards index []) shard number task → AreAtHome (set shards index shard)
   home_after shards shard index number task home there way change i q some =
-      rw (length-set shards index shard)
-      (elim (cases_eq i index) [
-        | inl e ↦
-            (let some' : at_number shard q ≢ None = λ none. some (rw (e, get_or-set_same shards index shard [] there) none) in
-            elim (cases_eq q number) [
-              | inl same ↦
-                  elim way [
-                    | inl gone ↦ absurd (some' (rw same (change.changed ∙ gone)))
-                    | inr at ↦ rw (same, e) at
-                  ]
-              | inr apart ↦ rw e (home index q (λ none. some' (change.others q apart ∙ none)))
-            ])
-        | inr other ↦ home i q (λ none. some (rw (get_or-set_other shards index i shard [] other) none))
-      ])
+      grind (arith, length-set, get_or-set_same, get_or-set_other, home i q, change.changed, change.others q, some)
 
   -- the newest task of a shard is taken from the set
   pub takes_newest : (s : Set T) (shard : List (ℕ × T)) (index : ℕ) (t : TaskNo × T) → AreAtHome s.shards → index < length s.shards → at_number (shard_at s index) t.0.0 ≡ Some t.1 → shard_at s index ≡ shard ++ (t.0.0, t.1) ∷ [] → ShardChanges (shard_at s index) shard t.0.0 None → TakesNewest index t s (record s { shards = set s.shards index shard })
   takes_newest s shard index t home there was newest change =
-      let at_home : shard_of s t.0 ≡ index = home index t.0.0 (λ none. some_none (sym was ∙ none)) in
+      let at_home : shard_of s t.0 ≡ index = home index t.0.0 (λ none. (let lost : Some t.1 ≡ None = sym was ∙ none in cc)) in
       record {
-        was_held = rw at_home was;
-        newest = rw (get_or-set_same s.shards index shard [] there) newest;
-        others = rw (get_or-set_same s.shards index shard [] there) refl;
-        changes =
-            (let there' : shard_of s t.0 < length s.shards = rw at_home there in
-            let change' : ShardChanges (shard_at s (shard_of s t.0)) shard t.0.0 None = rw at_home change in
-            let P : ℕ → Type 0 = λ i. Changes s (record s { shards = set s.shards i shard }) t.0 None in
-            subst P at_home (changes s shard t.0 None there' change'));
+        was_held = grind (arith, at_home, was);
+        newest = grind (arith, get_or-set_same, newest);
+        others = grind (arith, get_or-set_same);
+        changes = rw (← at_home) (changes s shard t.0 None (rw at_home there) (rw at_home change));
       }

@@ -1,12 +1,13 @@
--- One right to poll a task.
-use Rattle.std.proofs.Common.{◌≡◌, ℕ, ◌+◌, ◌<◌, ◌≤◌, Bool, true, false, List, [], ◌∷◌, refl, arith}
+-- What calls on a task keep, and what comes of a poll that others wake and clear.
+use Rattle.std.proofs.Common.{◌≡◌, ℕ, ◌+◌, ◌≤◌, ◌||◌, Bool, true, false, List, [], ◌∷◌, if◌then◌else◌, arith}
 use Rattle.exec_base.specs.declared.task_no.TaskNo.{TaskNo}
 use Rattle.exec_task.specs.declared.task.Phase.{Phase}
-use Rattle.exec_task.specs.declared.task.Phase.TheVariants.{Idle, Queued, Running, Notified, Complete}
-use Rattle.exec_task.specs.Phases.{Task, is_polled, pend_answer}
-use Rattle.exec_task.specs.TaskRuns.{Ledger, MayCall, AreCalls, IsOneRight, after, after_all, Meanwhile, after_meanwhile, some_wake, some_clear, just_begun, after_pending_poll}
+use Rattle.exec_task.specs.declared.task.Phase.TheVariants.{Idle, Running, Notified}
+use Rattle.exec_task.specs.declared.body.Ended.TheVariants.{Closed}
+use Rattle.exec_task.specs.declared.runnable.AfterPoll.TheVariants.{Done as Nothing, Requeue, Retire}
+use Rattle.exec_task.specs.Phases.{Task, pend_answer}
+use Rattle.exec_task.specs.TaskRuns.{Call, Ledger, MayCall, AreCalls, IsOneRight, after, after_all, Meanwhile, after_meanwhile, some_wake, some_clear, just_begun, after_pending_poll}
 use Rattle.exec_task.specs.TaskRuns.Call.{Wake, Begin, Pend, Done, Clear}
-use Rattle.exec_task.specs.TaskRuns.{Call}
 use Rattle.exec_task.specs.TaskRuns.Meanwhile.{Wakes, Clears}
 
 module _ {B : Type 0} where
@@ -18,51 +19,47 @@ module _ {B : Type 0} where
   abbrev Keeps : Ledger B → Type 0
   Keeps l = IsOneRight l.task.phase l.runnables l.polls
 
-  kept_by : (number : TaskNo) (owner : ℕ) (phase : Phase B) (cancelled : Bool) (runnables polls : ℕ) (call : Call B) → Keeps (ledger number owner phase cancelled runnables polls) → MayCall (ledger number owner phase cancelled runnables polls) call → Keeps (after (ledger number owner phase cancelled runnables polls) call)
-  kept_by number owner (Idle body) cancelled runnables polls Wake right may = (omega (arith, right), omega (arith, right))
-  kept_by number owner (Queued body) cancelled runnables polls Wake right may = (omega (arith, right), omega (arith, right))
-  kept_by number owner Running cancelled runnables polls Wake right may = (omega (arith, right), omega (arith, right))
-  kept_by number owner Notified cancelled runnables polls Wake right may = (omega (arith, right), omega (arith, right))
-  kept_by number owner Complete cancelled runnables polls Wake right may = (omega (arith, right), omega (arith, right))
-  kept_by number owner (Idle body) cancelled runnables polls Begin right may = (omega (arith, right), omega (arith, right))
-  kept_by number owner (Queued body) cancelled runnables polls Begin right may = (omega (arith, right), omega (arith, right))
-  kept_by number owner Running cancelled runnables polls Begin right may = (omega (arith, right), omega (arith, right))
-  kept_by number owner Notified cancelled runnables polls Begin right may = (omega (arith, right), omega (arith, right))
-  kept_by number owner Complete cancelled runnables polls Begin right may = (omega (arith, right), omega (arith, right))
-  kept_by number owner (Idle body) true runnables polls (Pend other) right may = (omega (arith, right), omega (arith, right))
-  kept_by number owner (Idle body) false runnables polls (Pend other) right may = (omega (arith, right), omega (arith, right))
-  kept_by number owner (Queued body) true runnables polls (Pend other) right may = (omega (arith, right), omega (arith, right))
-  kept_by number owner (Queued body) false runnables polls (Pend other) right may = (omega (arith, right), omega (arith, right))
-  kept_by number owner Running true runnables polls (Pend other) right may = (omega (arith, right), omega (arith, right))
-  kept_by number owner Running false runnables polls (Pend other) right may = (omega (arith, right), omega (arith, right))
-  kept_by number owner Notified true runnables polls (Pend other) right may = (omega (arith, right), omega (arith, right))
-  kept_by number owner Notified false runnables polls (Pend other) right may = (omega (arith, right), omega (arith, right))
-  kept_by number owner Complete true runnables polls (Pend other) right may = (omega (arith, right), omega (arith, right))
-  kept_by number owner Complete false runnables polls (Pend other) right may = (omega (arith, right), omega (arith, right))
-  kept_by number owner (Idle body) cancelled runnables polls Done right may = (omega (arith, right), omega (arith, right))
-  kept_by number owner (Queued body) cancelled runnables polls Done right may = (omega (arith, right), omega (arith, right))
-  kept_by number owner Running cancelled runnables polls Done right may = (omega (arith, right), omega (arith, right))
-  kept_by number owner Notified cancelled runnables polls Done right may = (omega (arith, right), omega (arith, right))
-  kept_by number owner Complete cancelled runnables polls Done right may = (omega (arith, right), omega (arith, right))
-  kept_by number owner (Idle body) cancelled runnables polls Clear right may = (omega (arith, right), omega (arith, right))
-  kept_by number owner (Queued body) cancelled runnables polls Clear right may = (omega (arith, right), omega (arith, right))
-  kept_by number owner Running cancelled runnables polls Clear right may = (omega (arith, right), omega (arith, right))
-  kept_by number owner Notified cancelled runnables polls Clear right may = (omega (arith, right), omega (arith, right))
-  kept_by number owner Complete cancelled runnables polls Clear right may = (omega (arith, right), omega (arith, right))
+  -- in each phase, and cancelled or not
+  kept_by :
+      (call : Call B) (c : Bool) (phase : Phase B) (n : TaskNo) (o r p : ℕ) → IsOneRight phase r p → MayCall (ledger n o phase c r p) call
+      → Keeps (after (ledger n o phase c r p) call)
+  kept_by Wake _ (Idle _) n o r p right may = (omega (arith, right), omega (arith, right))
+  kept_by Begin _ (Idle _) n o r p right may = (omega (arith, right), omega (arith, right))
+  kept_by (Pend _) true (Idle _) n o r p right may = (omega (arith, right), omega (arith, right))
+  kept_by (Pend _) false (Idle _) n o r p right may = (omega (arith, right), omega (arith, right))
+  kept_by Done _ (Idle _) n o r p right may = (omega (arith, right), omega (arith, right))
+  kept_by Clear _ (Idle _) n o r p right may = (omega (arith, right), omega (arith, right))
+  kept_by _ _ _ n o r p right may = (omega (arith, right), omega (arith, right))
 
   -- the right is one after whatever calls
   pub one_right : (l : Ledger B) (calls : List (Call B)) → Keeps l → AreCalls l calls → Keeps (after_all l calls)
   one_right l [] right are = right
   one_right l (call ∷ rest) right are =
-      one_right (after l call) rest (kept_by l.task.number l.task.owner l.task.phase l.task.cancelled l.runnables l.polls call right are.0) are.1
+      one_right (after l call) rest
+      (kept_by call l.task.cancelled l.task.phase l.task.number l.task.owner l.runnables l.polls right are.0) are.1
 
   -- so there is at most one
   at_most_one_by : (phase : Phase B) (runnables polls : ℕ) → IsOneRight phase runnables polls → runnables + polls ≤ 1
-  at_most_one_by (Idle body) runnables polls right = omega (arith, right)
-  at_most_one_by (Queued body) runnables polls right = omega (arith, right)
-  at_most_one_by Running runnables polls right = omega (arith, right)
-  at_most_one_by Notified runnables polls right = omega (arith, right)
-  at_most_one_by Complete runnables polls right = omega (arith, right)
+  at_most_one_by (Idle _) runnables polls right = omega (arith, right)
+  at_most_one_by _ runnables polls right = omega (arith, right)
 
   pub at_most_one : (l : Ledger B) (calls : List (Call B)) → Keeps l → AreCalls l calls → (after_all l calls).runnables + (after_all l calls).polls ≤ 1
-  at_most_one l calls right are = at_most_one_by (after_all l calls).task.phase (after_all l calls).runnables (after_all l calls).polls (one_right l calls right are)
+  at_most_one l calls right are =
+      let end = after_all l calls in
+      at_most_one_by end.task.phase end.runnables end.polls (one_right l calls right are)
+
+module _ (B : Type 0) (number : TaskNo) (owner : ℕ) where
+  -- the task in a poll, whether it was woken, and whether it was cleared
+  abbrev polled : Bool → Bool → Task B
+  polled woken cancelled = record { number = number; owner = owner; phase = if woken then Notified else Running; cancelled = cancelled }
+
+  answer_is :
+      (woken cancelled : Bool) (m : List Meanwhile)
+      → pend_answer (after_meanwhile (polled woken cancelled) m)
+      ≡ (if cancelled || some_clear m then Retire number Closed else (if woken || some_wake m then Requeue (record { task = number; owner = owner }) else Nothing))
+  answer_is woken cancelled [] = grind arith
+  answer_is woken cancelled (Wakes ∷ rest) = grind (arith, answer_is true cancelled rest)
+  answer_is woken cancelled (Clears ∷ rest) = grind (arith, answer_is woken true rest)
+
+  pub one_requeue : (meanwhile : List Meanwhile) → pend_answer (after_meanwhile (just_begun {B = B} number owner) meanwhile) ≡ after_pending_poll (just_begun {B = B} number owner) meanwhile
+  one_requeue meanwhile = answer_is false false meanwhile

@@ -1,64 +1,67 @@
 -- Rounds of the shards of a task set.
-use Rattle.std.proofs.Common.{◌≡◌, ◌≢◌, ℕ, zero, suc, ◌+◌, ◌-◌, ◌<◌, ◌≤◌, ◌⊎◌, inl, inr, Bool, true, false, eqb, List, [], ◌∷◌, ◌++◌, length, reverse, get_or, set, refl, sym, ap, ◌∙◌, arith, get_or-set_same, get_or-set_other, rules}
-use Rattle.std.proofs.lemmas.List.{reverse-append, length-set}
+use Rattle.std.proofs.Common.{◌≡◌, ◌≢◌, ℕ, zero, suc, ◌+◌, ◌<◌, ◌≤◌, ◌⊎◌, inl, inr, Bool, cond, List, [], ◌∷◌, ◌++◌, length, reverse, take, drop, get_or, set, get_or-set_same, count_by, sum_by, refl, ap, arith, rules, length-append, length-drop, append_assoc, add-one}
+use Rattle.std.specs.List.{flat_map}
+use Rattle.std.proofs.Math.Seq.{drop-cons, take-suc}
+use Rattle.std.proofs.lemmas.List.{reverse-append, append-nil, length-take, take-append-le, take_all, drop_all, drop-set-lt, take-set, length-set}
+use Rattle.std.proofs.lemmas.List.Sums.{sum_by-append, sum_by-cons, sum_by-take-drop}
+use Rattle.std.proofs.lemmas.List.Sorted.{IsPermutation-reverse, sum_by-IsPermutation}
 use Rattle.exec_base.specs.declared.task_no.TaskNo.{TaskNo}
 use Rattle.exec_task.specs.declared.drain.Drain.{Drain}
-use Rattle.exec_task.specs.TaskSet.{Set}
-use Rattle.exec_task.specs.Drained.{next_shard, to_come, IsFor, TakesNewest}
+use Rattle.exec_task.specs.TaskSet.{Set, next_shard, from_shard, to_come, IsFor, TakesNewest}
 
 -- the next shard is the first, or the one after this
-pub next_cases : (count at : ℕ) → ((at + 1 ≡ count) × (next_shard count at ≡ 0)) ⊎ ((at + 1 ≢ count) × (next_shard count at ≡ at + 1))
+next_cases : (count at : ℕ) → ((at + 1 ≡ count) × (next_shard count at ≡ 0)) ⊎ ((at + 1 ≢ count) × (next_shard count at ≡ at + 1))
 next_cases count at = search rules
 
--- a round of so many shards from this one on doesn't come to that one
-abbrev pub Avoids : ℕ → ℕ → ℕ → ℕ → Type 0
-Avoids count other at zero = Unit {0}
-Avoids count other at (suc left) = (at ≢ other) × Avoids count other (next_shard count at) left
-
--- as long as it ends before it
-pub avoids : (count other at left : ℕ) → at < count → other < count → ((at + left ≤ other) ⊎ ((other < at) × (at + left ≤ other + count))) → Avoids count other at left
-avoids count other at zero there is within = tt
-avoids count other at (suc left) there is within =
-    elim within [
-      | inl before ↦ (
-        omega arith,
-        elim (next_cases count at) [
-          | inl e ↦ absurd (omega arith)
-          | inr e ↦ rw e.1 (avoids count other (at + 1) left (omega arith) is (inl (omega arith)))
-        ],
-      )
-      | inr after ↦ (
-        omega arith,
-        elim (next_cases count at) [
-          | inl e ↦ rw e.1 (avoids count other 0 left (omega arith) is (inl (omega arith)))
-          | inr e ↦ rw e.1 (avoids count other (at + 1) left (omega arith) is (inr (omega arith, omega arith)))
-        ],
-      )
-    ]
-
 module _ {T : Type 0} where
-  -- what is to come of a round doesn't ask for a shard that it avoids
-  pub to_come-set : (shards : List (List (ℕ × T))) (other : ℕ) (shard : List (ℕ × T)) (at left : ℕ) → Avoids (length shards) other at left → to_come (set shards other shard) at left ≡ to_come shards at left
-  to_come-set shards other shard at zero away = refl
-  to_come-set shards other shard at (suc left) away =
-      rw (length-set shards other shard, get_or-set_other shards other at shard [] away.0, to_come-set shards other shard (next_shard (length shards) at) left away.1) refl
+  -- the shards of a round but the one where it stands
+  abbrev others : List (List (ℕ × T)) → ℕ → List (List (ℕ × T))
+  others shards at = drop (suc at) shards ++ take at shards
 
--- the rest of a round doesn't come back to where it began
-pub avoids_next : (count at left : ℕ) → at < count → left < count → Avoids count at (next_shard count at) left
-avoids_next count at left there few =
-    elim (next_cases count at) [
-      | inl e ↦ rw e.1 (avoids count at 0 left (omega arith) there (inl (omega arith)))
-      | inr e ↦ rw e.1 (avoids count at (at + 1) left (omega arith) there (inr (omega arith, omega arith)))
-    ]
+  here_first : (shards : List (List (ℕ × T))) (at : ℕ) → at < length shards → from_shard shards at ≡ get_or shards at [] ∷ others shards at
+  here_first shards at there = ap (λ xs. xs ++ take at shards) (drop-cons shards at [] there)
 
-module _ {T : Type 0} where
-  -- the newest task of the shard where a round begins is the first to come
-  pub first_to_come : (shards : List (List (ℕ × T))) (shard : List (ℕ × T)) (task : ℕ × T) (at left : ℕ) → at < length shards → 0 < left → left ≤ length shards → get_or shards at [] ≡ shard ++ task ∷ [] → to_come shards at left ≡ task ∷ to_come (set shards at shard) at left
-  first_to_come shards shard task at zero there more few last = absurd (omega arith)
-  first_to_come shards shard task at (suc left) there more few last =
-      rw (last, reverse-append shard (task ∷ []), length-set shards at shard, get_or-set_same shards at shard [] there, to_come-set shards at shard (next_shard (length shards) at) left (avoids_next (length shards) at left there (omega arith))) refl
+  -- from the next shard on, this one comes last
+  here_last : (shards : List (List (ℕ × T))) (at : ℕ) → at < length shards → from_shard shards (next_shard (length shards) at) ≡ others shards at ++ get_or shards at [] ∷ []
+  here_last shards at there =
+      elim (next_cases (length shards) at) [
+        | inl e ↦ grind (arith, append-nil, take_all (suc at) shards, drop_all (suc at) shards, take-suc shards at [] there)
+        | inr e ↦ rw (e.1, add-one at, take-suc shards at [] there, append_assoc) refl
+      ]
 
-  -- the set without it
-  pub to_come-taken : (s s' : Set T) (d : Drain) (t : TaskNo × T) → IsFor d s → 0 < d.left → TakesNewest d.at t s s' → to_come s.shards d.at d.left ≡ (t.0.0, t.1) ∷ to_come s'.shards d.at d.left
-  to_come-taken s s' d t its more taken =
-      rw taken.others (first_to_come s.shards (get_or s'.shards d.at []) (t.0.0, t.1) d.at d.left its.there more its.few taken.newest)
+  -- an empty shard is passed
+  pub to_come_passed :
+      (shards : List (List (ℕ × T))) (at left rest : ℕ) → at < length shards → left ≡ rest + 1 → left ≤ length shards → get_or shards at [] ≡ []
+      → to_come shards at left ≡ to_come shards (next_shard (length shards) at) rest
+  to_come_passed shards at left rest there more few empty =
+      let short : rest ≤ length (others shards at) =
+      omega (arith, length-append (drop (suc at) shards) (take at shards), length-drop (suc at) shards, length-take at shards) in
+      rw (here_last shards at there, more, add-one rest, here_first shards at there, empty, take-append-le rest (others shards at) ([] ∷ []) short) refl
+
+  -- the newest task of the shard where a round stands is the first to come
+  first_to_come :
+      (shards : List (List (ℕ × T))) (shard : List (ℕ × T)) (task : ℕ × T) (at left : ℕ) → at < length shards → 0 < left
+      → get_or shards at [] ≡ shard ++ task ∷ [] → to_come shards at left ≡ task ∷ to_come (set shards at shard) at left
+  first_to_come shards shard task at zero there more newest = absurd (omega arith)
+  first_to_come shards shard task at (suc left) there more newest =
+      let there' : at < length (set shards at shard) = rw (length-set shards at shard) there in
+      rw (here_first shards at there, here_first (set shards at shard) at there', newest, get_or-set_same shards at shard [] there, drop-set-lt (suc at) shards at shard (omega arith), take-set shards at shard, reverse-append shard (task ∷ [])) refl
+
+  pub to_come_taken :
+      (s s' : Set T) (d : Drain) (t : TaskNo × T) → IsFor d s → 0 < d.left → TakesNewest d.at t s s'
+      → to_come s.shards d.at d.left ≡ (t.0.0, t.1) ∷ to_come s'.shards d.at d.left
+  to_come_taken s s' d t its more taken =
+      rw taken.others (first_to_come s.shards (get_or s'.shards d.at []) (t.0.0, t.1) d.at d.left its.there more taken.newest)
+
+module _ {T : Type 0} (kind : ℕ × T → Bool) where
+  counted : (shards : List (List (ℕ × T))) → count_by kind (flat_map reverse shards) ≡ sum_by (λ shard. count_by kind shard) shards
+  counted [] = refl
+  counted (x ∷ xs) =
+      omega (arith, sum_by-append (λ t. cond (kind t) 1 0) (reverse x) (flat_map reverse xs), sum_by-IsPermutation (λ t. cond (kind t) 1 0) x (reverse x) (IsPermutation-reverse x), counted xs, sum_by-cons (λ shard. count_by kind shard) x xs)
+
+  -- a whole round meets each shard once
+  pub whole_round : (shards : List (List (ℕ × T))) (at : ℕ) → at < length shards → count_by kind (to_come shards at (length shards)) ≡ sum_by (λ shard. count_by kind shard) shards
+  whole_round shards at there =
+      let f = λ (shard : List (ℕ × T)). count_by kind shard in
+      rw (take_all (length shards) (from_shard shards at) (omega (arith, length-append (drop at shards) (take at shards), length-drop at shards, length-take at shards)), counted (from_shard shards at))
+      (omega (arith, sum_by-append f (drop at shards) (take at shards), sum_by-take-drop f shards at))

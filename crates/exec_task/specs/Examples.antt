@@ -15,7 +15,7 @@ in_phase phase = record { number = no 5; owner = 1; phase = phase; cancelled = f
 
 -- the same, cleared in its poll
 abbrev pub cleared_in : Phase ℕ → Task ℕ
-cleared_in phase = record { number = no 5; owner = 1; phase = phase; cancelled = true }
+cleared_in phase = record (in_phase phase) { cancelled = true }
 
 -- task 5, with its first runnable
 abbrev pub fresh : Ledger ℕ
@@ -28,13 +28,11 @@ with_first shards = record { shards = shards; closed = false; id = 1 }
 abbrev pub holding : Set ℕ → ℕ → Set ℕ
 holding s number = inserted s (no number) (number * 10)
 
--- tasks 0 to 4 in one shard
-abbrev pub five : Set ℕ
-five = holding (holding (holding (holding (holding (with_first ([] ∷ [])) 0) 1) 2) 3) 4
-
--- without 2, 4 and 0
+-- tasks 0 to 4 in one shard, of which 2, 4 and 0 were removed
 abbrev pub two_left : Set ℕ
-two_left = removed (removed (removed five (no 2)) (no 4)) (no 0)
+two_left =
+    let five = holding (holding (holding (holding (holding (with_first ([] ∷ [])) 0) 1) 2) 3) 4 in
+    removed (removed (removed five (no 2)) (no 4)) (no 0)
 
 -- tasks 0 to 3 in two shards
 abbrev pub four_in_two : Set ℕ

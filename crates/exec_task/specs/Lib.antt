@@ -1,8 +1,5 @@
-pub mod Drained
 pub mod Examples
-pub mod Growth
 pub mod Phases
-pub mod Places
 pub mod Polls
 pub mod Sight
 pub mod TaskRuns

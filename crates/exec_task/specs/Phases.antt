@@ -1,7 +1,6 @@
 -- What a contract sees of a task, and what each call makes of it.
-use Rattle.std.specs.Prelude.{ℕ, Bool, true, false, Option, Some, None, if◌then◌else◌}
+use Rattle.std.specs.Prelude.{ℕ, ◌==◌, ◌&&◌, ◌||◌, MatchBool, Bool, true, false, Option, Some, None, if◌then◌else◌}
 use Rattle.exec_base.specs.declared.task_no.TaskNo.{TaskNo}
-use Rattle.exec_task.specs.declared.body.Ended.{Ended}
 use Rattle.exec_task.specs.declared.body.Ended.TheVariants.{Closed}
 use Rattle.exec_task.specs.declared.task.Phase.{Phase}
 use Rattle.exec_task.specs.declared.task.Phase.TheVariants.{Idle, Queued, Running, Notified, Complete}
@@ -19,57 +18,40 @@ pub record Task (B : Type 0) : Type 0 where
 module _ {B : Type 0} where
   abbrev pub is_idle : Phase B → Bool
   is_idle (Idle _) = true
-  is_idle (Queued _) = false
-  is_idle Running = false
-  is_idle Notified = false
-  is_idle Complete = false
+  is_idle _ = false
 
   abbrev pub is_polled : Phase B → Bool
-  is_polled (Idle _) = false
-  is_polled (Queued _) = false
   is_polled Running = true
   is_polled Notified = true
-  is_polled Complete = false
+  is_polled _ = false
 
   -- the body, where nobody polls it
   abbrev pub body_of : Phase B → Option B
   body_of (Idle body) = Some body
   body_of (Queued body) = Some body
-  body_of Running = None
-  body_of Notified = None
-  body_of Complete = None
+  body_of _ = None
 
   -- the body that a runnable may poll
   abbrev pub queued_body : Phase B → Option B
-  queued_body (Idle _) = None
   queued_body (Queued body) = Some body
-  queued_body Running = None
-  queued_body Notified = None
-  queued_body Complete = None
+  queued_body _ = None
 
   -- a wake
   abbrev pub woken : Phase B → Phase B
   woken (Idle body) = Queued body
-  woken (Queued body) = Queued body
   woken Running = Notified
-  woken Notified = Notified
-  woken Complete = Complete
+  woken phase = phase
 
   -- a poll begins, where there is one to begin
   abbrev pub begun : Phase B → Phase B
-  begun (Idle body) = Idle body
   begun (Queued _) = Running
-  begun Running = Running
-  begun Notified = Notified
-  begun Complete = Complete
+  begun phase = phase
 
   -- a pending poll gives the body back
   abbrev pub given_back : B → Phase B → Phase B
-  given_back body (Idle other) = Idle other
-  given_back body (Queued other) = Queued other
   given_back body Running = Idle body
   given_back body Notified = Queued body
-  given_back body Complete = Complete
+  given_back body phase = phase
 
   -- the right to poll the task
   abbrev pub runnable_of : Task B → Runnable
@@ -85,11 +67,8 @@ module _ {B : Type 0} where
 
   -- what is left to do after it: a wake that came meanwhile requeues the one runnable
   abbrev pub requeue_where : Runnable → Phase B → AfterPoll
-  requeue_where r (Idle _) = after.Done
-  requeue_where r (Queued _) = after.Done
-  requeue_where r Running = after.Done
   requeue_where r Notified = after.Requeue r
-  requeue_where r Complete = after.Done
+  requeue_where r _ = after.Done
 
   abbrev pub pend_answer : Task B → AfterPoll
   pend_answer t = if t.cancelled then after.Retire t.number Closed else requeue_where (runnable_of t) t.phase
@@ -97,3 +76,11 @@ module _ {B : Type 0} where
   -- a cleared task is over, or is once its poll ends
   abbrev pub cleared : Task B → Task B
   cleared t = if is_polled t.phase then record t { cancelled = true } else record t { phase = Complete }
+
+module _ {P : Type 0} (serving : P → ℕ → Bool) (shows_empty : P → Bool → Type 0) (workers_of : P → ℕ) (enqueues pushes : P → Runnable → P → Type 0) where
+  -- The worker at hand keeps a new task's first runnable where it serves the task's set, and has nothing else queued or
+  -- is the only one. Else it goes into the global queue.
+  pub record Spawns (old : P) (runnable : Runnable) (new : P) : Type 0 where
+    pub empty : Bool
+    pub shown : shows_empty old empty
+    pub goes : MatchBool (serving old runnable.owner && (empty || (workers_of old == 1))) (enqueues old runnable new) (pushes old runnable new)

@@ -1,8 +1,7 @@
 -- What one poll of a task does, from what its body is told first to its last section.
-use Rattle.std.specs.Prelude.{◌≡◌, ℕ, ◌+◌, ◌-◌, ◌^◌, ◌<◌, ◌⊎◌, Option, Some, None, Result, Ok, Err}
+use Rattle.std.specs.Prelude.{◌≡◌, ℕ, ◌+◌, ◌-◌, ◌^◌, ◌<◌, ◌⊎◌, Option, Some, None}
 use Rattle.exec_base.specs.declared.error.Error.TheVariants.{NoMemory}
 use Rattle.exec_task.specs.declared.body.Act.{Act}
-use Rattle.exec_task.specs.declared.body.Act.TheVariants.{Register, Await, Drop, Sleep, Spawn, Dedicated, Wake, Yield, Fault}
 use Rattle.exec_task.specs.declared.body.Act.TheVariants as act_of
 use Rattle.exec_task.specs.declared.body.Said.{Said}
 use Rattle.exec_task.specs.declared.body.Said.TheVariants.{Refused}
@@ -16,21 +15,13 @@ use Rattle.exec_task.specs.declared.poll.Turn.TheVariants.{Through, Waits, Told}
 use Rattle.exec_task.specs.declared.runnable.AfterPoll.{AfterPoll}
 use Rattle.exec_task.specs.declared.runnable.AfterPoll.TheVariants as after
 use Rattle.exec_task.specs.declared.runnable.Runnable.{Runnable}
-use Rattle.exec_task.specs.Sight.{Sight}
-use Rattle.exec_task.specs.Growth.{WouldGrow}
+use Rattle.exec_task.specs.Sight.{Sight, WouldGrow}
 
 -- how the task ends, where the act says that its body is through
 abbrev pub ended_by : {B : Type 0} → Act B → Option Ended
-ended_by (Register _) = None
-ended_by (Await _) = None
-ended_by (Drop _) = None
-ended_by (Sleep _) = None
-ended_by (Spawn _) = None
-ended_by (Dedicated _) = None
-ended_by (Wake _) = None
-ended_by Yield = None
 ended_by (act_of.Done result) = Some (ended.Done result)
-ended_by (Fault code) = Some (ended.Fault code)
+ended_by (act_of.Fault code) = Some (ended.Fault code)
+ended_by _ = None
 
 -- who polls, the task's cell, and the body
 pub record Polled (W C B : Type 0) : Type 0 where

@@ -1,8 +1,11 @@
--- What a body can see of its worker.
-use Rattle.std.specs.Prelude.{ℕ, ◌==◌, List, [], Bool, true, false, drop, slice_get, slice_set, slice_index_or, Option, Some, None, Result, Ok, Err, if◌then◌else◌}
+-- What a body can see of its worker, and which of its acts take memory.
+use Rattle.std.specs.Prelude.{ℕ, List, [], Bool, true, false, IsTrue, drop, slice_set, slice_index_or, Option, Result, Ok, Err, if◌then◌else◌}
 use Rattle.exec_base.specs.declared.error.Error.{Error}
 use Rattle.exec_base.specs.declared.error.Error.TheVariants.{BindFailed}
 use Rattle.exec_outcomes.specs.Accounts.{Account, fresh_account}
+use Rattle.exec_task.specs.declared.body.Act.{Act}
+use Rattle.exec_task.specs.declared.body.Act.TheVariants.{Register, Spawn, Dedicated}
+use Rattle.exec_task.specs.declared.body.Said.{Said}
 
 -- a listener: whether it is bound, and the sockets of the peers that wait, the longest first
 pub record Listener : Type 0 where
@@ -35,3 +38,18 @@ bind_answer s number = if (listener_at s number).is_bound then Err BindFailed el
 
 abbrev pub bound : Sight → ℕ → Sight
 bound s number = record s { listeners = slice_set s.listeners number (record (listener_at s number) { is_bound = true }) }
+
+-- the act makes a request or a task
+abbrev pub grows : {B : Type 0} → Act B → Bool
+grows (Register _) = true
+grows (Spawn _) = true
+grows (Dedicated _) = true
+grows _ = false
+
+-- what is left to do, what is seen and what is told would give such an act
+pub record WouldGrow {B L : Type 0} (gives : L → Option Sight → Said → Act B → L → Option Sight → Type 0) (left : L) (sight : Option Sight) (said : Said) : Type 0 where
+  pub act : Act B
+  pub left_then : L
+  pub sight_then : Option Sight
+  pub given : gives left sight said act left_then sight_then
+  pub grown : IsTrue (grows act)

@@ -1,5 +1,5 @@
 -- Calls on a task, one after another, and the runnables that are about.
-use Rattle.std.specs.Prelude.{◌≡◌, ℕ, ◌+◌, ◌-◌, ◌<◌, ◌≤◌, Bool, true, false, ◌||◌, List, [], ◌∷◌, Option, Some, None, if◌then◌else◌, is_some}
+use Rattle.std.specs.Prelude.{◌≡◌, ℕ, ◌+◌, ◌-◌, ◌<◌, ◌≤◌, Bool, true, false, List, [], ◌∷◌, if◌then◌else◌, is_some}
 use Rattle.exec_base.specs.declared.task_no.TaskNo.{TaskNo}
 use Rattle.exec_task.specs.declared.body.Ended.TheVariants.{Closed}
 use Rattle.exec_task.specs.declared.task.Phase.{Phase}
@@ -22,36 +22,33 @@ pub record Ledger (B : Type 0) : Type 0 where
   pub runnables : ℕ
   pub polls : ℕ
 
--- the runnables that a wake publishes
-abbrev pub published : {B : Type 0} → Phase B → ℕ
-published phase = if is_idle phase then 1 else 0
-
--- the polls that a runnable begins
-abbrev pub begins : {B : Type 0} → Phase B → ℕ
-begins phase = if is_some (queued_body phase) then 1 else 0
-
 -- the runnables that a poll gives back
 abbrev pub requeued : AfterPoll → ℕ
-requeued after_poll.Done = 0
 requeued (after_poll.Requeue _) = 1
-requeued (after_poll.Retire _ _) = 0
+requeued _ = 0
 
 module _ {B : Type 0} where
   -- who begins a poll has a runnable, and who ends one polls; anybody wakes and clears
   abbrev pub MayCall : Ledger B → Call B → Type 0
-  MayCall l Wake = Unit {0}
   MayCall l Begin = 0 < l.runnables
   MayCall l (Pend _) = 0 < l.polls
   MayCall l Done = 0 < l.polls
-  MayCall l Clear = Unit {0}
+  MayCall l _ = Unit {0}
 
-  -- what the call makes of task and runnables
+  -- what the call makes of task and runnables: a wake of an idle task publishes one, and a queued one may be polled
   abbrev pub after : Ledger B → Call B → Ledger B
-  after l Wake = record { task = record l.task { phase = woken l.task.phase }; runnables = l.runnables + published l.task.phase; polls = l.polls }
-  after l Begin = record { task = record l.task { phase = begun l.task.phase }; runnables = l.runnables - 1; polls = l.polls + begins l.task.phase }
-  after l (Pend body) = record { task = pended l.task body; runnables = l.runnables + requeued (pend_answer l.task); polls = l.polls - 1 }
-  after l Done = record { task = over l.task; runnables = l.runnables; polls = l.polls - 1 }
-  after l Clear = record { task = cleared l.task; runnables = l.runnables; polls = l.polls }
+  after l Wake =
+      record l { task = record l.task { phase = woken l.task.phase }; runnables = l.runnables + (if is_idle l.task.phase then 1 else 0) }
+  after l Begin =
+      record {
+        task = record l.task { phase = begun l.task.phase };
+        runnables = l.runnables - 1;
+        polls = l.polls + (if is_some (queued_body l.task.phase) then 1 else 0);
+      }
+  after l (Pend body) =
+      record { task = pended l.task body; runnables = l.runnables + requeued (pend_answer l.task); polls = l.polls - 1 }
+  after l Done = record l { task = over l.task; polls = l.polls - 1 }
+  after l Clear = record l { task = cleared l.task }
 
   -- calls in whatever order, each by who may make it
   abbrev pub AreCalls : Ledger B → List (Call B) → Type 0
@@ -82,13 +79,13 @@ pub data Meanwhile : Type 0 where
 
 abbrev pub some_wake : List Meanwhile → Bool
 some_wake [] = false
-some_wake (Wakes ∷ rest) = true
-some_wake (Clears ∷ rest) = some_wake rest
+some_wake (Wakes ∷ _) = true
+some_wake (_ ∷ rest) = some_wake rest
 
 abbrev pub some_clear : List Meanwhile → Bool
 some_clear [] = false
-some_clear (Wakes ∷ rest) = some_clear rest
-some_clear (Clears ∷ rest) = true
+some_clear (Clears ∷ _) = true
+some_clear (_ ∷ rest) = some_clear rest
 
 module _ {B : Type 0} where
   abbrev pub after_meanwhile : Task B → List Meanwhile → Task B

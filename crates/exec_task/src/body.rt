@@ -1,10 +1,9 @@
 //! What a task runs.
 //!
-//! A body is a state that is polled by hand. A poll of its task steps it: it is told what came of its last act
-//! (`Said`), and answers its next one (`Act`). Who polls carries the act out, and steps it again, until the body
-//! is through, or the act leaves it waiting; then the poll ends pending, and the next poll goes on from there. A
-//! body sees of its worker what `Around` shows, and nothing else: it makes no request, spawns nothing and wakes
-//! nobody by itself.
+//! A body is a state that a poll of its task steps: it is told what came of its last act (`Said`), and answers its
+//! next one (`Act`). Who polls carries the act out, and steps it again, until the body is through, or the act
+//! leaves it waiting; then the next poll goes on from there. A body sees of its worker what `Around` shows, and
+//! nothing else: it makes no request, spawns nothing and wakes nobody by itself.
 //!
 //! What a body means is a relation (`gives`) between what it is left to do, what it is told and what it sees, and
 //! the act that it makes and what is left then. Code over any body is proved by that relation alone.
@@ -112,7 +111,7 @@ pub trait Around {
 pub trait Body {
     ghost use Rattle.exec_task.specs.declared.body.Said.{Said};
     ghost use Rattle.exec_task.specs.declared.body.Act.{Act};
-    ghost use Rattle.exec_task.specs.Growth.{WouldGrow};
+    ghost use Rattle.exec_task.specs.Sight.{WouldGrow};
 
     /// What is left to do, for proofs alone.
     type Left;
@@ -130,10 +129,9 @@ pub trait Body {
     fn name(&self) -> u32
         ensures { result ≡ name_of (left self.now) };
 
-    /// The next act, once the body is told what came of the last.
-    ///
-    /// It takes memory only where the act is a `Register`, `Spawn` or `Dedicated`. Where there is none it gives
-    /// back what it was told, and body and worker are as before.
+    /// The next act, once the body is told what came of the last. It takes memory only where the act is a
+    /// `Register`, `Spawn` or `Dedicated`. Where there is none it gives back what it was told, and body and worker
+    /// are as before.
     fn step<A: Around>(
         &mut self,
         alloc: Global,

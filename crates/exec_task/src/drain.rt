@@ -2,15 +2,14 @@
 //!
 //! A drain goes round the shards once, from the shard at four times the worker's number on, so that workers that
 //! drain at once begin at different shards. At each it takes the newest task again and again until the shard is
-//! empty. Who drains clears each task before the next is taken. A closed set takes no task, so none is left
-//! behind, and each is handed out once (`to_come` is the list of what is still to come).
+//! empty; who drains clears each task before the next is taken. A closed set takes no task, so none is left behind,
+//! and each is handed out once (`to_come` is the list of what is still to come).
 //!
 //! A drain keeps its place alone and is lent the set by each call, so that the set may stand under locks, and a
 //! step may be a single visit of a shard.
 
 ghost use Rattle.std.specs.Prelude.{◌≡◌, ℕ, ◌+◌, ◌*◌, ◌%◌, ◌<◌, ◌==◌, [], ◌∷◌, ◌++◌, length, IsTrue, IfSome, IfNone, OnSome};
-ghost use Rattle.exec_task.specs.TaskSet.{shard_at};
-ghost use Rattle.exec_task.specs.Drained.{IsFor, TakesNewest, passed, to_come, came, next_shard as next_shard_of};
+ghost use Rattle.exec_task.specs.TaskSet.{shard_at, IsFor, TakesNewest, passed, to_come, came, next_shard as next_shard_of};
 
 use crate::tasks::Tasks;
 use exec_base::task_no::TaskNo;
@@ -57,8 +56,8 @@ impl Drain {
     }
 
     /// One visit of the shard at which it stands: takes its newest task, or finds it empty and goes on to the next.
-    ///
     /// The drain must be one of this set, and not over.
+    #[tactic(auto, using(crate::proofs::Rounds::to_come_taken, crate::proofs::Rounds::to_come_passed))]
     pub fn visit<T>(&mut self, tasks: &mut Tasks<T>) -> Option<(TaskNo, T)>
         requires its { IsFor self.old tasks.old }
         requires more { 0 < self.old.left }
@@ -80,9 +79,7 @@ impl Drain {
         }
     }
 
-    /// The next task, with its number. None where none is left.
-    ///
-    /// The drain must be one of this set.
+    /// The next task, with its number. None where none is left. The drain must be one of this set.
     pub fn next<T>(&mut self, tasks: &mut Tasks<T>) -> Option<(TaskNo, T)>
     where
         T: Drop,

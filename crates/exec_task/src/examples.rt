@@ -5,36 +5,26 @@ ghost use Rattle.exec_task.specs.Phases.{is_idle, queued_body, body_of, woken, b
 ghost use Rattle.exec_task.specs.TaskRuns.{AreCalls, after_all, after_pending_poll};
 ghost use Rattle.exec_task.specs.TaskRuns.Call.{Wake, Begin, Pend, Done, Clear};
 ghost use Rattle.exec_task.specs.TaskRuns.Meanwhile.{Wakes, Clears};
-ghost use Rattle.exec_task.specs.TaskSet.{held, shard_of, removed, IsRefused};
-ghost use Rattle.exec_task.specs.Drained.{to_come, drain_of, next_shard};
-ghost use Rattle.exec_task.specs.Growth.{grows};
+ghost use Rattle.exec_task.specs.TaskSet.{held, shard_of, removed, IsRefused, to_come, drain_of, next_shard};
+ghost use Rattle.exec_task.specs.Sight.{grows};
 ghost use Rattle.exec_task.specs.Polls.{ended_by};
-ghost use Rattle.exec_task.specs.Examples.{no, in_phase, cleared_in, fresh, five, two_left, four_in_two};
+ghost use Rattle.exec_task.specs.Examples.{no, in_phase, cleared_in, fresh, two_left, four_in_two};
 ghost use Rattle.exec_task.specs.declared.task.Phase.TheVariants as phase;
 ghost use Rattle.exec_task.specs.declared.body.Ended.TheVariants as ended;
 ghost use Rattle.exec_task.specs.declared.body.Act.TheVariants as act;
 ghost use Rattle.exec_task.specs.declared.runnable.AfterPoll.TheVariants as after;
 ghost use Rattle.exec_task.specs.declared.tasks.Refusal.TheVariants as refusal;
 
-/// What a wake makes of each phase, and when it publishes a runnable.
-pub fn wakes()
+/// What a wake makes of a phase, and when it publishes a runnable; and which polls begin.
+pub fn wakes_and_beginnings()
     ensures idle { woken {B = ℕ} (phase.Idle 7) ≡ phase.Queued 7 }
-    ensures queued { woken {B = ℕ} (phase.Queued 7) ≡ phase.Queued 7 }
     ensures running { woken {B = ℕ} phase.Running ≡ phase.Notified }
-    ensures again { woken {B = ℕ} phase.Notified ≡ phase.Notified }
     ensures over { woken {B = ℕ} phase.Complete ≡ phase.Complete }
     ensures publishes { is_idle {B = ℕ} (phase.Idle 7) ≡ true }
     ensures not_in_a_poll { is_idle {B = ℕ} phase.Running ≢ true }
-    ensures not_lost { woken {B = ℕ} phase.Running ≢ phase.Running }
-{}
-
-/// A poll begins with the body of a queued task, and of no other.
-pub fn begins()
     ensures body { queued_body {B = ℕ} (phase.Queued 7) ≡ Some 7 }
     ensures begun { begun {B = ℕ} (phase.Queued 7) ≡ phase.Running }
     ensures stale { queued_body {B = ℕ} phase.Complete ≡ None }
-    ensures stays { begun {B = ℕ} phase.Complete ≡ phase.Complete }
-    ensures idle { queued_body {B = ℕ} (phase.Idle 7) ≡ None }
     ensures not_twice { queued_body {B = ℕ} (begun {B = ℕ} (phase.Queued 7)) ≢ Some 7 }
 {}
 
@@ -46,7 +36,6 @@ pub fn pends()
     ensures requeued { pend_answer (in_phase phase.Notified) ≡ after.Requeue (runnable_of (in_phase phase.Notified)) }
     ensures over { pended (cleared_in phase.Notified) 8 ≡ in_phase phase.Complete }
     ensures retired { pend_answer (cleared_in phase.Notified) ≡ after.Retire (no 5) ended.Closed }
-    ensures not_requeued { pend_answer (cleared_in phase.Notified) ≢ after.Requeue (runnable_of (in_phase phase.Notified)) }
     ensures not_asleep { pended (in_phase phase.Notified) 8 ≢ in_phase (phase.Idle 8) }
 {}
 
@@ -55,7 +44,6 @@ pub fn clears()
     ensures queued { cleared (in_phase (phase.Queued 7)) ≡ in_phase phase.Complete }
     ensures body { body_of {B = ℕ} (phase.Queued 7) ≡ Some 7 }
     ensures polled { cleared (in_phase phase.Running) ≡ cleared_in phase.Running }
-    ensures over { cleared (in_phase phase.Complete) ≡ in_phase phase.Complete }
     ensures not_the_polled_body { body_of {B = ℕ} phase.Running ≢ Some 7 }
     ensures done { over (cleared_in phase.Running) ≡ in_phase phase.Complete }
 {}
@@ -65,34 +53,24 @@ pub fn calls()
     ensures good { AreCalls fresh (Begin ∷ Wake ∷ Wake ∷ Pend 8 ∷ Begin ∷ Done ∷ []) }
     ensures one { (after_all fresh (Begin ∷ Wake ∷ Wake ∷ Pend 8 ∷ [])).runnables ≡ 1 }
     ensures none { (after_all fresh (Begin ∷ Wake ∷ Clear ∷ Pend 8 ∷ [])).runnables ≡ 0 }
-    ensures stale { (after_all fresh (Clear ∷ [])).runnables ≡ 1 }
     ensures not_two_polls { AreCalls fresh (Begin ∷ Begin ∷ []) → ⊥ }
     ensures not_unasked { AreCalls fresh (Pend 8 ∷ []) → ⊥ }
     ensures meanwhile { after_pending_poll (in_phase phase.Running) (Wakes ∷ Wakes ∷ []) ≡ after.Requeue (runnable_of (in_phase phase.Running)) }
     ensures cleared { after_pending_poll (in_phase phase.Running) (Wakes ∷ Clears ∷ []) ≡ after.Retire (no 5) ended.Closed }
 {}
 
-/// Tasks 0 to 4 in one shard, of which 2, 4 and 0 are removed: 3 and then 1 are drained.
-pub fn a_drain()
-    ensures held { held five (no 2) ≡ Some 20 }
+/// Tasks 1 and 3 are left of five in one shard, and four tasks stand in two: what drains of them hand out.
+pub fn drains()
+    ensures held { held two_left (no 3) ≡ Some 30 }
     ensures removed { held two_left (no 2) ≡ None }
-    ensures all { to_come five.shards 0 1 ≡ (4, 40) ∷ (3, 30) ∷ (2, 20) ∷ (1, 10) ∷ (0, 0) ∷ [] }
-    ensures two { to_come two_left.shards 0 1 ≡ (3, 30) ∷ (1, 10) ∷ [] }
-    ensures none_twice { to_come two_left.shards 0 1 ≢ (3, 30) ∷ (3, 30) ∷ (1, 10) ∷ [] }
-    ensures newest_first { to_come two_left.shards 0 1 ≢ (1, 10) ∷ (3, 30) ∷ [] }
-    ensures none_skipped { to_come two_left.shards 0 1 ≢ (3, 30) ∷ [] }
     ensures unknown { removed two_left (no 9) ≡ two_left }
-{}
-
-/// Shards by number, and a drain that begins at the second of two.
-pub fn shards()
-    ensures sixth { shard_of four_in_two (no 6) ≡ 0 }
+    ensures closed { IsRefused two_left 60 (refusal.Closed 60) → ⊥ }
+    ensures two { to_come two_left.shards 0 1 ≡ (3, 30) ∷ (1, 10) ∷ [] }
+    ensures newest_first { to_come two_left.shards 0 1 ≢ (1, 10) ∷ (3, 30) ∷ [] }
     ensures seventh { shard_of four_in_two (no 7) ≡ 1 }
     ensures round { to_come four_in_two.shards 1 2 ≡ (3, 30) ∷ (1, 10) ∷ (2, 20) ∷ (0, 0) ∷ [] }
     ensures worker_one { drain_of four_in_two 1 ≡ record { at = 0; left = 2 } }
-    ensures next { next_shard 8 4 ≡ 5 }
     ensures first_again { next_shard 8 7 ≡ 0 }
-    ensures closed { IsRefused four_in_two 60 (refusal.Closed 60) → ⊥ }
 {}
 
 /// Which acts take memory, and which end the task.
@@ -100,6 +78,5 @@ pub fn acts()
     ensures spawns { grows {B = ℕ} (act.Spawn 7) ≡ true }
     ensures sleeps { grows {B = ℕ} (act.Sleep 5) ≢ true }
     ensures done { ended_by {B = ℕ} (act.Done 3) ≡ Some (ended.Done 3) }
-    ensures fault { ended_by {B = ℕ} (act.Fault 3) ≡ Some (ended.Fault 3) }
     ensures goes_on { ended_by {B = ℕ} act.Yield ≡ None }
 {}

@@ -2,18 +2,14 @@
 //!
 //! A poll is made of sections on the task and of steps of its body. `begin` takes the body out of the task; then
 //! who polls says what the body is told first, steps it, and carries out its act, again and again. The poll ends
-//! with `pend`, where an act leaves the body waiting, or with `done`, where it is through. Between the sections the
-//! task is free for others: they wake it, or clear it.
+//! with `pend`, where an act leaves the body waiting, or with `done`, where it is through. In between others may
+//! wake the task, or clear it. `Polls` (`specs/Polls.antt`) says what a poll may do.
 //!
 //! `TaskCell` is the task as its poller reaches it: the task itself, or a shared one behind a lock. `Carrier` is
-//! who polls: what a body sees of it (`Around`), and how it carries out acts. `Polls` (`specs/Polls.antt`) says what
-//! a poll may do.
+//! who polls: what a body sees of it (`Around`), and how it carries out acts.
 
 ghost use Rattle.std.specs.Prelude.{◌≡◌, ◌-◌, ◌^◌, Bool, IsTrue, OnSome, Option};
 ghost use Rattle.exec_task.specs.Polls.{StepsTo, Turns, Polls, PollsTask};
-
-#[cfg(test)]
-mod tests;
 
 use crate::body::{Act, Around, Body, Ended, Said};
 use crate::runnable::{AfterPoll, Runnable};
@@ -174,14 +170,10 @@ fn run<B: Body + Drop, C: TaskCell<B>, W: Carrier<B, C>>(
 impl Runnable {
     /// Polls its task once: begins the poll, steps the body and carries out its acts until the poll ends, and ends
     /// it. `owner` is the identity of the task set (`Tasks::id`), `cell` the task, and `worker` is who polls: what
-    /// the body sees, and how its acts are carried out.
-    ///
-    /// It takes no memory but for the body's acts. A body that gets none for an act is told so by
-    /// `Refused(NoMemory)`. A stale runnable is discarded.
-    ///
-    /// A poll ends after at most 2^64 - 1 steps of its body; the task is then ended as if it had been cleared.
-    ///
-    /// The runnable must be that of this task, which must belong to this set.
+    /// the body sees, and how its acts are carried out. The runnable must be that of this task, which must belong
+    /// to this set. A stale one is discarded. It takes no memory but for the body's acts; a body that gets none for
+    /// an act is told so by `Refused(NoMemory)`. A poll ends after at most 2^64 - 1 steps of its body; the task is
+    /// then ended as if it had been cleared.
     pub fn poll<B: Body + Drop, C: TaskCell<B>, W: Carrier<B, C>>(
         self,
         alloc: Global,

@@ -1,15 +1,13 @@
 //! The right to poll a task once.
 //!
 //! A runnable comes from the making of its task, or from a wake that finds the task idle; a poll that ends pending
-//! after a wake gives its own back. So a task has at most one, in a queue, in a hand or in a running poll. Nobody
-//! else makes one, and it can't be copied. Who has it hands it to a queue (`schedule`, `spawn`), polls its task
-//! with it, or discards it. A runnable of a task that was cleared meanwhile is stale: its poll does nothing.
-//!
-//! It may be dropped, so that queues which hold it may be. A lost one leaves its task queued for good, so drop or
-//! discard one only where its task is over, or the closed task set clears it.
+//! after a wake gives its own back. It can't be copied, so a task has at most one, in a queue, in a hand or in a
+//! running poll. Who has it hands it to a queue (`schedule`, `spawn`), polls its task with it, or discards it. That
+//! of a task that was cleared meanwhile is stale: its poll does nothing. It may be dropped, so that queues which
+//! hold it may be; a lost one leaves its task queued for good.
 
 ghost use Rattle.std.specs.Prelude.{◌≡◌, MatchBool};
-ghost use Rattle.exec_task.specs.Places.{Spawns};
+ghost use Rattle.exec_task.specs.Phases.{Spawns};
 
 use crate::body::Ended;
 use crate::place::Place;

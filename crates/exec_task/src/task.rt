@@ -72,12 +72,12 @@ impl<B: Drop> Phase<B> {
         ensures body { result ≡ queued_body self.old }
         ensures begun { self.new ≡ begun self.old }
     {
-        if !matches!(self, Phase::Queued(_)) {
-            return None;
-        }
         match mem::replace(self, Phase::Running) {
             Phase::Queued(body) => Some(body),
-            _ => unreachable!(),
+            other => {
+                *self = other;
+                None
+            }
         }
     }
 
@@ -86,18 +86,15 @@ impl<B: Drop> Phase<B> {
         ensures idle { result ≡ is_idle self.old }
         ensures woken { self.new ≡ woken self.old }
     {
-        if matches!(self, Phase::Running) {
-            *self = Phase::Notified;
-            return false;
-        }
-        if !matches!(self, Phase::Idle(_)) {
-            return false;
-        }
         match mem::replace(self, Phase::Notified) {
-            Phase::Idle(body) => *self = Phase::Queued(body),
-            _ => unreachable!(),
+            Phase::Idle(body) => {
+                *self = Phase::Queued(body);
+                return true;
+            }
+            Phase::Running => {}
+            other => *self = other,
         }
-        true
+        false
     }
 
     fn is_polled(&self) -> bool
@@ -136,13 +133,6 @@ impl<B: Drop> Task<B> {
         self.owner
     }
 
-    /// Whether it is polled, so that its poller has the body.
-    pub fn is_polled(&self) -> bool
-        ensures { result ≡ is_polled self.now.phase }
-    {
-        self.phase.is_polled()
-    }
-
     /// Where it stands.
     pub fn phase(&self) -> &Phase<B>
         ensures { result.now ≡ self.now.phase }
@@ -170,9 +160,8 @@ impl<B: Drop> Task<B> {
     }
 
     /// Begins a poll with the task's runnable, and hands the body out. None where the runnable is stale: the task
-    /// was cleared; it is discarded then, and nothing changes.
-    ///
-    /// The caller must have taken the runnable of this very task.
+    /// was cleared; it is discarded then, and nothing changes. The caller must have taken the runnable of this very
+    /// task.
     pub fn begin(&mut self, runnable: Runnable) -> Option<B>
         requires { runnable ≡ runnable_of self.old }
         ensures body { result ≡ queued_body self.old.phase }
@@ -183,9 +172,7 @@ impl<B: Drop> Task<B> {
     }
 
     /// Ends a poll that is pending, and takes the body back. A task that was woken meanwhile is queued again, and
-    /// its runnable comes back. One that was cleared meanwhile is over.
-    ///
-    /// The caller must be who polls the task.
+    /// its runnable comes back. One that was cleared meanwhile is over. The caller must be who polls the task.
     pub fn pend(&mut self, body: B) -> AfterPoll
         requires { IsTrue (is_polled self.old.phase) }
         ensures answer { result ≡ pend_answer self.old }
@@ -202,9 +189,8 @@ impl<B: Drop> Task<B> {
         AfterPoll::Requeue(Runnable::new(self.number, self.owner))
     }
 
-    /// Ends a poll whose body is through, or is cleared: the task is over, and has to leave its set.
-    ///
-    /// The caller must be who polls the task.
+    /// Ends a poll whose body is through, or is cleared: the task is over, and has to leave its set. The caller must
+    /// be who polls the task.
     pub fn done(&mut self, how: Ended) -> AfterPoll
         requires { IsTrue (is_polled self.old.phase) }
         ensures answer { result ≡ after.Retire self.old.number how }

@@ -3,20 +3,14 @@
 //!
 //! The set has shards, so that workers that insert and remove at the same time seldom meet; a live worker puts each
 //! shard under a lock of its own. A task's shard is its number modulo the shards. What the set holds of a task is
-//! its user's: the core, which has its tasks in a list by number, holds nothing but the number; a live pool holds
-//! the task's shared cell.
+//! its user's: nothing, where the tasks stand elsewhere by their numbers, or a shared cell.
 //!
 //! An open set takes tasks, and holds each until it is removed. A closed one takes none, and is drained: each task
-//! that it still holds is handed out once, to be cleared. A task that ends meanwhile may be gone when it is to be
-//! removed; that is the only way in which a removal finds nothing.
+//! that it still holds is handed out once, to be cleared. Only then may a removal find nothing.
 
 ghost use Rattle.std.specs.Prelude.{◌≡◌, ◌<◌, ◌≤◌, ◌^◌, ◌⊎◌, ◌++◌, ◌∷◌, [], ℕ, true, false, length, replicate, IfOk, IfErr, IfNone, IfSome, OnOk, OnErr, IsSome, option_copied, None, Some};
-ghost use Rattle.exec_task.specs.TaskSet.{IsShardCount, IsRefused, shard_of, shard_at, at_number, with_task, without_task, ShardChanges, Changes, held, inserted, removed};
-ghost use Rattle.exec_task.specs.Places.{Spawns};
-ghost use Rattle.exec_task.specs.Drained.{IsFor, TakesNewest, drain_of};
-
-#[cfg(test)]
-mod tests;
+ghost use Rattle.exec_task.specs.TaskSet.{IsShardCount, IsRefused, shard_of, shard_at, at_number, with_task, without_task, ShardChanges, Changes, held, inserted, removed, IsFor, TakesNewest, drain_of};
+ghost use Rattle.exec_task.specs.Phases.{Spawns};
 
 use crate::drain::Drain;
 use crate::place::Place;
@@ -192,9 +186,8 @@ impl<T> Tasks<T> {
 
     /// Makes a task one of the set, and hands its first runnable to a queue: the second half of a spawn. Gives back
     /// what was to be held of it where the set is closed, or where there is no memory for it or for its place in
-    /// the global queue; its runnable is discarded then, and who gets the task back clears it.
-    ///
-    /// The caller must have made the task and the runnable for this set, under a number that it doesn't hold.
+    /// the global queue; its runnable is discarded then, and who gets the task back clears it. The caller must have
+    /// made the task and the runnable for this set, under a number that it doesn't hold.
     pub fn register<P: Place>(
         &mut self,
         alloc: Global,
@@ -231,9 +224,8 @@ impl<T> Tasks<T> {
         Ok(())
     }
 
-    /// Holds this of the task of this number. Gives it back where the set is closed, or where there is no memory.
-    ///
-    /// The set must not hold the number.
+    /// Holds this of the task of this number, which the set must not hold. Gives it back where the set is closed, or
+    /// where there is no memory.
     pub fn insert(&mut self, alloc: Global, number: TaskNo, task: T) -> Result<(), Refusal<T>>
     where
         T: Drop,
@@ -255,9 +247,7 @@ impl<T> Tasks<T> {
     }
 
     /// Takes out what is held of the task of this number. None only where the set is closed and doesn't hold it,
-    /// and then nothing changes: a drain took it before.
-    ///
-    /// An open set must hold it.
+    /// and then nothing changes: a drain took it before. An open set must hold it.
     pub fn remove(&mut self, number: TaskNo) -> Option<T>
         requires { (self.old.closed ≡ true) ⊎ IsSome (held self.old number) }
         ensures task { result ≡ held self.old number }
@@ -288,9 +278,8 @@ impl<T> Tasks<T> {
         self.shards[shard].take_newest()
     }
 
-    /// A drain of the set, which goes round all shards, from the one at four times the worker's number on.
-    ///
-    /// The set must be closed.
+    /// A drain of the set, which goes round all shards, from the one at four times the worker's number on. The set
+    /// must be closed.
     pub fn drain(&self, worker: u32) -> Drain
         requires { self.now.closed ≡ true }
         ensures first { result ≡ drain_of self.now worker }

@@ -1,5 +1,9 @@
-//! Tests of the public calls of the lower crates.
+//! Tests of the public calls of other crates, so that those are proved once.
 #![tactic(auto)]
 
 #[cfg(test)]
+mod read_trace;
+#[cfg(test)]
 mod request;
+#[cfg(test)]
+mod run;

@@ -10,7 +10,7 @@ use crate::number::{next_number, number};
 use crate::read_error::FaultyLine;
 use exec_machine::config::{Configuration, Spin};
 
-/// Reads the header.
+/// Reads the header: a row for each line, with its word and how its value is read.
 pub(crate) fn read_header(lines: &mut Lines) -> Result<Configuration, FaultyLine>
     requires { lines.old.number ≡ 0 }
     ensures text { lines.new.text.now ≡ lines.old.text.now }
@@ -18,25 +18,16 @@ pub(crate) fn read_header(lines: &mut Lines) -> Result<Configuration, FaultyLine
     ensures fits { IfOk result HeaderFits }
     ensures fault { IfErr result (λ e. IsFirstFault lines.old.text.now e.number) }
 {
-    let workers = read_value(lines, "workers")?;
-    let interval = read_value(lines, "interval")?;
-    let ring = read_value(lines, "ring")?;
-    let tick = read_value(lines, "tick")?;
-    let connect = read_value(lines, "connect")?;
-    let rw = read_value(lines, "rw")?;
-    let spin = read_spin(lines)?;
-    let files = read_value(lines, "files")?;
-    let sockets = read_value(lines, "sockets")?;
     Ok(Configuration {
-        workers: workers as usize,
-        interval,
-        ring,
-        tick,
-        connect,
-        rw,
-        spin,
-        files: files as usize,
-        sockets: sockets as usize,
+        workers: read_value(lines, "workers")? as usize,
+        interval: read_value(lines, "interval")?,
+        ring: read_value(lines, "ring")?,
+        tick: read_value(lines, "tick")?,
+        connect: read_value(lines, "connect")?,
+        rw: read_value(lines, "rw")?,
+        spin: read_spin(lines)?,
+        files: read_value(lines, "files")? as usize,
+        sockets: read_value(lines, "sockets")? as usize,
     })
 }
 

@@ -21,6 +21,3 @@ mod word;
 
 pub use read::{one_fault, one_plan, read_trace, total_steps};
 pub use read_error::ReadError;
-
-#[cfg(test)]
-mod tests;

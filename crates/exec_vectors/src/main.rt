@@ -1,17 +1,20 @@
 //! Replays what the original answered, and tells where this port answers otherwise.
 //!
-//! Standard input has lines of text. A line `case N ..` begins a new part: a slab, a wheel, a spinner or the sleepers of
-//! a worker, by the words after N. Each line `OPERATION = ANSWER` after it is a call on that part with what
-//! `commonware-runtime` 2026.10.0 answered. A line that begins with `#` says nothing. Standard output has a line for
-//! each answer that differs, and at the end how many there were.
+//! Standard input has lines of text. A line `case N ..` begins a new part, by the words after N: a slab, a wheel, a
+//! spinner, the sleepers of a worker, run queues, a wake word, or the queues of a pool. Each line `OPERATION = ANSWER`
+//! after it is a call on that part with what `commonware-runtime` 2026.10.0 answered. A line that begins with `#` says
+//! nothing. Standard output has a line for each answer that differs, and at the end how many there were.
 #![tactic(auto)]
 
 mod fault;
 mod part;
+mod queues;
+mod shares;
 mod sleepers;
 mod slots;
 mod spins;
 mod ticks;
+mod wakes;
 mod words;
 
 use fault::Fault;

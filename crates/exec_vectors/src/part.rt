@@ -1,12 +1,15 @@
 //! The part that a case speaks of.
 
 use crate::fault::Fault;
+use crate::queues::Queues;
+use crate::shares::Busy;
 use crate::sleepers::Sleepers;
 use crate::words::{named, number};
-use crate::{slots, spins, ticks};
+use crate::{slots, spins, ticks, wakes};
 use exec_base::slab::Slab;
 use exec_base::spinner::Spinner;
 use exec_time::wheel::TimeoutWheel;
+use exec_words::word::PureWord;
 use std::alloc::Global;
 
 /// The part that a case speaks of.
@@ -24,6 +27,12 @@ pub enum Part {
     Wheel(TimeoutWheel),
     /// The sleepers of a worker.
     Sleepers(Sleepers),
+    /// Run queues.
+    Queues(Queues),
+    /// A wake word.
+    Word(PureWord),
+    /// The queues of a pool whose workers are busy.
+    Busy(Busy),
 }
 
 impl Part {
@@ -35,6 +44,9 @@ impl Part {
             Some("layouts") => Ok(Part::Layouts),
             Some("sleepers") => Ok(Part::Sleepers(Sleepers::new(alloc))),
             Some("start") => Ok(Part::Slab(Slab::starting_at(alloc, number(&mut words)?))),
+            Some("shared" | "exclusive") => Ok(Part::Queues(Queues::begin(alloc, &mut words)?)),
+            Some("batch") => Ok(Part::Word(wakes::begin(&mut words)?)),
+            Some("workers") => Ok(Part::Busy(Busy::begin(alloc, number(&mut words)?)?)),
             Some("budget") => Ok(Part::Spinner(spins::begin(&mut words)?)),
             Some("horizon") => Ok(Part::Wheel(ticks::begin(alloc, &mut words)?)),
             _ => Err(Fault::Malformed),
@@ -52,6 +64,9 @@ impl Part {
             Part::Spinner(spinner) => spins::answer(spinner, alloc, operation, &mut words),
             Part::Wheel(wheel) => ticks::answer(wheel, alloc, operation, &mut words),
             Part::Sleepers(sleepers) => sleepers.answer(alloc, operation, &mut words),
+            Part::Queues(queues) => queues.answer(alloc, operation, &mut words),
+            Part::Word(word) => wakes::answer(word, alloc, operation, &mut words),
+            Part::Busy(busy) => busy.answer(alloc, operation, &mut words),
         }
     }
 }

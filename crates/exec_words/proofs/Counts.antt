@@ -1,22 +1,15 @@
 -- The search count over any calls.
-use Rattle.std.proofs.Common.{◌≡◌, ℕ, ◌+◌, ◌-◌, ◌==◌, List, [], ◌∷◌, if◌then◌else◌, arith}
+use Rattle.std.proofs.Common.{◌≡◌, ◌+◌, List, [], ◌∷◌, arith}
 use Rattle.std.proofs.lemmas.Bool.Decides.{nat_tests}
-use Rattle.exec_words.specs.IdleRuns.{Change, Add, Subtract, Exchange, count_after, came_in, went_out, after}
+use Rattle.exec_words.specs.IdleRuns.{Change, Tally, Add, after, after_all}
 
--- one subtraction from a count, with what comes after it
-subtracted : (count a w c : ℕ) → a + w ≡ count - 1 + c → a + ((if count == 0 then 0 else 1) + w) ≡ count + (0 + c)
-subtracted count a w c rest = grind (arith, nat_tests)
+abbrev IsSum : Tally → Type 0
+IsSum t = t.count + t.went_out ≡ t.came_in
 
--- one exchange
-exchanged :
-    (count a w c : ℕ) → a + w ≡ (if count == 0 then 1 else count) + c → a + (0 + w) ≡ count + ((if count == 0 then 1 else 0) + c)
-exchanged count a w c rest = grind (arith, nat_tests)
+after_one : (t : Tally) (change : Change) → IsSum t → IsSum (after t change)
+after_one t Add is = grind (arith, nat_tests)
+after_one t _ is = grind (arith, nat_tests)
 
-pub count_is_a_sum : (count : ℕ) (changes : List Change) → count_after count changes + went_out count changes ≡ count + came_in count changes
-count_is_a_sum count [] = omega arith
-count_is_a_sum count (Add ∷ rest) = omega (arith, count_is_a_sum (count + 1) rest)
-count_is_a_sum count (Subtract ∷ rest) =
-    subtracted count (count_after (count - 1) rest) (went_out (count - 1) rest) (came_in (count - 1) rest) (count_is_a_sum (count - 1) rest)
-count_is_a_sum count (Exchange ∷ rest) =
-    let next : ℕ = after count Exchange in
-    exchanged count (count_after next rest) (went_out next rest) (came_in next rest) (count_is_a_sum next rest)
+pub stays_a_sum : (t : Tally) (changes : List Change) → IsSum t → IsSum (after_all t changes)
+stays_a_sum t [] is = is
+stays_a_sum t (change ∷ rest) is = stays_a_sum (after t change) rest (after_one t change is)

@@ -2,4 +2,3 @@ pub mod Counts
 pub mod Overflow
 pub mod Runs
 pub mod Sets
-pub mod Within

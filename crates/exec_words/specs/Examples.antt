@@ -1,10 +1,12 @@
 -- Queues, words and inboxes to look at.
-use Rattle.std.specs.Prelude.{ℕ, zero, suc, ◌+◌, ◌-◌, ◌^◌, Bool, false, List, [], ◌∷◌}
+use Rattle.std.specs.Prelude.{ℕ, zero, suc, ◌+◌, Bool, false, List, [], ◌∷◌}
 use Rattle.exec_words.specs.declared.head.Head.{Head}
 use Rattle.exec_words.specs.declared.inbox.Message.TheVariants.{WakeRoot, Cancel}
 use Rattle.exec_words.specs.declared.word.WaitTarget.{WaitTarget}
 use Rattle.exec_words.specs.declared.word.PureWord.{PureWord}
-use Rattle.exec_words.specs.Inbox.{Inbox, sent}
+use Rattle.exec_words.specs.IdleRuns.{Tally, Add, Subtract, Exchange, nothing}
+use Rattle.exec_words.specs.IdleRuns as idle
+use Rattle.exec_words.specs.Inbox.{Inbox, without_mail, sent}
 use Rattle.exec_words.specs.Queue.{Queue, claimed, popped}
 use Rattle.exec_words.specs.QueueRuns.{Push, Pop, Claim, Release, History, begun, after_all}
 
@@ -32,16 +34,12 @@ popped_past = popped (popped (claimed five 2))
 abbrev pub full : Queue ℕ
 full = queue_at 0 (numbers 0 256)
 
--- from this count of its tail on a queue is spent
-abbrev pub last_count : ℕ
-last_count = 2 ^ 55 - 512
-
 abbrev pub word : WaitTarget → Bool → PureWord
 word target latch = record { target = target; latch = latch; batch = 0 }
 
 -- an open inbox without messages
 abbrev pub no_mail : Inbox ℕ ℕ
-no_mail = record { messages = []; places = 2; closed = false; published = 0; taken = 0 }
+no_mail = without_mail 2
 
 -- a wake of the root, and a cancel
 abbrev pub two_letters : Inbox ℕ ℕ
@@ -50,3 +48,7 @@ two_letters = sent (sent no_mail WakeRoot) (Cancel 7)
 -- three values go in, one is claimed, and one is popped beside the claim
 abbrev pub a_run : History ℕ
 a_run = after_all (begun 0) (Push 1 ∷ Push 2 ∷ Push 3 ∷ Claim 3 ∷ Pop ∷ Release ∷ [])
+
+-- a search begins and ends; the second exchange finds a count
+abbrev pub searches : Tally
+searches = idle.after_all nothing (Add ∷ Subtract ∷ Exchange ∷ Exchange ∷ [])

@@ -1,12 +1,16 @@
 -- What a contract sees of the global queue.
-use Rattle.std.specs.Prelude.{ℕ, ◌-◌, Bool, List, ◌++◌, length, take, drop}
-use Rattle.exec_words.specs.Share.{share_of}
+use Rattle.std.specs.Prelude.{ℕ, ◌+◌, ◌-◌, ◌/◌, min, Bool, List, ◌++◌, length, take, drop}
 
 -- the values, the oldest first; for how many values there are places; and whether it takes nothing more
 pub record Global (T : Type 0) : Type 0 where
   pub values : List T
   pub places : ℕ
   pub closed : Bool
+
+-- how many values a worker takes: one more than an even split between the workers, but no more than there are, and,
+-- beside the one that is polled at once, no more than fit into the worker's run queue below its half
+abbrev pub share_of : ℕ → ℕ → ℕ → ℕ → ℕ
+share_of len workers room held = min (min (len / workers + 1) len) (min room (128 - held) + 1)
 
 module _ {T : Type 0} where
   -- how many more values have a place

@@ -7,32 +7,22 @@ pub data Change : Type 0 where
   Subtract : Change
   Exchange : Change
 
--- the count after a call: nobody subtracts from 0, and an exchange changes 0 alone
-abbrev pub after : ℕ → Change → ℕ
-after count Add = count + 1
-after count Subtract = count - 1
-after count Exchange = if count == 0 then 1 else count
+-- the count, what was added and exchanged in so far, and what was subtracted
+pub record Tally : Type 0 where
+  pub count : ℕ
+  pub came_in : ℕ
+  pub went_out : ℕ
 
--- what this call brought in, and what it took out
-abbrev pub brought : ℕ → Change → ℕ
-brought count Add = 1
-brought count Subtract = 0
-brought count Exchange = if count == 0 then 1 else 0
+-- nobody subtracts from 0, and an exchange changes 0 alone
+abbrev pub after : Tally → Change → Tally
+after t Add = record t { count = t.count + 1; came_in = t.came_in + 1 }
+after t Subtract = if t.count == 0 then t else record t { count = t.count - 1; went_out = t.went_out + 1 }
+after t Exchange = if t.count == 0 then record t { count = 1; came_in = t.came_in + 1 } else t
 
-abbrev pub took : ℕ → Change → ℕ
-took count Add = 0
-took count Subtract = if count == 0 then 0 else 1
-took count Exchange = 0
+abbrev pub after_all : Tally → List Change → Tally
+after_all t [] = t
+after_all t (change ∷ rest) = after_all (after t change) rest
 
-abbrev pub count_after : ℕ → List Change → ℕ
-count_after count [] = count
-count_after count (change ∷ rest) = count_after (after count change) rest
-
--- what all calls brought in, and took out
-abbrev pub came_in : ℕ → List Change → ℕ
-came_in count [] = 0
-came_in count (change ∷ rest) = brought count change + came_in (after count change) rest
-
-abbrev pub went_out : ℕ → List Change → ℕ
-went_out count [] = 0
-went_out count (change ∷ rest) = took count change + went_out (after count change) rest
+-- nobody searches, and no call was made
+abbrev pub nothing : Tally
+nothing = record { count = 0; came_in = 0; went_out = 0 }

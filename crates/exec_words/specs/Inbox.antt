@@ -1,10 +1,11 @@
--- What a contract sees of an inbox, and what its calls do.
-use Rattle.std.specs.Prelude.{◌≡◌, ℕ, ◌-◌, Bool, true, false, not, ◌&&◌, List, [], ◌∷◌, ◌++◌, length, if◌then◌else◌}
+-- What a contract sees of an inbox, and what its calls do to it and to the wake word of its worker.
+use Rattle.std.specs.Prelude.{◌≡◌, ℕ, ◌-◌, ◌^◌, ◌<◌, Bool, true, false, not, ◌&&◌, List, [], ◌∷◌, ◌++◌, length, if◌then◌else◌}
 use Rattle.std.specs.List.{list_any}
 use Rattle.exec_words.specs.declared.inbox.Message.{Message}
-use Rattle.exec_words.specs.Message.{is_wake_root}
-use Rattle.exec_words.specs.Batch.{next_batch}
+use Rattle.exec_words.specs.declared.inbox.Message.TheVariants.{WakeRoot}
+use Rattle.exec_words.specs.declared.word.PureWord.{PureWord}
 use Rattle.exec_words.specs.Reserved.{Reserved}
+use Rattle.exec_words.specs.Word.{asks_signal, next_batch}
 
 -- the messages that aren't taken, the oldest first; for how many there are places; whether it takes no more; and how
 -- many batches were published and taken, modulo 2^29
@@ -16,9 +17,13 @@ pub record Inbox (F C : Type 0) : Type 0 where
   pub taken : ℕ
 
 module _ {F C : Type 0} where
+  -- an open inbox without messages, with so many places
+  abbrev pub without_mail : ℕ → Inbox F C
+  without_mail places = record { messages = []; places = places; closed = false; published = 0; taken = 0 }
+
   abbrev pub has_any : List (Message F C) → Bool
   has_any [] = false
-  has_any (_ ∷ _) = true
+  has_any _ = true
 
   abbrev pub has_mail : Inbox F C → Bool
   has_mail i = has_any i.messages
@@ -32,6 +37,10 @@ module _ {F C : Type 0} where
   pub record IsCounted (i : Inbox F C) : Type 0 where
     pub batches : i.published ≡ (if has_mail i then next_batch i.taken else i.taken)
     pub empty : i.closed ≡ true → has_mail i ≡ false
+
+  abbrev pub is_wake_root : Message F C → Bool
+  is_wake_root WakeRoot = true
+  is_wake_root _ = false
 
   -- a second wake of the root, beside one that isn't taken
   abbrev pub is_dropped : Inbox F C → Message F C → Bool
@@ -47,6 +56,15 @@ module _ {F C : Type 0} where
       if is_dropped i m then i
       else record i { messages = i.messages ++ m ∷ []; published = if opens_batch i m then next_batch i.published else i.published }
 
+  -- the wake word then: the first message of a batch publishes it
+  abbrev pub word_after : Inbox F C → Message F C → PureWord → PureWord
+  word_after i m w = if opens_batch i m then record w { batch = next_batch w.batch } else w
+
+  -- and once it is signalled, where a wait is armed and nobody has signalled it
+  abbrev pub word_signalled : Inbox F C → Message F C → PureWord → PureWord
+  word_signalled i m w =
+      if opens_batch i m && asks_signal w then record (word_after i m w) { latch = true } else word_after i m w
+
   -- the inbox once its worker took what was there, and left the places of its last batch
   abbrev pub batch_taken : Inbox F C → Reserved (Message F C) → Inbox F C
   batch_taken i batch =
@@ -58,3 +76,11 @@ module _ {F C : Type 0} where
 
   abbrev pub shut : Inbox F C → Inbox F C
   shut i = record i { closed = true }
+
+-- What the fields of an inbox keep, which no public clause cites: whether a wake of the root is there, and the two counts
+pub record IsLaidOut {F C : Type 0} (messages : List (Message F C)) (has_root closed : Bool) (published taken : ℕ) : Type 0 where
+  pub root_known : has_root ≡ list_any is_wake_root messages
+  pub counted : published ≡ (if has_any messages then next_batch taken else taken)
+  pub empty : closed ≡ true → has_any messages ≡ false
+  pub published_in_range : published < 2 ^ 29
+  pub taken_in_range : taken < 2 ^ 29

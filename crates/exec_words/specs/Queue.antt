@@ -1,7 +1,11 @@
 -- What a contract sees of a run queue, and its transitions.
-use Rattle.std.specs.Prelude.{ℕ, ◌+◌, List, [], ◌++◌, length, take, drop}
+use Rattle.std.specs.Prelude.{◌≡◌, ℕ, ◌+◌, ◌-◌, ◌^◌, ◌≤◌, List, [], ◌∷◌, ◌++◌, length, take, drop}
 use Rattle.exec_words.specs.declared.head.Head.{Head}
 use Rattle.exec_words.specs.declared.head.Fit.{Fit}
+use Rattle.exec_words.specs.declared.head.Fit.TheVariants as fit
+use Rattle.exec_words.specs.declared.queue.PushAnswer.{PushAnswer}
+use Rattle.exec_words.specs.declared.queue.PushAnswer.TheVariants as answer
+use Rattle.exec_words.specs.Reserved.{Reserved}
 use Rattle.exec_words.specs.Head.{popped_head, claimed_head, released_head, overflowed_head, room_at, fit_at}
 
 -- the count of the front value, the places before it that are not free yet, the values, and those that the owner
@@ -59,3 +63,28 @@ module _ {T : Type 0} where
   -- the end of an overflow: one store of the tail publishes what the owner kept
   abbrev pub restored : Queue T → Queue T
   restored q = record q { values = q.held; held = [] }
+
+  -- what a push answers, where nobody acts in between: a value that doesn't fit comes back
+  abbrev pub push_answer : Fit → T → PushAnswer T
+  push_answer (fit.Room len) value = answer.Pushed len
+  push_answer fit.Overflow value = answer.Overflow value
+  push_answer fit.Claimed value = answer.Claimed value
+  push_answer fit.Spent value = answer.Spent value
+
+  -- the queue after it: one more value, or the oldest half, or as it was
+  abbrev pub after_push : Fit → Queue T → T → Queue T
+  after_push (fit.Room len) q value = published q (value ∷ [])
+  after_push fit.Overflow q value = restored (overflowed q)
+  after_push _ q value = q
+
+  -- what goes into the owner's hand
+  abbrev pub handed_out : Fit → Queue T → List T
+  handed_out fit.Overflow q = newest q
+  handed_out _ q = []
+
+  -- What the fields of a run queue keep, which no public clause cites: each list has its places, values and gap fill the ring at most, and no count comes near the end of 55 bits
+  pub record IsLaidOut (values held : Reserved T) (real gap : ℕ) : Type 0 where
+    pub values_places : values.places ≡ 256
+    pub held_places : held.places ≡ 256
+    pub within : length values.values + length held.values + gap ≤ 256
+    pub below_the_end : real + length values.values + length held.values ≤ 2 ^ 55 - 256

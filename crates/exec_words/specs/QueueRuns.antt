@@ -1,5 +1,5 @@
 -- Calls on a run queue that change it, one after another, by anyone; and what went in and came out.
-use Rattle.std.specs.Prelude.{ℕ, ◌/◌, ◌==◌, nat_lt, nat_le, ◌&&◌, not, List, [], ◌∷◌, ◌++◌, length, take, if◌then◌else◌}
+use Rattle.std.specs.Prelude.{◌≡◌, ◌⊎◌, Bool, true, false, ℕ, ◌/◌, ◌==◌, nat_lt, nat_le, ◌&&◌, not, List, [], ◌∷◌, ◌++◌, length, take, if◌then◌else◌}
 use Rattle.exec_words.specs.Head.{is_spent}
 use Rattle.exec_words.specs.Queue.{Queue, tail_of, room_of, popped, claimed, released, published, overflowed, newest, restored}
 
@@ -24,39 +24,36 @@ module _ {T : Type 0} where
   abbrev pub begun : ℕ → History T
   begun real = record { queue = record { real = real; gap = 0; values = []; held = [] }; put = []; front = []; handed_out = [] }
 
+  abbrev pub is_empty : List T → Bool
+  is_empty [] = true
+  is_empty _ = false
+
   -- so many values leave at the front, and the queue is then this one
   abbrev pub leave : History T → ℕ → Queue T → History T
   leave h count q = record h { queue = q; front = h.front ++ take count h.queue.values }
 
-  -- a push goes in where there is room, and nothing is held
-  abbrev pub put_in : History T → T → List T → History T
-  put_in h value [] =
-      if nat_lt 0 (room_of h.queue) then record h { queue = published h.queue (value ∷ []); put = h.put ++ value ∷ [] } else h
-  put_in h value (_ ∷ _) = h
-
-  -- a full queue flows over where nothing is held
-  abbrev pub flow_over : History T → List T → History T
-  flow_over h [] =
-      if length h.queue.values == 256 && not (is_spent (tail_of h.queue))
-      then record h { queue = overflowed h.queue; handed_out = h.handed_out ++ newest h.queue } else h
-  flow_over h (_ ∷ _) = h
-
-  -- what is held comes back into an empty queue
-  abbrev pub come_back : History T → List T → History T
-  come_back h [] = record h { queue = restored h.queue }
-  come_back h (_ ∷ _) = h
-
-  -- a call that can't be made changes nothing
+  -- A push goes in where there is room, and a full queue flows over, where nothing is held; what is held comes back into
+  -- an empty queue. A call that can't be made changes nothing.
   abbrev pub after : History T → Change T → History T
-  after h (Push value) = put_in h value h.queue.held
-  after h Pop = if nat_lt 0 (length h.queue.values) then leave h 1 (popped h.queue) else h
+  after h (Push value) =
+      if is_empty h.queue.held && nat_lt 0 (room_of h.queue)
+      then record h { queue = published h.queue (value ∷ []); put = h.put ++ value ∷ [] } else h
+  after h Pop = if is_empty h.queue.values then h else leave h 1 (popped h.queue)
   after h (Claim seen) =
       if h.queue.gap == 0 && nat_le 2 seen && nat_le seen (length h.queue.values)
       then leave h (seen / 2) (claimed h.queue (seen / 2)) else h
   after h Release = record h { queue = released h.queue }
-  after h Overflow = flow_over h h.queue.held
-  after h Restore = come_back h h.queue.values
+  after h Overflow =
+      if is_empty h.queue.held && (length h.queue.values == 256 && not (is_spent (tail_of h.queue)))
+      then record h { queue = overflowed h.queue; handed_out = h.handed_out ++ newest h.queue } else h
+  after h Restore = if is_empty h.queue.values then record h { queue = restored h.queue } else h
 
   abbrev pub after_all : History T → List (Change T) → History T
   after_all h [] = h
   after_all h (change ∷ rest) = after_all (after h change) rest
+
+-- the first list is the second one, with some values left out
+abbrev pub IsWithin : {A : Type 0} → List A → List A → Type 0
+IsWithin [] ys = Unit {0}
+IsWithin (x ∷ xs) [] = ⊥
+IsWithin (x ∷ xs) (y ∷ ys) = ((x ≡ y) × IsWithin xs ys) ⊎ IsWithin (x ∷ xs) ys

@@ -1,13 +1,16 @@
 -- What is read off a wake word.
-use Rattle.std.specs.Prelude.{ℕ, ◌==◌, Bool, true, false, not, ◌&&◌}
+use Rattle.std.specs.Prelude.{ℕ, ◌+◌, ◌^◌, ◌%◌, ◌==◌, Bool, true, false, not, ◌&&◌}
 use Rattle.exec_words.specs.declared.word.WaitTarget.{WaitTarget}
 use Rattle.exec_words.specs.declared.word.WaitTarget.TheVariants as target
 use Rattle.exec_words.specs.declared.word.PureWord.{PureWord}
 
+-- batches of mail are counted modulo 2^29
+abbrev pub next_batch : ℕ → ℕ
+next_batch n = (n + 1) % 2 ^ 29
+
 abbrev pub is_armed : WaitTarget → Bool
 is_armed target.None = false
-is_armed target.Sleeping = true
-is_armed target.Ring = true
+is_armed _ = true
 
 -- a publication must be followed by a signal: a wait is armed, and nobody has signalled it
 abbrev pub asks_signal : PureWord → Bool

@@ -1,18 +1,13 @@
 //! The queue that all workers of a pool take from, with the mirror of its length.
 //!
-//! Every worker may append, and so may anyone outside of the pool. A worker takes a share: one
-//! value more than an even split between the workers, the oldest first, but no more than its own
-//! run queue has room for below half. It polls the first itself, and the others go into its run
-//! queue. All this is done under one lock. The mirror is read without the lock: it is stored with
-//! each change, and equals the length. A closed queue takes nothing more.
-//!
-//! Ports the global queue of `commonware_runtime`'s `iouring::pool`.
+//! Anyone may append. A worker takes a share: one value more than an even split between the
+//! workers, the oldest first, but no more than its own run queue has room for below half. It polls
+//! the first itself, and the others go into its run queue. All this is done under one lock. The
+//! mirror is read without the lock: it is stored with each change, and equals the length. A closed
+//! queue takes nothing more. Ports the global queue of `commonware_runtime`'s `iouring::pool`.
 
 ghost use Rattle.std.specs.Prelude.{◌≡◌, ◌+◌, ◌-◌, ◌<◌, ◌≤◌, ◌==◌, ◌↔◌, [], ◌∷◌, ◌++◌, length, take, drop, max, slice_get, false, true, IsTrue, IsOk, OnOk, IfErr, OnErr, not, Some, None};
-ghost use Rattle.exec_words.specs.Share.{share_of};
-
-#[cfg(test)]
-mod tests;
+ghost use Rattle.exec_words.specs.Global.{share_of};
 
 use super::HALF;
 use super::queue::PureQueue;
@@ -59,9 +54,8 @@ impl<T> GlobalQueue<T> {
         }
     }
 
-    /// Makes places for `n` values in all, those that are there already among them.
-    ///
-    /// Where there is no memory the queue stays as it is.
+    /// Makes places for `n` values in all, those that are there already among them. Where there is
+    /// no memory the queue stays as it is.
     pub fn reserve(&mut self, alloc: Global, n: usize) -> Result<(), AllocError>
         ensures places { OnOk result (self.new
             ≡ record self.old { places = max self.old.places n }) }
@@ -127,11 +121,10 @@ impl<T> GlobalQueue<T> {
     }
 
     /// Takes a share for a worker of a pool with so many workers: answers the oldest value, and
-    /// publishes the others in the worker's run queue. None exactly where there is no value.
-    ///
-    /// `room` and `held` are the free places and the values of that run queue, by the head that its
-    /// owner loaded. The caller must have a worker, and be in the middle of no overflow; the room
-    /// of a run queue doesn't shrink while its owner waits.
+    /// publishes the others in the worker's run queue. None exactly where there is no value. `room`
+    /// and `held` are the free places and the values of that run queue, by the head that its owner
+    /// loaded; its room doesn't shrink while the owner waits. The caller must have a worker, and be
+    /// in the middle of no overflow.
     pub fn take(
         &mut self,
         workers: usize,
@@ -149,7 +142,7 @@ impl<T> GlobalQueue<T> {
         let len = self.values.len();
         let share = share(len, workers, room, held);
         let first = self.values.pop()?;
-        into.publish_front(share - 1, &mut self.values);
+        into.publish(share - 1, &mut self.values);
         self.mirror = self.values.len();
         Some(first)
     }

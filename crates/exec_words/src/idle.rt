@@ -1,14 +1,13 @@
 //! Which workers of a pool are about to sleep, and how many search for work.
 //!
-//! A worker that finds nothing to do publishes itself: its number goes into the set. From then on
-//! whoever has work for it may claim it: an exchange of the set for one without its lowest number.
-//! A claim hands a search count to the worker that it took. When the worker runs again it
-//! withdraws: where its number is gone, it was claimed, and holds the claimer's count.
+//! A worker that finds nothing to do publishes itself: its number goes into the set. Whoever has
+//! work for it claims it then, by an exchange of the set for one without its lowest number, and
+//! hands it a search count. A worker that runs again withdraws: where its number is gone, it was
+//! claimed, and holds the claimer's count.
 //!
-//! A search count is the duty to look for work, or to hand that duty on. The count is how many
-//! there are: a worker that begins a search adds one, a wake reserves one before its claim, and who
-//! is done subtracts one and is told whether it was the last. A worker that would wake only the
-//! first searcher exchanges the count 0 to 1.
+//! A search count is the duty to look for work, or to hand that duty on. A worker that begins a
+//! search adds one, a wake reserves one before its claim, and who is done subtracts one and is told
+//! whether it was the last. A worker that would wake only the first searcher exchanges 0 to 1.
 //!
 //! Set and count are two words, and each call is one operation on one of them. Ports the `Idle` of
 //! `commonware_runtime`'s `iouring::idle`, whose loops make these steps.
@@ -16,10 +15,7 @@
 ghost use Rattle.std.specs.Prelude.{◌≡◌, ◌+◌, ◌-◌, ◌<◌, ◌^◌, ◌↔◌, IsTrue, IsOk, IfOk, OnOk, IfErr, OnErr, IsSome, IsNone, Some, true, false, replicate, slice_index_or, slice_set, position, length};
 ghost use Rattle.exec_words.specs.Idle.{is_in, lowest_of};
 
-mod laws;
-
 use super::MAX_WORKERS;
-pub use laws::the_count_is_a_sum;
 use std::marker::Model;
 
 /// What a worker does after its last look.
@@ -41,23 +37,6 @@ pub struct WorkerSet {
 }
 
 impl WorkerSet {
-    /// The set without workers.
-    pub fn empty() -> Self
-        ensures { result.has ≡ replicate 64 false }
-    {
-        WorkerSet {
-            has: [false; MAX_WORKERS],
-        }
-    }
-
-    /// Whether the worker of this number is in it. The caller must name a number below 64.
-    pub fn contains(&self, worker: usize) -> bool
-        requires { worker < 64 }
-        ensures { result ≡ is_in self.now.has worker }
-    {
-        self.has[worker]
-    }
-
     /// The lowest number in the set. None where it is empty.
     pub fn lowest(&self) -> Option<usize>
         ensures { result ≡ lowest_of self.now.has }
@@ -87,7 +66,9 @@ impl PureIdle {
         ensures { result ≡ record { published = replicate 64 false; count = 0 } }
     {
         PureIdle {
-            set: WorkerSet::empty(),
+            set: WorkerSet {
+                has: [false; MAX_WORKERS],
+            },
             count: 0,
         }
     }
@@ -122,8 +103,8 @@ impl PureIdle {
     }
 
     /// A claim: exchanges the set for one without its lowest worker, and answers that worker. Err
-    /// with the set that was found where it isn't `seen`, and nothing changes then. The caller must
-    /// have seen a worker.
+    /// with the set that was found where it isn't `seen`. The caller must have seen a worker.
+    #[tactic(auto, using(crate::proofs::Sets::same_sets, crate::proofs::Sets::other_sets))]
     pub fn claim_exchange(&mut self, seen: &WorkerSet) -> Result<usize, WorkerSet>
         requires { IsSome (lowest_of seen.now.has) }
         ensures same { IsOk result ↔ (self.old.published ≡ seen.now.has) }
@@ -136,13 +117,11 @@ impl PureIdle {
         if self.set != *seen {
             return Err(self.set);
         }
-        match seen.lowest() {
-            Some(lowest) => {
-                self.set.has[lowest] = false;
-                Ok(lowest)
-            }
-            None => unreachable!(),
-        }
+        let Some(lowest) = seen.lowest() else {
+            unreachable!();
+        };
+        self.set.has[lowest] = false;
+        Ok(lowest)
     }
 
     /// Loads the search count.
@@ -152,8 +131,7 @@ impl PureIdle {
         self.count
     }
 
-    /// Adds a search count. The caller must know that the count isn't at its type's end: it is at
-    /// most the number of those that hold one.
+    /// Adds a search count. The caller must know that the count isn't at its type's end.
     pub fn add(&mut self)
         requires { self.old.count + 1 < 2 ^ 64 }
         ensures { self.new ≡ record self.old { count = self.old.count + 1 } }
@@ -173,8 +151,7 @@ impl PureIdle {
         found
     }
 
-    /// Exchanges the count 0 to 1. Err with the count that was found where it isn't 0, and nothing
-    /// changes then.
+    /// Exchanges the count 0 to 1. Err with the count that was found where it isn't 0.
     pub fn count_exchange(&mut self) -> Result<(), usize>
         ensures none { IsOk result ↔ (self.old.count ≡ 0) }
         ensures first { OnOk result (self.new ≡ record self.old { count = 1 }) }

@@ -3,11 +3,9 @@
 //! Anyone sends, under a lock; the worker takes all that is there at once, as one batch, and
 //! applies it in order. The first message of a batch publishes it in the worker's wake word, so
 //! batches published less batches taken is 1 where an open inbox holds a message, and else 0. That
-//! the worker's root is to be woken stands at most once in a batch: a second such message is
-//! dropped. A closed inbox gives each message back, and what stood in it when it closed counts as
-//! taken.
-//!
-//! Ports the `Inbox` and `Message` of `commonware_runtime`'s `iouring::mailbox`.
+//! the worker's root is to be woken stands at most once in a batch. A closed inbox gives each
+//! message back, and what stood in it when it closed counts as taken. Ports the `Inbox` and
+//! `Message` of `commonware_runtime`'s `iouring::mailbox`.
 
 ghost use Rattle.std.specs.Prelude.{◌≡◌, ◌<◌, ◌^◌, [], length, max, false, true, not, ◌&&◌, IsOk, IfOk, OnOk, IfErr, OnErr, ◌↔◌};
 ghost use Rattle.exec_words.specs.declared.inbox.Message.{Message as Mail};
@@ -28,17 +26,6 @@ pub enum Message<F, C> {
     Cancel(C),
 }
 
-impl<F, C> Message<F, C> {
-    ghost use Rattle.exec_words.specs.Message.{is_wake_root};
-
-    /// Whether it wakes the root.
-    pub fn is_wake_root(&self) -> bool
-        ensures { result ≡ is_wake_root self.now }
-    {
-        matches!(self, Message::WakeRoot)
-    }
-}
-
 /// The messages of a worker that it hasn't taken. Only `reserve` takes memory.
 #[derive(Drop)]
 pub struct Inbox<F, C> {
@@ -51,8 +38,7 @@ pub struct Inbox<F, C> {
 }
 
 impl<F, C> Model for Inbox<F, C> {
-    ghost use Rattle.exec_words.specs.Inbox.{Inbox as Letters, IsCounted};
-    ghost use Rattle.exec_words.specs.InboxLayout.{IsLaidOut};
+    ghost use Rattle.exec_words.specs.Inbox.{Inbox as Letters, IsLaidOut};
 
     ghost Value = { Letters F C };
 
@@ -68,19 +54,12 @@ impl<F, C> Model for Inbox<F, C> {
 }
 
 impl<F, C> Inbox<F, C> {
-    ghost use Rattle.exec_words.specs.Inbox.{sent, is_dropped, opens_batch, batch_taken, batch_handed, has_mail, shut, IsCounted, spare_places};
+    ghost use Rattle.exec_words.specs.Inbox.{without_mail, sent, is_dropped, opens_batch, word_after, batch_taken, batch_handed, has_mail, shut, IsCounted, spare_places};
     ghost use Rattle.exec_words.specs.Word.{asks_signal};
-    ghost use Rattle.exec_words.specs.SentWord.{word_after};
 
     /// An open inbox without messages and places.
     pub fn new(alloc: Global) -> Self
-        ensures { result ≡ record {
-          messages = [];
-          places = 0;
-          closed = false;
-          published = 0;
-          taken = 0;
-        } }
+        ensures { result ≡ without_mail 0 }
     {
         Inbox {
             messages: Reserved::new(alloc),
@@ -91,9 +70,8 @@ impl<F, C> Inbox<F, C> {
         }
     }
 
-    /// Makes places for `n` messages in all, those that are there already among them.
-    ///
-    /// Where there is no memory the inbox stays as it is.
+    /// Makes places for `n` messages in all, those that are there already among them. Where there
+    /// is no memory the inbox stays as it is.
     pub fn reserve(&mut self, alloc: Global, n: usize) -> Result<(), AllocError>
         ensures places { OnOk result (self.new
             ≡ record self.old { places = max self.old.places n }) }
@@ -110,26 +88,9 @@ impl<F, C> Inbox<F, C> {
         self.closed
     }
 
-    /// How many batches were published, modulo 2^29.
-    pub fn published(&self) -> u32
-        ensures count { result ≡ self.now.published }
-        ensures counted { IsCounted self.now }
-    {
-        self.published
-    }
-
-    /// How many batches were taken, modulo 2^29.
-    pub fn taken(&self) -> u32
-        ensures count { result ≡ self.now.taken }
-        ensures counted { IsCounted self.now }
-    {
-        self.taken
-    }
-
     /// Appends a message, and publishes the batch that it begins in the worker's wake word. Answers
     /// whether a signal must follow. A second wake of the root beside one that isn't taken is
     /// dropped. Gives the message back exactly where the inbox is closed, and nothing changes then.
-    ///
     /// The caller must have reserved the message's place.
     pub fn send(
         &mut self,
@@ -153,7 +114,7 @@ impl<F, C> Inbox<F, C> {
         if self.closed {
             return Err(message);
         }
-        let is_root = message.is_wake_root();
+        let is_root = matches!(message, Message::WakeRoot);
         if is_root && self.has_root {
             return Ok(false);
         }
@@ -167,9 +128,8 @@ impl<F, C> Inbox<F, C> {
         Ok(word.publish())
     }
 
-    /// Takes all messages as one batch into `batch`, whose places stay here in exchange. False
-    /// exactly where there is none, and nothing changes then. The caller must have applied the
-    /// batch before: `batch` is empty.
+    /// Takes all messages as one batch into `batch`, which must be empty, and whose places stay
+    /// here in exchange. False exactly where there is none, and nothing changes then.
     pub fn take(&mut self, batch: &mut Reserved<Message<F, C>>) -> bool
         requires { batch.old.values ≡ [] }
         ensures answer { result ≡ has_mail self.old }
@@ -186,8 +146,7 @@ impl<F, C> Inbox<F, C> {
     }
 
     /// Closes the inbox. What stood in it counts as a batch that was taken, and goes into `batch`,
-    /// for the worker to let go; the answer is whether there was one. The caller must have let go
-    /// of the batch before.
+    /// which must be empty, for the worker to let go; the answer is whether there was one.
     pub fn close(&mut self, batch: &mut Reserved<Message<F, C>>) -> bool
         requires { batch.old.values ≡ [] }
         ensures answer { result ≡ has_mail self.old }

@@ -1,16 +1,12 @@
 //! What the workers of a pool share, as plain data: each call is one atomic step.
 //!
-//! A pool of workers shares five kinds of thing. Each is a value here, and each operation that an
-//! executor makes on it in one step is one call: a load, a store, an exchange that may fail and
-//! then tells what it found, or what is done under one lock. Nothing here waits, and no call but a
-//! maker or a `reserve` takes memory. So an executor in one thread makes its steps of these calls
-//! in any order, and what runs in threads is proved to make the same transitions.
-//!
-//! - `queue`: the run queue of a worker, which pushes and pops there, and from which others steal.
-//! - `global`: the queue that all workers take from, with the mirror of its length.
-//! - `idle`: which workers are about to sleep, and how many search for work.
-//! - `word`: the wake word of a worker: how it waits, and whether it is to wake.
-//! - `inbox` and `mailbox`: messages for one worker, in batches.
+//! Each operation that an executor makes on a shared thing in one step is one call here: a load, a
+//! store, an exchange that may fail and then tells what it found, or what is done under one lock.
+//! Nothing waits, and no call but a maker or a `reserve` takes memory. So an executor in one thread
+//! makes its steps of these calls in any order, and what runs in threads is proved to make the same
+//! transitions. The things are a worker's run queue (`queue`), the queue of all workers (`global`),
+//! the set of idle ones with its search count (`idle`), the wake word (`word`), and messages for
+//! one worker in batches (`inbox`, `mailbox`).
 #![tactic(auto)]
 
 pub mod examples;
@@ -18,6 +14,7 @@ pub mod global;
 pub mod head;
 pub mod idle;
 pub mod inbox;
+pub mod laws;
 pub mod mailbox;
 pub mod queue;
 pub mod reserved;
@@ -29,8 +26,7 @@ pub mod word;
 pub const CAPACITY: usize = 256;
 /// How many values an overflow keeps, and the most that a steal takes: half the capacity.
 pub const HALF: usize = 128;
-/// The fewest values that an unclaimed queue holds for a steal to take any. Half of them is taken,
-/// rounded down.
+/// The fewest values of an unclaimed queue of which a steal takes any: half, rounded down.
 pub const STEALABLE: usize = 2;
 /// The most workers that a pool has.
 pub const MAX_WORKERS: usize = 64;

@@ -2,21 +2,17 @@
 //!
 //! `send` is a whole sending, where nobody acts in between: the section that appends and publishes,
 //! and then the signal where one is asked for. An executor that makes these one by one calls
-//! `Inbox::send` and `PureWord::wake`. Ports the `Mailbox` of `commonware_runtime`'s
-//! `iouring::mailbox`.
+//! `Inbox::send` and `PureWord::wake`. Ports `Mailbox` of `commonware_runtime`'s `iouring::mailbox`.
 
 ghost use Rattle.std.specs.Prelude.{◌≡◌, ◌<◌, [], false, true, max, IsOk, IfOk, OnOk, IfErr, OnErr, ◌↔◌};
 ghost use Rattle.exec_words.specs.declared.word.WaitTarget.TheVariants as wait;
-
-#[cfg(test)]
-mod tests;
 
 use super::inbox::{Inbox, Message};
 use super::reserved::Reserved;
 use super::word::PureWord;
 use std::alloc::{AllocError, Global};
 
-/// The inbox of a worker, with its wake word. Only `new` and `reserve` take memory.
+/// The inbox of a worker, with its wake word.
 #[derive(Drop)]
 pub struct Mailbox<F, C> {
     /// The wake word.
@@ -26,47 +22,29 @@ pub struct Mailbox<F, C> {
 }
 
 impl<F, C> Mailbox<F, C> {
-    ghost use Rattle.exec_words.specs.Inbox.{sent, is_dropped, batch_taken, batch_handed, has_mail, shut, spare_places};
-    ghost use Rattle.exec_words.specs.SentWord.{word_signalled};
+    ghost use Rattle.exec_words.specs.Inbox.{without_mail, sent, is_dropped, spare_places, word_signalled, has_mail, batch_taken, batch_handed, shut};
 
     /// An open mailbox with a fresh wake word, and a place for a wake of the root.
     pub fn new(alloc: Global) -> Result<Self, AllocError>
     where
         F: Drop,
         C: Drop,
-        ensures inbox { IfOk result (λ m. m.inbox
-            ≡ record { messages = []; places = 1; closed = false; published = 0; taken = 0 }) }
-        ensures target { IfOk result (λ m. m.waker.target ≡ wait.None) }
-        ensures latch { IfOk result (λ m. m.waker.latch ≡ false) }
-        ensures batch { IfOk result (λ m. m.waker.batch ≡ 0) }
+        ensures inbox { IfOk result (λ m. m.inbox ≡ without_mail 1) }
+        ensures waker { IfOk result (λ m. m.waker
+            ≡ record { target = wait.None; latch = false; batch = 0 }) }
     {
         let mut inbox = Inbox::new(alloc);
         inbox.reserve(alloc, 1)?;
         Ok(Mailbox {
-            waker: PureWord::new(),
+            waker: PureWord::at(0),
             inbox,
         })
     }
 
-    /// Makes places for `n` messages in all, those that are there already among them.
-    ///
-    /// Where there is no memory the mailbox stays as it is.
-    pub fn reserve(&mut self, alloc: Global, n: usize) -> Result<(), AllocError>
-        ensures places { OnOk result (self.new
-            ≡ record self.old {
-              inbox =
-                  record self.old.inbox { places = max self.old.inbox.places n };
-            }) }
-        ensures kept { OnErr result (self.new ≡ self.old) }
-    {
-        self.inbox.reserve(alloc, n)
-    }
-
     /// Sends a message, and signals the worker where the batch that it begins asks for it. A second
     /// wake of the root beside one that isn't taken is dropped. Gives the message back exactly
-    /// where the mailbox is closed, and nothing changes then.
-    ///
-    /// The caller must have reserved the message's place.
+    /// where the mailbox is closed, and nothing changes then. The caller must have reserved the
+    /// message's place.
     pub fn send(&mut self, message: Message<F, C>) -> Result<(), Message<F, C>>
     where
         F: Drop,
@@ -86,24 +64,30 @@ impl<F, C> Mailbox<F, C> {
         Ok(())
     }
 
-    /// Takes all messages as one batch, as `Inbox::take` does. The caller must have an empty
-    /// `batch`.
+    /// Makes places, as `Inbox::reserve` does.
+    pub fn reserve(&mut self, alloc: Global, n: usize) -> Result<(), AllocError>
+        ensures places { OnOk result (self.new.inbox ≡ record self.old.inbox { places = max self.old.inbox.places n }) }
+        ensures kept { OnErr result (self.new.inbox ≡ self.old.inbox) }
+        ensures waker { self.new.waker ≡ self.old.waker }
+    {
+        self.inbox.reserve(alloc, n)
+    }
+
+    /// Takes all messages as one batch, as `Inbox::take` does. `batch` must be empty.
     pub fn take(&mut self, batch: &mut Reserved<Message<F, C>>) -> bool
         requires { batch.old.values ≡ [] }
         ensures answer { result ≡ has_mail self.old.inbox }
-        ensures taken { self.new
-            ≡ record self.old { inbox = batch_taken self.old.inbox batch.old } }
+        ensures taken { self.new ≡ record self.old { inbox = batch_taken self.old.inbox batch.old } }
         ensures handed { batch.new ≡ batch_handed self.old.inbox batch.old }
     {
         self.inbox.take(batch)
     }
 
-    /// Closes the inbox, as `Inbox::close` does. The caller must have an empty `batch`.
+    /// Closes the inbox, as `Inbox::close` does. `batch` must be empty.
     pub fn close(&mut self, batch: &mut Reserved<Message<F, C>>) -> bool
         requires { batch.old.values ≡ [] }
         ensures answer { result ≡ has_mail self.old.inbox }
-        ensures closed { self.new
-            ≡ record self.old { inbox = shut (batch_taken self.old.inbox batch.old) } }
+        ensures closed { self.new ≡ record self.old { inbox = shut (batch_taken self.old.inbox batch.old) } }
         ensures handed { batch.new ≡ batch_handed self.old.inbox batch.old }
     {
         self.inbox.close(batch)

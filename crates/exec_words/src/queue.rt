@@ -1,45 +1,59 @@
 //! The run queue of a worker, as transitions.
 //!
 //! A run queue holds up to 256 values, the oldest first. One worker owns it: only the owner pushes
-//! and pops. Others are thieves: a thief claims the oldest half, moves those values away, and
-//! releases the claim. What happens between two steps of one party is seen by the next one: each
-//! exchange of the head names the head that its party saw, fails where the head has changed since,
-//! and then tells the head that it found.
+//! and pops. Others are thieves, each of which claims the oldest half, moves it away, and releases
+//! the claim. What happens between two steps of one party is seen by the next one: each exchange
+//! names the head that its party saw; where the head has changed since, it changes nothing, and
+//! answers the head that it found.
 //!
-//! - The owner pops by an exchange (`pop_exchange`). The last value without a claim it takes by a
-//!   store of the head (`pop_last`): no thief can take a lone value. In a queue without thieves a
-//!   pop is one action (`pop`).
-//! - The owner publishes by a store of the tail: one value (`push_fitting`), or a batch
-//!   (`publish`). It must have room.
-//! - A thief loads head and tail and claims half of what is between them (`claim_exchange`): no
-//!   claim is held, and there are two values at least. The values are in its hand then. While it
-//!   moves them their places aren't free: the gap counts them, and those of the owner's pops past
-//!   them. The release (`release_exchange`) frees both.
+//! - The owner pops by an exchange (`pop_exchange`). A lone value without a claim it takes by a
+//!   store of the head (`pop_last`), since no thief can. Without thieves a pop is one act (`pop`).
+//! - The owner publishes one value (`push_fitting`) or several (`publish`) by a store of the tail.
+//! - A thief that loaded head and tail claims half of what is between them (`claim_exchange`).
+//!   While it moves them their places aren't free: the gap counts them, and those of the owner's
+//!   pops past them. The release (`release_exchange`) frees both.
 //! - A push into a full queue without a claim flows over (`overflow_exchange`): the newest half
 //!   goes to the owner's hand, and the oldest half is kept aside until the owner's next store of
 //!   the tail (`restore`). In between the queue is empty to thieves. Each position is counted once
 //!   more, so no head comes again.
 //!
-//! Where nobody acts in between, `push`, `pop` and `steal_once` are whole calls of these steps.
-//!
-//! A queue counts its values: from 2^55 - 512 on it takes no more, and is spent. What a contract
-//! sees is in `specs/Queue.antt`. Ports the `Queue` and `Owner` of `commonware_runtime`'s
-//! `iouring::queue`, each of whose loops makes these steps.
+//! Where nobody acts in between, `push` is a whole push of these steps. A queue counts its values:
+//! from 2^55 - 512 on it takes no more, and is spent. What a contract sees is in
+//! `specs/Queue.antt`. Ports the `Queue` and `Owner` of `commonware_runtime`'s `iouring::queue`,
+//! each of whose loops makes these steps.
 
 ghost use Rattle.std.specs.Prelude.{◌≡◌, ◌+◌, ◌-◌, ◌^◌, ◌<◌, ◌≤◌, ◌↔◌, ◌==◌, [], ◌∷◌, ◌++◌, length, take, drop, slice_get, IsOk, IfOk, OnOk, IfErr, OnErr, IfNone, OnSome, Some, false, IsTrue, if◌then◌else◌};
 
-mod laws;
-#[cfg(test)]
-mod tests;
-mod whole;
-
-use super::head::Head;
+use super::head::{Fit, Head};
 use super::reserved::Reserved;
 use super::{CAPACITY, HALF};
-pub use laws::{each_value_leaves_once, values_leave_in_order};
 use std::alloc::{AllocError, Global};
 use std::marker::Model;
-pub use whole::{PushAnswer, Steal};
+
+/// What a push answers.
+#[derive(Debug, PartialEq, Eq, Drop)]
+pub enum PushAnswer<T> {
+    /// The value was published; the queue had so many then.
+    Pushed(usize),
+    /// The queue was full: its newest half is in the owner's hand, and this value goes behind it.
+    Overflow(T),
+    /// No place was free beside a claim: only this value goes elsewhere.
+    Claimed(T),
+    /// The queue is spent: this value goes elsewhere.
+    Spent(T),
+}
+
+/// What one try of a steal answers.
+#[derive(Clone, Copy, Debug, PartialEq, Eq)]
+pub enum Steal {
+    /// So many values moved into the thief's queue.
+    Moved(usize),
+    /// There was nothing to take, a claim was held, or the thief's queue had fewer than 128 places
+    /// free.
+    Nothing,
+    /// The head has changed since it was loaded: this one was found.
+    Again(Head),
+}
 
 /// A run queue. No call but a maker takes memory.
 #[derive(Drop)]
@@ -52,8 +66,7 @@ pub struct PureQueue<T> {
 }
 
 impl<T> Model for PureQueue<T> {
-    ghost use Rattle.exec_words.specs.Queue.{Queue};
-    ghost use Rattle.exec_words.specs.QueueLayout.{IsLaidOut};
+    ghost use Rattle.exec_words.specs.Queue.{Queue, IsLaidOut};
 
     ghost Value = { Queue T };
 
@@ -69,20 +82,11 @@ impl<T> Model for PureQueue<T> {
 
 impl<T> PureQueue<T> {
     ghost use Rattle.exec_words.specs.Head.{claim_at, is_spent};
-    ghost use Rattle.exec_words.specs.Queue.{head_of, tail_of, room_of, popped, claimed, released, published, overflowed, newest, restored};
+    ghost use Rattle.exec_words.specs.Queue.{head_of, tail_of, room_of, fit_of, push_answer, after_push, handed_out, popped, claimed, released, published, overflowed, newest, restored};
     ghost use Rattle.exec_words.specs.Reserved.{extended, spare};
 
-    /// An empty queue whose first value gets the count 0.
-    pub fn new(alloc: Global) -> Result<Self, AllocError>
-    where
-        T: Drop,
-        ensures { IfOk result (λ q. q ≡ record { real = 0; gap = 0; values = []; held = [] }) }
-    {
-        PureQueue::at(alloc, 0)
-    }
-
-    /// An empty queue whose first value gets the count `real`. The caller must take one that isn't
-    /// past the count at which a queue is spent.
+    /// An empty queue whose first value gets the count `real`. The caller must take one, mostly 0,
+    /// that isn't past the count at which a queue is spent.
     pub fn at(alloc: Global, real: u64) -> Result<Self, AllocError>
     where
         T: Drop,
@@ -124,13 +128,6 @@ impl<T> PureQueue<T> {
         self.values.len()
     }
 
-    /// Whether there is none.
-    pub fn is_empty(&self) -> bool
-        ensures { result ≡ (length self.now.values == 0) }
-    {
-        self.values.is_empty()
-    }
-
     /// Whether its owner is in the middle of no overflow.
     pub fn is_whole(&self) -> bool
         ensures { IsTrue result ↔ (self.now.held ≡ []) }
@@ -146,8 +143,7 @@ impl<T> PureQueue<T> {
     }
 
     /// The owner's pop by an exchange of the head. Err with the head that was found where it isn't
-    /// `seen`, and nothing changes then. The caller must have seen a value: the tail is past the
-    /// head that it saw.
+    /// `seen`. The caller must have seen a value: the tail is past the head that it saw.
     pub fn pop_exchange(&mut self, seen: Head) -> Result<T, Head>
         requires { seen.real < tail_of self.old }
         ensures same { IsOk result ↔ (head_of self.old ≡ seen) }
@@ -162,14 +158,15 @@ impl<T> PureQueue<T> {
         Ok(self.pop_front())
     }
 
-    // Takes the front value.
+    // Takes the front value. A pop beside a claim raises the gap.
     fn pop_front(&mut self) -> T
         requires { 0 < length self.old.values }
         ensures value { slice_get self.old.values 0 ≡ Some result }
         ensures popped { self.new ≡ popped self.old }
     {
+        let gap = self.gap;
         self.real += 1;
-        self.gap = gap_after_pop(self.gap);
+        self.gap = if gap == 0 { 0 } else { gap + 1 };
         match self.values.pop() {
             Some(value) => value,
             None => unreachable!(),
@@ -210,20 +207,10 @@ impl<T> PureQueue<T> {
         self.values.push(value);
     }
 
-    /// Publishes a batch behind the other values by one store of the tail. The caller must have
-    /// room for all of it, and be in the middle of no overflow.
-    pub fn publish(&mut self, batch: &mut Reserved<T>)
-        requires room { length batch.old.values ≤ room_of self.old }
-        requires whole { self.old.held ≡ [] }
-        ensures published { self.new ≡ published self.old batch.old.values }
-        ensures taken { batch.new ≡ record batch.old { values = [] } }
-    {
-        batch.move_front(batch.len(), &mut self.values);
-    }
-
-    /// Publishes the first `count` values of a list as `publish` does. The caller must have so many
-    /// there, and room for them.
-    pub fn publish_front(&mut self, count: usize, from: &mut Reserved<T>)
+    /// Publishes the first `count` values of a list behind the other values, by one store of the
+    /// tail. The caller must have so many there, and room for them, and be in the middle of no
+    /// overflow.
+    pub fn publish(&mut self, count: usize, from: &mut Reserved<T>)
         requires has { count ≤ length from.old.values }
         requires room { count ≤ room_of self.old }
         requires whole { self.old.held ≡ [] }
@@ -235,10 +222,8 @@ impl<T> PureQueue<T> {
 
     /// A thief's claim by an exchange of the head: half of the values up to the tail that it saw,
     /// rounded down, go into its hand, the oldest first. Answers how many. Err with the head that
-    /// was found where it isn't `seen`, and nothing changes then.
-    ///
-    /// The caller must have loaded `tail` from this queue after `seen`, have seen no claim and at
-    /// least two values, and have 128 places in its hand.
+    /// was found where it isn't `seen`. The caller must have loaded `tail` from this queue after
+    /// `seen`, have seen no claim and at least two values, and have 128 places in its hand.
     pub fn claim_exchange(
         &mut self,
         seen: Head,
@@ -261,27 +246,15 @@ impl<T> PureQueue<T> {
         if self.head() != seen {
             return Err(self.head());
         }
-        Ok(self.claim(seen.len(tail) / 2, hand))
-    }
-
-    // Claims the first `count` values, and answers how many.
-    fn claim(&mut self, count: usize, hand: &mut Reserved<T>) -> usize
-        requires unclaimed { self.old.gap ≡ 0 }
-        requires half { count + count ≤ length self.old.values }
-        requires places { 128 ≤ spare hand.old }
-        ensures answer { result ≡ count }
-        ensures claimed { self.new ≡ claimed self.old count }
-        ensures moved { hand.new ≡ extended hand.old (take count self.old.values) }
-    {
+        let count = seen.len(tail) / 2;
         self.values.move_front(count, hand);
         self.real += count as u64;
         self.gap = count;
-        count
+        Ok(count)
     }
 
     /// The release of a claim by an exchange of the head: its places are free again, and those of
-    /// the pops past it. Err with the head that was found where it isn't `seen`, and nothing
-    /// changes then.
+    /// the pops past it. Err with the head that was found where it isn't `seen`.
     pub fn release_exchange(&mut self, seen: Head) -> Result<(), Head>
         ensures same { IsOk result ↔ (head_of self.old ≡ seen) }
         ensures released { OnOk result (self.new ≡ released self.old) }
@@ -297,10 +270,9 @@ impl<T> PureQueue<T> {
 
     /// The beginning of an overflow by an exchange of the head: the newest half goes into the
     /// owner's hand, the oldest first, and the oldest half is kept aside until `restore`. Err with
-    /// the head that was found where it isn't `seen`, and nothing changes then.
-    ///
-    /// The caller must have seen a full queue without a claim that isn't spent, be in the middle of
-    /// no other overflow, and have 128 places in its hand.
+    /// the head that was found where it isn't `seen`. The caller must have seen a full queue
+    /// without a claim that isn't spent, be in the middle of no other overflow, and have 128 places
+    /// in its hand.
     pub fn overflow_exchange(&mut self, seen: Head, hand: &mut Reserved<T>) -> Result<(), Head>
         requires full { seen.real + 256 ≡ tail_of self.old }
         requires unspent { is_spent (tail_of self.old) ≡ false }
@@ -321,6 +293,7 @@ impl<T> PureQueue<T> {
     }
 
     // Takes a full queue apart: the oldest half is kept, the newest half goes into the hand.
+    #[tactic(auto, using(crate::proofs::Overflow::unspent_below, crate::proofs::Overflow::half_left, crate::proofs::Overflow::half_taken, crate::proofs::Overflow::half_gone))]
     fn flow_over(&mut self, hand: &mut Reserved<T>)
         requires full { length self.old.values ≡ 256 }
         requires unclaimed { self.old.gap ≡ 0 }
@@ -344,12 +317,29 @@ impl<T> PureQueue<T> {
     {
         self.values.swap(&mut self.held);
     }
-}
 
-// A pop beside a claim raises the gap.
-fn gap_after_pop(gap: usize) -> usize
-    requires { gap < 256 }
-    ensures { result ≡ (if gap == 0 then 0 else gap + 1) }
-{
-    if gap == 0 { 0 } else { gap + 1 }
+    /// The owner's push in one action, where nobody acts in between. What an overflow hands out
+    /// goes into the owner's hand, the oldest first. The caller must have 128 places there, and be
+    /// in the middle of no overflow.
+    pub fn push(&mut self, value: T, hand: &mut Reserved<T>) -> PushAnswer<T>
+        requires whole { self.old.held ≡ [] }
+        requires places { 128 ≤ spare hand.old }
+        ensures answer { result ≡ push_answer (fit_of self.old) value }
+        ensures after { self.new ≡ after_push (fit_of self.old) self.old value }
+        ensures handed_out { hand.new ≡ extended hand.old (handed_out (fit_of self.old) self.old) }
+    {
+        match self.head().fit(self.tail()) {
+            Fit::Room(len) => {
+                self.push_fitting(value);
+                PushAnswer::Pushed(len)
+            }
+            Fit::Overflow => {
+                self.flow_over(hand);
+                self.restore();
+                PushAnswer::Overflow(value)
+            }
+            Fit::Claimed => PushAnswer::Claimed(value),
+            Fit::Spent => PushAnswer::Spent(value),
+        }
+    }
 }

@@ -1,10 +1,8 @@
-//! The wake word of a worker: how it waits, whether it is to wake, and how many batches of mail
-//! were published.
+//! The wake word of a worker: how it waits, whether it is to wake, and what mail was published.
 //!
-//! A worker that is about to wait arms its word: it is going to sleep, or to wait on its ring. What
-//! it finds there decides in the same step: it waits only where no latch stands and no batch was
-//! published that it hasn't taken. Whoever has something for the worker sets the latch. The first
-//! one to do so while a wait is armed rouses the worker; a latch that comes earlier keeps the next
+//! A worker that is about to wait arms its word, and waits only where it finds no latch and no
+//! batch that it hasn't taken. Whoever has something for the worker sets the latch: the first one
+//! to do so while a wait is armed rouses the worker, and a latch that comes earlier keeps the next
 //! wait from beginning. The end of a wait takes wait and latch out.
 //!
 //! Mail is published before it is signalled: the first message of a batch raises the batch number,
@@ -16,10 +14,7 @@
 
 ghost use Rattle.std.specs.Prelude.{◌≡◌, ◌≢◌, ◌<◌, ◌^◌, ◌&&◌, ◌||◌, ◌==◌, not, true, false};
 ghost use Rattle.exec_words.specs.declared.word.WaitTarget.TheVariants as wait;
-ghost use Rattle.exec_words.specs.Batch.{next_batch};
-
-#[cfg(test)]
-mod tests;
+ghost use Rattle.exec_words.specs.Word.{next_batch};
 
 use super::BATCHES;
 
@@ -48,22 +43,10 @@ pub struct PureWord {
 impl PureWord {
     ghost use Rattle.exec_words.specs.Word.{asks_signal, is_idle_at};
 
-    /// Nobody waits, no latch stands, and no batch was published.
-    pub fn new() -> Self
-        ensures target { result.target ≡ wait.None }
-        ensures latch { result.latch ≡ false }
-        ensures batch { result.batch ≡ 0 }
-    {
-        PureWord::at(0)
-    }
-
-    /// The same, with this number of published batches. The caller must name one of at most
-    /// `SUBMISSION_SEQ_MASK`.
+    /// No wait, no latch, and so many batches published: at most `SUBMISSION_SEQ_MASK`.
     pub fn at(batch: u32) -> Self
         requires { batch < 2 ^ 29 }
-        ensures target { result.target ≡ wait.None }
-        ensures latch { result.latch ≡ false }
-        ensures batch { result.batch ≡ batch }
+        ensures { result ≡ record { target = wait.None; latch = false; batch = batch } }
     {
         PureWord {
             target: WaitTarget::None,
@@ -101,7 +84,7 @@ impl PureWord {
         ensures asks { result ≡ asks_signal self.old }
         ensures published { self.new ≡ record self.old { batch = next_batch self.old.batch } }
     {
-        let asks = self.asks_signal();
+        let asks = self.target != WaitTarget::None && !self.latch;
         self.batch = next_batch(self.batch);
         asks
     }
@@ -117,8 +100,7 @@ impl PureWord {
         found
     }
 
-    /// Takes the latch alone out of the word, after a look that found it. Answers the word that it
-    /// found.
+    /// Takes the latch alone out of the word, after a look that found it. Answers what it found.
     pub fn consume_signal(&mut self) -> PureWord
         ensures found { result ≡ self.old }
         ensures consumed { self.new ≡ record self.old { latch = false } }
@@ -128,22 +110,8 @@ impl PureWord {
         found
     }
 
-    /// Whether a signal must follow a publication: a wait is armed, and no latch stands.
-    pub fn asks_signal(&self) -> bool
-        ensures { result ≡ asks_signal self.now }
-    {
-        self.target != WaitTarget::None && !self.latch
-    }
-
-    /// Whether a latch stands.
-    pub fn signalled(&self) -> bool
-        ensures { result ≡ self.now.latch }
-    {
-        self.latch
-    }
-
-    /// Whether a batch was published that isn't among the processed ones. The caller must name a
-    /// number of at most `SUBMISSION_SEQ_MASK`.
+    /// Whether a batch was published that isn't among the processed ones, a number of at most
+    /// `SUBMISSION_SEQ_MASK`.
     pub fn pending(&self, processed: u32) -> bool
         requires { processed < 2 ^ 29 }
         ensures { result ≡ not (self.now.batch == processed) }
@@ -152,7 +120,7 @@ impl PureWord {
     }
 
     /// Whether a wait that found this word may begin: no latch stands, and all batches are
-    /// processed. The caller must name a number of at most `SUBMISSION_SEQ_MASK`.
+    /// processed, a number of at most `SUBMISSION_SEQ_MASK`.
     pub fn still_idle(&self, processed: u32) -> bool
         requires { processed < 2 ^ 29 }
         ensures { result ≡ is_idle_at self.now processed }

@@ -8,6 +8,6 @@ use Rattle.exec_machine.proofs.progress.a_send_rests.Goals as goal
 -- the states at which the worker sleeps, and after its end
 pub returns : goal.returns
 returns c =
-    let napping : World = world_after the_config (first_world one_send) (take 8 (until_asleep ++ until_ended)) all_choices in
+    let sleeping : World = world_after the_config (first_world one_send) (take 8 (until_asleep ++ until_ended)) all_choices in
     let ended : World = world_after the_config (first_world one_send) (until_asleep ++ until_ended) all_choices in
-    (awake, (awake, (awake, (awake, (awake, (awake, (awake, (awake, ((λ asleep. by_request the_config napping refl refl refl), ((λ asleep. by_request the_config napping refl refl refl), (awake, (awake, (awake, (awake, (awake, (awake, (awake, (awake, (awake, (awake, ((λ asleep. by_request the_config ended refl refl refl), (λ asleep. by_request the_config ended refl refl refl))))))))))))))))))))))
+    (awake, (awake, (awake, (awake, (awake, (awake, (awake, (awake, ((λ asleep. by_request the_config sleeping refl refl refl), ((λ asleep. by_request the_config sleeping refl refl refl), (awake, (awake, (awake, (awake, (awake, (awake, (awake, (awake, (awake, (awake, ((λ asleep. by_request the_config ended refl refl refl), (λ asleep. by_request the_config ended refl refl refl))))))))))))))))))))))

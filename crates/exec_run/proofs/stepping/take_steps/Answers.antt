@@ -1,4 +1,4 @@
-use Rattle.std.proofs.Common.{◌∙◌, refl, arith}
+use Rattle.std.proofs.Common.{◌∙◌, refl}
 use Rattle.exec_machine.specs.declared.step.Step.TheVariants.{Work}
 use Rattle.exec_run.specs.Steps.{standing}
 use Rattle.exec_run.proofs.StepLemmas.{on_err, leads_none, leads_to_next, broke_at}

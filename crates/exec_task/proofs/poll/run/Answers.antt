@@ -2,12 +2,6 @@ use Rattle.std.proofs.Common.{arith, ◌-◌, ◌+◌}
 use Rattle.exec_task.specs.Polls.Polls.{Ends, Pends, GoesOn, Tires}
 use Rattle.exec_task.proofs.poll.run.Goals as goal
 
-pub loop-init : goal.loop-init
-loop-init g c = (c.requires, λ answer w k polls. polls)
-
-pub take_turn-requires : goal.take_turn-requires
-take_turn-requires g c = c.loop.invariant.0
-
 pub returns-in-Through : goal.returns-in-Through
 returns-in-Through g c =
     c.loop.invariant.1 c.done.result c.take_turn.new.worker c.done.new.self
@@ -25,9 +19,6 @@ loop-preserved g c = (
       c.loop.invariant.1 answer w k
       (GoesOn (18446744073709551615 - c.loop.counter) (18446744073709551615 - (c.loop.counter + 1)) _ (record { worker = c.take_turn.new.worker; cell = c.take_turn.new.cell; body = c.take_turn.new.body }) c.loop.said c.in-Told.told answer w k (omega arith) c.in-Told.ensures.turns polls),
 )
-
-pub done-requires-2 : goal.done-requires-2
-done-requires-2 g c = c.loop.invariant.0
 
 pub returns : goal.returns
 returns g c =

@@ -1,4 +1,4 @@
-use Rattle.std.proofs.Common.{◌≡◌, ◌-◌, ◌^◌, IsTrue}
+use Rattle.std.proofs.Common.{◌-◌, ◌^◌, IsTrue}
 use Rattle.exec_task.specs.declared.runnable.AfterPoll.{AfterPoll}
 use Rattle.exec_task.specs.Polls.{StepsTo, Polls}
 use Rattle.exec_task.proofs.poll.run.Given as goal

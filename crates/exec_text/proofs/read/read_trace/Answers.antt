@@ -1,7 +1,5 @@
-use Rattle.std.proofs.Common.{◌≡◌, ℕ, List, [], map, refl, sym, ap, ◌∙◌, subst}
+use Rattle.std.proofs.Common.{◌≡◌, ℕ, List, [], map, refl, ap, ◌∙◌, subst}
 use Rattle.std.proofs.lemmas.Result.{err_from_is_err_and}
-use Rattle.exec_machine.specs.declared.config.Word.{Word}
-use Rattle.exec_machine.specs.declared.step.Step.{Step}
 use Rattle.exec_machine.specs.Grammar.{IsFirstFault}
 use Rattle.exec_text.proofs.Begins.{plan_from, spelled_trace}
 use Rattle.exec_text.proofs.read.read_trace.Goals as goal

@@ -1,7 +1,7 @@
 use Rattle.std.proofs.Common.{refl, length, ap, sym, ◌∙◌, List, ◌≡◌, ⊎_elim, subst, arith}
 use Rattle.exec_machine.specs.Allowed.{is_asleep}
 use Rattle.exec_machine.specs.declared.state.Sleeper.{Sleeper}
-use Rattle.exec_driver.specs.Sleeps.{sleeper_at}
+use Rattle.exec_first_driver.specs.Sleeps.{sleeper_at}
 use Rattle.exec_core.specs.declared.place.Place.TheVariants as place
 use Rattle.exec_core.specs.View.{world}
 use Rattle.exec_core.proofs.Calls.{sleeper_wakes}

@@ -10,7 +10,7 @@ use Rattle.std.proofs.lemmas.List.{length-set}
 use Rattle.exec_machine.specs.World.{no_request}
 use Rattle.exec_machine.specs.declared.state.Request.{Request}
 use Rattle.exec_machine.specs.declared.state.Waiting.{Waiting}
-use Rattle.exec_driver.specs.Books.{request_at}
+use Rattle.exec_first_driver.specs.Books.{request_at}
 use Rattle.exec_core.specs.declared.root.Root.{Root}
 use Rattle.exec_core.specs.Minds.{IsFollowed, IsUnpaid}
 use Rattle.exec_core.specs.Minds.Rests.{Stays}

@@ -1,13 +1,13 @@
 use Rattle.std.proofs.Common.{refl, sym, ap, true, ◌&&◌, ◌∙◌}
 use Rattle.exec_core.proofs.Settled.{settled_all, none_tracked}
-use Rattle.exec_driver.specs.Books.{is_unreleased}
-use Rattle.exec_core.proofs.Naps.{none_asleep}
+use Rattle.exec_first_driver.specs.Books.{is_unreleased}
+use Rattle.exec_core.proofs.Sleeping.{none_asleep}
 use Rattle.std.proofs.lemmas.Bool.{false≢true, true≢false}
 use Rattle.exec_machine.specs.declared.state.WorkerPhase.TheVariants.{Ended}
 use Rattle.exec_core.specs.declared.place.Place.TheVariants as place
 use Rattle.exec_core.specs.declared.executor.Core.{Core}
 use Rattle.exec_core.specs.Minds.Rests.{Lies}
-use Rattle.exec_core.proofs.Lulls.{ended}
+use Rattle.exec_core.proofs.Resting.{ended}
 use Rattle.exec_core.proofs.executor.Core.end.Goals as goal
 
 pub returns-clause-steps : goal.returns-clause-steps

@@ -2,9 +2,9 @@ use Rattle.std.proofs.Common.{refl, ap, sym, ◌∙◌, List, Ok, true, ◌<◌,
 use Rattle.std.proofs.lemmas.Bool.{and_from, false≢true}
 use Rattle.exec_machine.specs.declared.state.Sleeper.{Sleeper}
 use Rattle.exec_machine.specs.Allowed.{is_asleep}
-use Rattle.exec_driver.specs.Sleeps.{sleeper_at, is_nap_over}
+use Rattle.exec_first_driver.specs.Sleeps.{sleeper_at, is_sleep_over}
 use Rattle.exec_core.specs.View.{world}
-use Rattle.exec_core.proofs.Naps.{asleep_set}
+use Rattle.exec_core.proofs.Sleeping.{asleep_set}
 use Rattle.exec_core.specs.Minds.Rests.{Stays}
 use Rattle.exec_machine.specs.declared.event.Event.TheVariants.{Serve}
 use Rattle.exec_machine.specs.World.{no_sleeper}
@@ -16,8 +16,8 @@ use Rattle.exec_core.specs.declared.executor.Core.{Core}
 use Rattle.exec_core.specs.Credit.{signs, weigh, height_back}
 use Rattle.exec_core.specs.Minds.{Proceeds}
 use Rattle.exec_core.specs.Minds.Knowledge.{Told}
-use Rattle.exec_core.proofs.Keeping.{read_set, forget, napped_keeps}
-use Rattle.exec_core.proofs.Credits.{due_if_stale, to_mail, to_begin, weigh_naps}
+use Rattle.exec_core.proofs.Keeping.{read_set, forget, sleeping_keeps}
+use Rattle.exec_core.proofs.Credits.{due_if_stale, to_mail, to_begin, weigh_sleepers}
 use Rattle.exec_core.proofs.executor.Core.end_service.Goals.{in-Mail, in-Begin, in-Finish}
 use Rattle.exec_core.proofs.executor.Core.end_service.Goals as goal
 
@@ -54,7 +54,7 @@ returns-in-Some-clause-proceeds c =
     let zs = k.timers.sleepers.items in
     let becomes = c.in_ok-timer.ensures.becomes n (ap Ok c.in-Some.is) in
     record {
-      minds = napped_keeps k.timers c.fire.new.self Told c.requires.minds c.requires.sound.sleeps
+      minds = sleeping_keeps k.timers c.fire.new.self Told c.requires.minds c.requires.sound.sleeps
           (λ z. ap (λ (x : List Sleeper). (sleeper_at x z).task) becomes ∙ read_set (λ (y : Sleeper). y.task) zs n (record (sleeper_at zs n) { fired = true }) no_sleeper refl z)
           (λ z. ap (λ (x : List Sleeper). (sleeper_at x z).wakes_paid) becomes ∙ read_set (λ (y : Sleeper). y.wakes_paid) zs n (record (sleeper_at zs n) { fired = true }) no_sleeper refl z)
           c.requires.minds.known;
@@ -69,10 +69,10 @@ returns-clause-proceeds c =
     let u = c.fire.new.self in
     let none = ap Ok c.in_default.is in
     let same = c.in_ok-timer.ensures.none none in
-    let kept = napped_keeps k.timers u Told m c.requires.sound.sleeps (λ z. ap (λ (x : List Sleeper). (sleeper_at x z).task) same) (λ z. ap (λ (x : List Sleeper). (sleeper_at x z).wakes_paid) same) m.known in
-    let due = due_if_stale k.sampled k.clock (λ x. list_any (is_nap_over x) k.timers.sleepers.items) c.requires.sound.time.not_after (c.in_ok-timer.ensures.none_due none) in
+    let kept = sleeping_keeps k.timers u Told m c.requires.sound.sleeps (λ z. ap (λ (x : List Sleeper). (sleeper_at x z).task) same) (λ z. ap (λ (x : List Sleeper). (sleeper_at x z).wakes_paid) same) m.known in
+    let due = due_if_stale k.sampled k.clock (λ x. list_any (is_sleep_over x) k.timers.sleepers.items) c.requires.sound.time.not_after (c.in_ok-timer.ensures.none_due none) in
     let d : Core = record k { timers = u } in
-    let looks = λ (h : ℕ). weigh_naps h k u same (c.in_ok-timer.ensures.wakes none) in
+    let looks = λ (h : ℕ). weigh_sleepers h k u same (c.in_ok-timer.ensures.wakes none) in
     let P : Place → Type 0 = λ x. Proceeds (place.EndService c.args.service) k Serve (record k { place = x; timers = u }) in
     elim c.match-service.branch [
       | in-Mail w ↦

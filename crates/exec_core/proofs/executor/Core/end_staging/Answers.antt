@@ -1,5 +1,5 @@
 use Rattle.exec_core.specs.declared.executor.Core.{Core}
-use Rattle.std.proofs.Common.{true, inl, inr, ◌∙◌, refl, ap, sym, subst, arith, length, Bool, ◌≡◌}
+use Rattle.std.proofs.Common.{true, inl, inr, ◌∙◌, refl, ap, sym, subst, arith, length, Bool}
 use Rattle.exec_core.specs.declared.place.Place.{Place}
 use Rattle.exec_core.specs.declared.place.Place.TheVariants as place
 use Rattle.exec_core.specs.Credit.{signs}

@@ -1,6 +1,6 @@
 use Rattle.std.proofs.Common.{◌≡◌, refl, sym, subst, ap, true, not, ◌∙◌, arith}
 use Rattle.exec_machine.specs.declared.event.Event.TheVariants.{Enter}
-use Rattle.exec_driver.specs.Books.{one_if}
+use Rattle.exec_first_driver.specs.Books.{one_if}
 use Rattle.exec_core.specs.declared.place.Place.{Place}
 use Rattle.exec_core.specs.declared.place.Place.TheVariants as place
 use Rattle.exec_core.specs.Credit.{signs}

@@ -2,7 +2,7 @@ use Rattle.std.proofs.Common.{refl, ap, ◌∙◌, length}
 use Rattle.std.proofs.lemmas.Bool.{false≢true}
 use Rattle.exec_core.specs.Minds.Rests.{Stays}
 use Rattle.std.proofs.lemmas.List.{length-set}
-use Rattle.exec_driver.specs.Books.{request_at}
+use Rattle.exec_first_driver.specs.Books.{request_at}
 use Rattle.exec_core.specs.Minds.Knowledge.{Nothing}
 use Rattle.exec_core.proofs.Keeping.{driven_keeps, wakes_along, wakes_set, expired_wakes}
 use Rattle.exec_core.proofs.executor.Core.expire.Goals as goal

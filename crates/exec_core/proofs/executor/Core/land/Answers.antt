@@ -2,11 +2,11 @@ use Rattle.std.proofs.Common.{not, refl, ap, ◌∙◌, arith, length}
 use Rattle.std.proofs.lemmas.Bool.{true≢false, and_parts}
 use Rattle.std.proofs.lemmas.List.{length-set}
 use Rattle.exec_machine.specs.declared.state.Phase.TheVariants.{Landed}
-use Rattle.exec_driver.specs.Books.{request_at}
+use Rattle.exec_first_driver.specs.Books.{request_at}
 use Rattle.exec_core.specs.Minds.{knows}
 use Rattle.exec_core.proofs.Keeping.{driven_keeps, wakes_along, wakes_set, known_same}
 use Rattle.exec_machine.specs.Progress.{is_closing}
-use Rattle.exec_core.proofs.Lulls.{flying_unresolved, ended_only}
+use Rattle.exec_core.proofs.Resting.{flying_unresolved, ended_only}
 use Rattle.exec_machine.specs.Allowed.{has_ended, is_flying}
 use Rattle.exec_core.proofs.executor.Core.land.Goals as goal
 

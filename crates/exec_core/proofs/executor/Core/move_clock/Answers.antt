@@ -6,7 +6,7 @@ use Rattle.exec_machine.specs.After.{roused_at}
 use Rattle.exec_core.proofs.Lines.{moves}
 use Rattle.exec_core.specs.declared.executor.Core.{Core}
 use Rattle.exec_core.specs.Minds.{sleeps_at}
-use Rattle.exec_core.proofs.Lulls.{at_rest_awake, sleeps_on}
+use Rattle.exec_core.proofs.Resting.{at_rest_awake, sleeps_on}
 use Rattle.exec_core.proofs.executor.Core.move_clock.Goals as goal
 
 pub returns-else-moment-self-clause-steps : goal.returns-else-moment-self-clause-steps

@@ -3,7 +3,7 @@ use Rattle.std.proofs.lemmas.Bool.{false≢true, true≢false}
 use Rattle.exec_machine.specs.declared.state.Sleeper.{Sleeper}
 use Rattle.exec_machine.specs.Allowed.{is_asleep}
 use Rattle.exec_machine.specs.Ranges.{ring_size, wheel_slots, ticks_needed}
-use Rattle.exec_driver.specs.Sleeps.{sleeper_at}
+use Rattle.exec_first_driver.specs.Sleeps.{sleeper_at}
 use Rattle.exec_core.proofs.Goings.{bounded_by}
 use Rattle.exec_core.proofs.Powers.{in_range, doubled_some, doubled_most}
 use Rattle.exec_core.proofs.executor.Core.new.Goals as goal

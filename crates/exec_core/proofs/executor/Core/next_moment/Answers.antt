@@ -1,5 +1,5 @@
 use Rattle.std.proofs.Common.{ℕ, Option, subst}
-use Rattle.exec_driver.specs.Books.{IsNextTimer}
+use Rattle.exec_first_driver.specs.Books.{IsNextTimer}
 use Rattle.exec_core.proofs.Moments.{both_moments, only_timer, only_sleep}
 use Rattle.exec_core.proofs.executor.Core.next_moment.Goals as goal
 

@@ -6,7 +6,7 @@ use Rattle.exec_core.proofs.Steps.{driven}
 use Rattle.exec_machine.specs.Choice.Choice.{Plain}
 use Rattle.std.proofs.lemmas.Bool.{false≢true}
 use Rattle.exec_core.specs.Minds.Rests.{Stays}
-use Rattle.exec_driver.specs.Books.{request_at}
+use Rattle.exec_first_driver.specs.Books.{request_at}
 use Rattle.exec_core.specs.Credit.{signs, height, weigh, height_back, height_reap}
 use Rattle.exec_core.specs.declared.place.Place.{Place}
 use Rattle.exec_core.specs.declared.executor.Core.{Core}

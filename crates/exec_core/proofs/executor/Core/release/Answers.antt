@@ -5,8 +5,8 @@ use Rattle.std.proofs.lemmas.List.{length-set}
 use Rattle.exec_machine.specs.declared.event.Event.TheVariants.{Turn, Release}
 use Rattle.exec_machine.specs.Allowed.{is_resolved}
 use Rattle.exec_core.specs.declared.place.Place.TheVariants as place
-use Rattle.exec_driver.specs.Books.{request_at, SameOwed}
-use Rattle.exec_driver.proofs.Phases.{of_0}
+use Rattle.exec_first_driver.specs.Books.{request_at, SameOwed}
+use Rattle.exec_first_driver.proofs.Phases.{of_0}
 use Rattle.exec_core.proofs.Steps.{driven}
 use Rattle.exec_machine.specs.Choice.Choice.{Plain}
 use Rattle.exec_core.specs.Minds.Rests.{Stays}

@@ -1,9 +1,9 @@
 use Rattle.std.proofs.Common.{refl, sym, ◌∙◌, ℕ}
 use Rattle.exec_machine.specs.World.{no_request}
-use Rattle.exec_driver.specs.Books.{is_unresolved, request_at}
+use Rattle.exec_first_driver.specs.Books.{is_unresolved, request_at}
 use Rattle.exec_core.specs.declared.place.Place.TheVariants as place
 use Rattle.exec_core.proofs.Dues.{slept}
-use Rattle.exec_core.proofs.Lulls.{lull, uncounted_at, resolved_aside}
+use Rattle.exec_core.proofs.Resting.{resting, uncounted_at, resolved_aside}
 use Rattle.exec_core.proofs.executor.Core.sleep_on_word.Goals as goal
 
 pub sleep-requires-clause-settled : goal.sleep-requires-clause-settled
@@ -14,7 +14,7 @@ sleep-requires-clause-settled c =
     let rs = k.driver.requests.items in
     λ o.
     let over = λ (r : ℕ). resolved_aside (request_at rs r) (uncounted_at is_unresolved rs no_request r refl (sym b.unresolved ∙ (m.known o).1)) in
-    lull (record k { place = place.DisarmWord }) b c.requires.sound.sleeps c.requires.sound.sized.ring c.requires.sound.class.1 m.order m.followed m.unpaid (m.known o).0
+    resting (record k { place = place.DisarmWord }) b c.requires.sound.sleeps c.requires.sound.sized.ring c.requires.sound.class.1 m.order m.followed m.unpaid (m.known o).0
     (λ r. (over r).0) (λ r. (over r).1)
 
 pub returns-else-self-clause-proceeds : goal.returns-else-self-clause-proceeds

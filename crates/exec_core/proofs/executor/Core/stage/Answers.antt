@@ -4,8 +4,8 @@ use Rattle.exec_machine.specs.declared.event.Event.TheVariants as event
 use Rattle.exec_machine.specs.Choice.Choice.{Plain}
 use Rattle.exec_machine.specs.Allowed.{is_queued, of_worker}
 use Rattle.exec_core.specs.declared.place.Place.TheVariants as place
-use Rattle.exec_driver.specs.Books.{request_at}
-use Rattle.exec_driver.proofs.Phases.{of_0}
+use Rattle.exec_first_driver.specs.Books.{request_at}
+use Rattle.exec_first_driver.proofs.Phases.{of_0}
 use Rattle.exec_core.proofs.Steps.{driven}
 use Rattle.std.proofs.lemmas.Bool.{false≢true}
 use Rattle.exec_core.specs.Minds.Rests.{Stays}

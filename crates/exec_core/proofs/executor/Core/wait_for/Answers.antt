@@ -5,7 +5,7 @@ use Rattle.std.proofs.lemmas.List.{length-set}
 use Rattle.exec_machine.specs.World.{no_request}
 use Rattle.exec_machine.specs.Allowed.{is_polled_by}
 use Rattle.exec_machine.specs.declared.state.Request.{Request}
-use Rattle.exec_driver.specs.Books.{request_at}
+use Rattle.exec_first_driver.specs.Books.{request_at}
 use Rattle.exec_core.specs.Minds.Rests.{Stays}
 use Rattle.exec_core.proofs.Polls.{newest_there}
 use Rattle.exec_core.proofs.executor.Core.wait_for.Goals as goal

@@ -1,5 +1,5 @@
 use Rattle.std.proofs.Common.{refl, subst, ◌∙◌, le_refl, arith}
-use Rattle.exec_words.specs.declared.queue.whole.Steal.{Steal}
+use Rattle.exec_words.specs.declared.queue.Steal.{Steal}
 use Rattle.exec_live_queue.specs.Calls.{AfterSteal}
 use Rattle.exec_live_queue.proofs.Owners.{steals_on, steals_after}
 use Rattle.exec_live_queue.proofs.queue.Queue.steal_into.Goals as goal

@@ -1,5 +1,5 @@
 use Rattle.std.proofs.Common.{◌≡◌}
-use Rattle.exec_task.specs.Drained.{IsFor, to_come}
+use Rattle.exec_task.specs.TaskSet.{IsFor, to_come}
 use Rattle.exec_task.proofs.drain.Drain.next.Given as goal
 
 abbrev pub invariant-loop-self : goal.invariant-loop-self

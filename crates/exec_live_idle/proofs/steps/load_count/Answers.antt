@@ -1,0 +1,10 @@
+use Rattle.std.proofs.Common.{sym, subst, ℕ, ◌<◌, arith}
+use Rattle.exec_live_idle.proofs.Allowed.{read_}
+use Rattle.exec_live_idle.proofs.steps.load_count.Goals as goal
+
+pub load-requires : goal.load-requires
+load-requires c = let q = c.requires in let words = c.args.words.now in let seat = c.args.seat.now in (
+  q.0,
+  subst (λ (n : ℕ). 1 < n) (sym q.1) (omega arith),
+  read_ words.key words.table_id.slots seat.id seat.me q.2,
+)

@@ -1,0 +1,11 @@
+use Rattle.std.proofs.Common.{◌≡◌}
+use Rattle.exec_live_idle.specs.Idle.{knows, IsSeatOf}
+use Rattle.exec_live_idle.proofs.tests.play.replay.Given as goal
+
+abbrev pub invariant-loop-line : goal.invariant-loop-line
+invariant-loop-line g l = record {
+  at : IsSeatOf l.idle l.caller;
+  free : (knows l.caller).held ≡ 0;
+  workers : (knows l.caller).workers ≡ l.workers;
+  pool : l.pool.bell.workers ≡ l.workers;
+}

@@ -1,0 +1,8 @@
+pub mod Words
+pub mod Live
+pub mod Plays
+pub mod Seats
+pub mod Idle
+pub mod Notify
+pub mod Search
+pub mod Examples

@@ -1,0 +1,54 @@
+//! The transitions by which the steps are described are those of `exec_words`' `PureIdle`, each by
+//! its name: each law calls it.
+
+ghost use Rattle.std.specs.Prelude.{◌≡◌, ◌+◌, ◌^◌, ◌<◌, ◌↔◌, IsOk, IfOk, OnOk, Some, IsSome};
+ghost use Rattle.exec_words.specs.Idle.{lowest_of};
+ghost use Rattle.exec_live_idle.specs.Words.{publish, withdraw, add, subtract};
+
+use exec_words::idle::{PureIdle, WorkerSet};
+
+pub fn a_publication(idle: &mut PureIdle, worker: usize)
+    requires { worker < 64 }
+    ensures { idle.new ≡ publish worker idle.old }
+{
+    idle.publish(worker);
+}
+
+pub fn a_withdrawal(idle: &mut PureIdle, worker: usize) -> bool
+    requires { worker < 64 }
+    ensures { idle.new ≡ withdraw worker idle.old }
+{
+    idle.withdraw(worker)
+}
+
+/// A claim withdraws the lowest worker.
+pub fn a_claim(idle: &mut PureIdle, seen: &WorkerSet) -> Result<usize, WorkerSet>
+    requires { IsSome (lowest_of seen.now.has) }
+    ensures same { IsOk result ↔ (idle.old.published ≡ seen.now.has) }
+    ensures lowest { IfOk result (λ worker. lowest_of idle.old.published ≡ Some worker) }
+    ensures claimed { IfOk result (λ worker. idle.new ≡ withdraw worker idle.old) }
+{
+    idle.claim_exchange(seen)
+}
+
+pub fn an_addition(idle: &mut PureIdle)
+    requires { idle.old.count + 1 < 2 ^ 64 }
+    ensures { idle.new ≡ add idle.old }
+{
+    idle.add();
+}
+
+pub fn a_subtraction(idle: &mut PureIdle) -> usize
+    requires { 0 < idle.old.count }
+    ensures { idle.new ≡ subtract idle.old }
+{
+    idle.subtract()
+}
+
+/// The exchange of the count 0 to 1 adds one.
+pub fn an_exchange(idle: &mut PureIdle) -> Result<(), usize>
+    ensures none { IsOk result ↔ (idle.old.count ≡ 0) }
+    ensures added { OnOk result (idle.new ≡ add idle.old) }
+{
+    idle.count_exchange()
+}

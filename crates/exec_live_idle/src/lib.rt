@@ -1,0 +1,36 @@
+//! The idle set and the search count of a pool, as running threads share them.
+//!
+//! A pool shares two words. The set has a bit for each worker that is published: about to sleep, or
+//! asleep, and not claimed yet. The count is how many search counts there are: each is the duty to
+//! look for work, or to hand that duty on. Threads change the two words in single atomic steps, each
+//! of which is the transition of the same name of `exec_words`' `PureIdle`. The rule that every step
+//! keeps is `specs/Live.antt`, which begins with a page on what each word means, who may do what,
+//! and why no count is lost.
+//!
+//! - `seat`, `idle`: an idle set, a seat at it, and the calls that are one step, or a claim.
+//! - `notify`: how a worker is woken for a backlog, or for a push into the global queue.
+//! - `searcher`, `park`: a worker's part in searching and parking, over what `backlog` says of its
+//!   pool.
+//! - `steps`: the atomic steps. `view` and `plays`: what a seat knows, and what each step tells it,
+//!   for the proofs alone.
+//! - `laws`: the steps' transitions are those of `PureIdle`. `examples`: worked examples.
+#![tactic(auto)]
+
+pub mod backlog;
+pub mod examples;
+pub mod idle;
+pub mod laws;
+pub mod notify;
+pub mod park;
+pub mod plays;
+pub mod searcher;
+pub mod seat;
+pub mod steps;
+#[cfg(test)]
+mod tests;
+pub mod view;
+
+/// The word of a table that is the idle set.
+pub const SET: usize = 0;
+/// The word of a table that is the search count.
+pub const COUNT: usize = 1;

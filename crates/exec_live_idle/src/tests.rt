@@ -1,0 +1,169 @@
+ghost use Rattle.std.specs.Prelude.{◌≡◌, ◌<◌, ◌+◌, false};
+ghost use Rattle.exec_live_idle.specs.Idle.{knows, IsSeatOf, IsSame};
+ghost use Rattle.exec_live_idle.specs.Live.{next_number};
+
+mod fake;
+mod play;
+mod player;
+mod threads;
+
+use crate::searcher::Searcher;
+use crate::seat::{Idle, IdleSeat};
+use exec_words::idle::Park;
+use fake::FakePool;
+use play::{Line, Op, play};
+use player::Player;
+use std::process::Abort;
+use std::test::Fail;
+
+#[test]
+fn a_claim_takes_the_lowest_worker(rt: HostRuntime) -> Result<(), Fail> {
+    let (idle, mut caller) = Idle::new(rt.alloc(), 3)?;
+    let mut zero = idle.seat(&mut caller);
+    let mut one = idle.seat(&mut caller);
+    let mut two = idle.seat(&mut caller);
+    idle.set_bit(&mut zero);
+    idle.set_bit(&mut one);
+    idle.set_bit(&mut two);
+    idle.add(&mut caller);
+    assert_eq!(rt; idle.claim(&rt, &mut caller), Some(0));
+    assert!(rt; !idle.withdraw(&mut zero));
+    assert!(rt; idle.withdraw(&mut two));
+    assert!(rt; idle.subtract(&mut zero));
+    assert_eq!(rt; idle.count(&mut caller), 0);
+    idle.add(&mut caller);
+    assert_eq!(rt; idle.claim(&rt, &mut caller), Some(1));
+    idle.add(&mut caller);
+    assert_eq!(rt; idle.claim(&rt, &mut caller), None);
+    Ok(())
+}
+
+/// The player of a worker of this number, which must come next.
+fn next_player<'a>(
+    rt: &impl Abort,
+    idle: &'a Idle,
+    caller: &mut IdleSeat,
+    workers: usize,
+) -> Player<'a>
+    requires at { IsSeatOf idle.now caller.old }
+    requires unpublished { (knows caller.old).published ≡ false }
+    requires workers { (knows caller.old).workers ≡ workers }
+    requires more { (knows caller.old).number + 1 < (knows caller.old).end }
+    requires worker { (knows caller.old).number < (knows caller.old).workers }
+    ensures same { IsSame caller.old caller.new }
+    ensures left { knows caller.new ≡ next_number (knows caller.old) }
+{
+    let seat = idle.seat(caller);
+    Player {
+        number: seat.number() as usize,
+        searcher: Searcher::new(idle, seat),
+        workers,
+        parked: false,
+    }
+}
+
+#[test]
+fn a_park_looks_at_four_things(rt: HostRuntime) -> Result<(), Fail> {
+    let (idle, mut caller) = Idle::new(rt.alloc(), 2)?;
+    let mut zero = next_player(&rt, &idle, &mut caller, 2);
+    let mut one = next_player(&rt, &idle, &mut caller, 2);
+    let mut pool = FakePool::new(2);
+    pool.global = 1;
+    assert_eq!(rt; zero.park(&rt, &mut pool), Park::Run);
+    assert_eq!(rt; idle.look(&mut caller), 0);
+    pool.global = 0;
+    assert!(rt; !one.search(&rt, &mut pool));
+    assert!(rt; one.searcher.is_searching());
+    assert_eq!(rt; zero.park(&rt, &mut pool), Park::Wait);
+    assert_eq!(rt; idle.look(&mut caller), 1);
+    assert!(rt; !zero.finish(&rt));
+    one.leave(&rt, &mut pool);
+    pool.queues[1] = 2;
+    assert_eq!(rt; zero.park(&rt, &mut pool), Park::Search);
+    assert_eq!(rt; idle.look(&mut caller), 0);
+    assert_eq!(rt; idle.count(&mut caller), 1);
+    zero.leave(&rt, &mut pool);
+    zero.end(&rt);
+    one.end(&rt);
+    Ok(())
+}
+
+/// Five values on worker 2: two of them, and then one of three, are stolen. A lone value stays.
+#[test]
+fn searches_move_half_of_a_backlog(rt: HostRuntime) -> Result<(), Fail> {
+    play(
+        &rt,
+        rt.alloc(),
+        3,
+        &[
+            Line(Op::Batch(2, 5), 0, 0, None),
+            Line(Op::Search(0, true), 0, 1, None),
+            Line(Op::Pops(0, 2), 0, 1, None),
+            Line(Op::Search(1, true), 0, 2, None),
+            Line(Op::Pops(1, 1), 0, 2, None),
+            Line(Op::Pops(2, 1), 0, 2, None),
+            Line(Op::Search(1, false), 0, 2, None),
+            Line(Op::Leave(0), 0, 1, None),
+            Line(Op::Leave(1), 0, 0, None),
+            Line(Op::Leave(2), 0, 0, None),
+        ],
+    )
+}
+
+/// Each push wakes a worker. Those that return the last count hand it on.
+#[test]
+fn pushes_wake_one_worker_each(rt: HostRuntime) -> Result<(), Fail> {
+    play(
+        &rt,
+        rt.alloc(),
+        5,
+        &[
+            Line(Op::Park(4, Park::Wait), 16, 0, None),
+            Line(Op::Park(3, Park::Wait), 24, 0, None),
+            Line(Op::Park(1, Park::Wait), 26, 0, None),
+            Line(Op::Park(0, Park::Wait), 27, 0, None),
+            Line(Op::Park(2, Park::Wait), 31, 0, None),
+            Line(Op::Push, 30, 1, Some(0)),
+            Line(Op::Push, 28, 2, Some(1)),
+            Line(Op::Push, 24, 3, Some(2)),
+            Line(Op::Finish(0, true), 24, 3, None),
+            Line(Op::Park(0, Park::Run), 24, 2, None),
+            Line(Op::Finish(1, true), 24, 2, None),
+            Line(Op::Park(1, Park::Run), 24, 1, None),
+            Line(Op::Finish(2, true), 24, 1, None),
+            Line(Op::Park(2, Park::Run), 16, 1, Some(3)),
+            Line(Op::Leave(0), 16, 1, None),
+            Line(Op::Finish(3, true), 16, 1, None),
+            Line(Op::Leave(3), 0, 1, Some(4)),
+            Line(Op::Finish(4, true), 0, 1, None),
+            Line(Op::Leave(4), 0, 0, None),
+        ],
+    )
+}
+
+/// A count that is held lets another worker wait; without one, a backlog makes a searcher.
+#[test]
+fn a_look_finds_what_is_left(rt: HostRuntime) -> Result<(), Fail> {
+    play(
+        &rt,
+        rt.alloc(),
+        2,
+        &[
+            Line(Op::Push, 0, 0, None),
+            Line(Op::Park(0, Park::Run), 0, 0, None),
+            Line(Op::Take, 0, 0, None),
+            Line(Op::Search(1, false), 0, 1, None),
+            Line(Op::Park(0, Park::Wait), 1, 1, None),
+            Line(Op::Finish(0, false), 0, 1, None),
+            Line(Op::Leave(1), 0, 0, None),
+            Line(Op::Batch(1, 2), 0, 0, None),
+            Line(Op::Park(0, Park::Search), 0, 1, None),
+            Line(Op::Leave(0), 0, 0, None),
+            Line(Op::Look(0, true), 0, 1, None),
+            Line(Op::Leave(0), 0, 0, None),
+            Line(Op::Pops(0, 1), 0, 0, None),
+            Line(Op::Look(0, false), 1, 0, None),
+            Line(Op::Finish(0, false), 0, 0, None),
+        ],
+    )
+}

@@ -1,0 +1,115 @@
+//! Workers that publish and withdraw on threads of their own.
+
+ghost use Rattle.std.specs.Prelude.{◌≡◌, ◌+◌, ◌<◌, false, if◌then◌else◌};
+ghost use Rattle.exec_live_idle.specs.Idle.{knows, IsSeatOf, IsSame};
+ghost use Rattle.exec_live_idle.specs.Live.{next_number};
+
+use crate::seat::{Idle, IdleSeat};
+use std::process::Abort;
+use std::test::Fail;
+use std::thread::join;
+
+/// A worker's seat at an idle set, which remembers what it did. It holds a count where it was
+/// claimed.
+#[derive(Drop)]
+struct Hand<'a> {
+    idle: &'a Idle,
+    seat: IdleSeat,
+    published: bool,
+    claimed: bool,
+    ghost at: { IsSeatOf idle.now seat },
+    ghost worker: { (knows seat).number < (knows seat).workers },
+    ghost known: { (knows seat).published ≡ published },
+    ghost held: { (knows seat).held ≡ (if claimed then 1 else 0) },
+}
+
+impl<'a> Hand<'a> {
+    /// The hand of the worker of the caller's number.
+    fn new(idle: &'a Idle, caller: &mut IdleSeat) -> Self
+        requires at { IsSeatOf idle.now caller.old }
+        requires unpublished { (knows caller.old).published ≡ false }
+        requires more { (knows caller.old).number + 1 < (knows caller.old).end }
+        requires worker { (knows caller.old).number < (knows caller.old).workers }
+        ensures same { IsSame caller.old caller.new }
+        ensures left { knows caller.new ≡ next_number (knows caller.old) }
+    {
+        Hand {
+            idle,
+            seat: idle.seat(caller),
+            published: false,
+            claimed: false,
+        }
+    }
+
+    fn publish(mut self, rt: &impl Abort) -> Self {
+        assert!(rt; !self.published);
+        self.idle.set_bit(&mut self.seat);
+        self.published = true;
+        self
+    }
+
+    fn withdraw(mut self, rt: &impl Abort) -> Self {
+        assert!(rt; self.published && !self.claimed);
+        self.claimed = !self.idle.withdraw(&mut self.seat);
+        self.published = false;
+        self
+    }
+
+    /// Ends the hand. Answers whether it was claimed, and then returned the last count.
+    fn end(self) -> Option<bool> {
+        let Hand {
+            idle,
+            mut seat,
+            published: _,
+            claimed,
+        } = self;
+        claimed.then(|| idle.subtract(&mut seat))
+    }
+}
+
+#[test]
+fn three_threads_publish_at_once(rt: HostRuntime) -> Result<(), Fail> {
+    let (idle, mut caller) = Idle::new(rt.alloc(), 3)?;
+    let zero = Hand::new(&idle, &mut caller);
+    let one = Hand::new(&idle, &mut caller);
+    let two = Hand::new(&idle, &mut caller);
+    let ((zero, one), two) = join(
+        &rt,
+        || join(&rt, || zero.publish(&rt), || one.publish(&rt)),
+        || two.publish(&rt),
+    );
+    assert_eq!(rt; idle.look(&mut caller), 7);
+    idle.add(&mut caller);
+    assert_eq!(rt; idle.claim(&rt, &mut caller), Some(0));
+    let ((zero, one), two) = join(
+        &rt,
+        || join(&rt, || zero.withdraw(&rt), || one.withdraw(&rt)),
+        || two.withdraw(&rt),
+    );
+    assert_eq!(rt;
+        [zero.end(), one.end(), two.end()],
+        [Some(true), None, None]
+    );
+    Ok(())
+}
+
+#[test]
+fn three_threads_publish_in_turn(rt: HostRuntime) -> Result<(), Fail> {
+    let (idle, mut caller) = Idle::new(rt.alloc(), 3)?;
+    let zero = Hand::new(&idle, &mut caller);
+    let one = Hand::new(&idle, &mut caller);
+    let two = Hand::new(&idle, &mut caller);
+    let (zero, ()) = join(&rt, || zero.publish(&rt), || {});
+    let (one, ()) = join(&rt, || one.publish(&rt), || {});
+    let (two, ()) = join(&rt, || two.publish(&rt), || {});
+    idle.add(&mut caller);
+    assert_eq!(rt; idle.claim(&rt, &mut caller), Some(0));
+    let (zero, ()) = join(&rt, || zero.withdraw(&rt), || {});
+    let (two, ()) = join(&rt, || two.withdraw(&rt), || {});
+    let (one, ()) = join(&rt, || one.withdraw(&rt), || {});
+    assert_eq!(rt;
+        [zero.end(), one.end(), two.end()],
+        [Some(true), None, None]
+    );
+    Ok(())
+}

@@ -1,0 +1,43 @@
+-- A request that ends for a task of the worker.
+use Rattle.std.proofs.Common.{◌≡◌, ℕ, true, [], ◌∷◌, Option, Some, refl}
+use Rattle.std.proofs.lemmas.Bool.{false≢true}
+use Rattle.exec_base.specs.Slab.{Slab, written}
+use Rattle.exec_base.specs.declared.slab.Id.{Id}
+use Rattle.exec_outcomes.specs.Accounts.{Account}
+use Rattle.exec_request.specs.Requests.{output_of, retired_of, record_after}
+use Rattle.exec_request.specs.States.{Ended}
+use Rattle.exec_request.specs.declared.output.RequestOutput.{RequestOutput}
+use Rattle.exec_waiters.specs.Told.{Tells, awake}
+use Rattle.exec_waiters.specs.States.{is_local, is_observed_here, tick_in}
+use Rattle.exec_waiters.specs.Events.{Finishes, finished_for, output_told, waker_in}
+use Rattle.exec_waiters.specs.declared.deferred.Deferred.{Deferred}
+use Rattle.exec_waiters.specs.declared.observer.Observer.{Observer}
+use Rattle.exec_waiters.specs.declared.observer.Observer.TheVariants.{Local, Forwarded, DetachedSync, Orphaned}
+use Rattle.exec_waiters.specs.declared.waiter.Waiter.{Waiter}
+use Rattle.exec_waiters.specs.declared.waiter.Entry.{Entry}
+use Rattle.exec_waiters.specs.declared.waiter.Entry.TheVariants.{Ready}
+
+module _ {S F : Type 0} where
+  slab_here : (s : Slab (Entry S F)) (id : Id) (told : RequestOutput) (observer : Observer S F) → is_local observer ≡ true → written s id (Ready told) ≡ finished_for s id told observer
+  slab_here s id told (Local waker) here = refl
+  slab_here s id told (Forwarded sender) here = absurd (false≢true here)
+  slab_here s id told (DetachedSync sender) here = absurd (false≢true here)
+  slab_here s id told Orphaned here = absurd (false≢true here)
+
+  told_here : (id : Id) (told : RequestOutput) (observer : Observer S F) → is_local observer ≡ true → output_told id told observer ≡ awake (waker_in observer)
+  told_here id told (Local waker) here = refl
+  told_here id told (Forwarded sender) here = absurd (false≢true here)
+  told_here id told (DetachedSync sender) here = absurd (false≢true here)
+  told_here id told Orphaned here = absurd (false≢true here)
+
+  pub here_of : (o : Option (Waiter S F)) (w : Waiter S F) → o ≡ Some w → is_observed_here o ≡ true → is_local w.observer ≡ true
+  here_of o w is here = rw is at here
+
+  pub finishes_here : (s : Slab (Entry S F)) (d d' : Deferred S F) (id : Id) (w : Waiter S F) (ended : Ended) (account account' : Option Account) (tick : Option ℕ) → is_local w.observer ≡ true → tick ≡ tick_in w.state → account' ≡ record_after w.request ended account → Tells d d' (record (awake {S = S} {F = F} (waker_in w.observer)) { resources = record { id = record { 0 = id }; resources = retired_of w.request } ∷ [] }) → Finishes s (written s id (Ready (output_of w.request ended account))) d d' id w ended account account' tick
+  finishes_here s d d' id w ended account account' tick here is opened tells =
+      record {
+        tick_is = is;
+        slab = slab_here s id (output_of w.request ended account) w.observer here;
+        told = rw (told_here id (output_of w.request ended account) w.observer here) tells;
+        open_after = opened;
+      }

@@ -1,0 +1,5 @@
+pub mod Changes
+pub mod Finishing
+pub mod Fits
+pub mod Held
+pub mod Over

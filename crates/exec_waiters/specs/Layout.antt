@@ -1,0 +1,34 @@
+-- How the requests of a worker lie in memory. No public clause cites this module.
+use Rattle.std.specs.Prelude.{◌≡◌, ℕ, Bool, true, not, ◌&&◌, ◌≤◌, length, All}
+use Rattle.exec_base.specs.Slab.{Slab}
+use Rattle.exec_base.specs.SlabLayout.{AreVacant, ListsAll}
+use Rattle.exec_base.specs.declared.slab.Slot.{Slot}
+use Rattle.exec_base.specs.declared.slab.Slot.TheVariants.{Live, Vacant, Retired}
+use Rattle.exec_waiters.specs.States.{suits, needs_permit, pending_count, flying_count}
+use Rattle.exec_waiters.specs.declared.waiter.Waiter.{Waiter}
+use Rattle.exec_waiters.specs.declared.waiter.Entry.{Entry}
+use Rattle.exec_waiters.specs.declared.waiter.Entry.TheVariants.{Pending, Ready}
+
+module _ {S F : Type 0} where
+  -- who waits suits the request, and the kernel has an operation only where the permit that it needs is there
+  abbrev pub is_sound : Waiter S F → Bool
+  is_sound w = suits w.request w.observer && not (w.in_flight && needs_permit w)
+
+  abbrev pub is_sound_entry : Entry S F → Bool
+  is_sound_entry (Pending w) = is_sound w
+  is_sound_entry (Ready output) = true
+
+  abbrev pub is_sound_slot : Slot (Entry S F) → Bool
+  is_sound_slot (Live generation entry) = is_sound_entry entry
+  is_sound_slot (Vacant generation) = true
+  is_sound_slot Retired = true
+
+  -- the counts are right, each request is sound, the last index is never given, and the vacant slots are listed, each
+  -- once
+  pub record IsKept (s : Slab (Entry S F)) (pending flying : ℕ) : Type 0 where
+    pub pending_is : pending ≡ pending_count s
+    pub flying_is : flying ≡ flying_count s
+    pub sound : All (λ slot. is_sound_slot slot ≡ true) s.slots
+    pub few : length s.slots ≤ 4294967295
+    pub vacant_ones : AreVacant s.slots s.vacant
+    pub all_listed : ListsAll s.slots s.vacant

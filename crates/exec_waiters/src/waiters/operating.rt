@@ -1,0 +1,203 @@
+//! The operations of a request, its deadline, its cancel, its permit, and its end.
+
+ghost use Rattle.std.specs.Prelude.{◌≡◌, ◌<◌, Some, None, is_some, true, false};
+ghost use Rattle.exec_base.specs.declared.slab.Id.{Id as Name};
+ghost use Rattle.exec_request.specs.States.{as_answer};
+ghost use Rattle.exec_waiters.specs.Ids.{index_in};
+ghost use Rattle.exec_waiters.specs.Told.{HasPlaces};
+ghost use Rattle.exec_waiters.specs.States.{waiter_at, is_idle, is_observed_here, awaits_tick, may_stage, lacks_permit, named};
+ghost use Rattle.exec_waiters.specs.Events.{changed, with_permit, with_tick, with_state, cancelled, may_cancel, answer_at_grant, is_lawful_for, Stages, Completes, Finishes};
+
+use super::Waiters;
+use crate::completed::CompletionOutcome;
+use crate::deferred::{Deferred, Retired};
+use crate::waiter::{Entry, Waiter, waiter_mut};
+use crate::waiter_id::WaiterId;
+use exec_base::error::Error;
+use exec_outcomes::outcome::OpResult;
+use exec_request::open_record::OpenRecord;
+use exec_request::output::RequestOutput;
+use exec_request::results::WaiterState;
+use exec_ring::completion::{Submission, UserData};
+use exec_time::wheel::Tick;
+use std::mem;
+
+impl<S: Drop, F: Drop> Waiters<S, F> {
+    ghost use Rattle.exec_waiters.specs.declared.waiter.Waiter.{Waiter as Asking};
+
+    /// The durable request has the permit of its open from now on. Answers what ends it at once: the failure that the
+    /// open keeps, or for a sync that there is nothing to make durable. The caller must have a durable request that
+    /// is not over and had no permit.
+    pub fn acquire_durability(
+        &mut self,
+        id: WaiterId,
+        open_: &Option<OpenRecord>,
+    ) -> Option<Result<(), Error>>
+        requires lacks { lacks_permit (waiter_at self.old id.0) ≡ true }
+        ensures answer { as_answer result ≡ answer_at_grant (waiter_at self.old id.0) open_.now }
+        ensures permit { self.new ≡ changed self.old id.0 with_permit }
+    {
+        let waiter = waiter_mut(&mut self.entries, id);
+        waiter.permit = true;
+        waiter.request.prepare_durability(open_)
+    }
+
+    /// Notes the tick of the wheel at which the request's deadline comes. The caller must have a request that is not
+    /// over, had no tick, and whose cancel nobody asked for.
+    pub fn set_deadline(&mut self, id: WaiterId, tick: Tick)
+        requires awaits { awaits_tick (waiter_at self.old id.0) ≡ true }
+        ensures { self.new ≡ changed self.old id.0 (with_tick tick) }
+    {
+        self.set_state(
+            id,
+            WaiterState::Active {
+                target_tick: Some(tick),
+            },
+        );
+    }
+
+    /// Asks for the cancel of the request. Answers whether this was the first time. Nothing changes where the request
+    /// is over or gone.
+    pub fn cancel(&mut self, id: WaiterId) -> bool
+        ensures answer { result ≡ may_cancel (waiter_at self.old id.0) }
+        ensures cancelled { self.new ≡ changed self.old id.0 cancelled }
+    {
+        let Some(waiter) = self.get(id) else {
+            return false;
+        };
+        let first = !waiter.state.is_cancelled();
+        self.set_state(id, WaiterState::CancelRequested);
+        first
+    }
+
+    // Has a request that isn't over stand so.
+    fn set_state(&mut self, id: WaiterId, state: WaiterState)
+        requires { is_some (waiter_at self.old id.0) ≡ true }
+        ensures { self.new ≡ changed self.old id.0 (with_state state) }
+    {
+        let waiter = waiter_mut(&mut self.entries, id);
+        waiter.state = state;
+    }
+
+    /// The entry of the request's next operation; the kernel may have it from now on. The caller must have a request
+    /// that is not over and has no operation, whose cancel nobody asked for, and which has the permit that it needs.
+    /// The user data of no request has the last index, which that of wakes and cancels has.
+    pub fn stage(&mut self, id: WaiterId, open_: &Option<OpenRecord>) -> Submission
+        requires may { may_stage (waiter_at self.old id.0) ≡ true }
+        ensures staged { (waiter : Asking S F) → waiter_at self.old id.0 ≡ Some waiter → Stages self.old self.new id.0 waiter open_.now result }
+        ensures own { index_in result.user_data < 4294967295 }
+    {
+        self.in_flight += 1;
+        let waiter = waiter_mut(&mut self.entries, id);
+        waiter.in_flight = true;
+        Submission {
+            window: waiter.request.build_sqe(open_),
+            user_data: id.user_data(),
+        }
+    }
+
+    /// Takes the completion of an operation in: the kernel has done with what the request owns, and the result is
+    /// judged with all before it. None where no operation that is under way has this user data, and then nothing
+    /// changes. The caller must have a result that the kernel may give for that operation.
+    pub fn on_completion(
+        &mut self,
+        user_data: UserData,
+        given: OpResult,
+        open_: &mut Option<OpenRecord>,
+    ) -> Option<CompletionOutcome>
+        requires lawful { (id : Name) → (waiter : Asking S F) → named self.old user_data ≡ Some id → waiter_at self.old id ≡ Some waiter → is_lawful_for waiter given ≡ true }
+        ensures completes { (id : Name) → (waiter : Asking S F) → named self.old user_data ≡ Some id → waiter_at self.old id ≡ Some waiter → Completes self.old self.new id waiter given open_.old open_.new result }
+        ensures stale { named self.old user_data ≡ None → (result ≡ None) × (self.new ≡ self.old) × (open_.new ≡ open_.old) }
+    {
+        let id = self.named(user_data)?;
+        self.in_flight -= 1;
+        let waiter = waiter_mut(&mut self.entries, id);
+        waiter.in_flight = false;
+        let answer = waiter.request.on_cqe(waiter.state, given, open_);
+        Some(CompletionOutcome::of(id, answer))
+    }
+
+    /// Ends the request so. Its output is kept for a task of the worker, is sent to who waits elsewhere, or is let go;
+    /// what it owned is retired. Answers the tick of the wheel that is to be removed. The caller must have a request
+    /// that is not over and of which the kernel has no operation, lend the record of its open where it has one, and
+    /// have made room in each list.
+    pub fn finish(
+        &mut self,
+        id: WaiterId,
+        ended: Result<(), Error>,
+        open_: &mut Option<OpenRecord>,
+        deferred: &mut Deferred<S, F>,
+    ) -> Option<Tick>
+        requires idle { is_idle (waiter_at self.old id.0) ≡ true }
+        requires room { HasPlaces deferred.old 1 }
+        ensures { (waiter : Asking S F) → waiter_at self.old id.0 ≡ Some waiter → Finishes self.old self.new deferred.old deferred.new id.0 waiter ended open_.old open_.new result }
+    {
+        if self.is_observed_here(id) {
+            self.keep(id, ended, open_, deferred)
+        } else {
+            self.free(id, ended, open_, deferred)
+        }
+    }
+
+    // Ends a request that a task of the worker waits for: the output stays in its place, and the task is woken.
+    fn keep(
+        &mut self,
+        id: WaiterId,
+        ended: Result<(), Error>,
+        open_: &mut Option<OpenRecord>,
+        deferred: &mut Deferred<S, F>,
+    ) -> Option<Tick>
+        requires idle { is_idle (waiter_at self.old id.0) ≡ true }
+        requires here { is_observed_here (waiter_at self.old id.0) ≡ true }
+        requires room { HasPlaces deferred.old 1 }
+        ensures { (waiter : Asking S F) → waiter_at self.old id.0 ≡ Some waiter → Finishes self.old self.new deferred.old deferred.new id.0 waiter ended open_.old open_.new result }
+    {
+        self.pending -= 1;
+        let place = Entry::Ready(RequestOutput::Sync(Ok(())));
+        let Some(entry) = self.entries.get_mut(id.0) else {
+            unreachable!()
+        };
+        let Entry::Pending(waiter) = mem::replace(entry, place) else {
+            unreachable!()
+        };
+        let tick = waiter.tick();
+        let waker = waiter.observer.waker();
+        let (output, resources) = waiter.request.complete(ended, open_);
+        *entry = Entry::Ready(output);
+        deferred.wake(waker);
+        deferred.resources.push_reserved(Retired { id, resources });
+        tick
+    }
+
+    // Ends a request that no task of the worker waits for: its slot is free, and the output is sent or let go.
+    fn free(
+        &mut self,
+        id: WaiterId,
+        ended: Result<(), Error>,
+        open_: &mut Option<OpenRecord>,
+        deferred: &mut Deferred<S, F>,
+    ) -> Option<Tick>
+        requires idle { is_idle (waiter_at self.old id.0) ≡ true }
+        requires elsewhere { is_observed_here (waiter_at self.old id.0) ≡ false }
+        requires room { HasPlaces deferred.old 1 }
+        ensures { (waiter : Asking S F) → waiter_at self.old id.0 ≡ Some waiter → Finishes self.old self.new deferred.old deferred.new id.0 waiter ended open_.old open_.new result }
+    {
+        self.pending -= 1;
+        let Some(Entry::Pending(waiter)) = self.entries.remove(id.0) else {
+            unreachable!()
+        };
+        let tick = waiter.tick();
+        let Waiter {
+            state: _,
+            in_flight: _,
+            observer,
+            request,
+            permit: _,
+        } = waiter;
+        let (output, resources) = request.complete(ended, open_);
+        deferred.deliver(id, output, observer);
+        // Last, since what is told before asks for a place in each list.
+        deferred.resources.push_reserved(Retired { id, resources });
+        tick
+    }
+}
