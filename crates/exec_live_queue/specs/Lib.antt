@@ -1,4 +1,5 @@
 pub mod Calls
+pub mod Examples
 pub mod Handles
 pub mod Live
 pub mod Numbers

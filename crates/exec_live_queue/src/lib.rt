@@ -21,6 +21,7 @@
 
 pub mod answers;
 pub mod batch;
+pub mod examples;
 pub mod head;
 pub mod inner;
 pub mod overflow;
