@@ -1,0 +1,5 @@
+use Rattle.std.proofs.Common.{◌≡◌, []}
+use Rattle.exec_live_tests.proofs.queue.pop_some.Given as goal
+
+abbrev pub invariant-pops : goal.invariant-pops
+invariant-pops l = l.owner.handed ≡ []

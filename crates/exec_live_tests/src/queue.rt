@@ -1,0 +1,169 @@
+//! An owner and three thieves of one run queue, each on a thread of its own: whatever way they
+//! interleave, each value leaves once.
+
+ghost use Rattle.std.specs.Prelude.{◌≡◌, ◌≢◌, []};
+ghost use Rattle.exec_live_queue.specs.Live.{opened};
+ghost use Rattle.exec_live_queue.specs.declared.view.Stage.TheVariants.{Owns};
+
+use exec_live_queue::answers::Push;
+use exec_live_queue::owner::Owner;
+use exec_live_queue::queue::{Queue, QueueSeat};
+use exec_words::queue::Steal;
+use std::alloc::Global;
+use std::process::Abort;
+use std::test::Fail;
+use std::thread::join;
+
+/// How many values go through the queue.
+const VALUES: u64 = 100_000;
+
+/// How many values a thread took, and their sum.
+#[derive(Clone, Copy, Debug, PartialEq, Eq)]
+struct Tally {
+    values: u64,
+    sum: u64,
+}
+
+impl Tally {
+    fn none() -> Self {
+        Tally { values: 0, sum: 0 }
+    }
+
+    fn count(&mut self, value: u64) {
+        self.values = self.values.wrapping_add(1);
+        self.sum = self.sum.wrapping_add(value);
+    }
+
+    fn with(self, other: Tally) -> Self {
+        Tally {
+            values: self.values.wrapping_add(other.values),
+            sum: self.sum.wrapping_add(other.sum),
+        }
+    }
+}
+
+/// The first seat of a queue, which becomes its owner's.
+#[derive(Drop)]
+struct Owning<'a> {
+    queue: &'a Queue<u64>,
+    first: QueueSeat<u64>,
+    ghost at: { first ≡ record { table = queue.now.table; view = opened queue.now.start } },
+}
+
+impl<'a> Owning<'a> {
+    /// Pushes all values and pops what is left. What flows over is taken too.
+    fn run(self, rt: &impl Abort) -> Tally {
+        let Owning { queue, first } = self;
+        let mut owner = match queue.owner(first) {
+            Ok(owner) => owner,
+            Err(_) => panic!(rt; "no memory"),
+        };
+        let mut tally = Tally::none();
+        for value in 0..VALUES {
+            match owner.push(value) {
+                Push::Pushed(_) => {}
+                Push::Overflow(value) | Push::Claimed(value) | Push::Spent(value) => {
+                    tally.count(value)
+                }
+            }
+            hand_out(&mut owner, &mut tally);
+        }
+        end(rt, owner, tally)
+    }
+}
+
+/// A seat of a thief.
+#[derive(Drop)]
+struct Stealing<'a> {
+    queue: &'a Queue<u64>,
+    seat: QueueSeat<u64>,
+    ghost at: { (seat.table ≡ queue.now.table) × (seat.view.stage ≢ Owns) },
+}
+
+impl<'a> Stealing<'a> {
+    /// Steals again and again into a queue of its own, and pops what it stole.
+    fn run(self, rt: &impl Abort, alloc: Global) -> Tally {
+        let Stealing { queue, mut seat } = self;
+        let (own, first) = match Queue::shared(alloc) {
+            Ok(made) => made,
+            Err(_) => panic!(rt; "no memory"),
+        };
+        let mut owner = match own.owner(first) {
+            Ok(owner) => owner,
+            Err(_) => panic!(rt; "no memory"),
+        };
+        let mut tally = Tally::none();
+        for _ in 0..VALUES {
+            if let Steal::Moved(count) = queue.steal_once(&mut seat, &mut owner) {
+                pop_some(&mut owner, count, &mut tally);
+            }
+        }
+        end(rt, owner, tally)
+    }
+}
+
+/// Takes what an overflow hands out: half of the queue at most.
+fn hand_out(owner: &mut Owner<u64>, tally: &mut Tally)
+    ensures { owner.new.handed ≡ [] }
+{
+    'left: loop {
+        match owner.next_overflowed() {
+            Some(value) => tally.count(value),
+            None => return,
+        }
+    }
+}
+
+/// Pops so many values at most.
+fn pop_some(owner: &mut Owner<u64>, count: usize, tally: &mut Tally)
+    requires { owner.old.handed ≡ [] }
+    ensures { owner.new.handed ≡ [] }
+{
+    'pops: for _ in 0..count {
+        if let Some(value) = owner.pop() {
+            tally.count(value);
+        }
+    }
+}
+
+/// Pops what is left, which is 256 values at most, and lets the owner go.
+fn end(rt: &impl Abort, mut owner: Owner<u64>, mut tally: Tally) -> Tally
+    requires { owner.handed ≡ [] }
+{
+    pop_some(&mut owner, 256, &mut tally);
+    match owner.pop() {
+        None => owner.leave(),
+        Some(_) => panic!(rt; "more values than fit"),
+    }
+    tally
+}
+
+#[test]
+fn each_value_leaves_once(rt: HostRuntime) -> Result<(), Fail> {
+    let alloc = rt.alloc();
+    let (queue, mut first) = Queue::shared(alloc)?;
+    let one = Stealing {
+        queue: &queue,
+        seat: queue.seat(&mut first),
+    };
+    let two = Stealing {
+        queue: &queue,
+        seat: queue.seat(&mut first),
+    };
+    let three = Stealing {
+        queue: &queue,
+        seat: queue.seat(&mut first),
+    };
+    let zero = Owning {
+        queue: &queue,
+        first,
+    };
+    let ((zero, one), (two, three)) = join(
+        &rt,
+        || join(&rt, || zero.run(&rt), || one.run(&rt, alloc)),
+        || join(&rt, || two.run(&rt, alloc), || three.run(&rt, alloc)),
+    );
+    let all = zero.with(one).with(two).with(three);
+    assert_eq!(rt; (all.values, all.sum), (100_000, 4_999_950_000));
+    Ok(())
+}
