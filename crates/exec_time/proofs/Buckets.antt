@@ -8,7 +8,7 @@ use Rattle.std.proofs.lemmas.List.Elements.{filter-append}
 use Rattle.std.proofs.lemmas.List.Sums.{sum_by_push, sum_by-remove, sum_by-le, prefix_len_stops, prefix_len_passes}
 use Rattle.std.proofs.lemmas.List.{take_more}
 use Rattle.exec_time.specs.Entries.{is_in_slot, bucket_in, active_in}
-use Rattle.exec_time.specs.declared.wheel.Entry.{Entry}
+use Rattle.exec_time.specs.declared.entries.Entry.{Entry}
 
 -- one more entry
 pub bucket_in_push : (entries : List Entry) (slots slot : ℕ) (e : Entry) → bucket_in (entries ++ e ∷ []) slots slot ≡ bucket_in entries slots slot ++ (if is_in_slot slots slot e then e.id ∷ [] else [])

@@ -14,7 +14,7 @@ use Rattle.exec_time.specs.declared.timers.Observer.{Observer}
 use Rattle.exec_time.specs.declared.timers.Observer.TheVariants.{Local, Forwarded}
 use Rattle.exec_time.specs.Notes.{HasRoom}
 use Rattle.exec_time.specs.Sleepers.{Ends, IsDue, IsFirst, left_at, wakes_of, completions_of}
-use Rattle.exec_time.proofs.Slumber.{none_past}
+use Rattle.exec_time.proofs.Sleepers.{none_past}
 
 abbrev one_if : Bool → ℕ
 one_if b = cond b 1 0

@@ -4,6 +4,6 @@ pub mod Views
 pub mod Turns
 pub mod Passes
 pub mod Sizes
-pub mod Slumber
+pub mod Sleepers
 pub mod Endings
 pub mod Stale

@@ -11,7 +11,7 @@ use Rattle.exec_base.specs.declared.slab.Id.{Id}
 use Rattle.exec_time.specs.Entries.{is_in_slot, bucket_in, active_in}
 use Rattle.exec_time.specs.Wheel.{Wheel, slot_of, scheduled, removed}
 use Rattle.exec_time.specs.Turning.{emptied}
-use Rattle.exec_time.specs.declared.wheel.Entry.{Entry}
+use Rattle.exec_time.specs.declared.entries.Entry.{Entry}
 use Rattle.exec_time.proofs.Buckets.{bucket_in_push, bucket_in_discard, active_in_push, active_in_remove}
 
 -- a wheel of lists

@@ -1,7 +1,7 @@
 -- Buckets and active entries, kept as lists.
 use Rattle.std.specs.Prelude.{ℕ, ◌%◌, Bool, List, ◌==◌, map, filter, count_by}
 use Rattle.exec_base.specs.declared.slab.Id.{Id}
-use Rattle.exec_time.specs.declared.wheel.Entry.{Entry}
+use Rattle.exec_time.specs.declared.entries.Entry.{Entry}
 
 -- whether an entry is in this slot
 abbrev pub is_in_slot : ℕ → ℕ → Entry → Bool

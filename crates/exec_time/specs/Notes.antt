@@ -2,7 +2,7 @@
 use Rattle.std.specs.Prelude.{◌≡◌, ℕ, ◌+◌, ◌≤◌, List, ◌++◌, vec_len}
 use Rattle.std.specs.Vec.{vec_capacity}
 use Rattle.exec_base.specs.declared.task_no.TaskNo.{TaskNo}
-use Rattle.exec_time.specs.declared.notes.Completion.{Completion}
+use Rattle.exec_time.specs.declared.notes.ForwardedResult.{ForwardedResult}
 use Rattle.exec_time.specs.declared.notes.Notes.{Notes}
 
 module _ {S : Type 0} where
@@ -12,7 +12,7 @@ module _ {S : Type 0} where
     pub completions : vec_len notes.completions + n ≤ vec_capacity notes.completions
 
   -- these come at the end of what is noted, and the memory doesn't shrink
-  pub record Adds (old new : Notes S) (wakes : List TaskNo) (completions : List (Completion S)) : Type 0 where
+  pub record Adds (old new : Notes S) (wakes : List TaskNo) (completions : List (ForwardedResult S)) : Type 0 where
     pub wakes_added : new.wakes.items ≡ old.wakes.items ++ wakes
     pub completions_added : new.completions.items ≡ old.completions.items ++ completions
     pub wakes_memory : vec_capacity old.wakes ≤ vec_capacity new.wakes

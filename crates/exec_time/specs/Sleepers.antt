@@ -6,7 +6,7 @@ use Rattle.exec_base.specs.declared.error.Error.{Error}
 use Rattle.exec_base.specs.declared.error.Error.TheVariants.{Closed}
 use Rattle.exec_base.specs.declared.slab.Id.{Id}
 use Rattle.exec_base.specs.declared.task_no.TaskNo.{TaskNo}
-use Rattle.exec_time.specs.declared.notes.Completion.{Completion}
+use Rattle.exec_time.specs.declared.notes.ForwardedResult.{ForwardedResult}
 use Rattle.exec_time.specs.declared.notes.Notes.{Notes}
 use Rattle.exec_time.specs.declared.timers.Sleeper.{Sleeper}
 use Rattle.exec_time.specs.declared.timers.Observer.{Observer}
@@ -22,7 +22,7 @@ module _ {S : Type 0} where
   wakes_of (Forwarded _) = []
 
   -- the result that is sent, where the observer is elsewhere
-  abbrev pub completions_of : Result (Unit {0}) Error → Observer S → List (Completion S)
+  abbrev pub completions_of : Result (Unit {0}) Error → Observer S → List (ForwardedResult S)
   completions_of result (Local _) = []
   completions_of result (Forwarded sender) = record { sender = sender; result = result } ∷ []
 

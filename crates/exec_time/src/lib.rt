@@ -1,6 +1,7 @@
 //! Deadlines: the wheel that holds those of requests, the sleepers of a worker, and a sleep.
 #![tactic(auto)]
 
+mod entries;
 pub mod examples;
 pub mod laws;
 pub mod notes;

@@ -14,7 +14,7 @@ use std::alloc::{AllocError, Global};
 
 /// A result for who waits elsewhere, with the way to send it.
 #[derive(Drop)]
-pub struct Completion<S> {
+pub struct ForwardedResult<S> {
     /// Where the result goes.
     pub sender: S,
     /// The result: success, or why there is none.
@@ -27,7 +27,7 @@ pub struct Notes<S> {
     /// The tasks to be woken.
     pub wakes: Vec<TaskNo>,
     /// The results to be sent.
-    pub completions: Vec<Completion<S>>,
+    pub completions: Vec<ForwardedResult<S>>,
 }
 
 impl<S> Notes<S> {
@@ -67,7 +67,7 @@ mod tests {
         assert!(rt; room);
         notes.wakes.push_reserved(TaskNo(4));
         notes.wakes.push_reserved(TaskNo(3));
-        notes.completions.push_reserved(Completion {
+        notes.completions.push_reserved(ForwardedResult {
             sender: 9u32,
             result: Err(Error::Closed),
         });

@@ -14,7 +14,7 @@ ghost use Rattle.exec_base.specs.declared.error.Error.TheVariants as error;
 ghost use Rattle.exec_time.specs.Notes.{HasRoom, Adds};
 ghost use Rattle.exec_time.specs.Sleepers.{wakes_of, completions_of};
 
-use crate::notes::{Completion, Notes};
+use crate::notes::{ForwardedResult, Notes};
 use exec_base::error::Error;
 use exec_base::slab::{Id, InsertError, Slab};
 use exec_base::task_no::TaskNo;
@@ -168,7 +168,7 @@ impl<S: Drop> Timers<S> {
         ensures gone { value_at self.old id.0 ≡ None → (self.new ≡ self.old) × Adds notes.old notes.new [] (completions_of (Ok tt) (Forwarded sender)) }
     {
         let Some(sleeper) = self.sleepers.get_mut(id.0) else {
-            notes.completions.push_reserved(Completion {
+            notes.completions.push_reserved(ForwardedResult {
                 sender,
                 result: Ok(()),
             });
@@ -196,7 +196,7 @@ impl<S: Drop> Timers<S> {
         } = sleeper;
         match observer {
             Observer::Local(_unwoken) => {}
-            Observer::Forwarded(sender) => notes.completions.push_reserved(Completion {
+            Observer::Forwarded(sender) => notes.completions.push_reserved(ForwardedResult {
                 sender,
                 result: Err(Error::Closed),
             }),
@@ -332,7 +332,7 @@ fn tell<S: Drop>(observer: Observer<S>, result_told: Result<(), Error>, notes: &
 {
     match observer {
         Observer::Local(waker) => notes.wakes.push_reserved(waker),
-        Observer::Forwarded(sender) => notes.completions.push_reserved(Completion {
+        Observer::Forwarded(sender) => notes.completions.push_reserved(ForwardedResult {
             sender,
             result: result_told,
         }),

@@ -13,6 +13,7 @@ ghost use Rattle.std.specs.VecDeque.{deque_len, deque_capacity};
 ghost use Rattle.exec_time.specs.Layouts.{slots_of, is_out_of_range as out_of_range};
 ghost use Rattle.exec_time.specs.Entries.{bucket_in, active_in, is_in_slot};
 
+use crate::entries::{Entry, collect, discard, make_way};
 use exec_base::limits::LONGEST_TIMEOUT;
 use exec_base::slab::Id;
 use std::alloc::{AllocError, Global};
@@ -31,13 +32,6 @@ pub struct Layout;
 #[derive(Clone, Copy, Debug, PartialEq, Eq, Error)]
 #[error("the wheel does not reach the deadline")]
 pub struct Span;
-
-/// An id that is scheduled at a tick.
-#[derive(Clone, Copy)]
-struct Entry {
-    tick: Tick,
-    id: Id,
-}
 
 /// A wheel of deadlines. Ports `TimeoutWheel`.
 #[derive(Drop)]
@@ -362,42 +356,6 @@ impl TimeoutWheel {
     {
         collect(&self.entries, self.slots, slot, &mut self.ready);
         discard(&mut self.entries, self.slots, slot);
-    }
-}
-
-/// Appends the ids of the entries in this slot to those that are ready.
-fn collect(entries: &[Entry], slots: u64, slot: u64, ready: &mut VecDeque<Id>)
-    requires has_slots { 0 < slots }
-    requires room { deque_len ready.old + length entries.now ≤ deque_capacity ready.old }
-    ensures ids { ready.new.items ≡ ready.old.items ++ bucket_in entries.now slots slot }
-    ensures capacity { deque_capacity ready.new ≡ deque_capacity ready.old }
-{
-    for entry in entries {
-        if entry.tick % slots == slot {
-            ready.push_back_reserved(entry.id);
-        }
-    }
-}
-
-/// Discards the entries in this slot.
-fn discard(entries: &mut Vec<Entry>, slots: u64, slot: u64)
-    requires has_slots { 0 < slots }
-    ensures others { entries.new.items ≡ filter (λ entry. not (is_in_slot slots slot entry)) entries.old.items }
-    ensures fewer { vec_len entries.new ≤ vec_len entries.old }
-    ensures capacity { vec_capacity entries.new ≡ vec_capacity entries.old }
-{
-    entries.retain(|entry| entry.tick % slots != slot);
-}
-
-/// Discards the entries in this slot where none of them is active, of which it has `active`.
-fn make_way(entries: &mut Vec<Entry>, slots: u64, slot: u64, active: usize)
-    requires has_slots { 0 < slots }
-    ensures buckets { (s : ℕ) → bucket_in entries.new.items slots s ≡ (if active == 0 then (if slot == s then [] else bucket_in entries.old.items slots s) else bucket_in entries.old.items slots s) }
-    ensures fewer { vec_len entries.new ≤ vec_len entries.old }
-    ensures capacity { vec_capacity entries.new ≡ vec_capacity entries.old }
-{
-    if active == 0 {
-        discard(entries, slots, slot);
     }
 }
 

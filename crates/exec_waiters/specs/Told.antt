@@ -2,7 +2,7 @@
 use Rattle.std.specs.Prelude.{◌≡◌, ℕ, Bool, ◌+◌, ◌≤◌, ◌==◌, ◌&&◌, List, [], ◌∷◌, ◌++◌, length, Option, Some, None, vec_len}
 use Rattle.std.specs.Vec.{vec_capacity}
 use Rattle.exec_base.specs.declared.task_no.TaskNo.{TaskNo}
-use Rattle.exec_time.specs.declared.notes.Completion.{Completion}
+use Rattle.exec_time.specs.declared.notes.ForwardedResult.{ForwardedResult}
 use Rattle.exec_time.specs.Notes.{HasRoom as HasNotes, Adds}
 use Rattle.exec_waiters.specs.declared.deferred.Untaken.{Untaken}
 use Rattle.exec_waiters.specs.declared.deferred.Retired.{Retired}
@@ -14,7 +14,7 @@ pub record Told (S F : Type 0) : Type 0 where
   pub wakes : List TaskNo
   pub outputs : List Untaken
   pub resources : List Retired
-  pub completions : List (Completion S)
+  pub completions : List (ForwardedResult S)
   pub results : List (Answer F)
 
 -- the task is woken, where there is one

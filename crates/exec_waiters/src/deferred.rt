@@ -14,7 +14,7 @@ use crate::waiter_id::WaiterId;
 use exec_base::error::Error;
 use exec_base::task_no::TaskNo;
 use exec_request::output::{RequestOutput, RetiredResources};
-use exec_time::notes::{Completion, Notes};
+use exec_time::notes::{ForwardedResult, Notes};
 use std::alloc::{AllocError, Global};
 
 /// An output that nobody takes any more.
@@ -144,7 +144,7 @@ impl<S: Drop, F: Drop> Deferred<S, F> {
                 RequestOutput::Sync(result) => self
                     .notes
                     .completions
-                    .push_reserved(Completion { sender, result }),
+                    .push_reserved(ForwardedResult { sender, result }),
                 _ => unreachable!(),
             },
             Observer::Orphaned => self.outputs.push_reserved(Untaken { id, output }),

@@ -1,6 +1,6 @@
 use Rattle.std.proofs.Common.{◌≡◌, sym, ◌∙◌, Some}
 use Rattle.exec_base.specs.Slab.{slot_at, id_in}
-use Rattle.exec_time.proofs.Slumber.{below_empty, below_keeps, below_takes, index_in, gone_in}
+use Rattle.exec_time.proofs.Sleepers.{below_empty, below_keeps, below_takes, index_in, gone_in}
 use Rattle.exec_time.proofs.timers.Timers.earlier.Goals as goal
 use Rattle.exec_time.proofs.timers.Timers.earlier.Goals.{in_default-first-via-in-Some-first+else-deadline-sleeper, in_default-first-via-in_default-first}
 

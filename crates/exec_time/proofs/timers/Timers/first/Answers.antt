@@ -1,5 +1,5 @@
 use Rattle.std.proofs.Common.{arith, ◌≡◌, length}
-use Rattle.exec_time.proofs.Slumber.{first_of_all, none_of_all}
+use Rattle.exec_time.proofs.Sleepers.{first_of_all, none_of_all}
 use Rattle.exec_time.proofs.timers.Timers.first.Goals as goal
 
 pub returns-clause-first : goal.returns-clause-first

@@ -1,7 +1,7 @@
 use Rattle.std.proofs.Common.{◌≡◌, ◌≤◌, ◌+◌, ◌++◌, take}
 use Rattle.std.specs.VecDeque.{deque_len, deque_capacity}
 use Rattle.exec_time.specs.Entries.{bucket_in}
-use Rattle.exec_time.proofs.wheel.collect.Given as goal
+use Rattle.exec_time.proofs.entries.collect.Given as goal
 
 abbrev pub invariant-loop-entry : goal.invariant-loop-entry
 invariant-loop-entry l =
