@@ -1,6 +1,6 @@
 """Events of requests and sleepers, each of their own worker."""
 from outcomes import is_dirty, judge
-from state import CLOSING, FLYING, GATED, LANDED, OPEN, QUEUED, RESOLVED, STAGED, need
+from state import CLOSING, FLYING, GATED, OPEN, QUEUED, STAGED, need
 
 
 class RequestEvents:
@@ -35,7 +35,6 @@ class RequestEvents:
 
     def on_enrol(self, i, me, e, choice):
         self.serves(me)
-        me.fresh = [n for n in me.fresh if self.requests[n].phase != RESOLVED]
         need(me.fresh and me.fresh[0] == e[1], "not the first new deadline")
         r = self.requests[e[1]]
         need(r.phase == QUEUED, "not queued")
@@ -49,13 +48,12 @@ class RequestEvents:
 
     def on_stage(self, i, me, e, choice):
         self.serves(me)
-        me.ready = [n for n in me.ready if self.requests[n].phase == QUEUED]
         need(me.ready and me.ready[0] == e[1], "not the first ready")
         r = self.requests[e[1]]
         need(not r.cancelled, "cancelled")
         need(r.deadline is None or r.timer is not None, "its deadline isn't enrolled")
         need(self.in_flight(i) < self.ring, "the ring is full")
-        need(not [n for n in me.fresh if self.requests[n].phase != RESOLVED], "stage before every enrol")
+        need(not me.fresh, "stage before every enrol")
         me.ready.pop(0)
         r.phase = STAGED
         buffered = r.kind == "hint" or r.kind == "direct" and r.switched
@@ -118,7 +116,6 @@ class RequestEvents:
 
     def on_cancel(self, i, me, e, choice):
         self.serves(me)
-        me.cancels = [n for n in me.cancels if self.requests[n].phase in (STAGED, FLYING, LANDED)]
         need(me.cancels and me.cancels[0] == e[1], "not the first cancel")
         me.cancels.pop(0)
         self.requests[e[1]].cancel_staged = True

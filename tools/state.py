@@ -230,8 +230,9 @@ class State:
         r = self.requests[n]
         me = self.workers[r.worker]
         r.phase, r.outcome, r.timer, r.result = RESOLVED, outcome, None, None
-        if n in me.untold:
-            me.untold.remove(n)
+        for waiting in (me.fresh, me.ready, me.cancels, me.untold):
+            if n in waiting:
+                waiting.remove(n)
         me.ended.append(n)
         if r.kind in DURABLE and self.opens[r.target].holder == n:
             self.opens[r.target].holder = None

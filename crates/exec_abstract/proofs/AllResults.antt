@@ -1,5 +1,5 @@
 -- How far a request has come stands for all results that the run shows of it: each line keeps that.
-use Rattle.std.proofs.Common.{◌≡◌, ℕ, zero, suc, ◌+◌, ◌<◌, ◌≤◌, Bool, true, false, ◌==◌, if◌then◌else◌, List, [], ◌∷◌, ◌++◌, Option, Some, None, length, refl, sym, ◌∙◌, ap, subst, arith, inl, inr, get_or, set}
+use Rattle.std.proofs.Common.{◌≡◌, ℕ, ◌<◌, ◌≤◌, Bool, true, false, ◌==◌, if◌then◌else◌, List, [], ◌∷◌, ◌++◌, Option, Some, None, length, refl, sym, ◌∙◌, ap, subst, arith, inl, inr, get_or, set}
 use Rattle.std.proofs.lemmas.Bool.{true≢false, cases_eq, cases_lt, cases_Bool, eq-eqb, ne_eqb}
 use Rattle.std.proofs.lemmas.Grind.{get_or-set_at}
 use Rattle.std.proofs.lemmas.List.{append-nil, append_assoc, length-set, length_push, get_or-set_other, get_or_append_left, get_or_push, get_or_past}
@@ -11,32 +11,30 @@ use Rattle.exec_outcomes.specs.Accounts.{Account}
 use Rattle.exec_outcomes.specs.Outcomes.{HasCome, outcome_next, outcome_of}
 use Rattle.exec_outcomes.proofs.Runs.{next, goes_on}
 use Rattle.exec_abstract.specs.declared.config.Configuration.{Configuration}
-use Rattle.exec_abstract.specs.declared.config.Word.{Word}
-use Rattle.exec_abstract.specs.declared.config.Word.TheVariants as word
+use Rattle.exec_abstract.specs.declared.config.ScriptWord.{ScriptWord}
+use Rattle.exec_abstract.specs.declared.config.ScriptWord.TheVariants as word
 use Rattle.exec_abstract.specs.declared.step.Action.{Action}
 use Rattle.exec_abstract.specs.declared.step.Action.TheVariants as action
 use Rattle.exec_abstract.specs.declared.event.Event.{Event}
 use Rattle.exec_abstract.specs.declared.event.Event.TheVariants as event
-use Rattle.exec_abstract.specs.declared.event.Said.{Said}
-use Rattle.exec_abstract.specs.declared.event.Said.TheVariants.{Refused, Did}
+use Rattle.exec_abstract.specs.declared.event.StepResult.{StepResult}
+use Rattle.exec_abstract.specs.declared.event.StepResult.TheVariants.{Refused, Did}
 use Rattle.exec_abstract.specs.declared.event.Line.{Line}
-use Rattle.exec_abstract.specs.declared.state.Phase.{Phase}
-use Rattle.exec_abstract.specs.declared.state.Phase.TheVariants as phase
+use Rattle.exec_abstract.specs.declared.state.RequestPhase.{RequestPhase}
+use Rattle.exec_abstract.specs.declared.state.RequestPhase.TheVariants as phase
 use Rattle.exec_abstract.specs.declared.state.Operation.{Operation}
 use Rattle.exec_abstract.specs.declared.state.Request.{Request}
 use Rattle.exec_abstract.specs.Choice.{Choice}
-use Rattle.exec_abstract.specs.Same.{same_end}
 use Rattle.exec_abstract.specs.World.{World, Own, Common, own_of, request_of, no_request}
 use Rattle.exec_abstract.specs.Tests.{is_resolved, is_in_flight, is_landed_with, is_of_file}
 use Rattle.exec_abstract.specs.Words.{next_word, polled_task}
-use Rattle.exec_abstract.specs.Requests.{asked_of, cursor_of, judged_of, operation_asked, operation_or_none, asked_now, with_seen, new_request, resolved_if, reaped, went_on, outcome_given, outcome_shown, account_of_open, first_phase}
+use Rattle.exec_abstract.specs.Requests.{asked_of, cursor_of, judged_of, operation_asked, operation_or_none, asked_now, with_seen, new_request, resolved_if, reaped, outcome_given, outcome_shown, account_of_open}
 use Rattle.exec_abstract.specs.Allowed.{Allowed}
-use Rattle.exec_abstract.specs.After.{common_after}
 use Rattle.exec_abstract.specs.Run.{Follows, RunsBy, after_event, after_line, world_after}
 use Rattle.exec_abstract.specs.Progress.{Plan, begin}
 use Rattle.exec_abstract.specs.Results.{result_in, results_of, reaps}
 use Rattle.exec_abstract.proofs.SameIs.{same_end_is}
-use Rattle.exec_abstract.proofs.Onward.{Hints, Onward, AllOnward, none_changed, is_work, by_event, by_other}
+use Rattle.exec_abstract.proofs.Onward.{Hints, Onward, AllOnward, by_event, by_other}
 use Rattle.exec_abstract.proofs.Lasting.{landed_open}
 
 abbrev pub IsOpen : List Request → ℕ → Type 0
@@ -51,7 +49,7 @@ pub record Stands (requests : List Request) (r : ℕ) (results : List Judged) : 
 
 -- ONWARD
 
-was_open : (p q : Phase) → ((o : Outcome) → p ≡ phase.Resolved o → q ≡ phase.Resolved o) → is_resolved q ≡ false → is_resolved p ≡ false
+was_open : (p q : RequestPhase) → ((o : Outcome) → p ≡ phase.Resolved o → q ≡ phase.Resolved o) → is_resolved q ≡ false → is_resolved p ≡ false
 was_open (phase.Resolved o) q stays unresolved = absurd (true≢false (sym (ap is_resolved (stays o refl)) ∙ unresolved))
 was_open p q stays unresolved = refl
 
@@ -78,10 +76,10 @@ record IsNew (o : Operation) : Type 0 where
   pub first : o.switched ≡ false
   pub unhinted : o.hinted ≡ false
 
-asked_is_new : (c : Configuration) (sampled : ℕ) (w : Word) → IsNew (operation_or_none (operation_asked c sampled w))
+asked_is_new : (c : Configuration) (sampled : ℕ) (w : ScriptWord) → IsNew (operation_or_none (operation_asked c sampled w))
 asked_is_new c sampled w = by_word c sampled w
   where
-    by_word : (c : Configuration) (sampled : ℕ) (w : Word) → IsNew (operation_or_none (operation_asked c sampled w))
+    by_word : (c : Configuration) (sampled : ℕ) (w : ScriptWord) → IsNew (operation_or_none (operation_asked c sampled w))
     by_word c sampled (word.Send s n) = record { begins = refl; first = refl; unhinted = refl }
     by_word c sampled w = record { begins = refl; first = refl; unhinted = refl }
 
@@ -142,7 +140,7 @@ reap_allowed c me s i q n outcome choice a =
       told = same_end_is outcome (outcome_shown (account_of_open s (request_of s q)) (request_of s q).operation.kind (outcome_given (request_of s q) n)) a.1.1.1.1.0;
     }
 
-landed_flies : (n : OpResult) (p : Phase) → is_landed_with n p ≡ true → is_in_flight p ≡ true
+landed_flies : (n : OpResult) (p : RequestPhase) → is_landed_with n p ≡ true → is_in_flight p ≡ true
 landed_flies n (phase.Landed m) h = refl
 landed_flies n p h = absurd (true≢false (sym h))
 
@@ -231,7 +229,7 @@ by_action c w (action.GoOn j) (event.Reap q n outcome) choice r results f s = ab
 by_action c w a (event.Reap q n outcome) choice r results f s = absurd (true≢false (sym f.1.0))
 by_action c w a e choice r results f s = no_more (onward (by_other c w a e choice refl f) s)
 
-by_line : (c : Configuration) (w : World) (a : Action) (said : Said) (choice : Choice) (r : ℕ) (results : List Judged) → Follows c w a said choice → Stands w.common.requests r results
+by_line : (c : Configuration) (w : World) (a : Action) (said : StepResult) (choice : Choice) (r : ℕ) (results : List Judged) → Follows c w a said choice → Stands w.common.requests r results
     → Stands (after_line c w a said choice).common.requests r (results ++ result_in w r said)
 by_line c w a Refused choice r results f s = no_more s
 by_line c w a (Did e) choice r results f s = by_action c w a e choice r results f s

@@ -1,12 +1,12 @@
 -- An event of one worker leaves the others' own parts.
-use Rattle.std.proofs.Common.{◌≡◌, ℕ, ◌<◌, List, [], ◌∷◌, ◌++◌, length, refl, sym, ◌∙◌, ap, subst, arith, get_or, set}
+use Rattle.std.proofs.Common.{◌≡◌, ℕ, ◌<◌, List, ◌++◌, length, refl, sym, ◌∙◌, ap, arith, get_or, set}
 use Rattle.std.proofs.lemmas.List.{length-set, get_or-set_other, get_or_append_left}
 use Rattle.exec_abstract.specs.declared.config.Configuration.{Configuration}
 use Rattle.exec_abstract.specs.declared.step.Action.{Action}
 use Rattle.exec_abstract.specs.declared.step.Action.TheVariants as action
 use Rattle.exec_abstract.specs.declared.event.Event.{Event}
-use Rattle.exec_abstract.specs.declared.event.Said.{Said}
-use Rattle.exec_abstract.specs.declared.event.Said.TheVariants.{Refused, Did}
+use Rattle.exec_abstract.specs.declared.event.StepResult.{StepResult}
+use Rattle.exec_abstract.specs.declared.event.StepResult.TheVariants.{Refused, Did}
 use Rattle.exec_abstract.specs.Choice.{Choice}
 use Rattle.exec_abstract.specs.World.{World, Own, own_of, no_own}
 use Rattle.exec_abstract.specs.After.{after, own_after, made_by}
@@ -20,7 +20,7 @@ pub events : (c : Configuration) (w : World) (i j : ℕ) (event : Event) (choice
 events c w i j event choice apart there =
     other_stays w.workers (made_by w.common event) i j (own_after c (own_of w i) w.common i event choice) apart there
 
-pub lines : (c : Configuration) (w : World) (a : Action) (said : Said) (choice : Choice) (j : ℕ) → (a ≡ action.Work j → ⊥) → j < length w.workers → own_of (after_line c w a said choice) j ≡ own_of w j
+pub lines : (c : Configuration) (w : World) (a : Action) (said : StepResult) (choice : Choice) (j : ℕ) → (a ≡ action.Work j → ⊥) → j < length w.workers → own_of (after_line c w a said choice) j ≡ own_of w j
 lines c w a Refused choice j apart there = refl
 lines c w (action.Work i) (Did e) choice j apart there = events c w i j e choice (λ same. apart (ap action.Work same)) there
 lines c w (action.Spawn i k) (Did e) choice j apart there = refl

@@ -1,5 +1,5 @@
 -- The tests that compute say the same as the types.
-use Rattle.std.proofs.Common.{◌≡◌, ℕ, Bool, true, false, ◌&&◌, List, [], ◌∷◌, refl, sym}
+use Rattle.std.proofs.Common.{◌≡◌, Bool, true, ◌&&◌, List, [], ◌∷◌, refl, sym}
 use Rattle.std.proofs.lemmas.Bool.{true≢false, and_parts}
 use Rattle.std.specs.List.{list_all}
 use Rattle.exec_abstract.specs.declared.config.Configuration.{Configuration}

@@ -1,6 +1,6 @@
 -- What is over stays so, along whole runs.
-use Rattle.std.proofs.Common.{◌≡◌, ℕ, zero, suc, ◌+◌, ◌<◌, ◌≤◌, Bool, true, false, ◌==◌, List, [], ◌∷◌, ◌++◌, Option, Some, None, length, refl, sym, ◌∙◌, ap, subst, arith, inl, inr, get_or, set}
-use Rattle.std.proofs.lemmas.Bool.{true≢false, cases_Bool}
+use Rattle.std.proofs.Common.{◌≡◌, ℕ, zero, suc, ◌<◌, ◌≤◌, true, false, List, [], ◌∷◌, ◌++◌, Option, Some, None, length, refl, sym, ◌∙◌, ap, subst, arith, get_or, set}
+use Rattle.std.proofs.lemmas.Bool.{true≢false}
 use Rattle.std.proofs.lemmas.List.{length-set, length_push, get_or_append_left}
 use Rattle.exec_outcomes.specs.declared.outcome.OpResult.{OpResult}
 use Rattle.exec_outcomes.specs.declared.outcome.Outcome.{Outcome}
@@ -9,14 +9,14 @@ use Rattle.exec_abstract.specs.declared.step.Action.{Action}
 use Rattle.exec_abstract.specs.declared.step.Action.TheVariants as action
 use Rattle.exec_abstract.specs.declared.event.Event.{Event}
 use Rattle.exec_abstract.specs.declared.event.Event.TheVariants as event
-use Rattle.exec_abstract.specs.declared.event.Said.{Said}
-use Rattle.exec_abstract.specs.declared.event.Said.TheVariants.{Refused, Did}
+use Rattle.exec_abstract.specs.declared.event.StepResult.{StepResult}
+use Rattle.exec_abstract.specs.declared.event.StepResult.TheVariants.{Refused, Did}
 use Rattle.exec_abstract.specs.declared.event.Line.{Line}
-use Rattle.exec_abstract.specs.declared.state.Phase.{Phase}
-use Rattle.exec_abstract.specs.declared.state.Phase.TheVariants as phase
+use Rattle.exec_abstract.specs.declared.state.RequestPhase.{RequestPhase}
+use Rattle.exec_abstract.specs.declared.state.RequestPhase.TheVariants as phase
 use Rattle.exec_abstract.specs.declared.state.Request.{Request}
 use Rattle.exec_abstract.specs.Choice.{Choice}
-use Rattle.exec_abstract.specs.World.{World, Own, Common, own_of, request_of, no_request}
+use Rattle.exec_abstract.specs.World.{World, own_of, request_of, no_request}
 use Rattle.exec_abstract.specs.Tests.{is_landed_with, is_resolved}
 use Rattle.exec_abstract.specs.Requests.{reaped, new_request, resolved_if, with_seen, asked_now}
 use Rattle.exec_abstract.specs.Run.{Follows, RunsBy, after_event, after_line, world_after}
@@ -46,7 +46,7 @@ set_lasts (x ∷ xs) zero y (suc r) h = Lasts-refl
 set_lasts (x ∷ xs) (suc q) y zero h = Lasts-refl
 set_lasts (x ∷ xs) (suc q) y (suc r) h = set_lasts xs q y r h
 
-pub landed_open : (n : OpResult) (p : Phase) → is_landed_with n p ≡ true → is_resolved p ≡ false
+pub landed_open : (n : OpResult) (p : RequestPhase) → is_landed_with n p ≡ true → is_resolved p ≡ false
 landed_open n (phase.Landed m) h = refl
 landed_open n p h = absurd (true≢false (sym h))
 
@@ -66,7 +66,7 @@ by_action c w (action.Work i) (event.Reap r n outcome) choice f =
 by_action c w (action.Work i) e choice f = onward_lasts (by_event c (own_of w i) w.common i e choice refl f.1)
 by_action c w a e choice f = onward_lasts (by_other c w a e choice refl f)
 
-by_line : (c : Configuration) (w : World) (a : Action) (said : Said) (choice : Choice) → Follows c w a said choice → Lasting w.common.requests (after_line c w a said choice).common.requests
+by_line : (c : Configuration) (w : World) (a : Action) (said : StepResult) (choice : Choice) → Follows c w a said choice → Lasting w.common.requests (after_line c w a said choice).common.requests
 by_line c w a Refused choice f = onward_lasts none_changed
 by_line c w a (Did e) choice f = by_action c w a e choice f
 

@@ -1,13 +1,13 @@
 -- A task is polled by at most one worker: who polls a task is told by the task's phase.
-use Rattle.std.proofs.Common.{◌≡◌, ℕ, zero, suc, ◌+◌, ◌<◌, Bool, true, false, not, ◌&&◌, ◌||◌, ◌==◌, if◌then◌else◌, List, [], ◌∷◌, ◌++◌, Option, Some, None, length, refl, sym, ◌∙◌, ap, subst, arith, inl, inr, ◌⊎◌, get_or, set}
-use Rattle.std.proofs.lemmas.Bool.{true≢false, cases_Bool, cases_eq, and_parts, eqb-true, eq-eqb}
+use Rattle.std.proofs.Common.{◌≡◌, ℕ, zero, suc, Bool, true, false, ◌&&◌, ◌==◌, if◌then◌else◌, List, [], ◌∷◌, ◌++◌, Option, Some, None, refl, sym, ◌∙◌, ap, subst, arith, inl, inr, get_or, set}
+use Rattle.std.proofs.lemmas.Bool.{true≢false, cases_Bool, eqb-true, eq-eqb}
 use Rattle.exec_abstract.specs.declared.config.Configuration.{Configuration}
 use Rattle.exec_abstract.specs.declared.step.Action.{Action}
 use Rattle.exec_abstract.specs.declared.step.Action.TheVariants as action
 use Rattle.exec_abstract.specs.declared.event.Event.{Event}
 use Rattle.exec_abstract.specs.declared.event.Event.TheVariants as event
-use Rattle.exec_abstract.specs.declared.event.Said.{Said}
-use Rattle.exec_abstract.specs.declared.event.Said.TheVariants.{Refused, Did}
+use Rattle.exec_abstract.specs.declared.event.StepResult.{StepResult}
+use Rattle.exec_abstract.specs.declared.event.StepResult.TheVariants.{Refused, Did}
 use Rattle.exec_abstract.specs.declared.event.Line.{Line}
 use Rattle.exec_abstract.specs.declared.state.Next.{Next}
 use Rattle.exec_abstract.specs.declared.state.Next.TheVariants as next
@@ -15,24 +15,23 @@ use Rattle.exec_abstract.specs.declared.state.TaskPhase.{TaskPhase}
 use Rattle.exec_abstract.specs.declared.state.TaskPhase.TheVariants as task
 use Rattle.exec_abstract.specs.declared.state.Waiting.{Waiting}
 use Rattle.exec_abstract.specs.declared.state.Waiting.TheVariants as waiting
-use Rattle.exec_abstract.specs.declared.state.Message.{Message}
-use Rattle.exec_abstract.specs.declared.state.Message.TheVariants as message
+use Rattle.exec_abstract.specs.declared.state.MailMessage.{MailMessage}
+use Rattle.exec_abstract.specs.declared.state.MailMessage.TheVariants as message
 use Rattle.exec_abstract.specs.Choice.{Choice, Payer}
 use Rattle.exec_abstract.specs.Choice.Choice.{Plain, Passes, Pays, Posts}
 use Rattle.exec_abstract.specs.Choice.Payer.{ByRequest, BySleeper, ByAct, ByCall, ByStop}
 use Rattle.exec_abstract.specs.World.{World, Own, Task, Common, own_of, task_of, request_of, sleeper_of, no_own, no_task}
-use Rattle.exec_abstract.specs.Tests.{is_ready, is_done, is_polled, waits_for_nothing}
+use Rattle.exec_abstract.specs.Tests.{is_ready, waits_for_nothing}
 use Rattle.exec_abstract.specs.Words.{next_word, moved_on, asks_yield}
-use Rattle.exec_outcomes.specs.declared.outcome.Kind.{Kind}
 use Rattle.exec_outcomes.specs.declared.outcome.OpResult.{OpResult}
 use Rattle.exec_outcomes.specs.declared.outcome.Outcome.{Outcome}
 use Rattle.exec_outcomes.specs.Outcomes.{refuses_hint}
 use Rattle.exec_outcomes.specs.Accounts.{is_durable}
 use Rattle.exec_abstract.specs.declared.state.Operation.{Operation}
 use Rattle.exec_abstract.specs.Same.{is_none}
-use Rattle.exec_abstract.specs.Requests.{asked_now, judged_of, common_after_refusal, own_after_admit, own_after_drop, after_reap}
-use Rattle.exec_abstract.specs.Deadlines.{sampled_now, own_after_expire}
-use Rattle.exec_abstract.specs.Tasks.{woken, woken_phase, pended_phase, begun, own_after_drops, own_after_waking_up, own_after_over, after_over, after_pend, after_word, after_letting_go, owes, after_taking, after_waking_word, after_payment, after_wake, wake}
+use Rattle.exec_abstract.specs.Requests.{asked_now, judged_of, own_after_admit, own_after_drop, after_reap}
+use Rattle.exec_abstract.specs.Deadlines.{sampled_now}
+use Rattle.exec_abstract.specs.Tasks.{woken, woken_phase, pended_phase, begun, own_after_drops, own_after_waking_up, own_after_over, after_pend, after_word, after_letting_go, owes, after_taking, after_waking_word, after_payment, after_wake, wake}
 use Rattle.exec_abstract.specs.Mail.{after_sending, after_post, after_send, awaiting, after_apply, own_after_letter, own_after_apply, is_root_message, is_left_out}
 use Rattle.exec_abstract.specs.Closing.{after_next, after_turn, own_after_turn, with_cleared, own_after_clear, after_clear, ends_by_clear}
 use Rattle.exec_abstract.specs.Allowed.{Allowed}
@@ -41,7 +40,6 @@ use Rattle.exec_abstract.specs.Callers.{after_spawn_by_call, after_wake_by_call,
 use Rattle.exec_abstract.specs.Run.{Follows, RunsBy, after_event, after_line, world_after, first_owns}
 use Rattle.exec_abstract.specs.Progress.{Plan, begin}
 use Rattle.exec_abstract.proofs.SameIs.{is_number_is}
-use Rattle.exec_abstract.proofs.Onward.{is_work}
 
 -- PHASES
 
@@ -137,7 +135,7 @@ turn_same me s i Passes = refl
 turn_same me s i (Pays payer) = next_same s i me.next
 turn_same me s i (Posts payer left_out) = next_same s i me.next
 
-post_same : (s : Common) (to : ℕ) (m : Message) (choice : Choice) → (after_post s to m choice).tasks ≡ s.tasks
+post_same : (s : Common) (to : ℕ) (m : MailMessage) (choice : Choice) → (after_post s to m choice).tasks ≡ s.tasks
 post_same s to m choice =
     elim (cases_Bool (is_root_message m && is_left_out choice)) [ inl out ↦ rw out refl | inr in_it ↦ rw in_it refl ]
 
@@ -167,7 +165,7 @@ wake_on me s t Passes = same_tasks
 wake_on me s t (Pays payer) = PollsOn-trans (payment_on s me.polls payer) (woken_on (after_payment s me.polls payer) t)
 wake_on me s t (Posts payer left_out) = same_tasks
 
-sending_on : {j : ℕ} (s : Common) (polls : Option ℕ) (m : Message) → PollsOn j s.tasks (after_sending s polls m).tasks
+sending_on : {j : ℕ} (s : Common) (polls : Option ℕ) (m : MailMessage) → PollsOn j s.tasks (after_sending s polls m).tasks
 sending_on s None m = same_tasks
 sending_on s (Some t) message.Root = same_phase s.tasks t (moved_on s (task_of s t)) refl
 sending_on s (Some t) (message.ForwardRequest r) = same_phase s.tasks t (awaiting s r (task_of s t)) (awaiting_phase s r (task_of s t))
@@ -175,11 +173,11 @@ sending_on s (Some t) (message.ForwardTimer z) = same_tasks
 sending_on s (Some t) (message.CancelRequest r) = same_phase s.tasks t (after_letting_go s (task_of s t)) refl
 sending_on s (Some t) (message.CancelTimer z) = same_tasks
 
-send_on : {j : ℕ} (me : Own) (s : Common) (to : ℕ) (m : Message) (choice : Choice) → PollsOn j s.tasks (after_send me s to m choice).tasks
+send_on : {j : ℕ} (me : Own) (s : Common) (to : ℕ) (m : MailMessage) (choice : Choice) → PollsOn j s.tasks (after_send me s to m choice).tasks
 send_on {j} me s to m choice =
     subst (λ us. PollsOn j s.tasks us) (sym (post_same (after_sending s me.polls m) to m choice)) (sending_on s me.polls m)
 
-apply_on : {j : ℕ} (me : Own) (s : Common) (i : ℕ) (m : Message) → PollsOn j s.tasks (after_apply me s i m).tasks
+apply_on : {j : ℕ} (me : Own) (s : Common) (i : ℕ) (m : MailMessage) → PollsOn j s.tasks (after_apply me s i m).tasks
 apply_on me s i message.Root = woken_on s me.root
 apply_on me s i (message.ForwardRequest r) = same_tasks
 apply_on me s i (message.ForwardTimer z) = same_tasks
@@ -245,10 +243,6 @@ admit_same : (o : Operation) (outcome : Option Outcome) (r : ℕ) (me : Own) →
 admit_same o (Some outcome) r me = refl
 admit_same o None r me = elim (cases_Bool (is_durable o.kind)) [ inl durable ↦ rw durable refl | inr other ↦ rw other refl ]
 
-expire_same : (me : Own) (r : ℕ) (outcome : Option Outcome) → (own_after_expire me r outcome).polls ≡ me.polls
-expire_same me r None = refl
-expire_same me r (Some outcome) = refl
-
 turn_own_same : (me : Own) (choice : Choice) → (own_after_turn me choice).polls ≡ me.polls
 turn_own_same me Plain = refl
 turn_own_same me Passes = refl
@@ -261,7 +255,7 @@ sampled_same s me = elim (cases_Bool me.serving) [ inl on ↦ rw on refl | inr o
 letter_same : (me : Own) → (own_after_letter me).polls ≡ me.polls
 letter_same me = elim (cases_Bool (is_none me.polls)) [ inl out ↦ rw out refl | inr in_poll ↦ rw in_poll refl ]
 
-apply_same : (me : Own) (s : Common) (m : Message) → (own_after_apply me s m).polls ≡ me.polls
+apply_same : (me : Own) (s : Common) (m : MailMessage) → (own_after_apply me s m).polls ≡ me.polls
 apply_same me s (message.CancelRequest r) = refl
 apply_same me s m = refl
 
@@ -341,7 +335,7 @@ by_event c me s i (event.Stage r) choice a mine = polls_on i me _ s _ mine refl 
 by_event c me s i event.Enter choice a mine = polls_on i me _ s _ mine refl (λ j. same_tasks)
 by_event c me s i event.Busy choice a mine = polls_on i me _ s _ mine refl (λ j. same_tasks)
 by_event c me s i (event.Reap r n outcome) choice a mine = polls_on i me _ s _ mine refl (λ j. tasks_as_before (reap_same s i r n outcome))
-by_event c me s i (event.Expire r outcome) choice a mine = polls_on i me _ s _ mine (expire_same me r outcome) (λ j. same_tasks)
+by_event c me s i (event.Expire r outcome) choice a mine = polls_on i me _ s _ mine refl (λ j. same_tasks)
 by_event c me s i (event.Cancel r) choice a mine = polls_on i me _ s _ mine refl (λ j. same_tasks)
 by_event c me s i (event.Orphan r outcome) choice a mine = polls_on i me _ s _ mine refl (λ j. same_tasks)
 by_event c me s i (event.Release r) choice a mine = polls_on i me _ s _ mine refl (λ j. same_tasks)
@@ -420,7 +414,7 @@ by_action c w (action.Wake k n) e choice f before = record { each = λ j t h. (w
 by_action c w (action.GoOn k) e choice f before = record { each = λ j t h. (going_on_on w.common k e).each t (before.each j t h) }
 by_action c w a e choice f before = record { each = before.each }
 
-by_line : (c : Configuration) (w : World) (a : Action) (said : Said) (choice : Choice) → Follows c w a said choice → PollsAre w → PollsAre (after_line c w a said choice)
+by_line : (c : Configuration) (w : World) (a : Action) (said : StepResult) (choice : Choice) → Follows c w a said choice → PollsAre w → PollsAre (after_line c w a said choice)
 by_line c w a Refused choice f before = before
 by_line c w a (Did e) choice f before = by_action c w a e choice f before
 

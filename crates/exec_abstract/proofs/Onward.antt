@@ -1,6 +1,6 @@
 -- What an event leaves of each request: one that is over stays so with its outcome, a released one stays released, and
 -- none but an admission and a judged result changes what a request asks for and how far it has come.
-use Rattle.std.proofs.Common.{◌≡◌, ℕ, zero, suc, ◌+◌, ◌<◌, Bool, true, false, not, ◌&&◌, ◌||◌, ◌==◌, if◌then◌else◌, List, [], ◌∷◌, ◌++◌, Option, Some, None, length, map, refl, sym, ◌∙◌, ap, subst, inl, inr, get_or, set, unwrap_or}
+use Rattle.std.proofs.Common.{◌≡◌, ℕ, zero, suc, ◌+◌, Bool, true, false, not, ◌&&◌, ◌==◌, List, [], ◌∷◌, Option, Some, None, length, map, refl, sym, ◌∙◌, ap, subst, inl, inr, get_or, set, unwrap_or}
 use Rattle.std.proofs.lemmas.Bool.{true≢false, cases_Bool, and_parts}
 use Rattle.std.proofs.lemmas.List.{length-set, length-map}
 use Rattle.exec_outcomes.specs.declared.outcome.OpResult.{OpResult}
@@ -11,25 +11,25 @@ use Rattle.exec_abstract.specs.declared.step.Action.{Action}
 use Rattle.exec_abstract.specs.declared.step.Action.TheVariants as action
 use Rattle.exec_abstract.specs.declared.event.Event.{Event}
 use Rattle.exec_abstract.specs.declared.event.Event.TheVariants as event
-use Rattle.exec_abstract.specs.declared.event.Said.TheVariants.{Did}
+use Rattle.exec_abstract.specs.declared.event.StepResult.TheVariants.{Did}
 use Rattle.exec_abstract.specs.declared.state.Next.{Next}
 use Rattle.exec_abstract.specs.declared.state.Next.TheVariants as next
-use Rattle.exec_abstract.specs.declared.state.Message.{Message}
-use Rattle.exec_abstract.specs.declared.state.Message.TheVariants as message
+use Rattle.exec_abstract.specs.declared.state.MailMessage.{MailMessage}
+use Rattle.exec_abstract.specs.declared.state.MailMessage.TheVariants as message
 use Rattle.exec_abstract.specs.declared.state.Forwarding.TheVariants.{Sent, Applied}
-use Rattle.exec_abstract.specs.declared.state.Phase.{Phase}
-use Rattle.exec_abstract.specs.declared.state.Phase.TheVariants as phase
+use Rattle.exec_abstract.specs.declared.state.RequestPhase.{RequestPhase}
+use Rattle.exec_abstract.specs.declared.state.RequestPhase.TheVariants as phase
 use Rattle.exec_abstract.specs.declared.state.Operation.{Operation}
 use Rattle.exec_abstract.specs.declared.state.Request.{Request}
 use Rattle.exec_abstract.specs.Choice.{Choice, Payer}
 use Rattle.exec_abstract.specs.Choice.Choice.{Plain, Passes, Pays, Posts}
 use Rattle.exec_abstract.specs.Choice.Payer.{ByRequest, BySleeper, ByAct, ByCall, ByStop}
-use Rattle.exec_abstract.specs.World.{World, Own, Common, own_of, task_of, request_of, no_request}
+use Rattle.exec_abstract.specs.World.{World, Own, Common, task_of, request_of, no_request}
 use Rattle.exec_abstract.specs.Tests.{is_gated, is_queued, is_staged, is_flying, is_resolved, is_in_flight, is_kept}
-use Rattle.exec_abstract.specs.Requests.{asked_of, cursor_of, resolved, dropped, ends_by_drop, is_cancelled_by_drop, granted, staged, with_hint, asks_hint, account_of_open, flown}
+use Rattle.exec_abstract.specs.Requests.{asked_of, cursor_of, dropped, ends_by_drop, is_cancelled_by_drop, granted, staged, asks_hint, account_of_open, flown}
 use Rattle.exec_abstract.specs.Deadlines.{fires_at, enrolled, expired, outcome_at_expiry}
-use Rattle.exec_abstract.specs.Tasks.{requests_after_drops, after_word, after_dedicated, after_wait, after_payment, after_wake, after_pend, after_over}
-use Rattle.exec_abstract.specs.Mail.{after_sending, after_post, after_send, after_message, after_apply, is_root_message, is_left_out}
+use Rattle.exec_abstract.specs.Tasks.{requests_after_drops, after_word, after_wait, after_payment, after_wake, after_pend}
+use Rattle.exec_abstract.specs.Mail.{after_sending, after_post, after_send, after_apply, is_root_message, is_left_out}
 use Rattle.exec_abstract.specs.Closing.{after_next, after_turn, after_clear, with_cleared, ends_by_clear}
 use Rattle.exec_abstract.specs.Allowed.{Allowed}
 use Rattle.exec_abstract.specs.After.{common_after, polled}
@@ -76,11 +76,11 @@ touched {x} {y} same let_go alike =
       cursor = ap cursor_of alike;
       hints = λ h flying hinted.
           subst (λ (o : Operation). o.unrefused ≡ true) (sym alike)
-          (h (subst (λ (p : Phase). is_in_flight p ≡ true) same flying) (subst (λ (o : Operation). o.hinted ≡ true) alike hinted));
+          (h (subst (λ (p : RequestPhase). is_in_flight p ≡ true) same flying) (subst (λ (o : Operation). o.hinted ≡ true) alike hinted));
     }
 
 -- one that is not over is not over with an outcome
-not_over : (p q : Phase) → is_resolved p ≡ false → (o : Outcome) → p ≡ phase.Resolved o → q ≡ phase.Resolved o
+not_over : (p q : RequestPhase) → is_resolved p ≡ false → (o : Outcome) → p ≡ phase.Resolved o → q ≡ phase.Resolved o
 not_over p q unresolved o h = absurd (true≢false (sym (ap is_resolved h) ∙ unresolved))
 
 -- one that isn't over goes on to a phase in which it isn't in flight
@@ -105,27 +105,27 @@ flies_on {x} {y} unresolved flying let_go alike =
 
 -- PHASES
 
-gated_open : (p : Phase) → is_gated p ≡ true → is_resolved p ≡ false
+gated_open : (p : RequestPhase) → is_gated p ≡ true → is_resolved p ≡ false
 gated_open phase.Gated h = refl
 gated_open p h = absurd (true≢false (sym h))
 
-pub queued_open : (p : Phase) → is_queued p ≡ true → is_resolved p ≡ false
+pub queued_open : (p : RequestPhase) → is_queued p ≡ true → is_resolved p ≡ false
 queued_open phase.Queued h = refl
 queued_open p h = absurd (true≢false (sym h))
 
-staged_open : (p : Phase) → is_staged p ≡ true → is_resolved p ≡ false
+staged_open : (p : RequestPhase) → is_staged p ≡ true → is_resolved p ≡ false
 staged_open phase.Staged h = refl
 staged_open p h = absurd (true≢false (sym h))
 
-staged_flies : (p : Phase) → is_staged p ≡ true → is_in_flight p ≡ true
+staged_flies : (p : RequestPhase) → is_staged p ≡ true → is_in_flight p ≡ true
 staged_flies phase.Staged h = refl
 staged_flies p h = absurd (true≢false (sym h))
 
-pub flying_open : (p : Phase) → is_flying p ≡ true → is_resolved p ≡ false
+pub flying_open : (p : RequestPhase) → is_flying p ≡ true → is_resolved p ≡ false
 flying_open phase.Flying h = refl
 flying_open p h = absurd (true≢false (sym h))
 
-flying_flies : (p : Phase) → is_flying p ≡ true → is_in_flight p ≡ true
+flying_flies : (p : RequestPhase) → is_flying p ≡ true → is_in_flight p ≡ true
 flying_flies phase.Flying h = refl
 flying_flies p h = absurd (true≢false (sym h))
 
@@ -230,7 +230,7 @@ turn_keeps me s i Passes = refl
 turn_keeps me s i (Pays payer) = next_keeps s i me.next
 turn_keeps me s i (Posts payer left_out) = next_keeps s i me.next
 
-post_keeps : (s : Common) (to : ℕ) (m : Message) (choice : Choice) → (after_post s to m choice).requests ≡ s.requests
+post_keeps : (s : Common) (to : ℕ) (m : MailMessage) (choice : Choice) → (after_post s to m choice).requests ≡ s.requests
 post_keeps s to m choice =
     elim (cases_Bool (is_root_message m && is_left_out choice)) [ inl out ↦ rw out refl | inr in_it ↦ rw in_it refl ]
 
@@ -248,7 +248,7 @@ by_wake me s t Passes = none_changed
 by_wake me s t (Pays payer) = by_payment s me.polls payer
 by_wake me s t (Posts payer left_out) = none_changed
 
-by_sending : (s : Common) (polls : Option ℕ) (m : Message) → AllOnward s.requests (after_sending s polls m).requests
+by_sending : (s : Common) (polls : Option ℕ) (m : MailMessage) → AllOnward s.requests (after_sending s polls m).requests
 by_sending s None m = none_changed
 by_sending s (Some t) message.Root = none_changed
 by_sending s (Some t) (message.ForwardRequest r) = one_changed s.requests r (record (request_of s r) { waiter = Some t; forwarding = Sent }) (touched refl refl refl)
@@ -256,11 +256,11 @@ by_sending s (Some t) (message.ForwardTimer z) = none_changed
 by_sending s (Some t) (message.CancelRequest r) = none_changed
 by_sending s (Some t) (message.CancelTimer z) = none_changed
 
-by_send : (me : Own) (s : Common) (to : ℕ) (m : Message) (choice : Choice) → AllOnward s.requests (after_send me s to m choice).requests
+by_send : (me : Own) (s : Common) (to : ℕ) (m : MailMessage) (choice : Choice) → AllOnward s.requests (after_send me s to m choice).requests
 by_send me s to m choice =
     subst (λ ys. AllOnward s.requests ys) (sym (post_keeps (after_sending s me.polls m) to m choice)) (by_sending s me.polls m)
 
-by_apply : (me : Own) (s : Common) (i : ℕ) (m : Message) → AllOnward s.requests (after_apply me s i m).requests
+by_apply : (me : Own) (s : Common) (i : ℕ) (m : MailMessage) → AllOnward s.requests (after_apply me s i m).requests
 by_apply me s i message.Root = none_changed
 by_apply me s i (message.ForwardRequest r) = one_changed s.requests r (record (request_of s r) { forwarding = Applied }) (touched refl refl refl)
 by_apply me s i (message.ForwardTimer z) = none_changed

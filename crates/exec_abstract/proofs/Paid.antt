@@ -1,5 +1,5 @@
 -- By credits that fall, no party turns for ever.
-use Rattle.std.proofs.Common.{◌≡◌, ℕ, ◌+◌, ◌*◌, ◌<◌, ◌≤◌, Bool, true, false, not, ◌==◌, ◌&&◌, if◌then◌else◌, List, [], ◌∷◌, Option, Some, None, length, refl, sym, ◌∙◌, ap, subst, arith, inl, inr, lt-ltb}
+use Rattle.std.proofs.Common.{◌≡◌, ℕ, ◌+◌, ◌*◌, ◌<◌, Bool, true, not, if◌then◌else◌, List, [], ◌∷◌, length, refl, sym, ap, subst, arith, inl, inr, lt-ltb}
 use Rattle.std.proofs.lemmas.Bool.{true≢false, cases_Bool, and_parts, eqb-true}
 use Rattle.std.proofs.lemmas.List.{length-map, length-set}
 use Rattle.exec_abstract.specs.declared.config.Configuration.{Configuration}
@@ -7,21 +7,21 @@ use Rattle.exec_abstract.specs.declared.step.Action.{Action}
 use Rattle.exec_abstract.specs.declared.step.Action.TheVariants as action
 use Rattle.exec_abstract.specs.declared.event.Event.{Event}
 use Rattle.exec_abstract.specs.declared.event.Event.TheVariants as event
-use Rattle.exec_abstract.specs.declared.event.Said.{Said}
-use Rattle.exec_abstract.specs.declared.event.Said.TheVariants.{Refused, Did}
+use Rattle.exec_abstract.specs.declared.event.StepResult.{StepResult}
+use Rattle.exec_abstract.specs.declared.event.StepResult.TheVariants.{Refused, Did}
 use Rattle.exec_abstract.specs.declared.event.Line.{Line}
 use Rattle.exec_abstract.specs.declared.state.Next.{Next}
 use Rattle.exec_abstract.specs.declared.state.Next.TheVariants as next
-use Rattle.exec_abstract.specs.declared.state.Phase.TheVariants as phase
-use Rattle.exec_abstract.specs.Choice.{Choice, Payer}
+use Rattle.exec_abstract.specs.declared.state.RequestPhase.TheVariants as phase
+use Rattle.exec_abstract.specs.Choice.{Choice}
 use Rattle.exec_abstract.specs.Ranges.{largest_spin}
 use Rattle.exec_abstract.specs.Callers.{after_spawn_by_call, after_wake_by_call, after_going_on}
 use Rattle.exec_abstract.specs.Choice.Choice.{Plain, Passes, Pays, Posts}
 use Rattle.exec_abstract.specs.World.{World, Own, Common, own_of, request_of}
 use Rattle.exec_abstract.specs.Requests.{flown}
 use Rattle.exec_abstract.specs.Closing.{after_next, after_turn}
-use Rattle.exec_abstract.specs.After.{after, common_after}
-use Rattle.exec_abstract.specs.Run.{Follows, RunsBy, after_line, after_event}
+use Rattle.exec_abstract.specs.After.{common_after}
+use Rattle.exec_abstract.specs.Run.{RunsBy, after_line, after_event}
 use Rattle.exec_abstract.specs.Text.{is_quiet}
 use Rattle.exec_abstract.specs.Progress.{quiet_bound, is_quiet_step, is_anyone_closing, Party, Stretch, no_stretch, one_more, same_party, party_of, longer, is_solo, IsRightlyAsleep, RightlyAsleepBy}
 use Rattle.exec_abstract.specs.Progress.Party.{Nobody, Worker, Caller}
@@ -151,7 +151,7 @@ event_line c s a e x stretch below within paid =
           (ends before later s.credit x.credit (within Nobody) (paid.bounded Nobody))
     ]
 
-line : (c : Configuration) (s : Standing) (a : Action) (said : Said) (x : Account) (stretch : Stretch)
+line : (c : Configuration) (s : Standing) (a : Action) (said : StepResult) (x : Account) (stretch : Stretch)
     → stretch.count + s.credit stretch.party < quiet_bound c s.world → ((p : Party) → s.credit p < quiet_bound c s.world)
     → IsPaid c s (record { action = a; said = said }) x
     → IsBelow (quiet_bound c s.world) (quiet_bound c (after_line c s.world a said x.choice)) (longer s.world a said stretch) x.credit

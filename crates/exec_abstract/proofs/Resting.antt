@@ -1,12 +1,12 @@
 -- That no worker sleeps on work can be computed.
-use Rattle.std.proofs.Common.{◌≡◌, ℕ, zero, suc, ◌+◌, Bool, true, false, not, ◌&&◌, ◌||◌, ◌==◌, if◌then◌else◌, List, [], ◌∷◌, refl, sym, ◌∙◌, ap, subst, arith, inl, inr, get_or}
-use Rattle.std.specs.List.{list_any, list_all}
-use Rattle.std.proofs.lemmas.Bool.{true≢false, and_parts, cases_Bool}
+use Rattle.std.proofs.Common.{◌≡◌, ℕ, zero, suc, ◌+◌, Bool, true, false, not, ◌&&◌, ◌||◌, List, [], ◌∷◌, refl, sym, subst, arith, get_or}
+use Rattle.std.specs.List.{list_all}
+use Rattle.std.proofs.lemmas.Bool.{true≢false, and_parts}
 use Rattle.exec_abstract.specs.declared.config.Configuration.{Configuration}
 use Rattle.exec_abstract.specs.declared.event.Line.{Line}
-use Rattle.exec_abstract.specs.declared.state.Message.{Message}
+use Rattle.exec_abstract.specs.declared.state.MailMessage.{MailMessage}
 use Rattle.exec_abstract.specs.Choice.{Choice}
-use Rattle.exec_abstract.specs.World.{World, Own, Seat, no_own, no_seat, no_task, no_request, no_sleeper}
+use Rattle.exec_abstract.specs.World.{World, no_own, no_seat, no_task, no_request, no_sleeper}
 use Rattle.exec_abstract.specs.Tests.{all_numbered, is_empty}
 use Rattle.exec_abstract.specs.Run.{after_line}
 use Rattle.exec_abstract.specs.Progress.{all_asleep, is_task_unfinished, is_request_unfinished, is_sleeper_unfinished, is_cancel_untold, has_to_close, sleeps_for_nothing, NothingUnfinished, IsRightlyAsleep, is_nothing_unfinished, is_rightly_asleep, RightlyAsleepBy, is_always_rightly_asleep}
@@ -52,7 +52,7 @@ is_false true h = absurd (true≢false (sym h))
 is_not : (b : Bool) → b ≡ false → not b ≡ true
 is_not b h = rw h refl
 
-nothing_in : (xs : List Message) → is_empty xs ≡ true → xs ≡ []
+nothing_in : (xs : List MailMessage) → is_empty xs ≡ true → xs ≡ []
 nothing_in [] h = refl
 nothing_in (x ∷ xs) h = absurd (true≢false (sym h))
 

@@ -1,11 +1,10 @@
 -- What an event of a worker changes: its own part and the common part, each by itself. No other worker's own part
 -- changes; a dedicated worker is made with its own part.
-use Rattle.std.specs.Prelude.{ℕ, Bool, true, false, ◌+◌, List, [], ◌∷◌, ◌++◌, length, map, slice_set, unwrap_or, Option, Some, None}
+use Rattle.std.specs.Prelude.{ℕ, Bool, true, false, List, [], ◌∷◌, ◌++◌, map, slice_set, unwrap_or, Some}
 use Rattle.exec_abstract.specs.declared.config.Configuration.{Configuration}
 use Rattle.exec_abstract.specs.declared.event.Event.{Event}
-use Rattle.exec_abstract.specs.declared.event.Event.TheVariants.{Turn, Serve, Begin, Pend, Done, Fault, Spawn, Dedicated, Closed, Clear, Admit, Wait, Got, Drop, Timer, GotTimer, Pass, Wake, Grant, Enrol, Stage, Enter, Busy, Reap, Expire, Cancel, Orphan, Release, Fire, Send, Apply, Rouse, Sleep, Close, Stop, End, Return, Land, Clock, Set, Stir, Peer}
+use Rattle.exec_abstract.specs.declared.event.Event.TheVariants.{Turn, Serve, Begin, Pend, Done, Fault, Spawn, Dedicated, Closed, Clear, Admit, Wait, Got, Drop, Timer, GotTimer, Pass, Wake, Grant, Enrol, Stage, Enter, Busy, Reap, Expire, Cancel, Orphan, Release, Fire, Send, Apply, Rouse, Sleep, Close, Stop, End}
 use Rattle.exec_abstract.specs.Choice.{Choice}
-use Rattle.exec_abstract.specs.declared.state.Phase.TheVariants as phase
 use Rattle.exec_abstract.specs.World.{World, Own, Common, own_of, seat_of, task_of, request_of, sleeper_of}
 use Rattle.exec_abstract.specs.Tests.{set_seat, set_task, set_request, set_sleeper}
 use Rattle.exec_abstract.specs.Tasks.{begun, own_after_pend, after_pend, own_after_done, after_over, after_wait, after_got, after_taken, after_drop, after_spawn, after_word, new_own, after_dedicated, after_wake}
@@ -46,12 +45,12 @@ own_by c me s i (Clear t) choice = own_after_clear me s i t
 own_by c me s i (Admit r kind outcome) choice = own_after_admit (asked_now c me s) outcome r me
 own_by c me s i (Drop r) choice = own_after_drop me s r
 own_by c me s i (Grant r outcome) choice = own_after_grant outcome r me
-own_by c me s i (Enrol r outcome) choice = own_after_enrol me s r outcome
-own_by c me s i (Stage r) choice = own_after_stage me s
+own_by c me s i (Enrol r outcome) choice = own_after_enrol outcome r me
+own_by c me s i (Stage r) choice = own_after_stage me
 own_by c me s i Enter choice = record me { untold = [] }
 own_by c me s i (Reap r n outcome) choice = own_after_reap outcome r me
-own_by c me s i (Expire r outcome) choice = own_after_expire me r outcome
-own_by c me s i (Cancel r) choice = own_after_cancel me s r
+own_by c me s i (Expire r outcome) choice = own_after_expire outcome r me
+own_by c me s i (Cancel r) choice = own_after_cancel me r
 own_by c me s i (Orphan r outcome) choice = own_after_drop me s r
 own_by c me s i (Release r) choice = own_after_release me
 own_by c me s i (Send to m) choice = own_after_letter me

@@ -1,7 +1,7 @@
 -- When an event of a worker may come: each of these tests is passed.
 --
 -- They are over the worker's own part, the common part, the worker's number, the event and what it leaves open.
-use Rattle.std.specs.Prelude.{ℕ, Bool, false, List, [], ◌∷◌, Option, Some, None}
+use Rattle.std.specs.Prelude.{ℕ, Bool, false, List, [], ◌∷◌, Some, None}
 use Rattle.exec_abstract.specs.declared.config.Configuration.{Configuration}
 use Rattle.exec_abstract.specs.declared.event.Event.{Event}
 use Rattle.exec_abstract.specs.declared.event.Event.TheVariants.{Turn, Serve, Begin, Pend, Done, Fault, Spawn, Dedicated, Closed, Clear, Admit, Wait, Got, Drop, Timer, GotTimer, Pass, Wake, Grant, Enrol, Stage, Enter, Busy, Reap, Expire, Cancel, Orphan, Release, Fire, Send, Apply, Rouse, Sleep, Close, Stop, End, Return, Land, Clock, Set, Stir, Peer}

@@ -2,7 +2,7 @@
 -- it is common.
 --
 -- The first step of a call does what the call is for. From then on the caller is half done, until it returns.
-use Rattle.std.specs.Prelude.{ℕ, Bool, true, false, not, ◌+◌, ◌==◌, ◌&&◌, ◌||◌, if◌then◌else◌, nat_le, nat_lt, List, [], ◌∷◌, ◌++◌, length, map, slice_get, slice_index_or, slice_set, Option, Some, None}
+use Rattle.std.specs.Prelude.{ℕ, Bool, true, false, not, ◌+◌, ◌==◌, ◌&&◌, ◌||◌, nat_le, nat_lt, List, [], ◌∷◌, ◌++◌, length, map, slice_index_or, slice_set, Option, Some, None}
 use Rattle.exec_outcomes.specs.declared.outcome.OpResult.{OpResult}
 use Rattle.exec_outcomes.specs.Lawful.{window_of, is_lawful}
 use Rattle.exec_abstract.specs.declared.step.Action.{Action}
@@ -10,22 +10,20 @@ use Rattle.exec_abstract.specs.declared.step.Action.TheVariants as action
 use Rattle.exec_abstract.specs.declared.event.Event.{Event}
 use Rattle.exec_abstract.specs.declared.event.Event.TheVariants as event
 use Rattle.exec_abstract.specs.declared.state.Rest.TheVariants.{Awake}
-use Rattle.exec_abstract.specs.declared.state.Phase.TheVariants as phase
+use Rattle.exec_abstract.specs.declared.state.RequestPhase.TheVariants as phase
 use Rattle.exec_abstract.specs.declared.state.Call.{Call}
 use Rattle.exec_abstract.specs.declared.state.Call.TheVariants as call
-use Rattle.exec_abstract.specs.declared.state.Message.{Message}
-use Rattle.exec_abstract.specs.declared.state.Message.TheVariants as message
 use Rattle.exec_abstract.specs.Choice.{Payer, Choice}
-use Rattle.exec_abstract.specs.Choice.Payer.{ByRequest, BySleeper, ByAct, ByCall, ByStop}
-use Rattle.exec_abstract.specs.Choice.Choice.{Plain, Passes, Pays, Posts}
+use Rattle.exec_abstract.specs.Choice.Payer.{ByCall}
+use Rattle.exec_abstract.specs.Choice.Choice.{Pays, Posts}
 use Rattle.exec_base.specs.declared.limits.TheConstants.{LAST_MOMENT}
 use Rattle.exec_abstract.specs.Same.{is_none, is_number}
-use Rattle.exec_abstract.specs.World.{Seat, Task, Common, seat_of, task_of, request_of}
-use Rattle.exec_abstract.specs.Tests.{is_awake, has_ended, is_flying, all_left, set_seat, set_request}
+use Rattle.exec_abstract.specs.World.{Seat, Common, seat_of, task_of, request_of}
+use Rattle.exec_abstract.specs.Tests.{is_awake, has_ended, is_flying, all_left, set_seat}
 use Rattle.exec_abstract.specs.Requests.{asked_of, cursor_of}
 use Rattle.exec_abstract.specs.Deadlines.{roused_at}
 use Rattle.exec_abstract.specs.Tasks.{after_spawn, wake}
-use Rattle.exec_abstract.specs.Mail.{has_root_message, is_root_message, posted, is_left_out, after_post, may_rouse, after_rouse}
+use Rattle.exec_abstract.specs.Mail.{has_root_message, is_root_message, is_left_out, after_post, may_rouse, after_rouse}
 
 -- WHICH STEPS ARE ENABLED
 

@@ -4,24 +4,23 @@
 -- sends each other worker a root message. Each worker of the pool drains tasks, passes the barrier, is held there until
 -- all have, closes its mailbox, lets go of what tasks still hold, and ends once all its requests are released. A
 -- dedicated worker closes its mailbox at once.
-use Rattle.std.specs.Prelude.{ℕ, zero, suc, Bool, true, false, not, ◌+◌, ◌-◌, ◌==◌, ◌&&◌, ◌||◌, if◌then◌else◌, List, [], ◌∷◌, ◌++◌, map, slice_set, Option, Some, None}
+use Rattle.std.specs.Prelude.{ℕ, zero, suc, Bool, true, not, ◌-◌, ◌==◌, ◌&&◌, ◌||◌, if◌then◌else◌, List, [], ◌∷◌, map, slice_set, Option}
 use Rattle.std.specs.List.{list_all}
 use Rattle.exec_outcomes.specs.declared.outcome.Outcome.{Outcome}
 use Rattle.exec_abstract.specs.declared.config.Configuration.{Configuration}
-use Rattle.exec_abstract.specs.declared.state.WorkerPhase.{WorkerPhase}
 use Rattle.exec_abstract.specs.declared.state.WorkerPhase.TheVariants as worker
 use Rattle.exec_abstract.specs.declared.state.Next.{Next}
 use Rattle.exec_abstract.specs.declared.state.Next.TheVariants as next
 use Rattle.exec_abstract.specs.declared.state.TaskPhase.{TaskPhase}
 use Rattle.exec_abstract.specs.declared.state.Sleeper.{Sleeper}
-use Rattle.exec_abstract.specs.declared.state.Message.TheVariants.{Root}
+use Rattle.exec_abstract.specs.declared.state.MailMessage.TheVariants.{Root}
 use Rattle.exec_abstract.specs.declared.state.Letter.{Letter}
 use Rattle.exec_abstract.specs.Choice.{Choice}
-use Rattle.exec_abstract.specs.Choice.Choice.{Plain, Passes, Pays, Posts}
+use Rattle.exec_abstract.specs.Choice.Choice.{Passes}
 use Rattle.exec_abstract.specs.Same.{is_none, is_number, same_end}
 use Rattle.exec_abstract.specs.World.{Own, Seat, Task, Common, seat_of, task_of, request_of}
-use Rattle.exec_abstract.specs.Tests.{is_at_large, is_open, is_closing, is_done, is_polled, is_asleep, all_left, set_seat, set_task, set_request}
-use Rattle.exec_abstract.specs.Requests.{dropped, own_after_drop, outcome_of_drop, after_join}
+use Rattle.exec_abstract.specs.Tests.{is_at_large, is_open, is_closing, is_done, is_polled, all_left, set_seat, set_task}
+use Rattle.exec_abstract.specs.Requests.{outcome_of_drop, after_join}
 use Rattle.exec_abstract.specs.Tasks.{removed, own_after_over, after_over}
 
 -- TURN

@@ -4,7 +4,7 @@
 -- party changes the credit of that party alone.
 use Rattle.std.specs.Prelude.{◌≡◌, ℕ, true, ◌<◌, List, [], ◌∷◌, map}
 use Rattle.exec_abstract.specs.declared.config.Configuration.{Configuration}
-use Rattle.exec_abstract.specs.declared.event.Said.TheVariants.{Refused}
+use Rattle.exec_abstract.specs.declared.event.StepResult.TheVariants.{Refused}
 use Rattle.exec_abstract.specs.declared.event.Line.{Line}
 use Rattle.exec_abstract.specs.Choice.{Choice}
 use Rattle.exec_abstract.specs.World.{World}

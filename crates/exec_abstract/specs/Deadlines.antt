@@ -1,7 +1,7 @@
 -- Events of time: a service samples the clock, deadlines go on the wheel and come, sleepers are made and fire, and a
 -- worker sleeps.
-use Rattle.std.specs.Prelude.{ℕ, Bool, true, false, not, ◌+◌, ◌-◌, ◌*◌, ◌/◌, ◌%◌, ◌==◌, ◌&&◌, ◌||◌, if◌then◌else◌, nat_lt, nat_le, suc, List, [], ◌∷◌, ◌++◌, length, find, slice_set, slice_index_or, unwrap_or, Option, Some, None}
-use Rattle.std.specs.List.{list_any, list_all}
+use Rattle.std.specs.Prelude.{ℕ, Bool, true, false, not, ◌+◌, ◌-◌, ◌*◌, ◌/◌, ◌%◌, ◌==◌, ◌&&◌, ◌||◌, if◌then◌else◌, nat_lt, nat_le, List, [], ◌∷◌, ◌++◌, length, drop, slice_get, slice_set, slice_index_or, unwrap_or, is_some, Option, Some, None}
+use Rattle.std.specs.List.{list_all}
 use Rattle.exec_base.specs.declared.error.Error.TheVariants.{Timeout, Io}
 use Rattle.exec_base.specs.declared.error.Cause.TheVariants.{InvalidInput}
 use Rattle.exec_outcomes.specs.declared.outcome.Outcome.{Outcome}
@@ -15,10 +15,10 @@ use Rattle.exec_abstract.specs.declared.state.Request.{Request}
 use Rattle.exec_abstract.specs.declared.state.Sleeper.{Sleeper}
 use Rattle.exec_abstract.specs.Ranges.{horizon, wheel_slots}
 use Rattle.exec_abstract.specs.Same.{is_none, is_number, same_number, same_end}
-use Rattle.exec_abstract.specs.World.{Own, Seat, Task, Common, seat_of, task_of, request_of, sleeper_of, no_request}
-use Rattle.exec_abstract.specs.Tests.{all_numbered, is_at_large, is_open, is_queued, is_resolved, is_asleep, set_seat, set_task, set_request, set_sleeper}
-use Rattle.exec_abstract.specs.Words.{next_word, moved_on, polled_task, acts, sleep_asked}
-use Rattle.exec_abstract.specs.Requests.{resolved, outcome_if_late, joined_if_over}
+use Rattle.exec_abstract.specs.World.{Own, Seat, Common, seat_of, task_of, request_of, sleeper_of, no_request}
+use Rattle.exec_abstract.specs.Tests.{all_numbered, is_at_large, is_open, is_queued, is_asleep, set_request}
+use Rattle.exec_abstract.specs.Words.{moved_on, acts, sleep_asked}
+use Rattle.exec_abstract.specs.Requests.{resolved, joined_if, own_after_end}
 
 -- SAMPLING
 
@@ -53,18 +53,10 @@ outcome_at_enrol c me (Some deadline) =
     else if is_beyond c me deadline then Some (Failure (Io InvalidInput))
     else None
 
--- the first of the list that isn't over, and what stands after it
-abbrev pub first_unresolved : Common → List ℕ → Option ℕ
-first_unresolved s list = find (λ r. not (is_resolved (request_of s r).phase)) list
-
-abbrev pub after_first_unresolved : Common → List ℕ → List ℕ
-after_first_unresolved s [] = []
-after_first_unresolved s (r ∷ list) = if is_resolved (request_of s r).phase then after_first_unresolved s list else list
-
 -- the first new deadline
 abbrev pub may_enrol : Configuration → Own → Common → ℕ → ℕ → Option Outcome → List Bool
 may_enrol c me s i r outcome =
-    is_at_large me ∷ is_number r (first_unresolved s me.unenrolled) ∷ ((request_of s r).worker == i) ∷ is_queued (request_of s r).phase
+    is_at_large me ∷ is_number r (slice_get me.unenrolled 0) ∷ ((request_of s r).worker == i) ∷ is_queued (request_of s r).phase
     ∷ is_none (request_of s r).timer ∷ not (is_none (request_of s r).operation.deadline)
     ∷ same_end outcome (outcome_at_enrol c me (request_of s r).operation.deadline) ∷ []
 
@@ -72,9 +64,8 @@ abbrev pub enrolled : ℕ → Option Outcome → Request → Request
 enrolled moment None r = record r { timer = Some moment }
 enrolled moment (Some outcome) r = resolved outcome r
 
-abbrev pub own_after_enrol : Own → Common → ℕ → Option Outcome → Own
-own_after_enrol me s r outcome =
-    record me { unenrolled = after_first_unresolved s me.unenrolled; ended = joined_if_over outcome me.ended r }
+abbrev pub own_after_enrol : Option Outcome → ℕ → Own → Own
+own_after_enrol outcome r me = own_after_end (is_some outcome) r (record me { unenrolled = drop 1 me.unenrolled })
 
 abbrev pub after_enrol : Configuration → Own → Common → ℕ → Option Outcome → Common
 after_enrol c me s r outcome =
@@ -127,9 +118,9 @@ abbrev pub expired : Option Outcome → Request → Request
 expired None r = record r { timer = None; cancelled = true }
 expired (Some outcome) r = resolved outcome r
 
-abbrev pub own_after_expire : Own → ℕ → Option Outcome → Own
-own_after_expire me r None = record me { cancels = me.cancels ++ r ∷ [] }
-own_after_expire me r (Some outcome) = record me { ended = me.ended ++ r ∷ [] }
+abbrev pub own_after_expire : Option Outcome → ℕ → Own → Own
+own_after_expire outcome r me =
+    let left = own_after_end (is_some outcome) r me in record left { cancels = joined_if (is_none outcome) left.cancels r }
 
 -- SLEEPERS
 

@@ -4,10 +4,10 @@ use Rattle.exec_abstract.specs.declared.config.Configuration.{Configuration}
 use Rattle.exec_abstract.specs.declared.step.Step.{Step}
 use Rattle.exec_abstract.specs.declared.step.Action.{Action}
 use Rattle.exec_abstract.specs.declared.step.Action.TheVariants as action
-use Rattle.exec_abstract.specs.declared.state.Message.TheVariants as message
+use Rattle.exec_abstract.specs.declared.state.MailMessage.TheVariants as message
 use Rattle.exec_abstract.specs.declared.event.Event.{Event}
 use Rattle.exec_abstract.specs.declared.event.Event.TheVariants.{Turn, Wake, Send}
-use Rattle.exec_abstract.specs.declared.event.Said.TheVariants.{Refused, Did}
+use Rattle.exec_abstract.specs.declared.event.StepResult.TheVariants.{Refused, Did}
 use Rattle.exec_abstract.specs.declared.event.Line.{Line}
 use Rattle.exec_abstract.specs.Choice.{Choice, Payer}
 use Rattle.exec_abstract.specs.Choice.Choice.{Plain, Passes, Pays, Posts}

@@ -1,14 +1,14 @@
 -- Whole logs that are good, with what their lines leave open. `tools/example` wrote them.
-use Rattle.std.specs.Prelude.{false, List, [], ◌∷◌, ◌++◌, Some, None}
+use Rattle.std.specs.Prelude.{false, [], ◌∷◌, ◌++◌, Some, None}
 use Rattle.exec_base.specs.declared.error.Error.TheVariants as error
 use Rattle.exec_base.specs.declared.error.Cause.TheVariants as cause
 use Rattle.exec_outcomes.specs.declared.outcome.Kind.TheVariants as kind
 use Rattle.exec_outcomes.specs.declared.outcome.OpResult.TheVariants.{Count, Errno}
 use Rattle.exec_outcomes.specs.declared.outcome.Outcome.TheVariants.{Success, Failure}
-use Rattle.exec_abstract.specs.declared.config.Word.TheVariants as word
+use Rattle.exec_abstract.specs.declared.config.ScriptWord.TheVariants as word
 use Rattle.exec_abstract.specs.declared.step.Step.TheVariants as step
 use Rattle.exec_abstract.specs.declared.step.Action.TheVariants as action
-use Rattle.exec_abstract.specs.declared.state.Message.TheVariants as message
+use Rattle.exec_abstract.specs.declared.state.MailMessage.TheVariants as message
 use Rattle.exec_abstract.specs.declared.event.Event.TheVariants.{Turn, Serve, Begin, Pend, Done, Spawn, Dedicated, Clear, Admit, Wait, Got, Drop, Timer, GotTimer, Pass, Grant, Enrol, Stage, Enter, Reap, Cancel, Orphan, Release, Fire, Send, Apply, Rouse, Sleep, Close, Stop, End, Return, Land, Clock}
 use Rattle.exec_abstract.specs.Choice.Payer.{ByRequest, BySleeper, ByAct, ByCall, ByStop}
 use Rattle.exec_abstract.specs.Examples.{Example, usual, says, does, refuses, passes, pays, posts, times}

@@ -1,28 +1,26 @@
 -- Events of messages between workers: sent, applied, met by a closed mailbox; and the rousing of a sleeping worker.
 use Rattle.std.specs.Prelude.{ℕ, Bool, true, false, not, ◌==◌, ◌&&◌, ◌||◌, if◌then◌else◌, List, [], ◌∷◌, ◌++◌, drop, slice_get, slice_set, Option, Some, None}
 use Rattle.std.specs.List.{list_any}
-use Rattle.exec_abstract.specs.declared.config.Word.{Word}
-use Rattle.exec_abstract.specs.declared.config.Word.TheVariants as word
+use Rattle.exec_abstract.specs.declared.config.ScriptWord.{ScriptWord}
+use Rattle.exec_abstract.specs.declared.config.ScriptWord.TheVariants as word
 use Rattle.exec_abstract.specs.declared.state.Rest.TheVariants.{Awake}
-use Rattle.exec_abstract.specs.declared.state.Waiting.{Waiting}
 use Rattle.exec_abstract.specs.declared.state.Waiting.TheVariants as waiting
 use Rattle.exec_abstract.specs.declared.state.Forwarding.TheVariants.{Sent, Applied}
-use Rattle.exec_abstract.specs.declared.state.Message.{Message}
-use Rattle.exec_abstract.specs.declared.state.Message.TheVariants as message
-use Rattle.exec_abstract.specs.declared.state.Letter.{Letter}
+use Rattle.exec_abstract.specs.declared.state.MailMessage.{MailMessage}
+use Rattle.exec_abstract.specs.declared.state.MailMessage.TheVariants as message
 use Rattle.exec_abstract.specs.Choice.{Payer, Choice}
 use Rattle.exec_abstract.specs.Choice.Payer.{ByRequest, BySleeper, ByAct, ByCall, ByStop}
 use Rattle.exec_abstract.specs.Choice.Choice.{Plain, Passes, Pays, Posts}
 use Rattle.exec_abstract.specs.Same.{is_none, is_number, same_message, is_letter}
 use Rattle.exec_abstract.specs.World.{Own, Seat, Task, Common, seat_of, task_of, request_of, sleeper_of}
-use Rattle.exec_abstract.specs.Tests.{is_empty, is_settled, is_at_large, is_open, is_awake, is_unsent, waits_for_nothing, waits_for_request, waits_for_timer, set_seat, set_task, set_request, set_sleeper}
-use Rattle.exec_abstract.specs.Words.{next_word, moved_on, polled_task, acts, asks_await, asks_drop, asks_task, newest_held}
+use Rattle.exec_abstract.specs.Tests.{is_settled, is_at_large, is_open, is_awake, is_unsent, waits_for_nothing, waits_for_request, waits_for_timer, set_seat, set_task, set_request, set_sleeper}
+use Rattle.exec_abstract.specs.Words.{moved_on, polled_task, acts, asks_await, asks_drop, newest_held}
 use Rattle.exec_abstract.specs.Requests.{dropped, own_after_drop}
-use Rattle.exec_abstract.specs.Tasks.{waits_for, polls_waiting, after_letting_go, after_word, removed, wake}
+use Rattle.exec_abstract.specs.Tasks.{waits_for, polls_waiting, after_letting_go, removed, wake}
 
 -- SEND
 
-abbrev pub is_root_message : Message → Bool
+abbrev pub is_root_message : MailMessage → Bool
 is_root_message message.Root = true
 is_root_message _ = false
 
@@ -30,16 +28,16 @@ abbrev pub has_root_message : Seat → Bool
 has_root_message seat = list_any is_root_message seat.inbox
 
 -- the message joins the inbox
-abbrev pub posted : Message → Seat → Seat
+abbrev pub posted : MailMessage → Seat → Seat
 posted m seat = record seat { inbox = seat.inbox ++ m ∷ [] }
 
 -- the word wakes the root of worker `to`
-abbrev pub asks_root_of : Common → ℕ → Word → Bool
+abbrev pub asks_root_of : Common → ℕ → ScriptWord → Bool
 asks_root_of s to (word.Wake t) = is_number to (task_of s t).home
 asks_root_of s to _ = false
 
 -- The message is the first that the worker owes.
-abbrev pub is_first_owed : Own → ℕ → Message → Bool
+abbrev pub is_first_owed : Own → ℕ → MailMessage → Bool
 is_first_owed me to m = is_none me.polls && is_settled me.next && is_letter to m (slice_get me.owed 0)
 
 -- A root message is paid by the act of a task that wakes that root, or by the stop of the pool.
@@ -65,7 +63,7 @@ abbrev pub awaits_request : Own → Common → ℕ → Bool
 awaits_request me s r =
     (polls_waiting me s (waits_for_request r) || acts me s asks_await) && is_number r (newest_held (polled_task me s))
 
-abbrev pub may_send : Own → Common → ℕ → ℕ → Message → Choice → List Bool
+abbrev pub may_send : Own → Common → ℕ → ℕ → MailMessage → Choice → List Bool
 may_send me s i to message.Root choice = may_send_root me s i to choice
 may_send me s i to (message.ForwardRequest r) choice =
     awaits_request me s r ∷ ((request_of s r).worker == to) ∷ not (to == i) ∷ is_unsent (request_of s r).forwarding
@@ -91,7 +89,7 @@ abbrev pub awaiting : Common → ℕ → Task → Task
 awaiting s r t = if waits_for_nothing t.waiting then waits_for s t (waiting.Request r) else t
 
 -- after the message was sent in the poll of this task, or outside a poll
-abbrev pub after_sending : Common → Option ℕ → Message → Common
+abbrev pub after_sending : Common → Option ℕ → MailMessage → Common
 after_sending s None m = s
 after_sending s (Some t) message.Root = set_task s t (moved_on s (task_of s t))
 after_sending s (Some t) (message.ForwardRequest r) =
@@ -107,16 +105,16 @@ abbrev pub is_left_out : Choice → Bool
 is_left_out (Posts payer left_out) = left_out
 is_left_out _ = false
 
-abbrev pub after_post : Common → ℕ → Message → Choice → Common
+abbrev pub after_post : Common → ℕ → MailMessage → Choice → Common
 after_post s to m choice = if is_root_message m && is_left_out choice then s else set_seat s to (posted m (seat_of s to))
 
-abbrev pub after_send : Own → Common → ℕ → Message → Choice → Common
+abbrev pub after_send : Own → Common → ℕ → MailMessage → Choice → Common
 after_send me s to m choice = after_post (after_sending s me.polls m) to m choice
 
 -- CLOSED
 
 -- the word asks for what is closed: a spawn where the set is, a wake where the root's mailbox is
-abbrev pub meets_closed : Common → ℕ → Word → Bool
+abbrev pub meets_closed : Common → ℕ → ScriptWord → Bool
 meets_closed s i (word.Spawn k) = s.set_closed
 meets_closed s i (word.Dedicated k) = s.set_closed
 meets_closed s i (word.Wake t) = is_shut s i (task_of s t).home
@@ -131,28 +129,28 @@ may_meet_closed me s i = acts me s (meets_closed s i) ∷ []
 
 -- APPLY
 
-abbrev pub is_first_message : Message → Seat → Bool
+abbrev pub is_first_message : MailMessage → Seat → Bool
 is_first_message m seat = is_same m (slice_get seat.inbox 0)
   where
-    is_same : Message → Option Message → Bool
+    is_same : MailMessage → Option MailMessage → Bool
     is_same m None = false
     is_same m (Some first) = same_message m first
 
-abbrev pub may_apply : Own → Common → ℕ → Message → List Bool
+abbrev pub may_apply : Own → Common → ℕ → MailMessage → List Bool
 may_apply me s i m = is_at_large me ∷ is_open (seat_of s i).phase ∷ is_first_message m (seat_of s i) ∷ []
 
-abbrev pub own_after_apply : Own → Common → Message → Own
+abbrev pub own_after_apply : Own → Common → MailMessage → Own
 own_after_apply me s (message.CancelRequest r) = own_after_drop me s r
 own_after_apply me s _ = me
 
-abbrev pub after_message : Own → Common → Message → Common
+abbrev pub after_message : Own → Common → MailMessage → Common
 after_message me s message.Root = wake s me.root
 after_message me s (message.ForwardRequest r) = set_request s r (record (request_of s r) { forwarding = Applied })
 after_message me s (message.ForwardTimer z) = set_sleeper s z (record (sleeper_of s z) { forwarding = Applied })
 after_message me s (message.CancelRequest r) = set_request s r (dropped (request_of s r))
 after_message me s (message.CancelTimer z) = set_sleeper s z (removed (sleeper_of s z))
 
-abbrev pub after_apply : Own → Common → ℕ → Message → Common
+abbrev pub after_apply : Own → Common → ℕ → MailMessage → Common
 after_apply me s i m =
     let told = after_message me s m in set_seat told i (record (seat_of s i) { inbox = drop 1 (seat_of s i).inbox })
 

@@ -5,7 +5,7 @@ use Rattle.exec_base.specs.declared.error.Error.TheVariants as error
 use Rattle.exec_outcomes.specs.declared.outcome.OpResult.TheVariants.{Count, Errno}
 use Rattle.exec_outcomes.specs.declared.outcome.Outcome.TheVariants.{Success, Failure}
 use Rattle.exec_abstract.specs.declared.step.Action.TheVariants as action
-use Rattle.exec_abstract.specs.declared.state.Message.TheVariants as message
+use Rattle.exec_abstract.specs.declared.state.MailMessage.TheVariants as message
 use Rattle.exec_abstract.specs.declared.event.Event.TheVariants.{Turn, Begin, Pend, Done, Fault, Spawn, Closed, Clear, Wait, Got, Timer, GotTimer, Pass, Grant, Enrol, Stage, Enter, Busy, Reap, Expire, Cancel, Orphan, Release, Fire, Send, Rouse, Sleep, Close, Stop, End}
 use Rattle.exec_abstract.specs.Choice.Payer.{ByRequest, ByAct, ByCall, ByStop}
 use Rattle.exec_abstract.specs.Examples.{says, does, passes, pays, posts}

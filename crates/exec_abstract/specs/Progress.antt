@@ -2,15 +2,15 @@
 --
 -- A line is quiet where only bookkeeping happened. Among so many lines of one worker or of one caller alone, while no
 -- worker closes, one is not quiet; and wherever all workers sleep nothing is unfinished.
-use Rattle.std.specs.Prelude.{◌≡◌, ℕ, Bool, true, false, not, ◌+◌, ◌*◌, ◌==◌, ◌&&◌, ◌||◌, if◌then◌else◌, nat_lt, nat_le, List, [], ◌∷◌, Option, None, Some, length}
+use Rattle.std.specs.Prelude.{◌≡◌, ℕ, Bool, true, false, not, ◌+◌, ◌*◌, ◌==◌, ◌&&◌, ◌||◌, if◌then◌else◌, nat_lt, nat_le, List, [], ◌∷◌, Some, length}
 use Rattle.std.specs.List.{list_any, list_all}
 use Rattle.exec_abstract.specs.declared.config.Configuration.{Configuration}
-use Rattle.exec_abstract.specs.declared.config.Word.{Word}
+use Rattle.exec_abstract.specs.declared.config.ScriptWord.{ScriptWord}
 use Rattle.exec_abstract.specs.declared.step.Step.{Step}
 use Rattle.exec_abstract.specs.declared.step.Action.{Action}
 use Rattle.exec_abstract.specs.declared.step.Action.TheVariants as action
-use Rattle.exec_abstract.specs.declared.event.Said.{Said}
-use Rattle.exec_abstract.specs.declared.event.Said.TheVariants.{Refused, Did}
+use Rattle.exec_abstract.specs.declared.event.StepResult.{StepResult}
+use Rattle.exec_abstract.specs.declared.event.StepResult.TheVariants.{Refused, Did}
 use Rattle.exec_abstract.specs.declared.event.Line.{Line}
 use Rattle.exec_abstract.specs.declared.state.TaskPhase.{TaskPhase}
 use Rattle.exec_abstract.specs.declared.state.TaskPhase.TheVariants as task
@@ -22,7 +22,7 @@ use Rattle.exec_abstract.specs.Choice.{Choice}
 use Rattle.exec_abstract.specs.Ranges.{ring_size, largest_spin}
 use Rattle.exec_abstract.specs.Same.{is_none, is_number}
 use Rattle.exec_abstract.specs.World.{World, Own, Seat, Task, Common, own_of, seat_of, task_of, request_of, sleeper_of, open_of}
-use Rattle.exec_abstract.specs.Tests.{all_numbered, is_empty, is_open, is_closing, has_ended, is_awake, is_idle, is_done, is_gated, is_queued, is_staged, is_landed, is_resolved, is_in_flight, is_asleep}
+use Rattle.exec_abstract.specs.Tests.{all_numbered, is_empty, is_open, is_closing, has_ended, is_awake, is_done, is_gated, is_queued, is_staged, is_landed, is_resolved, is_in_flight, is_asleep}
 use Rattle.exec_abstract.specs.Deadlines.{is_due}
 use Rattle.exec_abstract.specs.Callers.{is_half_done}
 use Rattle.exec_abstract.specs.Run.{RunsBy, after_line, after_steps, first_world}
@@ -57,7 +57,7 @@ abbrev pub is_anyone_closing : World → Bool
 is_anyone_closing w = list_any (λ seat. is_closing seat.phase) w.common.seats
 
 -- a step was taken, only bookkeeping happened, and no worker was closing
-abbrev pub is_quiet_step : World → Said → Bool
+abbrev pub is_quiet_step : World → StepResult → Bool
 is_quiet_step w Refused = false
 is_quiet_step w (Did e) = is_quiet e && not (is_anyone_closing w)
 
@@ -74,7 +74,7 @@ one_more p s = if same_party p s.party then record s { count = s.count + 1 } els
 
 -- The stretch after one more line. A refused one doesn't count; a quiet one of the same party makes it longer; any
 -- other ends it.
-abbrev pub longer : World → Action → Said → Stretch → Stretch
+abbrev pub longer : World → Action → StepResult → Stretch → Stretch
 longer w a Refused s = s
 longer w a (Did e) s = if is_quiet_step w (Did e) then one_more (party_of a) s else no_stretch
 
@@ -191,8 +191,8 @@ is_always_rightly_asleep c w (l ∷ ls) (choice ∷ choices) =
 -- what a trace sets up: its configuration, its scripts by number, and the script of the root
 pub record Plan : Type 0 where
   pub config : Configuration
-  pub scripts : List (List Word)
-  pub root : List Word
+  pub scripts : List (List ScriptWord)
+  pub root : List ScriptWord
 
 abbrev pub begin : Plan → World
 begin p = first_world p.config p.scripts p.root

@@ -1,13 +1,13 @@
 -- Lines that may not come. Each stands in place of a line of a good log, in a state that the log reaches, and
 -- is refused for what is said above it.
-use Rattle.std.specs.Prelude.{true, false, List, [], ◌∷◌, Some, None}
+use Rattle.std.specs.Prelude.{false, List, [], ◌∷◌, Some, None}
 use Rattle.exec_base.specs.declared.error.Error.TheVariants as error
 use Rattle.exec_base.specs.declared.error.Cause.TheVariants as cause
 use Rattle.exec_outcomes.specs.declared.outcome.Kind.TheVariants as kind
 use Rattle.exec_outcomes.specs.declared.outcome.OpResult.TheVariants.{Count}
 use Rattle.exec_outcomes.specs.declared.outcome.Outcome.TheVariants.{Success, Failure}
 use Rattle.exec_abstract.specs.declared.step.Action.TheVariants as action
-use Rattle.exec_abstract.specs.declared.state.Message.TheVariants as message
+use Rattle.exec_abstract.specs.declared.state.MailMessage.TheVariants as message
 use Rattle.exec_abstract.specs.declared.event.Event.TheVariants.{Turn, Serve, Begin, Pend, Done, Spawn, Dedicated, Closed, Admit, Wait, Got, Drop, Grant, Enrol, Stage, Enter, Busy, Reap, Expire, Cancel, Orphan, Release, Send, Apply, Rouse, Sleep, End, Return, Land, Clock, Stir}
 use Rattle.exec_abstract.specs.Choice.Payer.{ByRequest, ByAct, ByCall}
 use Rattle.exec_abstract.specs.Examples.{says, does, refuses, passes, pays, posts}

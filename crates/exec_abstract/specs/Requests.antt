@@ -3,7 +3,7 @@
 -- A request is admitted by the act of a task. A durable one joins the gate of its open by the worker's next line, and
 -- is Queued once it is granted; any other is Queued at once. From Queued it is staged, entered, landed and reaped; then
 -- it is over, or Queued again. What it owned is released once it is over, in the order in which requests ended.
-use Rattle.std.specs.Prelude.{ℕ, Bool, true, false, not, ◌+◌, ◌-◌, ◌%◌, ◌==◌, ◌&&◌, ◌||◌, if◌then◌else◌, nat_lt, nat_le, List, [], ◌∷◌, ◌++◌, length, drop, map, slice_get, slice_index_or, slice_set, find, Option, Some, None}
+use Rattle.std.specs.Prelude.{ℕ, Bool, true, false, not, ◌+◌, ◌-◌, ◌%◌, ◌==◌, ◌&&◌, ◌||◌, if◌then◌else◌, nat_lt, nat_le, List, [], ◌∷◌, ◌++◌, length, drop, filter, slice_get, slice_set, is_some, Option, Some, None}
 use Rattle.exec_base.specs.declared.error.Error.TheVariants.{Timeout}
 use Rattle.exec_outcomes.specs.declared.outcome.Kind.{Kind}
 use Rattle.exec_outcomes.specs.declared.outcome.Kind.TheVariants as kind
@@ -14,19 +14,18 @@ use Rattle.exec_outcomes.specs.declared.outcome.Outcome.TheVariants.{Failure}
 use Rattle.exec_outcomes.specs.Outcomes.{Asked, Cursor, outcome_next, cursor_next, refuses_hint}
 use Rattle.exec_outcomes.specs.Accounts.{Account, changed, is_durable, account_after, outcome_told, outcome_at_grant}
 use Rattle.exec_abstract.specs.declared.config.Configuration.{Configuration}
-use Rattle.exec_abstract.specs.declared.config.Word.{Word}
-use Rattle.exec_abstract.specs.declared.config.Word.TheVariants as word
-use Rattle.exec_abstract.specs.declared.state.Next.{Next}
+use Rattle.exec_abstract.specs.declared.config.ScriptWord.{ScriptWord}
+use Rattle.exec_abstract.specs.declared.config.ScriptWord.TheVariants as word
 use Rattle.exec_abstract.specs.declared.state.Next.TheVariants as next
 use Rattle.exec_abstract.specs.declared.state.Forwarding.TheVariants.{Unsent}
-use Rattle.exec_abstract.specs.declared.state.Phase.{Phase}
-use Rattle.exec_abstract.specs.declared.state.Phase.TheVariants as phase
+use Rattle.exec_abstract.specs.declared.state.RequestPhase.{RequestPhase}
+use Rattle.exec_abstract.specs.declared.state.RequestPhase.TheVariants as phase
 use Rattle.exec_abstract.specs.declared.state.Operation.{Operation}
 use Rattle.exec_abstract.specs.declared.state.Request.{Request}
 use Rattle.exec_abstract.specs.Ranges.{ring_size}
 use Rattle.exec_abstract.specs.Same.{is_none, is_number, same_end, same_kind}
-use Rattle.exec_abstract.specs.World.{Own, Task, Open, Common, no_operation, no_request, seat_of, task_of, request_of, open_of}
-use Rattle.exec_abstract.specs.Tests.{is_at_large, is_open, is_gated, is_queued, is_staged, is_landed_with, is_resolved, is_in_flight, is_of_file, is_kept, set_seat, set_task, set_request, set_open}
+use Rattle.exec_abstract.specs.World.{Own, Open, Common, no_operation, seat_of, task_of, request_of, open_of}
+use Rattle.exec_abstract.specs.Tests.{is_at_large, is_open, is_gated, is_queued, is_staged, is_landed_with, is_resolved, is_in_flight, is_of_file, is_kept, set_open}
 use Rattle.exec_abstract.specs.Words.{next_word, moved_on, polled_task, acts}
 
 -- WHAT A WORD ASKS FOR
@@ -40,7 +39,7 @@ of_file kind target offset length =
     record no_operation { kind = kind; target = target; offset = offset; length = length }
 
 -- the operation that the word registers, where it registers one: a deadline is counted from the sampled moment
-abbrev pub operation_asked : Configuration → ℕ → Word → Option Operation
+abbrev pub operation_asked : Configuration → ℕ → ScriptWord → Option Operation
 operation_asked c sampled (word.Poll l) = Some (of_socket kind.Poll l 1 (sampled + c.rw))
 operation_asked c sampled (word.Send s n) = Some (of_socket kind.Send s n (sampled + c.rw))
 operation_asked c sampled (word.Recv s n) = Some (of_socket kind.Recv s n (sampled + c.rw))
@@ -74,14 +73,22 @@ abbrev pub resolved_if : Option Outcome → Request → Request
 resolved_if None r = r
 resolved_if (Some outcome) r = resolved outcome r
 
--- the number joins the end of the list where there is an outcome, or where there is none
-abbrev pub joined_if_over : Option Outcome → List ℕ → ℕ → List ℕ
-joined_if_over None list r = list
-joined_if_over (Some outcome) list r = list ++ r ∷ []
+-- the number joins the end of the list where this is so, or leaves the list
+abbrev pub joined_if : Bool → List ℕ → ℕ → List ℕ
+joined_if joins list r = if joins then list ++ r ∷ [] else list
 
-abbrev pub joined_unless_over : Option Outcome → List ℕ → ℕ → List ℕ
-joined_unless_over None list r = list ++ r ∷ []
-joined_unless_over (Some outcome) list r = list
+abbrev pub left_if : Bool → List ℕ → ℕ → List ℕ
+left_if leaves list r = if leaves then filter (λ q. not (q == r)) list else list
+
+-- a request that is over leaves each list in which it waits for something, and is the last of those that ended
+abbrev pub own_after_end : Bool → ℕ → Own → Own
+own_after_end over r me =
+    record me {
+      ready = left_if over me.ready r;
+      unenrolled = left_if over me.unenrolled r;
+      cancels = left_if over me.cancels r;
+      ended = joined_if over me.ended r;
+    }
 
 -- the permit goes to the first of those who wait
 abbrev pub passed_on : Open → Open
@@ -120,10 +127,8 @@ outcome_of_drop r = if ends_by_drop r then Some (Failure Timeout) else None
 
 abbrev pub own_after_drop : Own → Common → ℕ → Own
 own_after_drop me s r =
-    record me {
-      ended = if ends_by_drop (request_of s r) then me.ended ++ r ∷ [] else me.ended;
-      cancels = if is_cancelled_by_drop (request_of s r) then me.cancels ++ r ∷ [] else me.cancels;
-    }
+    let left = own_after_end (ends_by_drop (request_of s r)) r me in
+    record left { cancels = joined_if (is_cancelled_by_drop (request_of s r)) left.cancels r }
 
 -- ADMIT
 
@@ -149,7 +154,7 @@ may_admit c me s i r kind outcome =
     acts me s (λ w. asks_kind kind (operation_asked c me.sampled w)) ∷ is_open (seat_of s i).phase ∷ (r == length s.requests)
     ∷ same_end outcome (outcome_if_late me.sampled (asked_now c me s).deadline) ∷ []
 
-abbrev pub first_phase : Kind → Phase
+abbrev pub first_phase : Kind → RequestPhase
 first_phase kind = if is_durable kind then phase.Gated else phase.Queued
 
 -- with the mutations of its open, which a write raises at once
@@ -178,7 +183,7 @@ new_request i o =
 
 -- a durable request joins its gate by the next line; any other is ready, and one with a deadline is to be enrolled
 abbrev pub own_after_admit : Operation → Option Outcome → ℕ → Own → Own
-own_after_admit o (Some outcome) r me = record me { ended = me.ended ++ r ∷ []; unreleased = me.unreleased + 1 }
+own_after_admit o (Some outcome) r me = record (own_after_end true r me) { unreleased = me.unreleased + 1 }
 own_after_admit o None r me =
     if is_durable o.kind then record me { next = next.Joins r; unreleased = me.unreleased + 1 }
     else record me {
@@ -230,7 +235,7 @@ granted (Some outcome) r = resolved outcome r
 
 abbrev pub own_after_grant : Option Outcome → ℕ → Own → Own
 own_after_grant outcome r me =
-    record me { ready = joined_unless_over outcome me.ready r; ended = joined_if_over outcome me.ended r }
+    let left = own_after_end (is_some outcome) r me in record left { ready = joined_if (is_none outcome) left.ready r }
 
 abbrev pub after_grant : Common → ℕ → Option Outcome → Common
 after_grant s r outcome =
@@ -241,21 +246,13 @@ after_grant s r outcome =
 
 -- STAGE, ENTER, BUSY
 
--- the first of the list that is Queued, and what stands after it
-abbrev pub first_queued : Common → List ℕ → Option ℕ
-first_queued s ready = find (λ r. is_queued (request_of s r).phase) ready
-
-abbrev pub after_first_queued : Common → List ℕ → List ℕ
-after_first_queued s [] = []
-after_first_queued s (r ∷ ready) = if is_queued (request_of s r).phase then ready else after_first_queued s ready
-
 abbrev pub is_enrolled : Request → Bool
 is_enrolled r = is_none r.operation.deadline || not (is_none r.timer)
 
 -- the first that is ready, where the ring has a place
 abbrev pub may_stage : Configuration → Own → Common → ℕ → ℕ → List Bool
 may_stage c me s i r =
-    is_at_large me ∷ is_number r (first_queued s me.ready) ∷ ((request_of s r).worker == i) ∷ is_queued (request_of s r).phase
+    is_at_large me ∷ is_number r (slice_get me.ready 0) ∷ ((request_of s r).worker == i) ∷ is_queued (request_of s r).phase
     ∷ not (request_of s r).cancelled ∷ is_enrolled (request_of s r) ∷ nat_lt me.in_flight (ring_size c) ∷ []
 
 -- a read that asks for the hint, or a direct read that has become a buffered one
@@ -269,8 +266,8 @@ with_hint stands o = record o { hinted = asks_hint o && o.unrefused && stands }
 abbrev pub staged : Common → Request → Request
 staged s r = record r { operation = with_hint (account_of_open s r).hinted r.operation; phase = phase.Staged }
 
-abbrev pub own_after_stage : Own → Common → Own
-own_after_stage me s = record me { ready = after_first_queued s me.ready; in_flight = me.in_flight + 1 }
+abbrev pub own_after_stage : Own → Own
+own_after_stage me = record me { ready = drop 1 me.ready; in_flight = me.in_flight + 1 }
 
 -- the ring was not set busy
 abbrev pub may_enter : Own → Common → ℕ → List Bool
@@ -318,11 +315,8 @@ common_after_refusal s r n =
 
 abbrev pub own_after_reap : Option Outcome → ℕ → Own → Own
 own_after_reap outcome r me =
-    record me {
-      ready = joined_unless_over outcome me.ready r;
-      ended = joined_if_over outcome me.ended r;
-      in_flight = me.in_flight - 1;
-    }
+    let left = own_after_end (is_some outcome) r me in
+    record left { ready = joined_if (is_none outcome) left.ready r; in_flight = me.in_flight - 1 }
 
 abbrev pub after_reap : Common → ℕ → ℕ → OpResult → Option Outcome → Common
 after_reap s i r n outcome =
@@ -337,21 +331,14 @@ after_reap s i r n outcome =
 
 -- CANCEL
 
-abbrev pub first_in_flight : Common → List ℕ → Option ℕ
-first_in_flight s cancels = find (λ r. is_in_flight (request_of s r).phase) cancels
-
-abbrev pub after_first_in_flight : Common → List ℕ → List ℕ
-after_first_in_flight s [] = []
-after_first_in_flight s (r ∷ cancels) = if is_in_flight (request_of s r).phase then cancels else after_first_in_flight s cancels
-
--- the first that was cancelled, of those in flight; its cancel wasn't staged before
+-- the first that was cancelled in flight; its cancel wasn't staged before
 abbrev pub may_cancel : Own → Common → ℕ → ℕ → List Bool
 may_cancel me s i r =
-    is_at_large me ∷ is_number r (first_in_flight s me.cancels) ∷ ((request_of s r).worker == i) ∷ is_in_flight (request_of s r).phase
+    is_at_large me ∷ is_number r (slice_get me.cancels 0) ∷ ((request_of s r).worker == i) ∷ is_in_flight (request_of s r).phase
     ∷ (request_of s r).cancelled ∷ not (request_of s r).cancel_staged ∷ []
 
-abbrev pub own_after_cancel : Own → Common → ℕ → Own
-own_after_cancel me s r = record me { cancels = after_first_in_flight s me.cancels; untold = me.untold ++ r ∷ [] }
+abbrev pub own_after_cancel : Own → ℕ → Own
+own_after_cancel me r = record me { cancels = drop 1 me.cancels; untold = me.untold ++ r ∷ [] }
 
 -- RELEASE
 

@@ -6,8 +6,8 @@ use Rattle.exec_outcomes.specs.declared.outcome.Outcome.{Outcome}
 use Rattle.exec_abstract.specs.declared.config.Configuration.{Configuration}
 use Rattle.exec_abstract.specs.declared.step.Action.TheVariants as action
 use Rattle.exec_abstract.specs.declared.event.Event.TheVariants.{Reap}
-use Rattle.exec_abstract.specs.declared.event.Said.{Said}
-use Rattle.exec_abstract.specs.declared.event.Said.TheVariants.{Did}
+use Rattle.exec_abstract.specs.declared.event.StepResult.{StepResult}
+use Rattle.exec_abstract.specs.declared.event.StepResult.TheVariants.{Did}
 use Rattle.exec_abstract.specs.declared.event.Line.{Line}
 use Rattle.exec_abstract.specs.Choice.{Choice}
 use Rattle.exec_abstract.specs.World.{World, request_of}
@@ -16,7 +16,7 @@ use Rattle.exec_abstract.specs.Run.{after_line}
 
 -- the result of request r that is judged at this line, with the hint of its operation and whether the request's
 -- cancellation had been asked for
-abbrev pub result_in : World → ℕ → Said → List Judged
+abbrev pub result_in : World → ℕ → StepResult → List Judged
 result_in w r (Did (Reap q n outcome)) = if q == r then judged_of (request_of w.common r) n ∷ [] else []
 result_in w r _ = []
 

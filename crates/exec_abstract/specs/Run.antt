@@ -1,23 +1,22 @@
 -- Which list of lines is the log of a run.
-use Rattle.std.specs.Prelude.{◌≡◌, ℕ, zero, suc, Bool, true, false, not, ◌==◌, ◌&&◌, if◌then◌else◌, List, [], ◌∷◌, ◌++◌, length, map, Option, Some, None, option_and_then, replicate}
+use Rattle.std.specs.Prelude.{ℕ, zero, suc, Bool, true, false, not, ◌==◌, ◌&&◌, if◌then◌else◌, List, [], ◌∷◌, Option, Some, None, option_and_then, replicate}
 use Rattle.std.specs.List.{list_all}
-use Rattle.exec_outcomes.specs.Accounts.{fresh_account}
 use Rattle.exec_abstract.specs.declared.config.Configuration.{Configuration}
-use Rattle.exec_abstract.specs.declared.config.Word.{Word}
+use Rattle.exec_abstract.specs.declared.config.ScriptWord.{ScriptWord}
 use Rattle.exec_abstract.specs.declared.step.Step.{Step}
 use Rattle.exec_abstract.specs.declared.step.Step.TheVariants as step
 use Rattle.exec_abstract.specs.declared.step.Action.{Action}
 use Rattle.exec_abstract.specs.declared.step.Action.TheVariants as action
 use Rattle.exec_abstract.specs.declared.event.Event.{Event}
-use Rattle.exec_abstract.specs.declared.event.Said.{Said}
-use Rattle.exec_abstract.specs.declared.event.Said.TheVariants.{Refused, Did}
+use Rattle.exec_abstract.specs.declared.event.StepResult.{StepResult}
+use Rattle.exec_abstract.specs.declared.event.StepResult.TheVariants.{Refused, Did}
 use Rattle.exec_abstract.specs.declared.event.Line.{Line}
 use Rattle.exec_abstract.specs.declared.state.Code.{Code}
 use Rattle.exec_abstract.specs.declared.state.Code.TheVariants as code
 use Rattle.exec_abstract.specs.declared.state.Call.TheVariants as call
 use Rattle.exec_abstract.specs.Choice.{Choice}
 use Rattle.exec_abstract.specs.Same.{same_result}
-use Rattle.exec_abstract.specs.World.{World, Own, Seat, Task, Common, no_open, own_of}
+use Rattle.exec_abstract.specs.World.{World, Own, Task, Common, no_open, own_of}
 use Rattle.exec_abstract.specs.Tests.{AllTrue}
 use Rattle.exec_abstract.specs.Tasks.{new_task, new_own, new_seat}
 use Rattle.exec_abstract.specs.Allowed.{allowed}
@@ -35,11 +34,11 @@ tests_of_event c w (action.GoOn j) e choice = may_go_on_by w.common e
 tests_of_event c w a e choice = is_told_as a e ∷ []
 
 -- A step that is not enabled is refused; any other has an event that may come.
-abbrev pub tests_of_line : Configuration → World → Action → Said → Choice → List Bool
+abbrev pub tests_of_line : Configuration → World → Action → StepResult → Choice → List Bool
 tests_of_line c w a Refused choice = not (is_enabled w.common a) ∷ []
 tests_of_line c w a (Did e) choice = is_enabled w.common a ∷ tests_of_event c w a e choice
 
-abbrev pub Follows : Configuration → World → Action → Said → Choice → Type 0
+abbrev pub Follows : Configuration → World → Action → StepResult → Choice → Type 0
 Follows c w a said choice = AllTrue (tests_of_line c w a said choice)
 
 abbrev pub after_event : Configuration → World → Action → Event → Choice → World
@@ -47,7 +46,7 @@ after_event c w (action.Work i) e choice = after c w i e choice
 after_event c w a e choice = record w { common = common_by w.common a e choice }
 
 -- A refused step changes nothing.
-abbrev pub after_line : Configuration → World → Action → Said → Choice → World
+abbrev pub after_line : Configuration → World → Action → StepResult → Choice → World
 after_line c w a Refused choice = w
 after_line c w a (Did e) choice = after_event c w a e choice
 
@@ -90,7 +89,7 @@ same_action (action.Stir i) (action.Stir j) = i == j
 same_action (action.Peer i) (action.Peer j) = i == j
 same_action _ _ = false
 
-abbrev pub is_refused : Said → Bool
+abbrev pub is_refused : StepResult → Bool
 is_refused Refused = true
 is_refused (Did e) = false
 
@@ -131,7 +130,7 @@ first_tasks (suc more) i = new_task (code_of i) (Some i) ∷ first_tasks more (s
     code_of zero = code.Root
     code_of (suc i) = code.Waits
 
-abbrev pub first_common : Configuration → List (List Word) → List Word → Common
+abbrev pub first_common : Configuration → List (List ScriptWord) → List ScriptWord → Common
 first_common c scripts root =
     record {
       clock = 0;
@@ -151,5 +150,5 @@ first_common c scripts root =
     }
 
 -- the state in which a run of these scripts begins
-abbrev pub first_world : Configuration → List (List Word) → List Word → World
+abbrev pub first_world : Configuration → List (List ScriptWord) → List ScriptWord → World
 first_world c scripts root = record { workers = first_owns c.workers 0; common = first_common c scripts root }

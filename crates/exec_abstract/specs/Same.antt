@@ -10,8 +10,8 @@ use Rattle.exec_outcomes.specs.declared.outcome.OpResult.{OpResult}
 use Rattle.exec_outcomes.specs.declared.outcome.OpResult.TheVariants.{Count, Errno}
 use Rattle.exec_outcomes.specs.declared.outcome.Outcome.{Outcome}
 use Rattle.exec_outcomes.specs.declared.outcome.Outcome.TheVariants.{Success, Failure}
-use Rattle.exec_abstract.specs.declared.state.Message.{Message}
-use Rattle.exec_abstract.specs.declared.state.Message.TheVariants as message
+use Rattle.exec_abstract.specs.declared.state.MailMessage.{MailMessage}
+use Rattle.exec_abstract.specs.declared.state.MailMessage.TheVariants as message
 use Rattle.exec_abstract.specs.declared.state.Letter.{Letter}
 
 abbrev pub is_none : {X : Type 0} → Option X → Bool
@@ -83,7 +83,7 @@ same_kind kind.Many kind.Many = true
 same_kind kind.Sync kind.Sync = true
 same_kind _ _ = false
 
-abbrev pub same_message : Message → Message → Bool
+abbrev pub same_message : MailMessage → MailMessage → Bool
 same_message message.Root message.Root = true
 same_message (message.ForwardRequest m) (message.ForwardRequest n) = m == n
 same_message (message.ForwardTimer m) (message.ForwardTimer n) = m == n
@@ -92,6 +92,6 @@ same_message (message.CancelTimer m) (message.CancelTimer n) = m == n
 same_message _ _ = false
 
 -- the letter is there, goes to this worker and says this
-abbrev pub is_letter : ℕ → Message → Option Letter → Bool
+abbrev pub is_letter : ℕ → MailMessage → Option Letter → Bool
 is_letter to m None = false
 is_letter to m (Some letter) = (letter.to == to) && same_message letter.message m

@@ -5,13 +5,10 @@
 -- worker then owes.
 use Rattle.std.specs.Prelude.{ℕ, Bool, true, false, not, ◌+◌, ◌-◌, ◌==◌, ◌&&◌, ◌||◌, if◌then◌else◌, List, [], ◌∷◌, ◌++◌, length, take, slice_set, slice_index_or, Option, Some, None}
 use Rattle.exec_outcomes.specs.declared.outcome.Outcome.{Outcome}
-use Rattle.exec_abstract.specs.declared.config.Configuration.{Configuration}
-use Rattle.exec_abstract.specs.declared.config.Word.{Word}
+use Rattle.exec_abstract.specs.declared.config.ScriptWord.{ScriptWord}
 use Rattle.exec_abstract.specs.declared.state.Code.{Code}
 use Rattle.exec_abstract.specs.declared.state.Code.TheVariants as code
 use Rattle.exec_abstract.specs.declared.state.WorkerPhase.TheVariants.{Open}
-use Rattle.exec_abstract.specs.declared.state.Rest.TheVariants.{Awake}
-use Rattle.exec_abstract.specs.declared.state.Next.TheVariants.{Free}
 use Rattle.exec_abstract.specs.declared.state.TaskPhase.{TaskPhase}
 use Rattle.exec_abstract.specs.declared.state.TaskPhase.TheVariants as task
 use Rattle.exec_abstract.specs.declared.state.Waiting.{Waiting}
@@ -20,15 +17,15 @@ use Rattle.exec_abstract.specs.declared.state.Forwarding.{Forwarding}
 use Rattle.exec_abstract.specs.declared.state.Forwarding.TheVariants as forwarding
 use Rattle.exec_abstract.specs.declared.state.Request.{Request}
 use Rattle.exec_abstract.specs.declared.state.Sleeper.{Sleeper}
-use Rattle.exec_abstract.specs.declared.state.Message.TheVariants.{CancelRequest, CancelTimer}
+use Rattle.exec_abstract.specs.declared.state.MailMessage.TheVariants.{CancelRequest, CancelTimer}
 use Rattle.exec_abstract.specs.declared.state.Letter.{Letter}
 use Rattle.exec_abstract.specs.Choice.{Payer, Choice}
 use Rattle.exec_abstract.specs.Choice.Payer.{ByRequest, BySleeper, ByAct, ByCall, ByStop}
 use Rattle.exec_abstract.specs.Choice.Choice.{Plain, Passes, Pays, Posts}
 use Rattle.exec_abstract.specs.Same.{is_none, is_number}
 use Rattle.exec_abstract.specs.World.{Own, Seat, Task, Common, no_own, no_seat, seat_of, task_of, request_of, sleeper_of, no_request}
-use Rattle.exec_abstract.specs.Tests.{is_empty, is_settled, is_at_large, is_open, is_ready, is_done, is_polled, waits_for_nothing, is_woken, waits_for_request, waits_for_timer, is_unsent, is_applied, is_resolved, is_resolved_with, set_task, set_request, set_sleeper}
-use Rattle.exec_abstract.specs.Words.{next_word, moved_on, polled_task, acts, asks_await, asks_drop, asks_end, asks_fault, asks_yield, asks_wake, asks_spawn, asks_dedicated, asks_no_sleep, script_asked, newest_held}
+use Rattle.exec_abstract.specs.Tests.{is_empty, is_settled, is_at_large, is_open, is_ready, waits_for_nothing, is_woken, waits_for_request, waits_for_timer, is_unsent, is_applied, is_resolved, is_resolved_with, set_task, set_request, set_sleeper}
+use Rattle.exec_abstract.specs.Words.{next_word, moved_on, polled_task, acts, asks_await, asks_drop, asks_yield, asks_wake, asks_spawn, asks_dedicated, asks_no_sleep, script_asked, newest_held}
 use Rattle.exec_abstract.specs.Requests.{dropped, own_after_drop}
 
 -- PHASES
@@ -143,7 +140,7 @@ abbrev pub after_pend : Common → ℕ → ℕ → Common
 after_pend s i t =
     if (task_of s t).cleared then after_over s i t else set_task s t (record (task_of s t) { phase = pended_phase (task_of s t).phase })
 
-abbrev pub may_end_by : (Word → Bool) → Own → Common → ℕ → List Bool
+abbrev pub may_end_by : (ScriptWord → Bool) → Own → Common → ℕ → List Bool
 may_end_by test me s t = is_number t me.polls ∷ acts me s test ∷ []
 
 abbrev pub own_after_done : Own → Common → ℕ → ℕ → Own

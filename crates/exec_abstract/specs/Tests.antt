@@ -1,5 +1,5 @@
 -- Tests of the parts of a state, and where they stand in it.
-use Rattle.std.specs.Prelude.{◌≡◌, ℕ, suc, Bool, true, false, not, ◌==◌, ◌&&◌, ◌||◌, List, [], ◌∷◌, Option, Some, None, slice_index_or, slice_set}
+use Rattle.std.specs.Prelude.{◌≡◌, ℕ, suc, Bool, true, false, not, ◌==◌, ◌&&◌, ◌||◌, List, [], ◌∷◌, slice_set}
 use Rattle.std.specs.List.{list_all}
 use Rattle.exec_outcomes.specs.declared.outcome.Kind.{Kind}
 use Rattle.exec_outcomes.specs.declared.outcome.Kind.TheVariants as kind
@@ -17,11 +17,11 @@ use Rattle.exec_abstract.specs.declared.state.Waiting.{Waiting}
 use Rattle.exec_abstract.specs.declared.state.Waiting.TheVariants as waiting
 use Rattle.exec_abstract.specs.declared.state.Forwarding.{Forwarding}
 use Rattle.exec_abstract.specs.declared.state.Forwarding.TheVariants as forwarding
-use Rattle.exec_abstract.specs.declared.state.Phase.{Phase}
-use Rattle.exec_abstract.specs.declared.state.Phase.TheVariants as phase
+use Rattle.exec_abstract.specs.declared.state.RequestPhase.{RequestPhase}
+use Rattle.exec_abstract.specs.declared.state.RequestPhase.TheVariants as phase
 use Rattle.exec_abstract.specs.declared.state.Request.{Request}
 use Rattle.exec_abstract.specs.declared.state.Sleeper.{Sleeper}
-use Rattle.exec_abstract.specs.World.{Own, Seat, Task, Open, Common, seat_of}
+use Rattle.exec_abstract.specs.World.{Own, Seat, Task, Open, Common}
 use Rattle.exec_abstract.specs.Same.{is_none, same_result, same_outcome}
 
 -- lists
@@ -121,40 +121,40 @@ abbrev pub is_applied : Forwarding → Bool
 is_applied forwarding.Applied = true
 is_applied _ = false
 
-abbrev pub is_gated : Phase → Bool
+abbrev pub is_gated : RequestPhase → Bool
 is_gated phase.Gated = true
 is_gated _ = false
 
-abbrev pub is_queued : Phase → Bool
+abbrev pub is_queued : RequestPhase → Bool
 is_queued phase.Queued = true
 is_queued _ = false
 
-abbrev pub is_staged : Phase → Bool
+abbrev pub is_staged : RequestPhase → Bool
 is_staged phase.Staged = true
 is_staged _ = false
 
-abbrev pub is_flying : Phase → Bool
+abbrev pub is_flying : RequestPhase → Bool
 is_flying phase.Flying = true
 is_flying _ = false
 
-abbrev pub is_landed : Phase → Bool
+abbrev pub is_landed : RequestPhase → Bool
 is_landed (phase.Landed n) = true
 is_landed _ = false
 
-abbrev pub is_landed_with : OpResult → Phase → Bool
+abbrev pub is_landed_with : OpResult → RequestPhase → Bool
 is_landed_with n (phase.Landed m) = same_result n m
 is_landed_with n _ = false
 
-abbrev pub is_resolved : Phase → Bool
+abbrev pub is_resolved : RequestPhase → Bool
 is_resolved (phase.Resolved outcome) = true
 is_resolved _ = false
 
-abbrev pub is_resolved_with : Outcome → Phase → Bool
+abbrev pub is_resolved_with : Outcome → RequestPhase → Bool
 is_resolved_with outcome (phase.Resolved other) = same_outcome outcome other
 is_resolved_with outcome _ = false
 
 -- the kernel has its operation, or is about to, or has just had it
-abbrev pub is_in_flight : Phase → Bool
+abbrev pub is_in_flight : RequestPhase → Bool
 is_in_flight phase.Staged = true
 is_in_flight phase.Flying = true
 is_in_flight (phase.Landed n) = true

@@ -4,14 +4,14 @@ use Rattle.std.specs.Fmt.{decimal}
 use Rattle.std.specs.List.{flat_map}
 use Rattle.exec_outcomes.specs.declared.outcome.Outcome.{Outcome}
 use Rattle.exec_outcomes.specs.Text.{text_of_result, text_of_outcome, text_of_kind}
-use Rattle.exec_abstract.specs.declared.state.Message.{Message}
-use Rattle.exec_abstract.specs.declared.state.Message.TheVariants as message
+use Rattle.exec_abstract.specs.declared.state.MailMessage.{MailMessage}
+use Rattle.exec_abstract.specs.declared.state.MailMessage.TheVariants as message
 use Rattle.exec_abstract.specs.declared.step.Action.{Action}
 use Rattle.exec_abstract.specs.declared.step.Action.TheVariants as action
 use Rattle.exec_abstract.specs.declared.event.Event.{Event}
 use Rattle.exec_abstract.specs.declared.event.Event.TheVariants as event
-use Rattle.exec_abstract.specs.declared.event.Said.{Said}
-use Rattle.exec_abstract.specs.declared.event.Said.TheVariants.{Refused, Did}
+use Rattle.exec_abstract.specs.declared.event.StepResult.{StepResult}
+use Rattle.exec_abstract.specs.declared.event.StepResult.TheVariants.{Refused, Did}
 use Rattle.exec_abstract.specs.declared.event.Line.{Line}
 
 -- a step of a log line
@@ -27,7 +27,7 @@ text_of_action (action.EndPoll worker) = codes "m " ++ decimal worker
 text_of_action (action.Stir worker) = codes "e " ++ decimal worker
 text_of_action (action.Peer listener) = codes "l " ++ decimal listener
 
-abbrev pub text_of_message : Message → List ℕ
+abbrev pub text_of_message : MailMessage → List ℕ
 text_of_message message.Root = codes "root"
 text_of_message (message.ForwardRequest request) = codes "forward " ++ decimal request
 text_of_message (message.ForwardTimer timer) = codes "forward timer " ++ decimal timer
@@ -90,7 +90,7 @@ text_of_event event.Set = codes "set"
 text_of_event event.Stir = codes "stir"
 text_of_event event.Peer = codes "peer"
 
-abbrev pub text_of_said : Said → List ℕ
+abbrev pub text_of_said : StepResult → List ℕ
 text_of_said Refused = codes "refused"
 text_of_said (Did event) = text_of_event event
 
@@ -112,7 +112,7 @@ is_quiet _ = false
 abbrev pub is_quiet_line : Line → Bool
 is_quiet_line l = is_quiet_said l.said
   where
-    is_quiet_said : Said → Bool
+    is_quiet_said : StepResult → Bool
     is_quiet_said Refused = false
     is_quiet_said (Did event) = is_quiet event
 

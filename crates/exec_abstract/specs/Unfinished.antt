@@ -1,27 +1,24 @@
 -- States to look at: one worker with its root, and one request, one sleeper or one open.
-use Rattle.std.specs.Prelude.{ℕ, Bool, true, false, List, [], ◌∷◌, Some, None, replicate, slice_set}
-use Rattle.exec_base.specs.declared.error.Error.TheVariants.{Timeout}
+use Rattle.std.specs.Prelude.{ℕ, Bool, true, List, [], ◌∷◌, Some, None, replicate, slice_set}
 use Rattle.exec_outcomes.specs.declared.outcome.Kind.TheVariants as kind
-use Rattle.exec_outcomes.specs.declared.outcome.Outcome.TheVariants.{Success, Failure}
+use Rattle.exec_outcomes.specs.declared.outcome.Outcome.TheVariants.{Success}
 use Rattle.exec_abstract.specs.declared.config.Configuration.{Configuration}
-use Rattle.exec_abstract.specs.declared.config.Word.TheVariants as word
+use Rattle.exec_abstract.specs.declared.config.ScriptWord.TheVariants as word
 use Rattle.exec_abstract.specs.declared.event.Event.TheVariants as event
-use Rattle.exec_abstract.specs.declared.event.Said.TheVariants.{Did, Refused}
+use Rattle.exec_abstract.specs.declared.event.StepResult.TheVariants.{Did}
 use Rattle.exec_abstract.specs.declared.event.Line.{Line}
 use Rattle.exec_abstract.specs.declared.step.Action.{Action}
-use Rattle.exec_abstract.specs.declared.step.Action.TheVariants as action
-use Rattle.exec_abstract.specs.declared.state.WorkerPhase.{WorkerPhase}
 use Rattle.exec_abstract.specs.declared.state.WorkerPhase.TheVariants as worker
 use Rattle.exec_abstract.specs.declared.state.Rest.TheVariants.{Forever}
 use Rattle.exec_abstract.specs.declared.state.TaskPhase.TheVariants as task
 use Rattle.exec_abstract.specs.declared.state.Waiting.{Waiting}
 use Rattle.exec_abstract.specs.declared.state.Waiting.TheVariants as waiting
-use Rattle.exec_abstract.specs.declared.state.Phase.{Phase}
-use Rattle.exec_abstract.specs.declared.state.Phase.TheVariants as phase
+use Rattle.exec_abstract.specs.declared.state.RequestPhase.{RequestPhase}
+use Rattle.exec_abstract.specs.declared.state.RequestPhase.TheVariants as phase
 use Rattle.exec_abstract.specs.declared.state.Request.{Request}
 use Rattle.exec_abstract.specs.declared.state.Sleeper.{Sleeper}
 use Rattle.exec_abstract.specs.Choice.Choice.{Plain}
-use Rattle.exec_abstract.specs.World.{World, Own, Seat, Task, Open, Common, no_open, own_of, seat_of, task_of}
+use Rattle.exec_abstract.specs.World.{World, Own, Seat, Task, Open, own_of, seat_of, task_of}
 use Rattle.exec_abstract.specs.Requests.{of_socket, of_file, new_request}
 use Rattle.exec_abstract.specs.Deadlines.{new_sleeper}
 use Rattle.exec_abstract.specs.Run.{first_world}
@@ -83,7 +80,7 @@ abbrev pub at_clock : ℕ → World → World
 at_clock moment w = record w { common = record w.common { clock = moment } }
 
 -- a send whose deadline is on the wheel, in this phase
-abbrev pub send_in : Phase → Request
+abbrev pub send_in : RequestPhase → Request
 send_in p = record (new_request 0 (of_socket kind.Send 0 10 10000000)) { phase = p; timer = Some 10000000 }
 
 -- a send that is over and released

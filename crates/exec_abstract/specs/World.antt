@@ -8,7 +8,7 @@ use Rattle.exec_base.specs.declared.error.Error.TheVariants.{Timeout}
 use Rattle.exec_outcomes.specs.declared.outcome.Kind.TheVariants.{Send}
 use Rattle.exec_outcomes.specs.declared.outcome.Outcome.TheVariants.{Failure}
 use Rattle.exec_outcomes.specs.Accounts.{Account, fresh_account}
-use Rattle.exec_abstract.specs.declared.config.Word.{Word}
+use Rattle.exec_abstract.specs.declared.config.ScriptWord.{ScriptWord}
 use Rattle.exec_abstract.specs.declared.state.WorkerPhase.{WorkerPhase}
 use Rattle.exec_abstract.specs.declared.state.WorkerPhase.TheVariants.{Ended}
 use Rattle.exec_abstract.specs.declared.state.Rest.{Rest}
@@ -22,11 +22,11 @@ use Rattle.exec_abstract.specs.declared.state.TaskPhase.TheVariants.{Done}
 use Rattle.exec_abstract.specs.declared.state.Waiting.{Waiting}
 use Rattle.exec_abstract.specs.declared.state.Waiting.TheVariants.{Nothing}
 use Rattle.exec_abstract.specs.declared.state.Forwarding.TheVariants.{Unsent}
-use Rattle.exec_abstract.specs.declared.state.Phase.TheVariants.{Resolved}
+use Rattle.exec_abstract.specs.declared.state.RequestPhase.TheVariants.{Resolved}
 use Rattle.exec_abstract.specs.declared.state.Operation.{Operation}
 use Rattle.exec_abstract.specs.declared.state.Request.{Request}
 use Rattle.exec_abstract.specs.declared.state.Sleeper.{Sleeper}
-use Rattle.exec_abstract.specs.declared.state.Message.{Message}
+use Rattle.exec_abstract.specs.declared.state.MailMessage.{MailMessage}
 use Rattle.exec_abstract.specs.declared.state.Letter.{Letter}
 use Rattle.exec_abstract.specs.declared.state.Call.{Call}
 
@@ -47,8 +47,8 @@ pub record Own : Type 0 where
   pub next : Next
   -- the messages that it has to send, in order
   pub owed : List Letter
-  -- Requests of its own, each list in order of coming. What is over meanwhile still stands there and is passed over:
-  -- those that were Queued and not staged since, those with a new deadline, and those that were cancelled in flight.
+  -- Requests of its own, each list in order of coming: those that are Queued; those whose deadline isn't enrolled; and
+  -- those that were cancelled in flight, and whose cancel isn't staged. What is over stands in none of them.
   pub ready : List ℕ
   pub unenrolled : List ℕ
   pub cancels : List ℕ
@@ -70,7 +70,7 @@ pub record Seat : Type 0 where
   pub rest : Rest
   -- its next enter takes nothing
   pub busy : Bool
-  pub inbox : List Message
+  pub inbox : List MailMessage
   pub mailbox_closed : Bool
   -- its requests that are Landed, in order of landing
   pub landed : List ℕ
@@ -113,8 +113,8 @@ pub record Common : Type 0 where
   -- in nanoseconds
   pub clock : ℕ
   pub seats : List Seat
-  pub scripts : List (List Word)
-  pub root : List Word
+  pub scripts : List (List ScriptWord)
+  pub root : List ScriptWord
   pub tasks : List Task
   pub requests : List Request
   pub sleepers : List Sleeper

@@ -38,7 +38,7 @@ pub struct Configuration {
 
 /// One word of a script: what a task does next.
 #[derive(Clone, Copy, Debug)]
-pub enum Word {
+pub enum ScriptWord {
     /// Registers a readiness poll of this listener.
     Poll {
         listener: usize,

@@ -1,6 +1,6 @@
 //! The events of the abstract machine, and the lines of a log.
 
-use crate::state::Message;
+use crate::state::MailMessage;
 use crate::step::Action;
 use exec_outcomes::outcome::{Kind, OpResult, Outcome};
 use std::fmt;
@@ -130,11 +130,11 @@ pub enum Event {
     /// The message goes to the worker.
     Send {
         worker: usize,
-        message: Message,
+        message: MailMessage,
     },
     /// The worker acts by the first message of its inbox.
     Apply {
-        message: Message,
+        message: MailMessage,
     },
     /// The sleeping worker is woken.
     Rouse {
@@ -166,7 +166,7 @@ pub enum Event {
 
 /// What became of a step.
 #[derive(Clone, Copy, Debug)]
-pub enum Said {
+pub enum StepResult {
     /// The step was not enabled, and nothing changed.
     Refused,
     /// This happened.
@@ -179,7 +179,7 @@ pub struct Line {
     /// The step.
     pub action: Action,
     /// What became of it.
-    pub said: Said,
+    pub said: StepResult,
 }
 
 impl fmt::Display for Event {
@@ -295,8 +295,8 @@ impl fmt::Display for Line {
     fn fmt<W: fmt::Write>(&self, f: &mut fmt::Formatter<W>) -> fmt::Result {
         let action = self.action;
         match self.said {
-            Said::Refused => write!(f, "{action} refused"),
-            Said::Did(event) => write!(f, "{action} {event}"),
+            StepResult::Refused => write!(f, "{action} refused"),
+            StepResult::Did(event) => write!(f, "{action} {event}"),
         }
     }
 }

@@ -9,9 +9,9 @@ ghost use Rattle.exec_abstract.specs.declared.config.Configuration.{Configuratio
 ghost use Rattle.exec_abstract.specs.declared.step.Action.{Action};
 ghost use Rattle.exec_abstract.specs.declared.step.Action.TheVariants.{Work};
 ghost use Rattle.exec_abstract.specs.declared.event.Event.{Event};
-ghost use Rattle.exec_abstract.specs.declared.event.Said.{Said};
+ghost use Rattle.exec_abstract.specs.declared.event.StepResult.{StepResult};
 ghost use Rattle.exec_abstract.specs.declared.event.Line.{Line};
-ghost use Rattle.exec_abstract.specs.declared.state.Phase.TheVariants.{Resolved};
+ghost use Rattle.exec_abstract.specs.declared.state.RequestPhase.TheVariants.{Resolved};
 ghost use Rattle.exec_abstract.specs.declared.state.Request.{Request};
 ghost use Rattle.exec_abstract.specs.declared.state.Sleeper.{Sleeper};
 ghost use Rattle.exec_abstract.specs.Choice.{Choice};
@@ -79,7 +79,7 @@ pub fn changes_elsewhere_keep_what_is_due()
 pub fn own_parts_are_apart()
     ensures events { (c : Configuration) (w : World) (i j : ℕ) (event : Event) (choice : Choice) →
         (i ≡ j → ⊥) → j < length w.workers → own_of (after c w i event choice) j ≡ own_of w j }
-    ensures lines { (c : Configuration) (w : World) (a : Action) (said : Said) (choice : Choice)
+    ensures lines { (c : Configuration) (w : World) (a : Action) (said : StepResult) (choice : Choice)
         (j : ℕ) → (a ≡ Work j → ⊥) → j < length w.workers →
         own_of (after_line c w a said choice) j ≡ own_of w j }
 {}

@@ -94,7 +94,7 @@ pub enum Forwarding {
 
 /// How far an operation of a request has come.
 #[derive(Clone, Copy, Debug)]
-pub enum Phase {
+pub enum RequestPhase {
     /// The request waits for the permit of its open.
     Gated,
     /// It waits for a place in the submission queue.
@@ -144,7 +144,7 @@ pub struct Request {
     /// The worker that made it.
     pub worker: usize,
     /// How far it has come.
-    pub phase: Phase,
+    pub phase: RequestPhase,
     /// The moment at which its deadline fires, in nanoseconds, while that is on the wheel.
     pub timer: Option<u64>,
     /// Whether a task still holds it.
@@ -184,7 +184,7 @@ pub struct Sleeper {
 
 /// What a worker is told through its inbox.
 #[derive(Clone, Copy, Debug, PartialEq, Eq)]
-pub enum Message {
+pub enum MailMessage {
     /// Its root is woken.
     Root,
     /// A task of another worker waits for this request.
@@ -203,7 +203,7 @@ pub struct Letter {
     /// The worker that it goes to.
     pub to: usize,
     /// What that worker is told.
-    pub message: Message,
+    pub message: MailMessage,
 }
 
 /// How an outside caller stands. What it does was told by the first step of its call.
@@ -215,7 +215,7 @@ pub enum Call {
     HalfDone,
 }
 
-impl fmt::Display for Message {
+impl fmt::Display for MailMessage {
     ghost use Rattle.std.specs.Prelude.{Some};
     ghost use Rattle.exec_abstract.specs.Text.{text_of_message};
 
@@ -223,11 +223,11 @@ impl fmt::Display for Message {
 
     fn fmt<W: fmt::Write>(&self, f: &mut fmt::Formatter<W>) -> fmt::Result {
         match self {
-            Message::Root => write!(f, "root"),
-            Message::ForwardRequest(request) => write!(f, "forward {request}"),
-            Message::ForwardTimer(timer) => write!(f, "forward timer {timer}"),
-            Message::CancelRequest(request) => write!(f, "cancel {request}"),
-            Message::CancelTimer(timer) => write!(f, "cancel timer {timer}"),
+            MailMessage::Root => write!(f, "root"),
+            MailMessage::ForwardRequest(request) => write!(f, "forward {request}"),
+            MailMessage::ForwardTimer(timer) => write!(f, "forward timer {timer}"),
+            MailMessage::CancelRequest(request) => write!(f, "cancel {request}"),
+            MailMessage::CancelTimer(timer) => write!(f, "cancel timer {timer}"),
         }
     }
 }

@@ -4,13 +4,13 @@ ghost use Rattle.std.specs.Prelude.{◌≡◌, true, false, [], ◌∷◌, ◌++
 ghost use Rattle.exec_outcomes.specs.declared.outcome.OpResult.TheVariants.{Count};
 ghost use Rattle.exec_outcomes.specs.declared.outcome.Outcome.TheVariants.{Success};
 ghost use Rattle.exec_abstract.specs.declared.event.Event.TheVariants.{Begin, Busy, Clock};
-ghost use Rattle.exec_abstract.specs.declared.event.Said.TheVariants.{Did, Refused};
+ghost use Rattle.exec_abstract.specs.declared.event.StepResult.TheVariants.{Did, Refused};
 ghost use Rattle.exec_abstract.specs.declared.step.Action.TheVariants as action;
 ghost use Rattle.exec_abstract.specs.declared.state.WorkerPhase.TheVariants as worker;
 ghost use Rattle.exec_abstract.specs.declared.state.TaskPhase.TheVariants as task;
 ghost use Rattle.exec_abstract.specs.declared.state.Waiting.TheVariants as waiting;
-ghost use Rattle.exec_abstract.specs.declared.state.Phase.TheVariants as phase;
-ghost use Rattle.exec_abstract.specs.declared.state.Message.TheVariants as message;
+ghost use Rattle.exec_abstract.specs.declared.state.RequestPhase.TheVariants as phase;
+ghost use Rattle.exec_abstract.specs.declared.state.MailMessage.TheVariants as message;
 ghost use Rattle.exec_abstract.specs.declared.state.Call.TheVariants as call;
 ghost use Rattle.exec_abstract.specs.World.{own_of, seat_of, no_open};
 ghost use Rattle.exec_abstract.specs.Progress.{quiet_bound, all_asleep, is_rightly_asleep};
