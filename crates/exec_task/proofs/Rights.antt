@@ -1,12 +1,12 @@
 -- What calls on a task keep, and what comes of a poll that others wake and clear.
-use Rattle.std.proofs.Common.{◌≡◌, ℕ, ◌+◌, ◌≤◌, ◌||◌, Bool, true, false, List, [], ◌∷◌, if◌then◌else◌, arith}
+use Rattle.std.proofs.Common.{◌≡◌, ℕ, ◌+◌, ◌≤◌, ◌||◌, Bool, true, false, List, [], ◌∷◌, if◌then◌else◌, refl, arith}
 use Rattle.exec_base.specs.declared.task_no.TaskNo.{TaskNo}
 use Rattle.exec_task.specs.declared.task.Phase.{Phase}
 use Rattle.exec_task.specs.declared.task.Phase.TheVariants.{Idle, Running, Notified}
 use Rattle.exec_task.specs.declared.body.Ended.TheVariants.{Closed}
 use Rattle.exec_task.specs.declared.runnable.AfterPoll.TheVariants.{Done as Nothing, Requeue, Retire}
 use Rattle.exec_task.specs.Phases.{Task, pend_answer}
-use Rattle.exec_task.specs.TaskRuns.{Call, Ledger, MayCall, AreCalls, IsOneRight, after, after_all, Meanwhile, after_meanwhile, some_wake, some_clear, just_begun, after_pending_poll}
+use Rattle.exec_task.specs.TaskRuns.{Call, Ledger, MayCall, AreCalls, IsOneRight, after, after_all, Meanwhile, after_meanwhile, some_wake, some_clear, just_begun, after_pending_poll, new_task}
 use Rattle.exec_task.specs.TaskRuns.Call.{Wake, Begin, Pend, Done, Clear}
 use Rattle.exec_task.specs.TaskRuns.Meanwhile.{Wakes, Clears}
 
@@ -32,7 +32,7 @@ module _ {B : Type 0} where
   kept_by _ _ _ n o r p right may = (omega (arith, right), omega (arith, right))
 
   -- the right is one after whatever calls
-  pub one_right : (l : Ledger B) (calls : List (Call B)) → Keeps l → AreCalls l calls → Keeps (after_all l calls)
+  one_right : (l : Ledger B) (calls : List (Call B)) → Keeps l → AreCalls l calls → Keeps (after_all l calls)
   one_right l [] right are = right
   one_right l (call ∷ rest) right are =
       one_right (after l call) rest
@@ -43,10 +43,19 @@ module _ {B : Type 0} where
   at_most_one_by (Idle _) runnables polls right = omega (arith, right)
   at_most_one_by _ runnables polls right = omega (arith, right)
 
-  pub at_most_one : (l : Ledger B) (calls : List (Call B)) → Keeps l → AreCalls l calls → (after_all l calls).runnables + (after_all l calls).polls ≤ 1
-  at_most_one l calls right are =
-      let end = after_all l calls in
-      at_most_one_by end.task.phase end.runnables end.polls (one_right l calls right are)
+  pub exactly_one :
+      (number : TaskNo) (owner : ℕ) (body : B) (calls : List (Call B)) → AreCalls (new_task number owner body) calls
+      → let l = after_all (new_task number owner body) calls in
+      IsOneRight l.task.phase l.runnables l.polls
+  exactly_one number owner body calls are = one_right (new_task number owner body) calls (refl, refl) are
+
+  pub at_most_one :
+      (number : TaskNo) (owner : ℕ) (body : B) (calls : List (Call B)) → AreCalls (new_task number owner body) calls
+      → let l = after_all (new_task number owner body) calls in
+      l.runnables + l.polls ≤ 1
+  at_most_one number owner body calls are =
+      let l = after_all (new_task number owner body) calls in
+      at_most_one_by l.task.phase l.runnables l.polls (exactly_one number owner body calls are)
 
 module _ (B : Type 0) (number : TaskNo) (owner : ℕ) where
   -- the task in a poll, whether it was woken, and whether it was cleared

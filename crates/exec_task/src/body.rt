@@ -1,12 +1,14 @@
 //! What a task runs.
 //!
-//! A body is a state that a poll of its task steps: it is told what came of its last act (`Said`), and answers its
-//! next one (`Act`). Who polls carries the act out, and steps it again, until the body is through, or the act
-//! leaves it waiting; then the next poll goes on from there. A body sees of its worker what `Around` shows, and
-//! nothing else: it makes no request, spawns nothing and wakes nobody by itself.
+//! A body is a state that a poll of its task steps: it is told what came of its last act (`Said`),
+//! and answers its next one (`Act`). Who polls carries the act out, and steps it again, until the
+//! body is through, or the act leaves it waiting; then the next poll goes on from there. A body
+//! sees of its worker what `Around` shows, and nothing else: it makes no request, spawns nothing
+//! and wakes nobody by itself.
 //!
-//! What a body means is a relation (`gives`) between what it is left to do, what it is told and what it sees, and
-//! the act that it makes and what is left then. Code over any body is proved by that relation alone.
+//! What a body means is a relation (`gives`) between what it is left to do, what it is told and
+//! what it sees, and the act that it makes and what is left then. Code over any body is proved by
+//! that relation alone.
 
 ghost use Rattle.std.specs.Prelude.{◌≡◌, ℕ, Option, IfSome, IfOk, IfErr, OnErr, option_map, slice_get};
 ghost use Rattle.exec_outcomes.specs.Accounts.{is_dirty};
@@ -31,8 +33,8 @@ pub enum Said {
     Slept,
     /// Its task was made, and has this number.
     Spawned(TaskNo),
-    /// Its act came to nothing: `Closed` on a closing worker or a closed task set, `NoMemory` where a growth was
-    /// refused, `Full` where there are no numbers left.
+    /// Its act came to nothing: `Closed` on a closing worker or a closed task set, `NoMemory` where
+    /// a growth was refused, `Full` where there are no numbers left.
     Refused(Error),
     /// Nothing: it goes on.
     Pass,
@@ -43,7 +45,8 @@ pub enum Said {
 pub enum Act<B> {
     /// Makes a request. Told by `Admitted`, or `Refused`.
     Register(Request),
-    /// Waits for the request of this number, told by `Output`; with no number for a wake alone, told by `Pass`.
+    /// Waits for the request of this number, told by `Output`; with no number for a wake alone,
+    /// told by `Pass`.
     Await(Option<u32>),
     /// Lets go of the request of this number. Told by `Pass`.
     Drop(u32),
@@ -95,8 +98,8 @@ pub trait Around {
     fn begin_sync(&self, file: u32) -> u64
         ensures { IfSome (sees self.now) (λ s. result ≡ (open_at s file).mutations) };
 
-    /// Takes the peer that has waited longest at the listener, and answers the number of its socket. None where
-    /// none waits.
+    /// Takes the peer that has waited longest at the listener, and answers the number of its
+    /// socket. None where none waits.
     fn peer(&mut self, listener: u32) -> Option<u32>
         ensures first { IfSome (sees self.old) (λ s. result ≡ slice_get (peers_at s listener) 0) }
         ensures taken { sees self.new ≡ option_map (λ s. peer_taken s listener) (sees self.old) };
@@ -118,8 +121,8 @@ pub trait Body {
 
     ghost left: { Self → Self.Left };
 
-    // The body is left with the first, sees the second and is told the third: it makes this act, and from then on
-    // is left with the fifth and sees the last.
+    // The body is left with the first, sees the second and is told the third: it makes this act,
+    // and from then on is left with the fifth and sees the last.
     ghost gives: { Self.Left → Option Sight → Said → Act Self → Self.Left → Option Sight → Type 0 };
 
     // What its spawn shows.
@@ -129,9 +132,9 @@ pub trait Body {
     fn name(&self) -> u32
         ensures { result ≡ name_of (left self.now) };
 
-    /// The next act, once the body is told what came of the last. It takes memory only where the act is a
-    /// `Register`, `Spawn` or `Dedicated`. Where there is none it gives back what it was told, and body and worker
-    /// are as before.
+    /// The next act, once the body is told what came of the last. It takes memory only where the
+    /// act is a `Register`, `Spawn` or `Dedicated`. Where there is none it gives back what it was
+    /// told, and body and worker are as before.
     fn step<A: Around>(
         &mut self,
         alloc: Global,

@@ -1,12 +1,13 @@
 //! The draining of a closed task set.
 //!
-//! A drain goes round the shards once, from the shard at four times the worker's number on, so that workers that
-//! drain at once begin at different shards. At each it takes the newest task again and again until the shard is
-//! empty; who drains clears each task before the next is taken. A closed set takes no task, so none is left behind,
-//! and each is handed out once (`to_come` is the list of what is still to come).
+//! A drain goes round the shards once, from the shard at four times the worker's number on, so that
+//! workers that drain at once begin at different shards. At each it takes the newest task again and
+//! again until the shard is empty; who drains clears each task before the next is taken. A closed
+//! set takes no task, so none is left behind, and each is handed out once (`to_come` is the list of
+//! what is still to come).
 //!
-//! A drain keeps its place alone and is lent the set by each call, so that the set may stand under locks, and a
-//! step may be a single visit of a shard.
+//! A drain keeps its place alone and is lent the set by each call, so that the set may stand under
+//! locks, and a step may be a single visit of a shard.
 
 ghost use Rattle.std.specs.Prelude.{◌≡◌, ℕ, ◌+◌, ◌*◌, ◌%◌, ◌<◌, ◌==◌, [], ◌∷◌, ◌++◌, length, IsTrue, IfSome, IfNone, OnSome};
 ghost use Rattle.exec_task.specs.TaskSet.{shard_at, IsFor, TakesNewest, passed, to_come, came, next_shard as next_shard_of};
@@ -55,8 +56,8 @@ impl Drain {
         self.at = next_shard(self.at, count);
     }
 
-    /// One visit of the shard at which it stands: takes its newest task, or finds it empty and goes on to the next.
-    /// The drain must be one of this set, and not over.
+    /// One visit of the shard at which it stands: takes its newest task, or finds it empty and goes
+    /// on to the next. The drain must be one of this set, and not over.
     #[tactic(auto, using(crate::proofs::Rounds::to_come_taken, crate::proofs::Rounds::to_come_passed))]
     pub fn visit<T>(&mut self, tasks: &mut Tasks<T>) -> Option<(TaskNo, T)>
         requires its { IsFor self.old tasks.old }

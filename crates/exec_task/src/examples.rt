@@ -1,4 +1,5 @@
-//! Worked examples of phases, runnables, sets and drains, proved by computation: good ones and refused ones.
+//! Worked examples of phases, runnables, sets and drains, proved by computation: good ones and
+//! refused ones.
 
 ghost use Rattle.std.specs.Prelude.{◌≡◌, ◌≢◌, [], ◌∷◌, Some, None, true, ℕ};
 ghost use Rattle.exec_task.specs.Phases.{is_idle, queued_body, body_of, woken, begun, pended, pend_answer, cleared, runnable_of, over};
@@ -59,7 +60,8 @@ pub fn calls()
     ensures cleared { after_pending_poll (in_phase phase.Running) (Wakes ∷ Clears ∷ []) ≡ after.Retire (no 5) ended.Closed }
 {}
 
-/// Tasks 1 and 3 are left of five in one shard, and four tasks stand in two: what drains of them hand out.
+/// Tasks 1 and 3 are left of five in one shard, and four tasks stand in two: what drains of them
+/// hand out.
 pub fn drains()
     ensures held { held two_left (no 3) ≡ Some 30 }
     ensures removed { held two_left (no 2) ≡ None }

@@ -10,5 +10,3 @@ pub mod poll;
 pub mod runnable;
 pub mod task;
 pub mod tasks;
-#[cfg(test)]
-mod tests;

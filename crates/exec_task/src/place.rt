@@ -1,19 +1,21 @@
-//! Where a runnable is handed to, and how the root of a worker is woken: what a wake or a spawn needs of the
-//! worker at whose hand it happens.
+//! Where a runnable is handed to, and how the root of a worker is woken: what a wake or a spawn
+//! needs of the worker at whose hand it happens.
 
 ghost use Rattle.std.specs.Prelude.{◌≡◌, ℕ, Bool, IfErr, MatchBool};
 
 use crate::runnable::Runnable;
 use std::alloc::{AllocError, Global};
 
-/// Where runnables go: the run queue of the worker at hand, if there is one, and the global queue of its pool.
+/// Where runnables go: the run queue of the worker at hand, if there is one, and the global queue
+/// of its pool.
 pub trait Place {
     ghost use Rattle.exec_task.specs.declared.runnable.Runnable.{Runnable};
 
     // Whether a worker is at hand that belongs to this task set and isn't closing.
     ghost serving: { Self → ℕ → Bool };
 
-    // What the run queue may answer when it is asked whether it is empty. Others may steal from a live one.
+    // What the run queue may answer when it is asked whether it is empty. Others may steal from a
+    // live one.
     ghost shows_empty: { Self → Bool → Type 0 };
 
     ghost workers_of: { Self → ℕ };
@@ -27,7 +29,8 @@ pub trait Place {
     // What a reservation leaves, also a refused one.
     ghost reserves: { Self → Self → Type 0 };
 
-    /// Whether a worker is at hand that belongs to the task set of this identity, and isn't closing.
+    /// Whether a worker is at hand that belongs to the task set of this identity, and isn't
+    /// closing.
     fn serves(&self, owner: u64) -> bool
         ensures { result ≡ serving self.now owner };
 
@@ -39,13 +42,14 @@ pub trait Place {
     fn workers(&self) -> usize
         ensures { result ≡ workers_of self.now };
 
-    /// Puts the runnable into the run queue of the worker at hand, or, where that is full, into the global queue.
-    /// The caller must know that a worker is at hand. It takes no memory of a registered task.
+    /// Puts the runnable into the run queue of the worker at hand, or, where that is full, into the
+    /// global queue. The caller must know that a worker is at hand. It takes no memory of a
+    /// registered task.
     fn enqueue(&mut self, runnable: Runnable)
         ensures { enqueues self.old runnable self.new };
 
-    /// Puts the runnable into the global queue. Gives it back where that is closed. It takes no memory of a
-    /// registered task.
+    /// Puts the runnable into the global queue. Gives it back where that is closed. It takes no
+    /// memory of a registered task.
     fn push(&mut self, runnable: Runnable) -> Result<(), Runnable>
         ensures back { IfErr result (λ back. back ≡ runnable) }
         ensures pushed { pushes self.old runnable self.new };
@@ -80,7 +84,8 @@ pub trait Roots {
     fn set_root_ready(&mut self)
         ensures { flags self.old self.new };
 
-    /// Sends the worker the message that wakes its root. A closed inbox drops it. It takes no memory.
+    /// Sends the worker the message that wakes its root. A closed inbox drops it. It takes no
+    /// memory.
     fn send_root(&mut self, worker: u32)
         ensures { sends self.old worker self.new };
 }
@@ -99,8 +104,8 @@ impl RootWaker {
         RootWaker { home }
     }
 
-    /// Wakes the root. On its own worker it is marked as ready, unless that worker is closing; from elsewhere its
-    /// worker is sent a message.
+    /// Wakes the root. On its own worker it is marked as ready, unless that worker is closing; from
+    /// elsewhere its worker is sent a message.
     pub fn wake<R: Roots>(&self, near: &mut R)
         ensures elsewhere { MatchBool (R.is_near near.old self.now.home) (MatchBool (R.closing near.old) (near.new ≡ near.old) (R.flags near.old near.new)) (R.sends near.old self.now.home near.new) }
     {

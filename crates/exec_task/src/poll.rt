@@ -1,12 +1,13 @@
 //! One poll of a task.
 //!
-//! A poll is made of sections on the task and of steps of its body. `begin` takes the body out of the task; then
-//! who polls says what the body is told first, steps it, and carries out its act, again and again. The poll ends
-//! with `pend`, where an act leaves the body waiting, or with `done`, where it is through. In between others may
-//! wake the task, or clear it. `Polls` (`specs/Polls.antt`) says what a poll may do.
+//! A poll is made of sections on the task and of steps of its body. `begin` takes the body out of
+//! the task; then who polls says what the body is told first, steps it, and carries out its act,
+//! again and again. The poll ends with `pend`, where an act leaves the body waiting, or with
+//! `done`, where it is through. In between others may wake the task, or clear it. `Polls`
+//! (`specs/Polls.antt`) says what a poll may do.
 //!
-//! `TaskCell` is the task as its poller reaches it: the task itself, or a shared one behind a lock. `Carrier` is
-//! who polls: what a body sees of it (`Around`), and how it carries out acts.
+//! `TaskCell` is the task as its poller reaches it: the task itself, or a shared one behind a lock.
+//! `Carrier` is who polls: what a body sees of it (`Around`), and how it carries out acts.
 
 ghost use Rattle.std.specs.Prelude.{◌≡◌, ◌-◌, ◌^◌, Bool, IsTrue, OnSome, Option};
 ghost use Rattle.exec_task.specs.Polls.{StepsTo, Turns, Polls, PollsTask};
@@ -21,8 +22,8 @@ use std::alloc::Global;
 /// What a poll asks of who carries it out.
 #[derive(Drop)]
 pub enum Asked<B> {
-    /// The poll begins. What is the body told? `Start` at its first poll, later what came of that for which it
-    /// waits; nothing where it still waits.
+    /// The poll begins. What is the body told? `Start` at its first poll, later what came of that
+    /// for which it waits; nothing where it still waits.
     Resume,
     /// The body does this, which is neither `Done` nor `Fault`.
     CarryOut(Act<B>),
@@ -100,8 +101,8 @@ pub trait Carrier<B, C: TaskCell<B>>: Around {
     // What carrying out finds, answers and leaves.
     ghost carries: { Self → C → Asked B → Option Said → Self → C → Type 0 };
 
-    /// Carries out what the poll of this task asks, and answers what the body is told. Nothing where the poll ends
-    /// pending; then the next poll of the task begins with `Resume`.
+    /// Carries out what the poll of this task asks, and answers what the body is told. Nothing
+    /// where the poll ends pending; then the next poll of the task begins with `Resume`.
     fn carry_out(&mut self, cell: &mut C, asked: Asked<B>) -> Option<Said>
         requires { IsTrue (C.is_polled cell.old) }
         ensures carried { carries self.old cell.old asked result self.new cell.new }
@@ -168,12 +169,13 @@ fn run<B: Body + Drop, C: TaskCell<B>, W: Carrier<B, C>>(
 }
 
 impl Runnable {
-    /// Polls its task once: begins the poll, steps the body and carries out its acts until the poll ends, and ends
-    /// it. `owner` is the identity of the task set (`Tasks::id`), `cell` the task, and `worker` is who polls: what
-    /// the body sees, and how its acts are carried out. The runnable must be that of this task, which must belong
-    /// to this set. A stale one is discarded. It takes no memory but for the body's acts; a body that gets none for
-    /// an act is told so by `Refused(NoMemory)`. A poll ends after at most 2^64 - 1 steps of its body; the task is
-    /// then ended as if it had been cleared.
+    /// Polls its task once: begins the poll, steps the body and carries out its acts until the poll
+    /// ends, and ends it. `owner` is the identity of the task set (`Tasks::id`), `cell` the task,
+    /// and `worker` is who polls: what the body sees, and how its acts are carried out. The
+    /// runnable must be that of this task, which must belong to this set. A stale one is discarded.
+    /// It takes no memory but for the body's acts; a body that gets none for an act is told so by
+    /// `Refused(NoMemory)`. A poll ends after at most 2^64 - 1 steps of its body; the task is then
+    /// ended as if it had been cleared.
     pub fn poll<B: Body + Drop, C: TaskCell<B>, W: Carrier<B, C>>(
         self,
         alloc: Global,

@@ -1,10 +1,11 @@
 //! The right to poll a task once.
 //!
-//! A runnable comes from the making of its task, or from a wake that finds the task idle; a poll that ends pending
-//! after a wake gives its own back. It can't be copied, so a task has at most one, in a queue, in a hand or in a
-//! running poll. Who has it hands it to a queue (`schedule`, `spawn`), polls its task with it, or discards it. That
-//! of a task that was cleared meanwhile is stale: its poll does nothing. It may be dropped, so that queues which
-//! hold it may be; a lost one leaves its task queued for good.
+//! A runnable comes from the making of its task, or from a wake that finds the task idle; a poll
+//! that ends pending after a wake gives its own back. It can't be copied, so a task has at most
+//! one, in a queue, in a hand or in a running poll. Who has it hands it to a queue (`schedule`,
+//! `spawn`), polls its task with it, or discards it. That of a task that was cleared meanwhile is
+//! stale: its poll does nothing. It may be dropped, so that queues which hold it may be; a lost one
+//! leaves its task queued for good.
 
 ghost use Rattle.std.specs.Prelude.{◌≡◌, MatchBool};
 ghost use Rattle.exec_task.specs.Phases.{Spawns};
@@ -55,8 +56,8 @@ impl Runnable {
         self.owner
     }
 
-    /// Hands a woken task's runnable on: into the run queue of the worker at hand, where that serves the task's
-    /// set, and else into the global queue. A closed global queue discards it.
+    /// Hands a woken task's runnable on: into the run queue of the worker at hand, where that
+    /// serves the task's set, and else into the global queue. A closed global queue discards it.
     pub fn schedule<P: Place>(self, place: &mut P)
         ensures { MatchBool (P.serving place.old self.owner) (P.enqueues place.old self place.new) (P.pushes place.old self place.new) }
     {
@@ -67,9 +68,9 @@ impl Runnable {
         }
     }
 
-    /// Hands a new task's first runnable on: the worker at hand keeps it where it serves the task's set, and has
-    /// nothing else queued or is the only worker. Else it goes into the global queue, so that another worker may
-    /// start it. A closed global queue discards it.
+    /// Hands a new task's first runnable on: the worker at hand keeps it where it serves the task's
+    /// set, and has nothing else queued or is the only worker. Else it goes into the global queue,
+    /// so that another worker may start it. A closed global queue discards it.
     pub fn spawn<P: Place>(self, place: &mut P)
         ensures { Spawns P.serving P.shows_empty P.workers_of P.enqueues P.pushes place.old self place.new }
     {
@@ -90,7 +91,7 @@ impl Runnable {
         }
     }
 
-    /// Lets the runnable go. The caller must know that its task is over, or that the closed task set, or who was
-    /// handed the task back, clears it.
+    /// Lets the runnable go. The caller must know that its task is over, or that the closed task
+    /// set, or who was handed the task back, clears it.
     pub fn discard(self) {}
 }

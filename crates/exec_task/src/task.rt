@@ -14,9 +14,9 @@
 //! | Idle, Queued | Complete | `clear`, which hands the body out |
 //! | Running, Notified | the same, and cancelled | `clear`: the poll then ends the task |
 //!
-//! A phase has the body exactly where nobody polls it, so two workers can't: the type says so. The cancelled flag
-//! stands only while the task is polled (the invariant). A live worker puts each task under a lock of its own, and
-//! makes each call here one section on it.
+//! A phase has the body exactly where nobody polls it, so two workers can't: the type says so. The
+//! cancelled flag stands only while the task is polled (the invariant). A live worker puts each
+//! task under a lock of its own, and makes each call here one section on it.
 
 ghost use Rattle.std.specs.Prelude.{◌≡◌, IsTrue, if◌then◌else◌, Some, None, false};
 ghost use Rattle.exec_task.specs.Phases.{Task, is_polled, is_idle, body_of, queued_body, begun, runnable_of, woken, pended, pend_answer, over, cleared};
@@ -44,8 +44,8 @@ pub enum Phase<B> {
     Complete,
 }
 
-/// A task: its number, the identity of the set that it belongs to, and where it stands. Ports the cell behind
-/// `Task`.
+/// A task: its number, the identity of the set that it belongs to, and where it stands. Ports the
+/// cell behind `Task`.
 #[derive(Drop)]
 pub struct Task<B> {
     number: TaskNo,
@@ -147,7 +147,8 @@ impl<B: Drop> Task<B> {
         self.cancelled
     }
 
-    /// A wake. Answers the runnable of a task that was idle; a task that is polled remembers the wake.
+    /// A wake. Answers the runnable of a task that was idle; a task that is polled remembers the
+    /// wake.
     pub fn wake(&mut self) -> Option<Runnable>
         ensures runnable { result ≡ (if is_idle self.old.phase then Some (runnable_of self.old) else None) }
         ensures woken { self.new ≡ record self.old { phase = woken self.old.phase } }
@@ -159,9 +160,9 @@ impl<B: Drop> Task<B> {
         }
     }
 
-    /// Begins a poll with the task's runnable, and hands the body out. None where the runnable is stale: the task
-    /// was cleared; it is discarded then, and nothing changes. The caller must have taken the runnable of this very
-    /// task.
+    /// Begins a poll with the task's runnable, and hands the body out. None where the runnable is
+    /// stale: the task was cleared; it is discarded then, and nothing changes. The caller must have
+    /// taken the runnable of this very task.
     pub fn begin(&mut self, runnable: Runnable) -> Option<B>
         requires { runnable ≡ runnable_of self.old }
         ensures body { result ≡ queued_body self.old.phase }
@@ -171,8 +172,9 @@ impl<B: Drop> Task<B> {
         self.phase.begin()
     }
 
-    /// Ends a poll that is pending, and takes the body back. A task that was woken meanwhile is queued again, and
-    /// its runnable comes back. One that was cleared meanwhile is over. The caller must be who polls the task.
+    /// Ends a poll that is pending, and takes the body back. A task that was woken meanwhile is
+    /// queued again, and its runnable comes back. One that was cleared meanwhile is over. The
+    /// caller must be who polls the task.
     pub fn pend(&mut self, body: B) -> AfterPoll
         requires { IsTrue (is_polled self.old.phase) }
         ensures answer { result ≡ pend_answer self.old }
@@ -189,8 +191,8 @@ impl<B: Drop> Task<B> {
         AfterPoll::Requeue(Runnable::new(self.number, self.owner))
     }
 
-    /// Ends a poll whose body is through, or is cleared: the task is over, and has to leave its set. The caller must
-    /// be who polls the task.
+    /// Ends a poll whose body is through, or is cleared: the task is over, and has to leave its
+    /// set. The caller must be who polls the task.
     pub fn done(&mut self, how: Ended) -> AfterPoll
         requires { IsTrue (is_polled self.old.phase) }
         ensures answer { result ≡ after.Retire self.old.number how }
@@ -201,8 +203,8 @@ impl<B: Drop> Task<B> {
         AfterPoll::Retire(self.number, how)
     }
 
-    /// Clears the task, as the closed task set does. Where nobody polls it, it is over, and its body comes out. A
-    /// poll that runs ends it, even a pending one. A task that is over stays.
+    /// Clears the task, as the closed task set does. Where nobody polls it, it is over, and its
+    /// body comes out. A poll that runs ends it, even a pending one. A task that is over stays.
     pub fn clear(&mut self) -> Option<B>
         ensures body { result ≡ body_of self.old.phase }
         ensures cleared { self.new ≡ cleared self.old }

@@ -1,12 +1,14 @@
-//! The live ordinary tasks of a runner, kept so that its end can clear each of them. Roots belong to their workers
-//! instead.
+//! The live ordinary tasks of a runner, kept so that its end can clear each of them. Roots belong
+//! to their workers instead.
 //!
-//! The set has shards, so that workers that insert and remove at the same time seldom meet; a live worker puts each
-//! shard under a lock of its own. A task's shard is its number modulo the shards. What the set holds of a task is
-//! its user's: nothing, where the tasks stand elsewhere by their numbers, or a shared cell.
+//! The set has shards, so that workers that insert and remove at the same time seldom meet; a live
+//! worker puts each shard under a lock of its own. A task's shard is its number modulo the shards.
+//! What the set holds of a task is its user's: nothing, where the tasks stand elsewhere by their
+//! numbers, or a shared cell.
 //!
-//! An open set takes tasks, and holds each until it is removed. A closed one takes none, and is drained: each task
-//! that it still holds is handed out once, to be cleared. Only then may a removal find nothing.
+//! An open set takes tasks, and holds each until it is removed. A closed one takes none, and is
+//! drained: each task that it still holds is handed out once, to be cleared. Only then may a
+//! removal find nothing.
 
 ghost use Rattle.std.specs.Prelude.{◌≡◌, ◌<◌, ◌≤◌, ◌^◌, ◌⊎◌, ◌++◌, ◌∷◌, [], ℕ, true, false, length, replicate, IfOk, IfErr, IfNone, IfSome, OnOk, OnErr, IsSome, option_copied, None, Some};
 ghost use Rattle.exec_task.specs.TaskSet.{IsShardCount, IsRefused, shard_of, shard_at, at_number, with_task, without_task, ShardChanges, Changes, held, inserted, removed, IsFor, TakesNewest, drain_of};
@@ -32,7 +34,8 @@ pub enum Refusal<T> {
     NoMemory(T),
 }
 
-/// One shard of a task set: tasks under their numbers, the newest of which is the one of the highest number.
+/// One shard of a task set: tasks under their numbers, the newest of which is the one of the
+/// highest number.
 #[derive(Drop)]
 pub struct Shard<T> {
     tasks: BTreeMap<u32, T>,
@@ -75,8 +78,8 @@ impl<T> Shard<T> {
         }
     }
 
-    /// Holds this of the task of this number, which it must not hold. Gives it back where there is no memory, and
-    /// then nothing changes.
+    /// Holds this of the task of this number, which it must not hold. Gives it back where there is
+    /// no memory, and then nothing changes.
     pub fn put(&mut self, _alloc: Global, number: TaskNo, task: T) -> Result<(), T>
     where
         T: Drop,
@@ -99,7 +102,8 @@ impl<T> Shard<T> {
         self.tasks.get(&number.0)
     }
 
-    /// Takes out what is held of the task of this number. None where nothing is, and then nothing changes.
+    /// Takes out what is held of the task of this number. None where nothing is, and then nothing
+    /// changes.
     pub fn take(&mut self, number: TaskNo) -> Option<T>
         ensures task { result ≡ at_number self.old number.0 }
         ensures taken { self.new ≡ without_task self.old number.0 }
@@ -153,8 +157,8 @@ impl<T> Tasks<T> {
         })
     }
 
-    /// The identity of the set, which its tasks and their runnables carry. It is 1: a runner has one set, and a
-    /// runnable of another runner's must not come here.
+    /// The identity of the set, which its tasks and their runnables carry. It is 1: a runner has
+    /// one set, and a runnable of another runner's must not come here.
     pub fn id(&self) -> u64
         ensures { result ≡ self.now.id }
     {
@@ -184,10 +188,11 @@ impl<T> Tasks<T> {
         self.shards[self.index(number)].get(number)
     }
 
-    /// Makes a task one of the set, and hands its first runnable to a queue: the second half of a spawn. Gives back
-    /// what was to be held of it where the set is closed, or where there is no memory for it or for its place in
-    /// the global queue; its runnable is discarded then, and who gets the task back clears it. The caller must have
-    /// made the task and the runnable for this set, under a number that it doesn't hold.
+    /// Makes a task one of the set, and hands its first runnable to a queue: the second half of a
+    /// spawn. Gives back what was to be held of it where the set is closed, or where there is no
+    /// memory for it or for its place in the global queue; its runnable is discarded then, and who
+    /// gets the task back clears it. The caller must have made the task and the runnable for this
+    /// set, under a number that it doesn't hold.
     pub fn register<P: Place>(
         &mut self,
         alloc: Global,
@@ -224,8 +229,8 @@ impl<T> Tasks<T> {
         Ok(())
     }
 
-    /// Holds this of the task of this number, which the set must not hold. Gives it back where the set is closed, or
-    /// where there is no memory.
+    /// Holds this of the task of this number, which the set must not hold. Gives it back where the
+    /// set is closed, or where there is no memory.
     pub fn insert(&mut self, alloc: Global, number: TaskNo, task: T) -> Result<(), Refusal<T>>
     where
         T: Drop,
@@ -246,8 +251,8 @@ impl<T> Tasks<T> {
         }
     }
 
-    /// Takes out what is held of the task of this number. None only where the set is closed and doesn't hold it,
-    /// and then nothing changes: a drain took it before. An open set must hold it.
+    /// Takes out what is held of the task of this number. None only where the set is closed and
+    /// doesn't hold it, and then nothing changes: a drain took it before. An open set must hold it.
     pub fn remove(&mut self, number: TaskNo) -> Option<T>
         requires { (self.old.closed ≡ true) ⊎ IsSome (held self.old number) }
         ensures task { result ≡ held self.old number }
@@ -278,8 +283,8 @@ impl<T> Tasks<T> {
         self.shards[shard].take_newest()
     }
 
-    /// A drain of the set, which goes round all shards, from the one at four times the worker's number on. The set
-    /// must be closed.
+    /// A drain of the set, which goes round all shards, from the one at four times the worker's
+    /// number on. The set must be closed.
     pub fn drain(&self, worker: u32) -> Drain
         requires { self.now.closed ≡ true }
         ensures first { result ≡ drain_of self.now worker }

@@ -56,17 +56,16 @@ impl Part {
     /// Makes a call, and answers what it gave.
     pub fn answer(&mut self, alloc: Global, call: &str) -> Result<String, Fault> {
         let mut words = call.split_whitespace();
-        let operation = words.next().unwrap_or("");
         match self {
             Part::Nothing => Err(Fault::Malformed),
             Part::Layouts => ticks::layout(alloc, &mut words),
-            Part::Slab(slab) => slots::answer(slab, alloc, operation, &mut words),
-            Part::Spinner(spinner) => spins::answer(spinner, alloc, operation, &mut words),
-            Part::Wheel(wheel) => ticks::answer(wheel, alloc, operation, &mut words),
-            Part::Sleepers(sleepers) => sleepers.answer(alloc, operation, &mut words),
-            Part::Queues(queues) => queues.answer(alloc, operation, &mut words),
-            Part::Word(word) => wakes::answer(word, alloc, operation, &mut words),
-            Part::Busy(busy) => busy.answer(alloc, operation, &mut words),
+            Part::Slab(slab) => slots::answer(slab, alloc, &mut words),
+            Part::Spinner(spinner) => spins::answer(spinner, alloc, &mut words),
+            Part::Wheel(wheel) => ticks::answer(wheel, alloc, &mut words),
+            Part::Sleepers(sleepers) => sleepers.answer(alloc, &mut words),
+            Part::Queues(queues) => queues.answer(alloc, &mut words),
+            Part::Word(word) => wakes::answer(word, alloc, &mut words),
+            Part::Busy(busy) => busy.answer(alloc, &mut words),
         }
     }
 }

@@ -3,8 +3,6 @@
 //! A thief is the owner of another queue, and claims into its hand. It does nothing else until it
 //! has released the claim and published what it holds.
 
-ghost use Rattle.std.specs.Prelude.{◌<◌, length};
-
 use crate::fault::Fault;
 use crate::words::{number, place, text_of, text_of_list};
 use exec_words::queue::{PureQueue, PushAnswer};
@@ -12,15 +10,14 @@ use exec_words::reserved::Reserved;
 use exec_words::{CAPACITY, HALF, SPENT};
 use std::alloc::{AllocError, Global};
 use std::mem;
-use std::str::SplitWhitespace;
+use std::str::SplitWhitespace as Words;
 
 /// A run queue with the hand of its owner.
 #[derive(Drop)]
 pub struct Local {
     /// The run queue.
     pub queue: PureQueue<u64>,
-    /// What its owner holds.
-    pub hand: Reserved<u64>,
+    hand: Reserved<u64>,
 }
 
 impl Local {
@@ -35,8 +32,8 @@ impl Local {
         })
     }
 
-    /// Publishes what the hand holds.
-    pub fn publish(&mut self) -> Result<usize, Fault> {
+    /// Publishes what the hand holds: how many values.
+    fn publish(&mut self) -> Result<usize, Fault> {
         let count = self.hand.len();
         if !self.queue.is_whole() || count > self.queue.room() {
             return Err(Fault::Condition);
@@ -46,15 +43,14 @@ impl Local {
     }
 
     /// Publishes so many values, from this one on.
-    pub fn batch(&mut self, first: u64, count: u64) -> Result<(), Fault> {
+    fn batch(&mut self, first: u64, count: u64) -> Result<usize, Fault> {
         for offset in 0..count {
             if self.hand.spare() == 0 {
                 return Err(Fault::Condition);
             }
             self.hand.push(first.saturating_add(offset));
         }
-        self.publish()?;
-        Ok(())
+        self.publish()
     }
 
     /// The owner's pop, step by step.
@@ -70,7 +66,7 @@ impl Local {
     }
 
     /// At most so many values, popped one by one.
-    pub fn pops(&mut self, alloc: Global, most: u64) -> Result<String, Fault> {
+    fn pops(&mut self, alloc: Global, most: u64) -> Result<String, Fault> {
         let mut values = Vec::new(alloc);
         for _ in 0..most {
             match self.pop() {
@@ -86,52 +82,62 @@ impl Local {
         if !self.queue.is_whole() || self.hand.spare() < HALF {
             return Err(Fault::Condition);
         }
-        match self.queue.push(value, &mut self.hand) {
-            PushAnswer::Pushed(len) => Ok(format!(in alloc; "pushed {len}")?),
+        Ok(match self.queue.push(value, &mut self.hand) {
+            PushAnswer::Pushed(len) => format!(in alloc; "pushed {len}")?,
             PushAnswer::Overflow(value) => {
-                let out = drained(alloc, &mut self.hand, value)?;
-                Ok(format!(in alloc; "overflow {out}")?)
+                let mut out = drained(alloc, &mut self.hand)?;
+                out.push(value)?;
+                format!(in alloc; "overflow {}", text_of_list(alloc, &out)?)?
             }
-            PushAnswer::Claimed(value) => Ok(format!(in alloc; "claimed {value}")?),
-            PushAnswer::Spent(value) => Ok(format!(in alloc; "spent {value}")?),
-        }
+            PushAnswer::Claimed(value) => format!(in alloc; "claimed {value}")?,
+            PushAnswer::Spent(value) => format!(in alloc; "spent {value}")?,
+        })
     }
 
-    /// What a thief claims into its hand: how many values. None where it has no room for them, or
-    /// nothing can be claimed.
-    fn claim(&mut self, hand: &mut Reserved<u64>, room: usize) -> Result<usize, Fault> {
+    /// What a thief claims into its hand: how many values. None where its queue has no room for
+    /// them, or nothing can be claimed.
+    fn claim(&mut self, thief: &mut Local) -> Result<usize, Fault> {
         let (head, tail) = (self.queue.head(), self.queue.tail());
-        if room < HALF || !head.is_stealable(tail) {
+        if thief.queue.room() < HALF || !head.is_stealable(tail) {
             return Ok(0);
         }
-        if hand.spare() < HALF {
+        if thief.hand.spare() < HALF {
             return Err(Fault::Condition);
         }
-        Ok(self.queue.claim_exchange(head, tail, hand).unwrap_or(0))
+        let claimed = self.queue.claim_exchange(head, tail, &mut thief.hand);
+        Ok(claimed.unwrap_or(0))
+    }
+
+    /// Releases the claim, and publishes what the thief holds: how many values.
+    fn release(&mut self, thief: &mut Local) -> Result<usize, Fault> {
+        if self.queue.release_exchange(self.queue.head()).is_err() {
+            return Err(Fault::Condition);
+        }
+        thief.publish()
     }
 }
 
-/// What a hand holds, and then this value.
-fn drained(alloc: Global, hand: &mut Reserved<u64>, last: u64) -> Result<String, AllocError> {
+/// What a list holds, the oldest first.
+pub fn drained(alloc: Global, from: &mut Reserved<u64>) -> Result<Vec<u64>, AllocError> {
     let mut values = Vec::new(alloc);
-    for _ in 0..hand.len() {
-        if let Some(value) = hand.pop() {
+    for _ in 0..from.len() {
+        if let Some(value) = from.pop() {
             values.push(value)?;
         }
     }
-    values.push(last)?;
-    text_of_list(alloc, &values)
+    Ok(values)
 }
 
 /// The queues of a case, by their numbers.
 #[derive(Drop)]
 pub struct Queues {
-    locals: Vec<Local>,
+    /// Each queue with its owner's hand.
+    pub locals: Vec<Local>,
 }
 
 impl Queues {
     /// The queues of `START KIND START ..`.
-    pub fn begin(alloc: Global, words: &mut SplitWhitespace<'_>) -> Result<Self, Fault> {
+    pub fn begin(alloc: Global, words: &mut Words<'_>) -> Result<Self, Fault> {
         let mut locals = Vec::new(alloc);
         locals.push(Local::at(alloc, number(words)?)?)?;
         for _ in 0..64 {
@@ -144,76 +150,51 @@ impl Queues {
     }
 
     /// The queue that the next word names.
-    fn local(&mut self, words: &mut SplitWhitespace<'_>) -> Result<&mut Local, Fault> {
+    fn local(&mut self, words: &mut Words<'_>) -> Result<&mut Local, Fault> {
         let at = place(words, self.locals.len())?;
         Ok(&mut self.locals[at])
     }
 
     /// Makes a call, and answers what it gave.
-    pub fn answer(
-        &mut self,
-        alloc: Global,
-        operation: &str,
-        words: &mut SplitWhitespace<'_>,
-    ) -> Result<String, Fault> {
+    pub fn answer(&mut self, alloc: Global, words: &mut Words<'_>) -> Result<String, Fault> {
+        let operation = words.next().unwrap_or("");
         match operation {
             "push" => self.local(words)?.push(alloc, number(words)?),
             "pop" => Ok(text_of(alloc, self.local(words)?.pop())?),
-            "pops" => self.local(words)?.pops(alloc, number(words)?),
-            "batch" => {
-                let first = self.local(words)?;
-                first.batch(number(words)?, number(words)?)?;
-                Ok(String::from_str(alloc, "ok")?)
-            }
-            "begin" => Ok(format!(in alloc; "{}", self.claim(alloc, words)?.0)?),
-            "finish" => self.finish(alloc, words),
-            "steal" => self.steal(alloc, words),
+            "pops" => self.pops(alloc, words),
+            "batch" => self.batch(alloc, words),
+            "begin" | "finish" | "steal" => self.steal(alloc, operation, words),
             _ => shown(&self.local(words)?.queue, alloc, operation),
         }
     }
 
-    /// A claim: how many values, from which queue, and into which.
-    fn claim(
-        &mut self,
-        alloc: Global,
-        words: &mut SplitWhitespace<'_>,
-    ) -> Result<(usize, usize, usize), Fault> {
+    /// Pops of one queue.
+    pub fn pops(&mut self, alloc: Global, words: &mut Words<'_>) -> Result<String, Fault> {
+        self.local(words)?.pops(alloc, number(words)?)
+    }
+
+    /// Publishes values in one queue.
+    pub fn batch(&mut self, alloc: Global, words: &mut Words<'_>) -> Result<String, Fault> {
+        self.local(words)?.batch(number(words)?, number(words)?)?;
+        Ok(String::from_str(alloc, "ok")?)
+    }
+
+    /// A claim, a release, or both where something was claimed: how many values. The thief's queue
+    /// stands aside meanwhile.
+    fn steal(&mut self, alloc: Global, call: &str, words: &mut Words<'_>) -> Result<String, Fault> {
         let from = place(words, self.locals.len())?;
         let into = place(words, self.locals.len())?;
-        let room = self.locals[into].queue.room();
-        let mut hand = mem::replace(&mut self.locals[into].hand, Reserved::new(alloc));
-        let count = self.locals[from].claim(&mut hand, room)?;
-        self.locals[into].hand = hand;
-        Ok((count, from, into))
-    }
-
-    /// A release, and the publication of what the thief holds.
-    fn finish(&mut self, alloc: Global, words: &mut SplitWhitespace<'_>) -> Result<String, Fault> {
-        let from = place(words, self.locals.len())?;
-        let into = place(words, self.locals.len())?;
-        self.moved(alloc, from, into)
-    }
-
-    fn steal(&mut self, alloc: Global, words: &mut SplitWhitespace<'_>) -> Result<String, Fault> {
-        let (count, from, into) = self.claim(alloc, words)?;
-        if count == 0 {
-            return Ok(String::from_str(alloc, "0")?);
+        let mut thief = mem::replace(&mut self.locals[into], Local::at(alloc, 0)?);
+        let victim = &mut self.locals[from];
+        let mut count = 0;
+        if call != "finish" {
+            count = victim.claim(&mut thief)?;
         }
-        if from >= self.locals.len() || into >= self.locals.len() {
-            return Err(Fault::Condition);
+        if call == "finish" || (call == "steal" && count > 0) {
+            count = victim.release(&mut thief)?;
         }
-        self.moved(alloc, from, into)
-    }
-
-    fn moved(&mut self, alloc: Global, from: usize, into: usize) -> Result<String, Fault>
-        requires from { from < length self.old.locals.items }
-        requires into { into < length self.old.locals.items }
-    {
-        let seen = self.locals[from].queue.head();
-        if self.locals[from].queue.release_exchange(seen).is_err() {
-            return Err(Fault::Condition);
-        }
-        Ok(format!(in alloc; "{}", self.locals[into].publish()?)?)
+        self.locals[into] = thief;
+        Ok(format!(in alloc; "{count}")?)
     }
 }
 

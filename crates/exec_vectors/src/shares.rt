@@ -2,18 +2,18 @@
 //! what the pool tells of its sleepers, who are none.
 
 use crate::fault::Fault;
-use crate::queues::Local;
+use crate::queues::{Local, Queues, drained};
 use crate::words::{number, place, text_of_list};
 use exec_words::MAX_WORKERS;
 use exec_words::global::GlobalQueue;
 use std::alloc::Global;
-use std::str::SplitWhitespace;
+use std::str::SplitWhitespace as Words;
 
 /// A pool of busy workers.
 #[derive(Drop)]
 pub struct Busy {
     global: GlobalQueue<u64>,
-    locals: Vec<Local>,
+    queues: Queues,
 }
 
 impl Busy {
@@ -28,39 +28,27 @@ impl Busy {
         }
         Ok(Busy {
             global: GlobalQueue::new(alloc),
-            locals,
+            queues: Queues { locals },
         })
     }
 
     /// Makes a call, and answers what it gave.
-    pub fn answer(
-        &mut self,
-        alloc: Global,
-        operation: &str,
-        words: &mut SplitWhitespace<'_>,
-    ) -> Result<String, Fault> {
-        let given = match operation {
-            "push" => self.push(alloc, number(words)?),
-            "take" => self.take(alloc, words),
-            "global" => self.rest(alloc),
-            "batch" => {
-                let at = place(words, self.locals.len())?;
-                self.locals[at].batch(number(words)?, number(words)?)?;
-                Ok(String::from_str(alloc, "ok")?)
-            }
-            "pops" => {
-                let at = place(words, self.locals.len())?;
-                self.locals[at].pops(alloc, number(words)?)
-            }
-            "leave" => Ok(String::from_str(alloc, "ok")?),
-            _ => Err(Fault::Malformed),
-        }?;
+    pub fn answer(&mut self, alloc: Global, words: &mut Words<'_>) -> Result<String, Fault> {
+        let given = match words.next().unwrap_or("") {
+            "push" => self.push(alloc, number(words)?)?,
+            "take" => self.take(alloc, words)?,
+            "batch" => self.queues.batch(alloc, words)?,
+            "pops" => self.queues.pops(alloc, words)?,
+            "global" => text_of_list(alloc, &drained(alloc, &mut self.global.close(alloc))?)?,
+            "leave" => String::from_str(alloc, "ok")?,
+            _ => return Err(Fault::Malformed),
+        };
         Ok(format!(in alloc; "{given} idle 0 count 0 woken")?)
     }
 
     fn push(&mut self, alloc: Global, value: u64) -> Result<String, Fault> {
-        self.global
-            .reserve(alloc, self.global.mirror().saturating_add(1))?;
+        let places = self.global.mirror().saturating_add(1);
+        self.global.reserve(alloc, places)?;
         if self.global.spare() == 0 || self.global.push(value).is_err() {
             return Err(Fault::Condition);
         }
@@ -68,32 +56,20 @@ impl Busy {
     }
 
     /// A worker's share: the oldest value, and how many its run queue gets.
-    fn take(&mut self, alloc: Global, words: &mut SplitWhitespace<'_>) -> Result<String, Fault> {
-        let workers = self.locals.len();
+    fn take(&mut self, alloc: Global, words: &mut Words<'_>) -> Result<String, Fault> {
+        let workers = self.queues.locals.len();
         let at = place(words, workers)?;
-        let local = &mut self.locals[at];
-        let (room, held) = (local.queue.room(), local.queue.len());
-        if workers == 0 || !local.queue.is_whole() {
+        let queue = &mut self.queues.locals[at].queue;
+        let (room, held) = (queue.room(), queue.len());
+        if !queue.is_whole() {
             return Err(Fault::Condition);
         }
-        match self.global.take(workers, room, held, &mut local.queue) {
+        match self.global.take(workers, room, held, queue) {
             Some(first) => {
-                let queued = local.queue.len().saturating_sub(held);
+                let queued = queue.len().saturating_sub(held);
                 Ok(format!(in alloc; "{first} queued {queued}")?)
             }
             None => Ok(String::from_str(alloc, "none")?),
         }
-    }
-
-    /// What the global queue still holds.
-    fn rest(&mut self, alloc: Global) -> Result<String, Fault> {
-        let mut rest = self.global.close(alloc);
-        let mut values = Vec::new(alloc);
-        for _ in 0..rest.len() {
-            if let Some(value) = rest.pop() {
-                values.push(value)?;
-            }
-        }
-        Ok(text_of_list(alloc, &values)?)
     }
 }

@@ -7,7 +7,7 @@ use exec_base::task_no::TaskNo;
 use exec_time::notes::Notes;
 use exec_time::timers::{Observation, TimerId, Timers};
 use std::alloc::{AllocError, Global};
-use std::str::SplitWhitespace;
+use std::str::SplitWhitespace as Words;
 
 /// The sleepers of a worker, and what they leave to be told.
 #[derive(Drop)]
@@ -26,13 +26,8 @@ impl Sleepers {
     }
 
     /// Makes a call, and answers what it gave.
-    pub fn answer(
-        &mut self,
-        alloc: Global,
-        operation: &str,
-        words: &mut SplitWhitespace<'_>,
-    ) -> Result<String, Fault> {
-        match operation {
+    pub fn answer(&mut self, alloc: Global, words: &mut Words<'_>) -> Result<String, Fault> {
+        match words.next().unwrap_or("") {
             "insert" => self.insert(alloc, number(words)?, TaskNo(short(words)?)),
             "observe" => self.observe(alloc, TimerId(id(words)?), TaskNo(short(words)?)),
             "refresh" => self.refresh(alloc, TimerId(id(words)?), TaskNo(short(words)?)),

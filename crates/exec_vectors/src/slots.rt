@@ -4,16 +4,11 @@ use crate::fault::Fault;
 use crate::words::{id, number, text_of, text_of_id};
 use exec_base::slab::{Id, InsertError, Slab};
 use std::alloc::{AllocError, Global};
-use std::str::SplitWhitespace;
+use std::str::SplitWhitespace as Words;
 
 /// Makes a call on a slab, and answers what it gave.
-pub fn answer(
-    slab: &mut Slab<u64>,
-    alloc: Global,
-    operation: &str,
-    words: &mut SplitWhitespace<'_>,
-) -> Result<String, Fault> {
-    match operation {
+pub fn answer(slab: &mut Slab<u64>, alloc: Global, words: &mut Words<'_>) -> Result<String, Fault> {
+    match words.next().unwrap_or("") {
         "insert" => insert(slab, alloc, number(words)?),
         "remove" => remove(slab, alloc, id(words)?),
         "get" => get(slab, alloc, id(words)?),

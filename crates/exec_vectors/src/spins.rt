@@ -4,10 +4,10 @@ use crate::fault::Fault;
 use crate::words::{named, number};
 use exec_base::spinner::{Spinner, SpinnerConfig};
 use std::alloc::Global;
-use std::str::SplitWhitespace;
+use std::str::SplitWhitespace as Words;
 
 /// The spinner of `B max M quick Q iters I`.
-pub fn begin(words: &mut SplitWhitespace<'_>) -> Result<Spinner, Fault> {
+pub fn begin(words: &mut Words<'_>) -> Result<Spinner, Fault> {
     let cfg = SpinnerConfig {
         budget_us: number(words)?,
         max_budget_us: named(words)?,
@@ -24,11 +24,10 @@ pub fn begin(words: &mut SplitWhitespace<'_>) -> Result<Spinner, Fault> {
 pub fn answer(
     spinner: &mut Spinner,
     alloc: Global,
-    operation: &str,
-    words: &mut SplitWhitespace<'_>,
+    words: &mut Words<'_>,
 ) -> Result<String, Fault> {
     let mut given = String::new(alloc);
-    match operation {
+    match words.next().unwrap_or("") {
         "begin" => {}
         "spin" => {
             let (hit, calls) = spin(spinner, number(words)?);

@@ -5,10 +5,10 @@ use crate::words::{id, named, number, text_of, text_of_id};
 use exec_base::slab::Id;
 use exec_time::wheel::{Layout, Tick, TimeoutWheel};
 use std::alloc::Global;
-use std::str::SplitWhitespace;
+use std::str::SplitWhitespace as Words;
 
 /// The wheel of `H tick T start S`.
-pub fn begin(alloc: Global, words: &mut SplitWhitespace<'_>) -> Result<TimeoutWheel, Fault> {
+pub fn begin(alloc: Global, words: &mut Words<'_>) -> Result<TimeoutWheel, Fault> {
     let horizon = number(words)?;
     let tick = named(words)?;
     let start = named(words)?;
@@ -19,8 +19,8 @@ pub fn begin(alloc: Global, words: &mut SplitWhitespace<'_>) -> Result<TimeoutWh
 }
 
 /// The slots of a layout, or that it is refused.
-pub fn layout(alloc: Global, words: &mut SplitWhitespace<'_>) -> Result<String, Fault> {
-    let horizon = number(words)?;
+pub fn layout(alloc: Global, words: &mut Words<'_>) -> Result<String, Fault> {
+    let horizon = named(words)?;
     Ok(
         match TimeoutWheel::validate_layout(horizon, number(words)?) {
             Ok(slots) => format!(in alloc; "{slots}")?,
@@ -33,10 +33,9 @@ pub fn layout(alloc: Global, words: &mut SplitWhitespace<'_>) -> Result<String, 
 pub fn answer(
     wheel: &mut TimeoutWheel,
     alloc: Global,
-    operation: &str,
-    words: &mut SplitWhitespace<'_>,
+    words: &mut Words<'_>,
 ) -> Result<String, Fault> {
-    match operation {
+    match words.next().unwrap_or("") {
         "target" => target(wheel, alloc, number(words)?, number(words)?),
         "schedule" => schedule(wheel, alloc, id(words)?, number(words)?),
         "remove" => remove(wheel, alloc, number(words)?),

@@ -8,10 +8,10 @@ use crate::words::short;
 use exec_words::SUBMISSION_SEQ_MASK;
 use exec_words::word::{PureWord, WaitTarget};
 use std::alloc::Global;
-use std::str::SplitWhitespace;
+use std::str::SplitWhitespace as Words;
 
 /// The next word, the number of a batch.
-fn batch(words: &mut SplitWhitespace<'_>) -> Result<u32, Fault>
+fn batch(words: &mut Words<'_>) -> Result<u32, Fault>
     ensures { IfOk result (λ batch. batch < 2 ^ 29) }
 {
     let batch = short(words)?;
@@ -22,7 +22,7 @@ fn batch(words: &mut SplitWhitespace<'_>) -> Result<u32, Fault>
 }
 
 /// The word with `B` published batches.
-pub fn begin(words: &mut SplitWhitespace<'_>) -> Result<PureWord, Fault> {
+pub fn begin(words: &mut Words<'_>) -> Result<PureWord, Fault> {
     Ok(PureWord::at(batch(words)?))
 }
 
@@ -37,35 +37,27 @@ fn arm(word: &mut PureWord, target: WaitTarget, processed: u32) -> Result<bool, 
 }
 
 /// Makes a call on a wake word, and answers what it gave.
-pub fn answer(
-    word: &mut PureWord,
-    alloc: Global,
-    operation: &str,
-    words: &mut SplitWhitespace<'_>,
-) -> Result<String, Fault> {
-    let mut given = "ok";
-    match operation {
-        "wake" => {
-            word.wake();
-        }
-        "consume" => {
-            word.consume_signal();
-        }
-        "disarm" => {
-            word.disarm();
-        }
-        "publish" => given = flag(word.publish()),
-        "signalled" => given = flag(word.latch),
-        "pending" => given = flag(word.pending(batch(words)?)),
-        "arm" => given = flag(arm(word, WaitTarget::Ring, batch(words)?)?),
+pub fn answer(word: &mut PureWord, alloc: Global, words: &mut Words<'_>) -> Result<String, Fault> {
+    let given = match words.next().unwrap_or("") {
+        "wake" => done(word.wake()),
+        "consume" => done(word.consume_signal()),
+        "disarm" => done(word.disarm()),
+        "publish" => flag(word.publish()),
+        "signalled" => flag(word.latch),
+        "pending" => flag(word.pending(batch(words)?)),
+        "arm" => flag(arm(word, WaitTarget::Ring, batch(words)?)?),
         "park" => {
             arm(word, WaitTarget::Sleeping, batch(words)?)?;
             word.disarm();
-            given = "none";
+            "none"
         }
         _ => return Err(Fault::Malformed),
-    }
+    };
     Ok(format!(in alloc; "{given} word {}", packed(word))?)
+}
+
+fn done(_found: PureWord) -> &'static str {
+    "ok"
 }
 
 fn flag(is: bool) -> &'static str {

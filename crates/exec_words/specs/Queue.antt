@@ -82,7 +82,8 @@ module _ {T : Type 0} where
   handed_out fit.Overflow q = newest q
   handed_out _ q = []
 
-  -- What the fields of a run queue keep, which no public clause cites: each list has its places, values and gap fill the ring at most, and no count comes near the end of 55 bits
+  -- What the fields of a run queue keep, which no public clause cites: each list has its places, values and gap fill
+  -- the ring at most, and no count comes near the end of 55 bits
   pub record IsLaidOut (values held : Reserved T) (real gap : ℕ) : Type 0 where
     pub values_places : values.places ≡ 256
     pub held_places : held.places ≡ 256

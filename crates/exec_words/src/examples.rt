@@ -26,7 +26,8 @@ pub fn transitions()
     ensures not_the_oldest { newest full ≢ numbers 0 128 }
 {}
 
-/// What fits, by head and tail, up to the last count of a queue; and whether a thief may claim.
+/// What fits, by head and tail, up to the count from which on a queue takes no more; and whether a
+/// thief may claim.
 pub fn fits()
     ensures last { fit_at (head 0 0) 255 ≡ fit.Room 256 }
     ensures overflow { fit_at (head 0 0) 256 ≡ fit.Overflow }
@@ -37,6 +38,7 @@ pub fn fits()
     ensures lone { is_stealable_at (head 7 0) 8 ≡ false }
     ensures beside_a_claim { is_stealable_at (head 7 1) 20 ≡ false }
     ensures room { room_at (head 4 4) 5 ≡ 251 }
+    ensures no_room { room_at (head (2 ^ 55 - 513) 0) (2 ^ 55 - 512) ≡ 0 }
 {}
 
 /// Shares of the global queue: for one of four workers, for one without room, and of nothing. The

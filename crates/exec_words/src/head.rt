@@ -3,7 +3,8 @@
 //! A queue's values have counts, one after another. Its head is the count `real` of its front value
 //! and the gap: 0, or the places of the one claim and of what its owner popped past it since. Its
 //! tail is the count one past its last value. Who has loaded both knows how many values there were,
-//! whether they may be claimed, and what a push does (`specs/Head.antt`), in every form of the queue.
+//! whether they may be claimed, and what a push does: by rules (`specs/Head.antt`) that every form
+//! of the queue has.
 
 ghost use Rattle.std.specs.Prelude.{◌≡◌, ◌-◌, ◌+◌, ◌==◌, ◌^◌, ◌<◌};
 ghost use Rattle.exec_words.specs.Head.{room_at, is_stealable_at, fit_at};

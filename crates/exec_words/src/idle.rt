@@ -131,7 +131,8 @@ impl PureIdle {
         self.count
     }
 
-    /// Adds a search count. The caller must know that the count isn't at its type's end.
+    /// Adds a search count. The caller must know that the count isn't at its type's end: it is at
+    /// most the number of those that hold one.
     pub fn add(&mut self)
         requires { self.old.count + 1 < 2 ^ 64 }
         ensures { self.new ≡ record self.old { count = self.old.count + 1 } }

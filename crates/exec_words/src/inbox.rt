@@ -128,8 +128,9 @@ impl<F, C> Inbox<F, C> {
         Ok(word.publish())
     }
 
-    /// Takes all messages as one batch into `batch`, which must be empty, and whose places stay
-    /// here in exchange. False exactly where there is none, and nothing changes then.
+    /// Takes all messages as one batch into `batch`, whose places stay here in exchange. False
+    /// exactly where there is none, and nothing changes then. The caller must have applied the
+    /// batch before: `batch` is empty.
     pub fn take(&mut self, batch: &mut Reserved<Message<F, C>>) -> bool
         requires { batch.old.values ≡ [] }
         ensures answer { result ≡ has_mail self.old }
@@ -146,7 +147,8 @@ impl<F, C> Inbox<F, C> {
     }
 
     /// Closes the inbox. What stood in it counts as a batch that was taken, and goes into `batch`,
-    /// which must be empty, for the worker to let go; the answer is whether there was one.
+    /// for the worker to let go; the answer is whether there was one. The caller must have let go of
+    /// the batch before: `batch` is empty.
     pub fn close(&mut self, batch: &mut Reserved<Message<F, C>>) -> bool
         requires { batch.old.values ≡ [] }
         ensures answer { result ≡ has_mail self.old }

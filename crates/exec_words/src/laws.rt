@@ -4,9 +4,8 @@ ghost use Rattle.std.specs.Prelude.{◌≡◌, ◌+◌, ◌++◌, ℕ, Bool, Lis
 ghost use Rattle.exec_words.specs.IdleRuns.{Change as Move, after_all as after_moves, nothing};
 ghost use Rattle.exec_words.specs.QueueRuns.{Change, IsWithin, begun, after_all};
 
-/// Each value that was put in is in one place, of
-/// those that left at the front, those that overflows handed out, and those that are left. So none
-/// is handed out twice, and none is lost.
+/// Each value that was put in is in one place, of those that left at the front, those that
+/// overflows handed out, and those that are left. So none is handed out twice, and none is lost.
 pub fn each_value_leaves_once()
     ensures { (real : ℕ) (changes : List (Change ℕ)) (p : ℕ → Bool)
         → let h = after_all (begun real) changes in

@@ -18,8 +18,6 @@ pub mod laws;
 pub mod mailbox;
 pub mod queue;
 pub mod reserved;
-#[cfg(test)]
-mod tests;
 pub mod word;
 
 /// How many values a run queue holds.

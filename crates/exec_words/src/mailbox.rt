@@ -2,7 +2,9 @@
 //!
 //! `send` is a whole sending, where nobody acts in between: the section that appends and publishes,
 //! and then the signal where one is asked for. An executor that makes these one by one calls
-//! `Inbox::send` and `PureWord::wake`. Ports `Mailbox` of `commonware_runtime`'s `iouring::mailbox`.
+//! `Inbox::send` and `PureWord::wake`. What concerns the inbox alone, as reserving, taking and
+//! closing, leaves the wake word as it is. Ports the `Mailbox` of `commonware_runtime`'s
+//! `iouring::mailbox`.
 
 ghost use Rattle.std.specs.Prelude.{◌≡◌, ◌<◌, [], false, true, max, IsOk, IfOk, OnOk, IfErr, OnErr, ◌↔◌};
 ghost use Rattle.exec_words.specs.declared.word.WaitTarget.TheVariants as wait;

@@ -1,8 +1,9 @@
 //! A list with places that were reserved before.
 //!
-//! A push takes no memory, since it goes into a place that is there. So what is sent or woken is
-//! never lost for want of memory. What a contract sees is in `specs/Reserved.antt`: the values, the
-//! oldest first, and how many places there are for values in all.
+//! A push takes no memory, since it goes into a place that is there: who may push has reserved the
+//! place. So what is sent or woken is never lost for want of memory. What a contract sees is in
+//! `specs/Reserved.antt`: the values, the oldest first, and how many places there are for values in
+//! all.
 
 ghost use Rattle.std.specs.Prelude.{◌≡◌, ◌+◌, ◌-◌, ◌<◌, ◌≤◌, ◌==◌, [], ◌∷◌, ◌++◌, length, take, drop, max, slice_get, IfOk, OnOk, OnErr};
 ghost use Rattle.std.specs.VecDeque.{deque_capacity};
@@ -12,7 +13,8 @@ use std::collections::VecDeque;
 use std::marker::Model;
 use std::mem;
 
-/// Values in order, in reserved places. Only `with_places` and `reserve` take memory.
+/// Values in order, in places that were reserved before. Only `with_places` and `reserve` take
+/// memory.
 #[derive(Drop)]
 pub struct Reserved<T> {
     values: VecDeque<T>,

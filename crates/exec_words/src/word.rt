@@ -1,4 +1,5 @@
-//! The wake word of a worker: how it waits, whether it is to wake, and what mail was published.
+//! The wake word of a worker: how it waits, whether it is to wake, and how many batches of mail
+//! were published.
 //!
 //! A worker that is about to wait arms its word, and waits only where it finds no latch and no
 //! batch that it hasn't taken. Whoever has something for the worker sets the latch: the first one
@@ -43,7 +44,8 @@ pub struct PureWord {
 impl PureWord {
     ghost use Rattle.exec_words.specs.Word.{asks_signal, is_idle_at};
 
-    /// No wait, no latch, and so many batches published: at most `SUBMISSION_SEQ_MASK`.
+    /// Nobody waits, no latch stands, and so many batches were published: at most
+    /// `SUBMISSION_SEQ_MASK`.
     pub fn at(batch: u32) -> Self
         requires { batch < 2 ^ 29 }
         ensures { result ≡ record { target = wait.None; latch = false; batch = batch } }

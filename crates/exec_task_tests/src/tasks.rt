@@ -1,10 +1,10 @@
 //! The tasks of a set, which are registered, removed and drained.
 
-use crate::place::Place;
-use crate::runnable::Runnable;
-use crate::task::Task;
-use crate::tasks::Tasks;
 use exec_base::task_no::TaskNo;
+use exec_task::place::Place;
+use exec_task::runnable::Runnable;
+use exec_task::task::Task;
+use exec_task::tasks::Tasks;
 use std::alloc::{AllocError, Global};
 use std::test::Fail;
 

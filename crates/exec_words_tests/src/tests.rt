@@ -2,19 +2,18 @@
 
 ghost use Rattle.std.specs.Prelude.{◌-◌, ◌^◌, ◌<◌};
 
-use crate::HALF;
-use crate::global::GlobalQueue;
-use crate::head::Head;
-use crate::idle::{Park, PureIdle};
-use crate::inbox::Message;
-use crate::mailbox::Mailbox;
-use crate::queue::{PureQueue, PushAnswer};
-use crate::reserved::Reserved;
-use crate::word::{PureWord, WaitTarget};
+use exec_words::HALF;
+use exec_words::global::GlobalQueue;
+use exec_words::head::Head;
+use exec_words::idle::{Park, PureIdle};
+use exec_words::inbox::Message;
+use exec_words::mailbox::Mailbox;
+use exec_words::queue::{PureQueue, PushAnswer};
+use exec_words::reserved::Reserved;
+use exec_words::word::{PureWord, WaitTarget};
 use std::alloc::Global;
 use std::ops::Range;
 use std::process::Abort;
-use std::test::Fail;
 
 /// A worker's run queue with its owner's hand.
 #[derive(Drop)]
@@ -24,22 +23,22 @@ struct Local {
 }
 
 impl Local {
-    fn at(alloc: Global, real: u64) -> Result<Self, Fail>
+    fn at(rt: &impl Abort, alloc: Global, real: u64) -> Self
         requires { real < 2 ^ 55 - 512 }
     {
-        Ok(Local {
-            queue: PureQueue::at(alloc, real)?,
-            hand: Reserved::with_places(alloc, 256)?,
-        })
+        Local {
+            queue: PureQueue::at(alloc, real).expect(rt, "no memory"),
+            hand: Reserved::with_places(alloc, 256).expect(rt, "no memory"),
+        }
     }
 
     /// With these values, pushed one by one.
-    fn holding(rt: &impl Abort, alloc: Global, values: Range<u64>) -> Result<Self, Fail> {
-        let mut local = Local::at(alloc, 0)?;
+    fn holding(rt: &impl Abort, alloc: Global, values: Range<u64>) -> Self {
+        let mut local = Local::at(rt, alloc, 0);
         for value in values {
             assert!(rt; matches!(local.push(rt, value), PushAnswer::Pushed(_)));
         }
-        Ok(local)
+        local
     }
 
     fn push(&mut self, rt: &impl Abort, value: u64) -> PushAnswer<u64> {
@@ -70,29 +69,28 @@ impl Local {
 }
 
 #[test]
-fn a_full_queue_flows_over(rt: HostRuntime) -> Result<(), Fail> {
-    let mut local = Local::holding(&rt, rt.alloc(), 0..256)?;
-    assert_eq!(rt; local.push(&rt, 256), PushAnswer::Overflow(256));
+fn a_full_queue_flows_over(rt: HostRuntime) {
+    let mut local = Local::holding(&rt, rt.alloc(), 0..256);
+    assert!(rt; matches!(local.push(&rt, 256), PushAnswer::Overflow(256)));
     for value in 0..128 {
         assert_eq!(rt; local.queue.pop(), Some(value));
         assert_eq!(rt; local.hand.pop(), Some(value + 128));
     }
     assert!(rt; local.queue.len() == 0 && local.hand.is_empty());
-    Ok(())
 }
 
 #[test]
-fn a_full_queue_beside_a_claim_takes_nothing(rt: HostRuntime) -> Result<(), Fail> {
-    let mut local = Local::holding(&rt, rt.alloc(), 0..256)?;
-    assert_eq!(rt; local.claim(&rt, &mut Local::at(rt.alloc(), 0)?), 128);
-    assert_eq!(rt; local.push(&rt, 256), PushAnswer::Claimed(256));
-    Ok(())
+fn a_full_queue_beside_a_claim_takes_nothing(rt: HostRuntime) {
+    let mut local = Local::holding(&rt, rt.alloc(), 0..256);
+    assert_eq!(rt; local.claim(&rt, &mut Local::at(&rt, rt.alloc(), 0)), 128);
+    assert!(rt; matches!(local.push(&rt, 256), PushAnswer::Claimed(256)));
+    assert_eq!(rt; local.queue.len(), 128);
 }
 
 #[test]
-fn a_release_frees_the_pops_past_its_claim(rt: HostRuntime) -> Result<(), Fail> {
-    let mut local = Local::holding(&rt, rt.alloc(), 0..5)?;
-    assert_eq!(rt; local.claim(&rt, &mut Local::at(rt.alloc(), 0)?), 2);
+fn a_release_frees_the_pops_past_its_claim(rt: HostRuntime) {
+    let mut local = Local::holding(&rt, rt.alloc(), 0..5);
+    assert_eq!(rt; local.claim(&rt, &mut Local::at(&rt, rt.alloc(), 0)), 2);
     assert_eq!(rt; (local.queue.pop(), local.queue.pop()), (Some(2), Some(3)));
     let seen = Head { real: 4, gap: 4 };
     assert_eq!(rt; (local.queue.head(), local.queue.room()), (seen, 251));
@@ -101,73 +99,68 @@ fn a_release_frees_the_pops_past_its_claim(rt: HostRuntime) -> Result<(), Fail> 
         (local.queue.head(), local.queue.room()),
         (Head { real: 4, gap: 0 }, 255)
     );
-    Ok(())
 }
 
 #[test]
-fn a_spent_queue_takes_no_more(rt: HostRuntime) -> Result<(), Fail> {
-    let mut local = Local::at(rt.alloc(), (1 << 55) - 513)?;
-    assert_eq!(rt; local.push(&rt, 1), PushAnswer::Pushed(1));
-    assert_eq!(rt; local.push(&rt, 2), PushAnswer::Spent(2));
+fn a_spent_queue_takes_no_more(rt: HostRuntime) {
+    let mut local = Local::at(&rt, rt.alloc(), (1 << 55) - 513);
+    assert!(rt; matches!(local.push(&rt, 1), PushAnswer::Pushed(1)));
+    assert!(rt; matches!(local.push(&rt, 2), PushAnswer::Spent(2)));
     assert_eq!(rt; local.queue.room(), 0);
-    let mut other = Local::holding(&rt, rt.alloc(), 3..7)?;
+    let mut other = Local::holding(&rt, rt.alloc(), 3..7);
     assert_eq!(rt; other.steal(&rt, &mut local), 0);
     assert_eq!(rt; local.queue.pop(), Some(1));
-    Ok(())
 }
 
 #[test]
-fn a_lone_value_stays_with_its_owner(rt: HostRuntime) -> Result<(), Fail> {
-    let (mut zero, mut one) = (Local::at(rt.alloc(), 0)?, Local::at(rt.alloc(), 0)?);
-    let mut two = Local::holding(&rt, rt.alloc(), 0..5)?;
+fn a_lone_value_stays_with_its_owner(rt: HostRuntime) {
+    let (mut zero, mut one) = (Local::at(&rt, rt.alloc(), 0), Local::at(&rt, rt.alloc(), 0));
+    let mut two = Local::holding(&rt, rt.alloc(), 0..5);
     assert_eq!(rt; two.steal(&rt, &mut zero), 2);
     assert_eq!(rt; (zero.queue.pop(), zero.queue.pop()), (Some(0), Some(1)));
     assert_eq!(rt; two.steal(&rt, &mut one), 1);
     assert_eq!(rt; (one.queue.pop(), two.queue.pop()), (Some(2), Some(3)));
     assert_eq!(rt; two.steal(&rt, &mut one), 0);
     assert_eq!(rt; two.queue.len(), 1);
-    Ok(())
 }
 
 /// A global queue of so many values.
-fn global_of(rt: &impl Abort, alloc: Global, count: usize) -> Result<GlobalQueue<u64>, Fail> {
+fn global_of(rt: &impl Abort, alloc: Global, count: usize) -> GlobalQueue<u64> {
     let mut global = GlobalQueue::new(alloc);
-    global.reserve(alloc, count)?;
+    global.reserve(alloc, count).expect(rt, "no memory");
     for value in 0..count {
         assert!(rt; global.spare() > 0);
         assert!(rt; global.push(value as u64).is_ok());
     }
-    Ok(global)
+    global
 }
 
-/// How many values a worker with this run queue takes.
-fn share(rt: &impl Abort, workers: usize, global: &mut GlobalQueue<u64>, local: &mut Local) -> usize
+/// How many values one of so many workers takes from a global queue of `count`. Its own queue was
+/// given `held` values, and a thief has claimed half of them where it is full.
+fn share(rt: &impl Abort, alloc: Global, workers: usize, count: usize, held: u64) -> usize
     requires { 0 < workers }
 {
-    let (before, room, held) = (global.mirror(), local.queue.room(), local.queue.len());
+    let mut global = global_of(rt, alloc, count);
+    let mut local = Local::holding(rt, alloc, 0..held);
+    if held == 256 {
+        assert_eq!(rt; local.claim(rt, &mut Local::at(rt, alloc, 0)), 128);
+    }
+    let (room, held) = (local.queue.room(), local.queue.len());
     assert!(rt; local.queue.is_whole());
     assert_eq!(rt; global.take(workers, room, held, &mut local.queue), Some(0));
-    before.saturating_sub(global.mirror())
+    count.saturating_sub(global.mirror())
 }
 
 #[test]
-fn shares(rt: HostRuntime) -> Result<(), Fail> {
-    let alloc = rt.alloc();
-    let (mut free, mut alone) = (Local::at(alloc, 0)?, Local::at(alloc, 0)?);
-    let mut holding = Local::holding(&rt, alloc, 0..100)?;
-    let mut claimed = Local::holding(&rt, alloc, 0..256)?;
-    assert_eq!(rt; claimed.claim(&rt, &mut Local::at(alloc, 0)?), 128);
-    let shares = (
-        share(&rt, 4, &mut global_of(&rt, alloc, 8)?, &mut free),
-        share(&rt, 1, &mut global_of(&rt, alloc, 130)?, &mut alone),
-        share(&rt, 1, &mut global_of(&rt, alloc, 300)?, &mut holding),
-        share(&rt, 1, &mut global_of(&rt, alloc, 300)?, &mut claimed),
-    );
-    assert_eq!(rt; shares, (3, 129, 29, 1));
-    Ok(())
+fn shares(rt: HostRuntime) {
+    assert_eq!(rt; share(&rt, rt.alloc(), 4, 8, 0), 3);
+    assert_eq!(rt; share(&rt, rt.alloc(), 1, 130, 0), 129);
+    assert_eq!(rt; share(&rt, rt.alloc(), 1, 300, 100), 29);
+    assert_eq!(rt; share(&rt, rt.alloc(), 1, 300, 256), 1);
 }
 
-/// The last look of worker 0 of two: its answer, whether it stays published, and the search count.
+/// The last look of worker 0 of two, which holds no count: its answer, whether the worker stays
+/// published, and the search count.
 fn look(idle: &mut PureIdle, global: &GlobalQueue<u64>, other: &Local) -> (Park, bool, usize) {
     idle.publish(0);
     let is_stealable = other.queue.head().is_stealable(other.queue.tail());
@@ -185,15 +178,14 @@ fn look(idle: &mut PureIdle, global: &GlobalQueue<u64>, other: &Local) -> (Park,
 }
 
 #[test]
-fn a_last_look_has_three_answers(rt: HostRuntime) -> Result<(), Fail> {
+fn a_last_look_has_three_answers(rt: HostRuntime) {
     let (mut idle, mut searched) = (PureIdle::new(), PureIdle::new());
-    let (full, none) = (global_of(&rt, rt.alloc(), 1)?, GlobalQueue::new(rt.alloc()));
-    let other = Local::holding(&rt, rt.alloc(), 0..2)?;
+    let (full, none) = (global_of(&rt, rt.alloc(), 1), GlobalQueue::new(rt.alloc()));
+    let other = Local::holding(&rt, rt.alloc(), 0..2);
     searched.add();
     assert_eq!(rt; look(&mut idle, &full, &other), (Park::Run, false, 0));
     assert_eq!(rt; look(&mut searched, &none, &other), (Park::Wait, true, 1));
     assert_eq!(rt; look(&mut idle, &none, &other), (Park::Search, false, 1));
-    Ok(())
 }
 
 #[test]
@@ -208,17 +200,16 @@ fn a_batch_is_signalled_once(rt: HostRuntime) {
 }
 
 #[test]
-fn a_batch_is_published_once(rt: HostRuntime) -> Result<(), Fail> {
-    let mut mailbox: Mailbox<u8, u32> = Mailbox::new(rt.alloc())?;
-    let mut batch = Reserved::with_places(rt.alloc(), 2)?;
-    mailbox.reserve(rt.alloc(), 2)?;
-    assert_eq!(rt; mailbox.send(Message::WakeRoot), Ok(()));
-    assert_eq!(rt; mailbox.send(Message::Cancel(7)), Ok(()));
+fn a_batch_is_published_once(rt: HostRuntime) {
+    let mut mailbox: Mailbox<u8, u32> = Mailbox::new(rt.alloc()).expect(&rt, "no memory");
+    let mut batch = Reserved::with_places(rt.alloc(), 2).expect(&rt, "no memory");
+    mailbox.reserve(rt.alloc(), 2).expect(&rt, "no memory");
+    assert!(rt; mailbox.send(Message::WakeRoot).is_ok());
+    assert!(rt; mailbox.send(Message::Cancel(7)).is_ok());
     assert!(rt; mailbox.waker.pending(0) && mailbox.take(&mut batch));
-    assert_eq!(rt; batch.pop(), Some(Message::WakeRoot));
-    assert_eq!(rt; batch.pop(), Some(Message::Cancel(7)));
+    assert!(rt; matches!(batch.pop(), Some(Message::WakeRoot)));
+    assert!(rt; matches!(batch.pop(), Some(Message::Cancel(7))));
     assert!(rt; !mailbox.waker.pending(1));
-    assert_eq!(rt; mailbox.send(Message::WakeRoot), Ok(()));
+    assert!(rt; mailbox.send(Message::WakeRoot).is_ok());
     assert!(rt; mailbox.waker.pending(1));
-    Ok(())
 }

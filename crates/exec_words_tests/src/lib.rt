@@ -1,0 +1,5 @@
+//! Tests of the shared words of a pool, apart from their crate, so that it is proved once.
+#![tactic(auto)]
+
+#[cfg(test)]
+mod tests;
