@@ -138,7 +138,7 @@ impl Idle {
     }
 
     /// Loads the set, as a word.
-    pub(crate) fn look(&self, seat: &mut IdleSeat) -> u64
+    pub fn look(&self, seat: &mut IdleSeat) -> u64
         requires { IsSeatOf self.now seat.old }
         ensures same { IsSame seat.old seat.new }
         ensures view { knows seat.new ≡ looked (knows seat.old) result }

@@ -117,6 +117,7 @@ pub fn subtract(words: &Words, seat: &mut Place) -> u64
 
 /// Exchanges the count 0 to 1. Err with the count that was found where it isn't 0, and nothing
 /// changes then but that the seat saw it.
+#[tactic(auto, using(crate::proofs::Allowed::begin_))]
 pub fn count_exchange(words: &Words, seat: &mut Place) -> Result<(), u64>
     requires at { IsAt words.now seat.old }
     requires room { (view_of seat.old).held < 2 }
@@ -134,6 +135,7 @@ pub fn count_exchange(words: &Words, seat: &mut Place) -> Result<(), u64>
 
 /// Makes a seat of the number that this seat has, which goes on with the next number. The caller
 /// must not have published, and must have a number beyond.
+#[tactic(auto, using(crate::proofs::Allowed::make_))]
 pub fn next_seat(words: &Words, seat: &mut Place) -> Place
     requires at { IsAt words.now seat.old }
     requires unpublished { (view_of seat.old).published ≡ false }
@@ -149,6 +151,7 @@ pub fn next_seat(words: &Words, seat: &mut Place) -> Place
 
 /// Takes over the search counts of another seat, whose number is gone then. The other must not
 /// have published.
+#[tactic(auto, using(crate::proofs::Allowed::join_))]
 pub fn take_over(words: &Words, seat: &mut Place, other: Place)
     requires at { IsAt words.now seat.old }
     requires other { IsAt words.now other }

@@ -1,5 +1,5 @@
 -- A thief's claim keeps the rule.
-use Rattle.std.proofs.Common.{◌≡◌, ◌≢◌, ℕ, ◌+◌, ◌-◌, ◌/◌, ◌%◌, ◌<◌, ◌≤◌, eqb, List, [], ◌∷◌, ◌++◌, map, length, set, take, drop, sym, refl, ap, ◌∙◌, subst, inl, ⊎_elim, length-append, length-take-le, append-nil, arith}
+use Rattle.std.proofs.Common.{◌≡◌, ◌≢◌, ℕ, ◌+◌, ◌-◌, ◌/◌, ◌%◌, ◌<◌, ◌≤◌, eqb, List, [], ◌++◌, map, length, set, take, drop, sym, refl, ap, ◌∙◌, subst, inl, ⊎_elim, length-append, length-take-le, append-nil, arith}
 use mathlib.Core.Option.{none, some, some-injective}
 use lib.ListN.{get_elem?, length-map}
 use prog.Atomic.{either}
@@ -14,7 +14,7 @@ use Rattle.exec_live_queue.specs.declared.view.Theft.{Theft}
 use Rattle.exec_live_queue.specs.declared.view.View.{View}
 use Rattle.exec_live_queue.specs.declared.view.Stage.{Stage}
 use Rattle.exec_live_queue.specs.declared.view.Stage.TheVariants.{Owns, Idle, SawHead, SawTail, Claimed}
-use Rattle.exec_live_queue.specs.Numbers.{head_word, InOrder}
+use Rattle.exec_live_queue.specs.Numbers.{head_word, InOrder, words_of}
 use Rattle.exec_live_queue.specs.Pure.{queue_at}
 use Rattle.exec_live_queue.specs.Live.{labels, Homes, HomeAt, Knows, AsLogged, LiveQueue}
 use Rattle.exec_live_queue.specs.Plays.{Sat, half, hand, take_all, at_head, claimed_view, Claims, claims}
@@ -71,14 +71,14 @@ module _ {T : Type 0} where
   -- the rule after the exchange, at which the slots of the claim went out with the thief
   claimed_kept : (start : ℕ) (s : State (Option T) (View T)) (q : LiveQueue start s) (id k : ℕ) (v : View T) (xs : List T) → get_elem? s.views id ≡ some v → v.stage ≢ Owns
       → half v.theft ≡ k → v.theft.at ≡ q.kept.real → q.kept.gap ≡ 0 → 0 < k → k ≤ 128 → q.kept.real + k + k ≤ q.view.own.tail → xs ≡ Oldest q.view.own q.kept.real k
-      → LiveQueue start record { words = head_word (q.kept.real + k) k ∷ q.view.own.tail ∷ []; homes = homes_after s.homes [] (take_all q.kept.real (map Some xs)); views = set s.views id (claimed_view v xs) }
+      → LiveQueue start record { words = words_of (head_word (q.kept.real + k) k) q.view.own.tail; homes = homes_after s.homes [] (take_all q.kept.real (map Some xs)); views = set s.views id (claimed_view v xs) }
   claimed_kept start s q id k v xs at thief halves sees unclaimed pos small few is =
       let n = q.kept in let real : ℕ = n.real in let d : Own T = q.view.own in let t : ℕ = d.tail in let order : InOrder d real 0 n.claimed = subst (λ (g : ℕ). InOrder d real g n.claimed) unclaimed n.order in
       let w : t + 0 ≤ real + 256 = order.within in let begun : d.start ≤ real = order.begun in let long : d.start + length d.log ≡ t + d.aside = n.long in
       let z : d.aside ≡ 0 = ⊎_elim (λ (e : d.aside ≡ 0). e) (λ (kept : (d.aside ≡ 128) × (real ≡ t) × (0 ≡ 0)). let e : real ≡ t = kept.1 in absurd (omega arith)) order.aside in
       let len : length xs ≡ k = ap length is ∙ oldest_length d real k begun (omega arith) (omega arith) in let many : length (map {A = T} Some xs) ≡ k = length-map xs Some ∙ len in
       let homes' : Homes T = homes_after s.homes [] (take_all real (map Some xs)) in let new : View T = claimed_view v xs in
-      moved start s q id v new (head_word (real + k) k ∷ t ∷ []) homes' (real + k) k k id at thief (take_length (map Some xs) s.homes [] real ∙ n.slots) refl (claimed_order d real n.claimed k order z pos small few)
+      moved start s q id v new (words_of (head_word (real + k) k) t) homes' (real + k) k k id at thief (take_length (map Some xs) s.homes [] real ∙ n.slots) refl (claimed_order d real n.claimed k order z pos small few)
       (λ l le (lt : l < t + d.aside). let f = n.full l (omega arith) lt in (f.0, f.1, take_behind (map Some xs) s.homes [] real l (omega (arith, many)) (omega arith) ∙ f.2))
       (λ l (le : t + d.aside ≤ l) lt beside outside. ⊎_elim
       (λ (before : l + k < real + k + 256). take_behind (map Some xs) s.homes [] real l (omega (arith, many)) (omega arith) ∙ n.free l le (omega arith) (inl (omega (arith, unclaimed))) outside)
@@ -108,9 +108,9 @@ module _ {T : Type 0} where
       ap (λ (xs : List T). record { real = real + k; gap = k; values = xs; held = take d.aside (drop (d.tail - d.start) d.log) }) values
 
   pub claims_rule : (start id : ℕ) (me : Sat T) (old new : ℕ) → me.0.stage ≡ SawTail → me.1 ≡ [] → old / 512 ≡ me.0.theft.at → old % 512 ≡ 0 → me.0.theft.at + 2 ≤ me.0.theft.upto → new ≡ head_word (me.0.theft.at + half me.0.theft) (half me.0.theft)
-      → Allows (LiveQueue start) 256 id me 0 (λ n. either (eqb n old) new n) (claims (step 256 0 old new none) me)
-  claims_rule start id me old new st empty sees_at unclaimed two writes = thief_steps start id 0 me [] (λ n. either (eqb n old) new n) (claims (step 256 0 old new none) me) empty (λ s q at.
-      let n = q.kept in let real : ℕ = n.real in let d : Own T = q.view.own in let v : View T = me.0 in let hw : ℕ = head_word real n.gap in let ws : List ℕ = hw ∷ d.tail ∷ [] in let small : n.gap < 512 = gap_fits d real n.gap n.claimed n.order in
+      → Allows (LiveQueue start) 256 id me 11 (λ n. either (eqb n old) new n) (claims (step 256 11 old new none) me)
+  claims_rule start id me old new st empty sees_at unclaimed two writes = thief_steps start id 11 me [] (λ n. either (eqb n old) new n) (claims (step 256 11 old new none) me) empty (λ s q at.
+      let n = q.kept in let real : ℕ = n.real in let d : Own T = q.view.own in let v : View T = me.0 in let hw : ℕ = head_word real n.gap in let ws : List ℕ = words_of hw d.tail in let small : n.gap < 512 = gap_fits d real n.gap n.claimed n.order in
       let thief : v.stage ≢ Owns = λ e. let clash : SawTail ≡ Owns = sym st ∙ e in cc in let free : v.stage ≢ Claimed = λ e. let clash : SawTail ≡ Claimed = sym st ∙ e in cc in
       let k : ℕ = half v.theft in let knew : (v.theft.at ≤ real) × (v.theft.upto ≤ d.tail) = subst (λ (x : Stage). Knows d.tail real n.gap n.claimed n.holder id v.theft x) st (n.each_seat id v at) in
       exchanges start s ws [] id hw old new (Claims v) (λ m'. m' ≡ (at_head v hw, me.1))
@@ -122,7 +122,7 @@ module _ {T : Type 0} where
       let len : length xs ≡ k = oldest_length d real k begun (omega arith) (omega arith) in let many : length (map {A = T} Some xs) ≤ 256 = (let a : length (map {A = T} Some xs) ≡ length xs = length-map xs Some in omega (arith, a, len)) in
       let said : (claimed (queue_at d v.theft.at 0) k ≡ queue_at d (v.theft.at + k) k) × (xs ≡ take k (queue_at d v.theft.at 0).values) × (hand real (map {A = T} Some xs) ≡ hand v.theft.at (map Some xs))
       = (subst (λ (R : ℕ). claimed (queue_at d R 0) k ≡ queue_at d (R + k) k) r (claimed_pure d real k begun (omega arith)), ap (λ (R : ℕ). Oldest d R k) r, ap (λ (R : ℕ). hand R (map {A = T} Some xs)) r) in
-      subst (λ (x : ℕ). Puts start s 0 x (Claims v) ws [] id) (sym (writes ∙ ap (λ (R : ℕ). head_word (R + k) k) (sym r))) (
+      subst (λ (x : ℕ). Puts start s 11 x (Claims v) ws [] id) (sym (writes ∙ ap (λ (R : ℕ). head_word (R + k) k) (sym r))) (
         claimed_view v xs,
         take_all real (map Some xs),
         take_valid (map Some xs) s.homes [] real many (claim_home start s q k xs (omega arith) refl len),

@@ -8,7 +8,7 @@ use Rattle.std.specs.Prelude.{Option, None}
 use Rattle.atomic_table.specs.Table.{State, step, Valid, homes_after, Allows}
 use Rattle.exec_live_queue.specs.declared.view.View.{View}
 use Rattle.exec_live_queue.specs.declared.view.Stage.TheVariants.{Owns}
-use Rattle.exec_live_queue.specs.Numbers.{head_word, InOrder}
+use Rattle.exec_live_queue.specs.Numbers.{head_word, InOrder, words_of}
 use Rattle.exec_live_queue.specs.Live.{Kept, LiveQueue}
 use Rattle.exec_live_queue.specs.Plays.{Sat, room, hand, take_all, saw, out, laid}
 use Rattle.exec_live_queue.proofs.Hands.{take_before, take_behind, take_valid, take_carried, take_length, all_free}
@@ -56,7 +56,7 @@ module _ {T : Type 0} where
   -- `f` says how many slots to take of those that are free
   pub lays_here : (start : ℕ) (me : Sat T) (f : ℕ → ℕ) → ((r : ℕ) → f r ≤ r) → me.0.stage ≡ Owns → me.0.own.aside ≡ 0 → me.0.own.out_len ≡ 0
       → (s : State (Option T) (View T)) (k : Kept start me.0 s) → get_elem? s.views 0 ≡ some me.0
-      → Gives start s 0 (λ n. n) (laid f (step 256 0 0 0 none) me) (head_word k.real k.gap ∷ me.0.own.tail ∷ []) [] 0
+      → Gives start s 11 (λ n. n) (laid f (step 256 11 0 0 none) me) (words_of (head_word k.real k.gap) me.0.own.tail) [] 0
   lays_here start me f most owns aside none_out s k at0 =
       let real : ℕ = k.real in let gap : ℕ = k.gap in let v : View T = me.0 in let t : ℕ = v.own.tail in let small : gap < 512 = gap_fits v.own real gap k.claimed k.order in
       let n : ℕ = f (room t real gap) in let slots : List (Option T) = Vacant n in let hw : ℕ = head_word real gap in
@@ -74,8 +74,8 @@ module _ {T : Type 0} where
       )
 
   pub lays : (start : ℕ) (id : ℕ) (me : Sat T) (f : ℕ → ℕ) → ((r : ℕ) → f r ≤ r) → me.0.stage ≡ Owns → me.0.own.aside ≡ 0 → me.0.own.out_len ≡ 0 → me.1 ≡ []
-      → Allows (LiveQueue start) 256 id me 0 (λ n. n) (laid f (step 256 0 0 0 none) me)
-  lays start id me f most owns aside none_out empty = owner_steps start id 0 me [] (λ n. n) (laid f (step 256 0 0 0 none) me) owns empty (λ s k at0. lays_here start me f most owns aside none_out s k at0)
+      → Allows (LiveQueue start) 256 id me 11 (λ n. n) (laid f (step 256 11 0 0 none) me)
+  lays start id me f most owns aside none_out empty = owner_steps start id 11 me [] (λ n. n) (laid f (step 256 11 0 0 none) me) owns empty (λ s k at0. lays_here start me f most owns aside none_out s k at0)
 
 pub nothing_left : {X : Type 0} (xs : List X) → length xs ≡ 0 → xs ≡ []
 nothing_left [] e = refl

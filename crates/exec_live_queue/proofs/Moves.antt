@@ -34,7 +34,7 @@ module _ {T : Type 0} where
   handed_all m j h pos = let is : m.0.own.out_len ≡ j = h.5 ∙ (let e : 0 + j ≡ j = omega arith in e) in
       (omega (arith, is, pos), h.6 ∙ (λ i. hand (sym h.4 i) (replicate {A = Option T} (sym is i) None)))
 
-  pub handed_back : (m m' : Sat T) (j n : ℕ) → AtHand m j [] → returned (step 256 0 0 0 none) m n m' → AtRest m' × HasLooked m.0.own m'.0.own
+  pub handed_back : (m m' : Sat T) (j n : ℕ) → AtHand m j [] → returned (step 256 11 0 0 none) m n m' → AtRest m' × HasLooked m.0.own m'.0.own
   handed_back m m' j n h back = subst (λ (z : Sat T). AtRest z × HasLooked m.0.own z.0.own) (sym back.1) ((h.0, refl, h.1, refl, h.2, h.3), (refl, back.0.1.saw_before))
 
   -- one more free slot was filled

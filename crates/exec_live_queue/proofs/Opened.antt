@@ -7,7 +7,7 @@ use Rattle.std.specs.Prelude.{Option, None}
 use Rattle.std.specs.List.{sum_by}
 use Rattle.atomic_table.specs.Table.{opening}
 use Rattle.exec_live_queue.specs.declared.view.View.{View}
-use Rattle.exec_live_queue.specs.Numbers.{head_word}
+use Rattle.exec_live_queue.specs.Numbers.{head_word, words_of}
 use Rattle.exec_live_queue.specs.Live.{labels, Knows, AsLogged, LiveQueue, opened}
 
 no_label : (a n : ℕ) (w : ℕ → ℕ) → n ≡ 0 → sum_by w (labels a n) ≡ 0
@@ -25,7 +25,7 @@ module _ {T : Type 0} where
   one v zero u e = (refl, some-injective v u e)
   one v (suc j) u e = absurd (some-ne-none u (sym e))
 
-  pub opens : (start n : ℕ) (ws : List ℕ) (xs : List (Option T)) → start + 512 ≤ 2 ^ 55 → n ≡ 256 → xs ≡ replicate n None → ws ≡ head_word start 0 ∷ start ∷ [] → LiveQueue start (opening ws xs (opened start))
+  pub opens : (start n : ℕ) (ws : List ℕ) (xs : List (Option T)) → start + 512 ≤ 2 ^ 55 → n ≡ 256 → xs ≡ replicate n None → ws ≡ words_of (head_word start 0) start → LiveQueue start (opening ws xs (opened start))
   opens start n ws xs small wide free words =
       let v : View T = opened start in let len : length (map some xs) ≡ n = length-map xs some ∙ ap length free ∙ length-replicate n None in let level : start - start ≡ 0 = omega arith in
       let only : (j : ℕ) (u : View T) → get_elem? (v ∷ []) j ≡ some u → (j ≡ 0) × (v ≡ u) = one v in record {

@@ -1,5 +1,5 @@
 -- A full queue flows over, and shows again what it kept: both keep the rule.
-use Rattle.std.proofs.Common.{◌≡◌, ℕ, ◌+◌, ◌-◌, ◌/◌, ◌%◌, ◌^◌, ◌<◌, ◌≤◌, eqb, List, [], ◌∷◌, ◌++◌, map, length, set, take, drop, sym, refl, ap, ◌∙◌, subst, ⊎_elim, le_refl, length-append, length-drop, append-nil, arith}
+use Rattle.std.proofs.Common.{◌≡◌, ℕ, ◌+◌, ◌-◌, ◌/◌, ◌%◌, ◌^◌, ◌<◌, ◌≤◌, eqb, List, [], ◌++◌, map, length, set, take, drop, sym, refl, ap, ◌∙◌, subst, ⊎_elim, le_refl, length-append, length-drop, append-nil, arith}
 use Rattle.std.proofs.Math.Nat.{add-mod_right}
 use Rattle.std.proofs.lemmas.List.{length-take-le}
 use mathlib.Core.Option.{none, some, some-injective}
@@ -14,7 +14,7 @@ use Rattle.exec_words.specs.Queue.{overflowed, restored}
 use Rattle.exec_live_queue.specs.declared.view.Own.{Own}
 use Rattle.exec_live_queue.specs.declared.view.View.{View}
 use Rattle.exec_live_queue.specs.declared.view.Stage.TheVariants.{Owns}
-use Rattle.exec_live_queue.specs.Numbers.{head_word, Outside, InOrder}
+use Rattle.exec_live_queue.specs.Numbers.{head_word, Outside, InOrder, words_of}
 use Rattle.exec_live_queue.specs.Pure.{queue_at}
 use Rattle.exec_live_queue.specs.Live.{labels, HomeAt, Kept, LiveQueue}
 use Rattle.exec_live_queue.specs.Plays.{Sat, hand, take_all, whole, overflowed_view, Overflowed, flows_over, missed, restored_view, restores}
@@ -44,13 +44,13 @@ module _ {T : Type 0} where
   -- the rule after the exchange, at which the newest half went out with the owner
   overflowed_kept : (start : ℕ) (s : State (Option T) (View T)) (v : View T) (k : Kept start v s) → get_elem? s.views 0 ≡ some v → v.stage ≡ Owns
       → v.own.aside ≡ 0 → k.real ≡ v.own.saw_real → k.gap ≡ 0 → v.own.saw_real + 256 ≡ v.own.tail → v.own.tail + 128 + 256 ≤ 2 ^ 55
-      → LiveQueue start record { words = head_word v.own.tail 0 ∷ v.own.tail ∷ []; homes = homes_after s.homes [] (take_all (v.own.saw_real + 128) (map Some (drop 128 (whole v.own)))); views = set s.views 0 (overflowed_view v) }
+      → LiveQueue start record { words = words_of (head_word v.own.tail 0) v.own.tail; homes = homes_after s.homes [] (take_all (v.own.saw_real + 128) (map Some (drop 128 (whole v.own)))); views = set s.views 0 (overflowed_view v) }
   overflowed_kept start s v k at owns aside sees unclaimed full room =
       let t : ℕ = v.own.tail in let real : ℕ = v.own.saw_real in let o = k.order in let z : v.own.aside ≡ 0 = aside in let is : k.real ≡ real = sees in let b : v.own.start ≤ k.real = o.begun in let f : real + 256 ≡ t = full in
       let order : InOrder v.own k.real 0 k.claimed = subst (λ (g : ℕ). InOrder v.own k.real g k.claimed) unclaimed o in let long : v.own.start + length v.own.log ≡ t + v.own.aside = k.long in
       let W : List T = whole v.own in let wide : length W ≡ 256 = whole_length v.own (omega arith) (omega arith) full in let kept : List T = take 128 W in
       let half : length kept ≡ 128 = length-take-le 128 W (omega arith) in let out : List (Option T) = map Some (drop 128 W) in let many : length out ≡ 128 = length-map (drop 128 W) Some ∙ (let e = length-drop 128 W in omega (arith, e)) in
-      rebuilt start s v (overflowed_view v) k (head_word t 0 ∷ t ∷ []) (homes_after s.homes [] (take_all (real + 128) out)) t 0 at owns owns k.from (take_length out s.homes [] (real + 128) ∙ k.slots) refl
+      rebuilt start s v (overflowed_view v) k (words_of (head_word t 0) t) (homes_after s.homes [] (take_all (real + 128) out)) t 0 at owns owns k.from (take_length out s.homes [] (real + 128) ∙ k.slots) refl
       (overflowed_order v.own k.real k.claimed (v.own.log ++ kept) (v.own.exported ++ labels (real + 128) 128) (v.own.relabelled ++ labels real 128) order o.behind room)
       (let a = length-append v.own.log kept in omega (arith, a)) (le_refl t) o.behind (λ pos. absurd (omega (arith, pos, unclaimed))) (λ pos. absurd (omega (arith, pos)))
       (λ l le (lt : l < t + 128). let j : ℕ = l - t in let old : ℕ = real + j in let back : old + 256 ≡ l = omega arith in let g = k.full old (omega arith) (omega arith) in
@@ -88,18 +88,18 @@ module _ {T : Type 0} where
 
   pub flows_over_rule : (start id : ℕ) (me : Sat T) (old new : ℕ) → me.0.stage ≡ Owns → me.0.own.aside ≡ 0 → me.0.own.out_len ≡ 0 → me.1 ≡ []
       → old / 512 ≡ me.0.own.saw_real → old % 512 ≡ 0 → me.0.own.saw_real + 256 ≡ me.0.own.tail → me.0.own.tail + 128 + 256 ≤ 2 ^ 55 → new ≡ head_word me.0.own.tail 0
-      → Allows (LiveQueue start) 256 id me 0 (λ n. either (eqb n old) new n) (flows_over (step 256 0 old new none) me)
-  flows_over_rule start id me old new owns aside none_out empty sees_real unclaimed full room writes = owner_steps start id 0 me [] (λ n. either (eqb n old) new n) (flows_over (step 256 0 old new none) me) owns empty (λ s k at0.
-      let v : View T = me.0 in let hw : ℕ = head_word k.real k.gap in let ws : List ℕ = hw ∷ v.own.tail ∷ [] in let small : k.gap < 512 = gap_fits v.own k.real k.gap k.claimed k.order in
+      → Allows (LiveQueue start) 256 id me 11 (λ n. either (eqb n old) new n) (flows_over (step 256 11 old new none) me)
+  flows_over_rule start id me old new owns aside none_out empty sees_real unclaimed full room writes = owner_steps start id 11 me [] (λ n. either (eqb n old) new n) (flows_over (step 256 11 old new none) me) owns empty (λ s k at0.
+      let v : View T = me.0 in let hw : ℕ = head_word k.real k.gap in let ws : List ℕ = words_of hw v.own.tail in let small : k.gap < 512 = gap_fits v.own k.real k.gap k.claimed k.order in
       let out : List (Option T) = map Some (drop 128 (whole v.own)) in let z : v.own.aside ≡ 0 = aside in
-      exchanges start s ws [] 0 hw old new (Overflowed v) (missed (step 256 0 old new none) me hw)
+      exchanges start s ws [] 0 hw old new (Overflowed v) (missed (step 256 11 old new none) me hw)
       (λ e. let r : k.real ≡ v.own.saw_real = sym (count_of_word k.real k.gap small) ∙ ap (λ (n : ℕ). n / 512) e ∙ sees_real in
       let g : k.gap ≡ 0 = sym (gap_of_word k.real k.gap small) ∙ ap (λ (n : ℕ). n % 512) e ∙ unclaimed in
       let b : v.own.start ≤ k.real = k.order.begun in let long : v.own.start + length v.own.log ≡ v.own.tail + v.own.aside = k.long in let f : v.own.saw_real + 256 ≡ v.own.tail = full in
       let many : length out ≤ 256 = (let w = whole_length v.own (omega arith) (omega arith) full in let a : length out ≡ length (drop 128 (whole v.own)) = length-map (drop 128 (whole v.own)) Some in let c = length-drop 128 (whole v.own) in omega (arith, w, a, c)) in
       let further : v.own.saw_real + 128 + 256 ≡ v.own.tail + 128 = omega arith in
       let carried : hand (v.own.saw_real + 128) out ++ [] ≡ hand (v.own.tail + 128) out = append-nil (hand (v.own.saw_real + 128) out) ∙ sym (hand_turn (v.own.saw_real + 128) out) ∙ ap (λ (n : ℕ). hand n out) further in
-      subst (λ (x : ℕ). Puts start s 0 x (Overflowed v) ws [] 0) (sym writes) (
+      subst (λ (x : ℕ). Puts start s 11 x (Overflowed v) ws [] 0) (sym writes) (
         overflowed_view v,
         take_all (v.own.saw_real + 128) out,
         take_valid out s.homes [] (v.own.saw_real + 128) many (newest_home start s v k aside r full),
@@ -110,10 +110,10 @@ module _ {T : Type 0} where
 
   -- the rule after the store that shows again what was kept
   restored_kept : (start : ℕ) (s : State (Option T) (View T)) (v : View T) (k : Kept start v s) → get_elem? s.views 0 ≡ some v → v.stage ≡ Owns → v.own.aside ≡ 128
-      → LiveQueue start record { words = head_word k.real k.gap ∷ (v.own.tail + v.own.aside) ∷ []; homes = s.homes; views = set s.views 0 (restored_view v) }
+      → LiveQueue start record { words = words_of (head_word k.real k.gap) (v.own.tail + v.own.aside); homes = s.homes; views = set s.views 0 (restored_view v) }
   restored_kept start s v k at owns half =
       let t : ℕ = v.own.tail in let real : ℕ = k.real in let gap : ℕ = k.gap in let whole : t + v.own.aside + 0 ≡ t + v.own.aside = omega arith in
-      rebuilt start s v (restored_view v) k (head_word real gap ∷ (t + v.own.aside) ∷ []) s.homes real gap at owns owns k.from k.slots refl (restored_order v.own real gap k.claimed k.order half)
+      rebuilt start s v (restored_view v) k (words_of (head_word real gap) (t + v.own.aside)) s.homes real gap at owns owns k.from k.slots refl (restored_order v.own real gap k.claimed k.order half)
       (k.long ∙ sym whole) (omega arith) (le_refl real) (λ q. (q, refl)) (λ q. q)
       (λ l le lt. k.full l le (omega arith)) (λ l le lt beside outside. k.free l (omega arith) lt beside outside) refl (λ l x e. e) (λ weight. refl)
 
@@ -122,8 +122,8 @@ module _ {T : Type 0} where
       ap (λ (n : ℕ). record { real = d.tail; gap = gap; values = take n (drop (d.tail - d.start) d.log); held = [] }) e
 
   pub restore_rule : (start id : ℕ) (me : Sat T) (new : ℕ) → me.0.stage ≡ Owns → me.0.own.aside ≡ 128 → new ≡ me.0.own.tail + me.0.own.aside
-      → Allows (LiveQueue start) 256 id me 1 (λ _. new) (λ _. restores (step 256 1 new 0 none) me new)
-  restore_rule start id me new owns half writes = owner_steps start id 1 me me.1 (λ _. new) (λ _. restores (step 256 1 new 0 none) me new) owns refl (λ s k at.
-      let ws : List ℕ = head_word k.real k.gap ∷ me.0.own.tail ∷ [] in
-      subst (λ (x : ℕ). Puts start s 1 x (restores (step 256 1 new 0 none) me new) ws me.1 0) (sym writes)
+      → Allows (LiveQueue start) 256 id me 12 (λ _. new) (λ _. restores (step 256 12 new 0 none) me new)
+  restore_rule start id me new owns half writes = owner_steps start id 12 me me.1 (λ _. new) (λ _. restores (step 256 12 new 0 none) me new) owns refl (λ s k at.
+      let ws : List ℕ = words_of (head_word k.real k.gap) me.0.own.tail in
+      subst (λ (x : ℕ). Puts start s 12 x (restores (step 256 12 new 0 none) me new) ws me.1 0) (sym writes)
       (restored_view me.0, keeps, tt, restored_kept start s me.0 k at owns half, ((λ gap. restored_pure me.0 gap), refl)))

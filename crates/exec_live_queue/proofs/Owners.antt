@@ -34,15 +34,15 @@ room_cases tail left len fits = dite (dec_le (2 ^ 55 - 512) tail)
 
 module _ {T : Type 0} where
   -- a look
-  pub laid_looked : (f : ℕ → ℕ) (m m' : Sat T) (n : ℕ) → laid f (step 256 0 0 0 none) m n m' → HasLooked m.0.own m'.0.own
+  pub laid_looked : (f : ℕ → ℕ) (m m' : Sat T) (n : ℕ) → laid f (step 256 11 0 0 none) m n m' → HasLooked m.0.own m'.0.own
   laid_looked f m m' n l = let d = m.0.own in let o = l.0.1 in subst (λ (x : Sat T). HasLooked d x.0.own) (sym l.1) (refl, o.saw_before)
 
   -- one that took nothing
-  pub looks_at : (f : ℕ → ℕ) (m m' : Sat T) (n : ℕ) → AtRest m → f (room m.0.own.tail (n / 512) (n % 512)) ≡ 0 → laid f (step 256 0 0 0 none) m n m' → AtRest m' × HasLooked m.0.own m'.0.own
+  pub looks_at : (f : ℕ → ℕ) (m m' : Sat T) (n : ℕ) → AtRest m → f (room m.0.own.tail (n / 512) (n % 512)) ≡ 0 → laid f (step 256 11 0 0 none) m n m' → AtRest m' × HasLooked m.0.own m'.0.own
   looks_at f m m' n r dry l = let t : ℕ = m.0.own.tail in
       (subst AtRest (sym (l.1 ∙ ap (λ (k : ℕ). (out (saw m.0 (n / 512) (n % 512)) t k, hand t (replicate {A = Option T} k None))) dry)) (r.0, refl, r.2, refl, r.4, r.5), laid_looked f m m' n l)
 
-  pub looks : (m m' : Sat T) (n : ℕ) → AtRest m → laid (λ room. 0) (step 256 0 0 0 none) m n m' → AtRest m' × HasLooked m.0.own m'.0.own
+  pub looks : (m m' : Sat T) (n : ℕ) → AtRest m → laid (λ room. 0) (step 256 11 0 0 none) m n m' → AtRest m' × HasLooked m.0.own m'.0.own
   looks m m' n r l = looks_at (λ _. 0) m m' n r refl l
 
   -- a look leaves the tail
@@ -60,19 +60,20 @@ module _ {T : Type 0} where
     subst (λ (y : Own T). get_elem? y.log (k.0 - y.start) ≡ some x) h.0 k.1,
     omega (arith, h.1, k.2),
     k.3,
-    k.4 ∙ ap (λ (y : Own T). record (looked y d) { popped = y.popped ++ k.0 ∷ [] }) h.0,
+    subst (λ (y : Own T). d.saw_real ≤ y.tail) h.0 k.4,
+    k.5 ∙ ap (λ (y : Own T). record (looked y d) { popped = y.popped ++ k.0 ∷ [] }) h.0,
   )
 
   -- a pop, and the look at which its slot went back
   pub pops_off : (m m1 m2 : Sat T) (x y : T) (n gap : ℕ) → AtRest m → m1.0 ≡ popped_view m.0 m.0.own.saw_real gap → get_elem? m.0.own.log (m.0.own.saw_real - m.0.own.start) ≡ some y → x ≡ y
-      → returned (step 256 0 0 0 none) m1 n m2 → AtRest m2 × HasPopped m.0.own x m2.0.own
+      → returned (step 256 11 0 0 none) m1 n m2 → AtRest m2 × HasPopped m.0.own x m2.0.own
   pops_off m m1 m2 x y n gap r view at same back =
       let d = m.0.own in let real : ℕ = d.saw_real in let o = back.0.1 in
       let past : real + 1 ≤ n / 512 = subst (λ (v : View T). v.own.saw_real ≤ n / 512) view o.saw_before in
       subst (λ (z : Sat T). AtRest z × HasPopped d x z.0.own) (sym back.1)
       (subst (λ (v : View T). AtRest (record v { own = record v.own { saw_real = n / 512; saw_gap = n % 512; out_at = v.own.tail; out_len = 0 } }, [])
       × HasPopped d x (record v.own { saw_real = n / 512; saw_gap = n % 512; out_at = v.own.tail; out_len = 0 })) (sym view)
-      ((r.0, refl, r.2, refl, r.4, r.5), (real, at ∙ ap some (sym same), omega arith, omega (arith, past), refl)))
+      ((r.0, refl, r.2, refl, r.4, r.5), (real, at ∙ ap some (sym same), omega arith, omega (arith, past), subst (λ (v : View T). n / 512 ≤ v.own.tail) view o.behind, refl)))
 
   -- a head that was found in place of the one that was seen leaves fewer values, or as many and no claim
   pub fewer : (d : Own T) (seen n tail : ℕ) → IsSeen d seen → Found d n → n ≢ seen → d.saw_real < tail → 2 * (tail - n / 512) + min (n % 512) 1 < 2 * (tail - seen / 512) + min (seen % 512) 1
@@ -82,7 +83,7 @@ module _ {T : Type 0} where
       (λ other. omega arith)
 
   -- the head that was found is the one that was seen last
-  pub laid_seen : (f : ℕ → ℕ) (m m' : Sat T) (n : ℕ) → laid f (step 256 0 0 0 none) m n m' → IsSeen m'.0.own n
+  pub laid_seen : (f : ℕ → ℕ) (m m' : Sat T) (n : ℕ) → laid f (step 256 11 0 0 none) m n m' → IsSeen m'.0.own n
   laid_seen f m m' n l = let o = l.0.1 in subst (λ (x : Sat T). IsSeen x.0.own n) (sym l.1) (refl, refl, o.begun, o.behind, o.within)
 
   same_value : (a b : ℕ) (x y : T) → hand a (Some x ∷ []) ≡ hand b (Some y ∷ []) → x ≡ y
@@ -98,22 +99,22 @@ module _ {T : Type 0} where
 
   -- the whole pop
   pub pops_back : (m m1 m2 : Sat T) (x : T) (real n gap : ℕ) → AtRest m → Popped m.0 m.0.own.saw_real gap m1 → real ≡ m.0.own.saw_real → m1.1 ≡ hand (real + 256) (Some x ∷ [])
-      → returned (step 256 0 0 0 none) m1 n m2 → AtRest m2 × HasPopped m.0.own x m2.0.own
+      → returned (step 256 11 0 0 none) m1 n m2 → AtRest m2 × HasPopped m.0.own x m2.0.own
   pops_back m m1 m2 x real n gap r p same took back =
       pops_off m m1 m2 x p.1 n (after_pop m.0.own.saw_real gap).gap r (ap (λ (z : Sat T). z.0) p.3) p.2 (same_value (real + 256) (m.0.own.saw_real + 256) x p.1 (sym took ∙ ap (λ (z : Sat T). z.1) p.3)) back
 
   -- a look that took the one free slot that it asked for
-  pub took_one : (m m' : Sat T) (n : ℕ) → laid (λ room. min room 1) (step 256 0 0 0 none) m n m' → m.0.own.tail - n / 512 + n % 512 < 256
+  pub took_one : (m m' : Sat T) (n : ℕ) → laid (λ room. min room 1) (step 256 11 0 0 none) m n m' → m.0.own.tail - n / 512 + n % 512 < 256
       → (m'.0.own.out_at ≡ m.0.own.tail) × (m'.0.own.out_len ≡ 1) × (m'.1 ≡ hand m.0.own.tail (None ∷ []))
   took_one m m' n l lt = let t : ℕ = m.0.own.tail in let o = l.0.1 in let b : n / 512 ≤ t = o.behind in let one : min (room t (n / 512) (n % 512)) 1 ≡ 1 = omega arith in
       let is : m' ≡ (out (saw m.0 (n / 512) (n % 512)) t 1, hand t (None ∷ [])) = l.1 ∙ ap (λ (k : ℕ). (out (saw m.0 (n / 512) (n % 512)) t k, hand t (replicate {A = Option T} k None))) one in
       (ap (λ (x : Sat T). x.0.own.out_at) is, ap (λ (x : Sat T). x.0.own.out_len) is, ap (λ (x : Sat T). x.1) is)
 
-  took_none : (m m' : Sat T) (n : ℕ) → laid (λ room. min room 1) (step 256 0 0 0 none) m n m' → 256 ≤ m.0.own.tail - n / 512 + n % 512 → min (room m.0.own.tail (n / 512) (n % 512)) 1 ≡ 0
+  took_none : (m m' : Sat T) (n : ℕ) → laid (λ room. min room 1) (step 256 11 0 0 none) m n m' → 256 ≤ m.0.own.tail - n / 512 + n % 512 → min (room m.0.own.tail (n / 512) (n % 512)) 1 ≡ 0
   took_none m m' n l le = let t : ℕ = m.0.own.tail in let b : n / 512 ≤ t = l.0.1.behind in omega arith
 
   -- one that found no room
-  pub looks_full : (m m' : Sat T) (n : ℕ) → AtRest m → laid (λ room. min room 1) (step 256 0 0 0 none) m n m' → 256 ≤ m.0.own.tail - n / 512 + n % 512 → AtRest m' × HasLooked m.0.own m'.0.own
+  pub looks_full : (m m' : Sat T) (n : ℕ) → AtRest m → laid (λ room. min room 1) (step 256 11 0 0 none) m n m' → 256 ≤ m.0.own.tail - n / 512 + n % 512 → AtRest m' × HasLooked m.0.own m'.0.own
   looks_full m m' n r l le = looks_at (λ room. min room 1) m m' n r (took_none m m' n l le) l
 
   -- the slot was filled
@@ -174,7 +175,7 @@ module _ {T : Type 0} where
       (λ (some_room : (len ≤ left) × (tail < 2 ^ 55 - 512)). let g : len ≤ 256 - (tail - d.saw_real) - d.saw_gap = some_room.0 in let h = some_room.1 in (omega arith, omega arith, omega arith)) (room_cases tail left len fits)
 
   -- all free slots were taken
-  pub took_room : (m m' : Sat T) (n : ℕ) → laid (λ room. room) (step 256 0 0 0 none) m n m' → AtRest m
+  pub took_room : (m m' : Sat T) (n : ℕ) → laid (λ room. room) (step 256 11 0 0 none) m n m' → AtRest m
       → (m'.0.own.out_at ≡ m.0.own.tail) × (m'.0.own.out_len ≡ room m.0.own.tail (n / 512) (n % 512)) × (m'.0.stage ≡ Owns) × (m'.0.own.aside ≡ 0) × (m'.0.own.tail ≡ m.0.own.tail) × Fills m' m'.0 m.0.own.tail (room m.0.own.tail (n / 512) (n % 512)) []
   took_room m m' n l r = let is = l.1 in let t : ℕ = m.0.own.tail in let here : t ≡ t + 0 = omega arith in let free : List (Option T) = replicate (room t (n / 512) (n % 512)) None in (
     ap (λ (x : Sat T). x.0.own.out_at) is,
@@ -186,7 +187,7 @@ module _ {T : Type 0} where
   )
 
   -- those that a batch of this length needs, and the others
-  pub free_slots : (m m' : Sat T) (n tail len : ℕ) → laid (λ room. room) (step 256 0 0 0 none) m n m' → AtRest m → tail ≡ m.0.own.tail → len ≤ room m.0.own.tail (n / 512) (n % 512)
+  pub free_slots : (m m' : Sat T) (n tail len : ℕ) → laid (λ room. room) (step 256 11 0 0 none) m n m' → AtRest m → tail ≡ m.0.own.tail → len ≤ room m.0.own.tail (n / 512) (n % 512)
       → Fills m' m'.0 tail (len + (room m.0.own.tail (n / 512) (n % 512) - len)) []
   free_slots m m' n tail len l r is fits = let all : ℕ = room m.0.own.tail (n / 512) (n % 512) in let split : all ≡ len + (all - len) = omega arith in
       (took_room m m' n l r).5 ∙ (λ j. (m'.0, hand (sym is j + 0) (replicate {A = Option T} (split j) None) ++ []))

@@ -11,7 +11,7 @@ use Rattle.std.proofs.Math.Nat.{add-mod_right}
 use Rattle.exec_words.specs.Queue.{popped}
 use Rattle.exec_live_queue.specs.declared.view.View.{View}
 use Rattle.exec_live_queue.specs.declared.view.Stage.TheVariants.{Owns}
-use Rattle.exec_live_queue.specs.Numbers.{head_word, Outside, BesideClaim}
+use Rattle.exec_live_queue.specs.Numbers.{head_word, Outside, BesideClaim, words_of}
 use Rattle.exec_live_queue.specs.Pure.{queue_at}
 use Rattle.exec_live_queue.specs.Live.{labels, Homes, Kept, LiveQueue}
 use Rattle.exec_live_queue.specs.Plays.{Sat, after_pop, hand, take_all, popped_view, Popped, pops, pops_last, missed}
@@ -37,11 +37,11 @@ module _ {T : Type 0} where
   -- the rule after a pop, at which the front slot went out with the owner
   popped_kept : (start : ℕ) (s : State (Option T) (View T)) (v : View T) (k : Kept start v s) (x : T) (gap' : ℕ) → get_elem? s.views 0 ≡ some v → v.stage ≡ Owns → v.own.aside ≡ 0 → v.own.out_len ≡ 0 → k.real < v.own.tail
       → ((k.gap ≡ 0) × (gap' ≡ 0)) ⊎ ((0 < k.gap) × (gap' ≡ k.gap + 1))
-      → LiveQueue start record { words = head_word (k.real + 1) gap' ∷ v.own.tail ∷ []; homes = homes_after s.homes [] (take_all k.real (Some x ∷ [])); views = set s.views 0 (popped_view v k.real gap') }
+      → LiveQueue start record { words = words_of (head_word (k.real + 1) gap') v.own.tail; homes = homes_after s.homes [] (take_all k.real (Some x ∷ [])); views = set s.views 0 (popped_view v k.real gap') }
   popped_kept start s v k x gap' at owns aside none_out any wide =
       let t : ℕ = v.own.tail in let real : ℕ = k.real in let gap : ℕ = k.gap in let o = k.order in let w : t + gap ≤ real + 256 = o.within in let z : v.own.aside ≡ 0 = aside in
       let homes' : Homes T = homes_after s.homes [] (take_all real (Some x ∷ [])) in let b : v.own.start ≤ real = o.begun in
-      rebuilt start s v (popped_view v real gap') k (head_word (real + 1) gap' ∷ t ∷ []) homes' (real + 1) gap' at owns owns k.from
+      rebuilt start s v (popped_view v real gap') k (words_of (head_word (real + 1) gap') t) homes' (real + 1) gap' at owns owns k.from
       (take_length (Some x ∷ []) s.homes [] real ∙ k.slots) refl (popped_order v.own real gap gap' k.claimed (v.own.popped ++ real ∷ []) o aside any wide) k.long (le_refl t) (omega arith)
       (λ pos. ⊎_elim (λ (e : (gap ≡ 0) × (gap' ≡ 0)). absurd (omega (arith, pos, e.0))) (λ (g : (0 < gap) × (gap' ≡ gap + 1)). (omega (arith, g.1), omega (arith, g.1))) wide)
       (λ pos. ⊎_elim (λ (e : (gap ≡ 0) × (gap' ≡ 0)). absurd (omega (arith, pos, e.1))) (λ (g : (0 < gap) × (gap' ≡ gap + 1)). g.0) wide)
@@ -63,7 +63,7 @@ module _ {T : Type 0} where
 
   -- what a pop gives, where it writes the head after it
   pops_here : (start : ℕ) (me : Sat T) (s : State (Option T) (View T)) (k : Kept start me.0 s) → get_elem? s.views 0 ≡ some me.0 → me.0.stage ≡ Owns → me.0.own.aside ≡ 0 → me.0.own.out_len ≡ 0 → k.real < me.0.own.tail
-      → Puts start s 0 (head_word (k.real + 1) (after_pop k.real k.gap).gap) (Popped me.0 k.real k.gap) (head_word k.real k.gap ∷ me.0.own.tail ∷ []) [] 0
+      → Puts start s 11 (head_word (k.real + 1) (after_pop k.real k.gap).gap) (Popped me.0 k.real k.gap) (words_of (head_word k.real k.gap) me.0.own.tail) [] 0
   pops_here start me s k at owns aside none_out any =
       let v : View T = me.0 in let real : ℕ = k.real in let gap : ℕ = k.gap in let z : v.own.aside ≡ 0 = aside in let f = k.full real (le_refl real) (omega arith) in
       let gap' : ℕ = (after_pop real gap).gap in (
@@ -76,25 +76,25 @@ module _ {T : Type 0} where
 
   pub pops_rule : (start id : ℕ) (me : Sat T) (old new : ℕ) → me.0.stage ≡ Owns → me.0.own.aside ≡ 0 → me.0.own.out_len ≡ 0 → me.1 ≡ []
       → old / 512 ≡ me.0.own.saw_real → old % 512 ≡ me.0.own.saw_gap → me.0.own.saw_real < me.0.own.tail → new ≡ head_word (me.0.own.saw_real + 1) (after_pop me.0.own.saw_real me.0.own.saw_gap).gap
-      → Allows (LiveQueue start) 256 id me 0 (λ n. either (eqb n old) new n) (pops (step 256 0 old new none) me)
-  pops_rule start id me old new owns aside none_out empty sees_real sees_gap any writes = owner_steps start id 0 me [] (λ n. either (eqb n old) new n) (pops (step 256 0 old new none) me) owns empty (λ s k at0.
-      let hw : ℕ = head_word k.real k.gap in let ws : List ℕ = hw ∷ me.0.own.tail ∷ [] in let small : k.gap < 512 = gap_fits me.0.own k.real k.gap k.claimed k.order in
-      exchanges start s ws [] 0 hw old new (Popped me.0 me.0.own.saw_real me.0.own.saw_gap) (missed (step 256 0 old new none) me hw)
+      → Allows (LiveQueue start) 256 id me 11 (λ n. either (eqb n old) new n) (pops (step 256 11 old new none) me)
+  pops_rule start id me old new owns aside none_out empty sees_real sees_gap any writes = owner_steps start id 11 me [] (λ n. either (eqb n old) new n) (pops (step 256 11 old new none) me) owns empty (λ s k at0.
+      let hw : ℕ = head_word k.real k.gap in let ws : List ℕ = words_of hw me.0.own.tail in let small : k.gap < 512 = gap_fits me.0.own k.real k.gap k.claimed k.order in
+      exchanges start s ws [] 0 hw old new (Popped me.0 me.0.own.saw_real me.0.own.saw_gap) (missed (step 256 11 old new none) me hw)
       (λ e. let r : k.real ≡ me.0.own.saw_real = sym (count_of_word k.real k.gap small) ∙ ap (λ (n : ℕ). n / 512) e ∙ sees_real in
       let g : k.gap ≡ me.0.own.saw_gap = sym (gap_of_word k.real k.gap small) ∙ ap (λ (n : ℕ). n % 512) e ∙ sees_gap in
       let there : k.real < me.0.own.tail = subst (λ (n : ℕ). n < me.0.own.tail) (sym r) any in
-      subst (λ (x : ℕ). Puts start s 0 x (Popped me.0 me.0.own.saw_real me.0.own.saw_gap) ws [] 0) (sym writes)
-      (subst (λ (R : ℕ). Puts start s 0 (head_word (R + 1) (after_pop R me.0.own.saw_gap).gap) (Popped me.0 R me.0.own.saw_gap) ws [] 0) r
-      (subst (λ (G : ℕ). Puts start s 0 (head_word (k.real + 1) (after_pop k.real G).gap) (Popped me.0 k.real G) ws [] 0) g (pops_here start me s k at0 owns aside none_out there))))
+      subst (λ (x : ℕ). Puts start s 11 x (Popped me.0 me.0.own.saw_real me.0.own.saw_gap) ws [] 0) (sym writes)
+      (subst (λ (R : ℕ). Puts start s 11 (head_word (R + 1) (after_pop R me.0.own.saw_gap).gap) (Popped me.0 R me.0.own.saw_gap) ws [] 0) r
+      (subst (λ (G : ℕ). Puts start s 11 (head_word (k.real + 1) (after_pop k.real G).gap) (Popped me.0 k.real G) ws [] 0) g (pops_here start me s k at0 owns aside none_out there))))
       (λ ne. lays_here start me (λ room. 0) (λ r. omega arith) owns aside none_out s k at0))
 
   -- no thief can take a lone value, so the owner's store finds the head that it saw
   pub pops_last_rule : (start id : ℕ) (me : Sat T) (new : ℕ) → me.0.stage ≡ Owns → me.0.own.aside ≡ 0 → me.0.own.out_len ≡ 0 → me.1 ≡ []
       → me.0.own.saw_gap ≡ 0 → me.0.own.saw_real + 1 ≡ me.0.own.tail → new ≡ head_word (me.0.own.saw_real + 1) 0
-      → Allows (LiveQueue start) 256 id me 0 (λ _. new) (λ _. pops_last (step 256 0 new 0 none) me new)
-  pops_last_rule start id me new owns aside none_out empty unclaimed lone writes = owner_steps start id 0 me [] (λ _. new) (λ _. pops_last (step 256 0 new 0 none) me new) owns empty (λ s k at0.
-      let ws : List ℕ = head_word k.real k.gap ∷ me.0.own.tail ∷ [] in let is = k.order.saw_lone unclaimed (omega arith) in
+      → Allows (LiveQueue start) 256 id me 11 (λ _. new) (λ _. pops_last (step 256 11 new 0 none) me new)
+  pops_last_rule start id me new owns aside none_out empty unclaimed lone writes = owner_steps start id 11 me [] (λ _. new) (λ _. pops_last (step 256 11 new 0 none) me new) owns empty (λ s k at0.
+      let ws : List ℕ = words_of (head_word k.real k.gap) me.0.own.tail in let is = k.order.saw_lone unclaimed (omega arith) in
       let there : k.real < me.0.own.tail = omega (arith, is.0, lone) in
-      subst (λ (x : ℕ). Puts start s 0 x (Popped me.0 me.0.own.saw_real 0) ws [] 0) (sym writes)
-      (subst (λ (R : ℕ). Puts start s 0 (head_word (R + 1) 0) (Popped me.0 R 0) ws [] 0) is.0
-      (subst (λ (G : ℕ). Puts start s 0 (head_word (k.real + 1) (after_pop k.real G).gap) (Popped me.0 k.real G) ws [] 0) is.1 (pops_here start me s k at0 owns aside none_out there))))
+      subst (λ (x : ℕ). Puts start s 11 x (Popped me.0 me.0.own.saw_real 0) ws [] 0) (sym writes)
+      (subst (λ (R : ℕ). Puts start s 11 (head_word (R + 1) 0) (Popped me.0 R 0) ws [] 0) is.0
+      (subst (λ (G : ℕ). Puts start s 11 (head_word (k.real + 1) (after_pop k.real G).gap) (Popped me.0 k.real G) ws [] 0) is.1 (pops_here start me s k at0 owns aside none_out there))))

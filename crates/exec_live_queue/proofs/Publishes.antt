@@ -1,5 +1,5 @@
 -- The owner's store of the tail, which shows what it wrote, keeps the rule.
-use Rattle.std.proofs.Common.{◌≡◌, ℕ, ◌+◌, ◌-◌, ◌^◌, ◌<◌, ◌≤◌, List, [], ◌∷◌, ◌++◌, map, length, set, sym, refl, ap, ◌∙◌, subst, inr, le_refl, lt_of_not-le, length-append, arith}
+use Rattle.std.proofs.Common.{◌≡◌, ℕ, ◌+◌, ◌-◌, ◌^◌, ◌<◌, ◌≤◌, List, [], ◌++◌, map, length, set, sym, refl, ap, ◌∙◌, subst, inr, le_refl, lt_of_not-le, length-append, arith}
 use mathlib.Core.Option.{none, some}
 use mathlib.Core.Logic.{dite}
 use native.Mathlib.Decide.{dec_le}
@@ -12,7 +12,7 @@ use Rattle.atomic_table.proofs.Lists.{at_longer}
 use Rattle.exec_live_queue.specs.declared.view.Own.{Own}
 use Rattle.exec_live_queue.specs.declared.view.View.{View}
 use Rattle.exec_live_queue.specs.declared.view.Stage.TheVariants.{Owns}
-use Rattle.exec_live_queue.specs.Numbers.{head_word}
+use Rattle.exec_live_queue.specs.Numbers.{head_word, words_of}
 use Rattle.exec_live_queue.specs.Live.{Homes, Kept, LiveQueue}
 use Rattle.exec_words.specs.Queue.{published}
 use Rattle.exec_live_queue.specs.Pure.{queue_at}
@@ -33,14 +33,14 @@ module _ {T : Type 0} where
   -- the rule after the store, at which the values xs came home from the owner, and r slots that are empty
   published_kept : (start : ℕ) (s : State (Option T) (View T)) (v : View T) (k : Kept start v s) (xs : List T) (r : ℕ) → get_elem? s.views 0 ≡ some v → v.stage ≡ Owns
       → v.own.aside ≡ 0 → v.own.out_at ≡ v.own.tail → v.own.out_len ≡ length xs + r → v.own.tail + length xs + 256 ≤ 2 ^ 55
-      → LiveQueue start record { words = head_word k.real k.gap ∷ (v.own.tail + length xs) ∷ []; homes = homes_after s.homes (hand v.own.tail (Laden xs r)) (give_all (Laden xs r)); views = set s.views 0 (published_view v xs) }
+      → LiveQueue start record { words = words_of (head_word k.real k.gap) (v.own.tail + length xs); homes = homes_after s.homes (hand v.own.tail (Laden xs r)) (give_all (Laden xs r)); views = set s.views 0 (published_view v xs) }
   published_kept start s v k xs r at owns whole place many room =
       let t : ℕ = v.own.tail in let n : ℕ = length xs in let real : ℕ = k.real in let gap : ℕ = k.gap in let o = k.order in let ys : List (Option T) = Laden xs r in let len : length ys ≡ n + r = laden_length xs r in
       let got = published_order v.own real gap k.claimed n r (v.own.log ++ xs) o whole place many room in let fits : t + (n + r) + gap ≤ real + 256 = got.0 in let b : real ≤ t = o.behind in let z : v.own.aside ≡ 0 = whole in
       let p : v.own.out_at ≡ t = place in let m : v.own.out_len ≡ n + r = many in let long : v.own.start + length v.own.log ≡ t + v.own.aside = k.long in let homes' : Homes T = homes_after s.homes (hand t ys) (give_all ys) in
       let here : AllHome homes' t ys = give_here ys s.homes t (omega (arith, len)) k.slots in
       let behind : AllHome homes' (t + n) (replicate r None) = subst (λ (j : ℕ). AllHome homes' (t + j) (replicate r None)) (length-map xs Some) (home_behind (map Some xs) (replicate r None) homes' t here) in
-      rebuilt start s v (published_view v xs) k (head_word real gap ∷ (t + n) ∷ []) homes' real gap at owns owns k.from (give_length ys s.homes t ∙ k.slots) refl got.1
+      rebuilt start s v (published_view v xs) k (words_of (head_word real gap) (t + n)) homes' real gap at owns owns k.from (give_length ys s.homes t ∙ k.slots) refl got.1
       (let a = length-append v.own.log xs in omega (arith, a)) (omega arith) (le_refl real) (λ q. (q, refl)) (λ q. q)
       (λ l le (lt : l < t + n + v.own.aside). dite (dec_le t l)
       (λ (ge : t ≤ l). let f = some_at xs (replicate r None) homes' t l here ge (omega arith) in let index : length v.own.log + (l - t) ≡ l - v.own.start = omega arith in
@@ -64,15 +64,15 @@ module _ {T : Type 0} where
 
   pub publish_rule : (start id : ℕ) (me : Sat T) (xs : List T) (r new : ℕ) → me.0.stage ≡ Owns → me.0.own.aside ≡ 0 → me.0.own.out_at ≡ me.0.own.tail → me.0.own.out_len ≡ length xs + r
       → me.1 ≡ hand me.0.own.tail (map Some xs ++ replicate r None) → me.0.own.tail + length xs + 256 ≤ 2 ^ 55 → new ≡ me.0.own.tail + length xs
-      → Allows (LiveQueue start) 256 id me 1 (λ _. new) (λ _. publishes (step 256 1 new 0 none) me new)
+      → Allows (LiveQueue start) 256 id me 12 (λ _. new) (λ _. publishes (step 256 12 new 0 none) me new)
   publish_rule start id me xs r new owns whole place many carries room writes =
       let c : List (ℕ × Option T) = hand me.0.own.tail (Laden xs r) in
-      owner_steps start id 1 me c (λ _. new) (λ _. publishes (step 256 1 new 0 none) me new) owns carries (λ s k at.
-      let v : View T = me.0 in let ws : List ℕ = head_word k.real k.gap ∷ v.own.tail ∷ [] in let z : v.own.aside ≡ 0 = whole in let long : v.own.start + length v.own.log ≡ v.own.tail + v.own.aside = k.long in
+      owner_steps start id 12 me c (λ _. new) (λ _. publishes (step 256 12 new 0 none) me new) owns carries (λ s k at.
+      let v : View T = me.0 in let ws : List ℕ = words_of (head_word k.real k.gap) v.own.tail in let z : v.own.aside ≡ 0 = whole in let long : v.own.start + length v.own.log ≡ v.own.tail + v.own.aside = k.long in
       let Tells : List T → Sat T → Type 0 = λ ys m'. ((real gap : ℕ) → v.own.start ≤ real → real ≤ v.own.tail → queue_at (published_view v ys).own real gap ≡ published (queue_at v.own real gap) ys) × (m' ≡ (published_view v ys, [])) in
       let is : xs ≡ values_of me.1 = sym (ap values_of carries ∙ values_in xs r me.0.own.tail) in
-      subst (λ (x : ℕ). Puts start s 1 x (publishes (step 256 1 new 0 none) me new) ws c 0) (sym writes)
-      (subst (λ (ys : List T). Puts start s 1 (v.own.tail + length xs) (Tells ys) ws c 0) is (
+      subst (λ (x : ℕ). Puts start s 12 x (publishes (step 256 12 new 0 none) me new) ws c 0) (sym writes)
+      (subst (λ (ys : List T). Puts start s 12 (v.own.tail + length xs) (Tells ys) ws c 0) is (
         published_view v xs,
         give_all (Laden xs r),
         give_valid (Laden xs r) s.homes c,

@@ -14,7 +14,7 @@ use Rattle.exec_live_queue.specs.declared.view.Theft.{Theft}
 use Rattle.exec_live_queue.specs.declared.view.View.{View}
 use Rattle.exec_live_queue.specs.declared.view.Stage.{Stage}
 use Rattle.exec_live_queue.specs.declared.view.Stage.TheVariants.{Owns, Idle, SawHead, SawTail, Claimed}
-use Rattle.exec_live_queue.specs.Numbers.{head_word, filled, Outside, BesideClaim, InOrder}
+use Rattle.exec_live_queue.specs.Numbers.{head_word, filled, Outside, BesideClaim, InOrder, words_of}
 use Rattle.exec_live_queue.specs.Live.{labels, Homes, HomeAt, FullAt, weight_of, Knows, AsLogged, Kept, LiveQueue}
 use Rattle.exec_live_queue.specs.Plays.{Sat}
 
@@ -51,7 +51,7 @@ module _ {T : Type 0} where
 
   -- the owner's view becomes v', and what the owner must show of its own numbers, slots and labels
   pub rebuilt : (start : ℕ) (s : State (Option T) (View T)) (v v' : View T) (k : Kept start v s) (ws : List ℕ) (homes : Homes T) (real gap : ℕ)
-      → get_elem? s.views 0 ≡ some v → v.stage ≡ Owns → v'.stage ≡ Owns → v'.own.start ≡ start → length homes ≡ 256 → ws ≡ head_word real gap ∷ v'.own.tail ∷ []
+      → get_elem? s.views 0 ≡ some v → v.stage ≡ Owns → v'.stage ≡ Owns → v'.own.start ≡ start → length homes ≡ 256 → ws ≡ words_of (head_word real gap) v'.own.tail
       → InOrder v'.own real gap k.claimed → v'.own.start + length v'.own.log ≡ filled v'.own
       → v.own.tail ≤ v'.own.tail → k.real ≤ real → (0 < k.gap → (0 < gap) × (real + k.gap ≡ k.real + gap)) → (0 < gap → 0 < k.gap)
       → ((l : ℕ) → real ≤ l → l < filled v'.own → FullAt v'.own homes l)
@@ -103,24 +103,24 @@ module _ {T : Type 0} where
 
   -- an exchange that hits or misses
   pub exchanges : (start : ℕ) (s : State (Option T) (View T)) (ws : List ℕ) (c : List (ℕ × Option T)) (id found old new : ℕ) (hit miss : Sat T → Type 0)
-      → (found ≡ old → Puts start s 0 new hit ws c id) → (found ≢ old → Puts start s 0 found miss ws c id)
-      → Puts start s 0 (either (eqb found old) new found) (λ m. (found ≡ old → hit m) × (found ≢ old → miss m)) ws c id
-  exchanges start s ws c id found old new hit miss on_hit on_miss = exchanged found old new (λ x. Puts start s 0 x (λ m. (found ≡ old → hit m) × (found ≢ old → miss m)) ws c id)
+      → (found ≡ old → Puts start s 11 new hit ws c id) → (found ≢ old → Puts start s 11 found miss ws c id)
+      → Puts start s 11 (either (eqb found old) new found) (λ m. (found ≡ old → hit m) × (found ≢ old → miss m)) ws c id
+  exchanges start s ws c id found old new hit miss on_hit on_miss = exchanged found old new (λ x. Puts start s 11 x (λ m. (found ≡ old → hit m) × (found ≢ old → miss m)) ws c id)
       (λ e. let p = on_hit e in (p.0, p.1, p.2, p.3, ((λ _. p.4), (λ ne. absurd (ne e)))))
       (λ ne. let p = on_miss ne in (p.0, p.1, p.2, p.3, ((λ e. absurd (ne e)), (λ _. p.4))))
 
   -- what a step of the owner must show
   pub owner_steps : (start id i : ℕ) (me : Sat T) (c : List (ℕ × Option T)) (f : ℕ → ℕ) (then : ℕ → Sat T → Type 0) → me.0.stage ≡ Owns → me.1 ≡ c
-      → ((s : State (Option T) (View T)) (k : Kept start me.0 s) → get_elem? s.views 0 ≡ some me.0 → Gives start s i f then (head_word k.real k.gap ∷ me.0.own.tail ∷ []) c 0)
+      → ((s : State (Option T) (View T)) (k : Kept start me.0 s) → get_elem? s.views 0 ≡ some me.0 → Gives start s i f then (words_of (head_word k.real k.gap) me.0.own.tail) c 0)
       → Allows (LiveQueue start) 256 id me i f then
   owner_steps start id i me c f then owns carries step s q wide at lt =
-      let own = as_owner start s id me.0 q at owns in let k = own.1 in let ws : List ℕ = head_word k.real k.gap ∷ me.0.own.tail ∷ [] in
+      let own = as_owner start s id me.0 q at owns in let k = own.1 in let ws : List ℕ = words_of (head_word k.real k.gap) me.0.own.tail in
       let at0 : get_elem? s.views 0 ≡ some me.0 = subst (λ (j : ℕ). get_elem? s.views j ≡ some me.0) own.0 at in
       subst (λ (l : List ℕ). Gives start s i f then l me.1 id) (sym k.words) (subst (λ (c' : List (ℕ × Option T)). Gives start s i f then ws c' id) (sym carries) (subst (Gives start s i f then ws c) (sym own.0) (step s k at0)))
 
   -- what a step of a thief must show
   pub thief_steps : (start id i : ℕ) (me : Sat T) (c : List (ℕ × Option T)) (f : ℕ → ℕ) (then : ℕ → Sat T → Type 0) → me.1 ≡ c
-      → ((s : State (Option T) (View T)) (q : LiveQueue start s) → get_elem? s.views id ≡ some me.0 → Gives start s i f then (head_word q.kept.real q.kept.gap ∷ q.view.own.tail ∷ []) c id)
+      → ((s : State (Option T) (View T)) (q : LiveQueue start s) → get_elem? s.views id ≡ some me.0 → Gives start s i f then (words_of (head_word q.kept.real q.kept.gap) q.view.own.tail) c id)
       → Allows (LiveQueue start) 256 id me i f then
   thief_steps start id i me c f then carries step s q wide at lt =
-      subst (λ (l : List ℕ). Gives start s i f then l me.1 id) (sym q.kept.words) (subst (λ (c' : List (ℕ × Option T)). Gives start s i f then (head_word q.kept.real q.kept.gap ∷ q.view.own.tail ∷ []) c' id) (sym carries) (step s q at))
+      subst (λ (l : List ℕ). Gives start s i f then l me.1 id) (sym q.kept.words) (subst (λ (c' : List (ℕ × Option T)). Gives start s i f then (words_of (head_word q.kept.real q.kept.gap) q.view.own.tail) c' id) (sym carries) (step s q at))

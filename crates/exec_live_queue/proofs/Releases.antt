@@ -1,5 +1,5 @@
 -- A thief's release keeps the rule.
-use Rattle.std.proofs.Common.{◌≡◌, ◌≢◌, ℕ, ◌+◌, ◌%◌, ◌<◌, ◌≤◌, eqb, List, [], ◌∷◌, length, set, replicate, sym, refl, ap, ◌∙◌, subst, inl, inr, ⊎_elim, lt_of_not-le, arith}
+use Rattle.std.proofs.Common.{◌≡◌, ◌≢◌, ℕ, ◌+◌, ◌%◌, ◌<◌, ◌≤◌, eqb, List, [], length, set, replicate, sym, refl, ap, ◌∙◌, subst, inl, inr, ⊎_elim, lt_of_not-le, arith}
 use Rattle.std.proofs.lemmas.List.{length-replicate}
 use mathlib.Core.Option.{none, some}
 use mathlib.Core.Logic.{dite}
@@ -14,7 +14,7 @@ use Rattle.exec_live_queue.specs.declared.view.Theft.{Theft}
 use Rattle.exec_live_queue.specs.declared.view.View.{View}
 use Rattle.exec_live_queue.specs.declared.view.Stage.{Stage}
 use Rattle.exec_live_queue.specs.declared.view.Stage.TheVariants.{Owns, Idle, SawHead, SawTail, Claimed}
-use Rattle.exec_live_queue.specs.Numbers.{head_word}
+use Rattle.exec_live_queue.specs.Numbers.{head_word, words_of}
 use Rattle.exec_words.specs.Queue.{released}
 use Rattle.exec_live_queue.specs.Pure.{queue_at}
 use Rattle.exec_live_queue.specs.Live.{Homes, Knows, LiveQueue}
@@ -40,7 +40,7 @@ module _ {T : Type 0} where
   -- the rule after the exchange, at which the slots of the claim came home
   released_kept : (start : ℕ) (s : State (Option T) (View T)) (q : LiveQueue start s) (id k : ℕ) (v : View T) → get_elem? s.views id ≡ some v → v.stage ≡ Claimed → id ≡ q.kept.holder
       → 0 < q.kept.gap → v.theft.at + q.kept.gap ≡ q.kept.real → k ≡ q.kept.claimed
-      → LiveQueue start record { words = head_word q.kept.real 0 ∷ q.view.own.tail ∷ []; homes = homes_after s.homes (hand v.theft.at (Empty k)) (give_all (Empty k)); views = set s.views id (record v { stage = Idle }) }
+      → LiveQueue start record { words = words_of (head_word q.kept.real 0) q.view.own.tail; homes = homes_after s.homes (hand v.theft.at (Empty k)) (give_all (Empty k)); views = set s.views id (record v { stage = Idle }) }
   released_kept start s q id k v at st holds pos counts many =
       let n = q.kept in let real : ℕ = n.real in let gap : ℕ = n.gap in let d : Own T = q.view.own in let o = n.order in let a : ℕ = v.theft.at + 256 in
       let w : d.tail + gap ≤ real + 256 = o.within in let b : real ≤ d.tail = o.behind in let c : k ≡ n.claimed = many in let h : v.theft.at + gap ≡ real = counts in
@@ -49,8 +49,8 @@ module _ {T : Type 0} where
       let thief : v.stage ≢ Owns = λ e. let clash : Claimed ≡ Owns = sym st ∙ e in cc in let len : length (Empty k) ≡ k = length-replicate k None in
       let turned : hand v.theft.at (Empty k) ≡ hand a (Empty k) = sym (hand_turn v.theft.at (Empty k)) in let homes' : Homes T = homes_after s.homes (hand a (Empty k)) (give_all (Empty k)) in
       let here = give_here (Empty k) s.homes a (omega (arith, len)) n.slots in let new : View T = record v { stage = Idle } in
-      subst (λ (c : List (ℕ × Option T)). LiveQueue start record { words = head_word real 0 ∷ d.tail ∷ []; homes = homes_after s.homes c (give_all (Empty k)); views = set s.views id new }) (sym turned)
-      (moved start s q id v new (head_word real 0 ∷ d.tail ∷ []) homes' real 0 0 n.holder at thief (give_length (Empty k) s.homes a ∙ n.slots) refl (released_order d real gap n.claimed o pos)
+      subst (λ (c : List (ℕ × Option T)). LiveQueue start record { words = words_of (head_word real 0) d.tail; homes = homes_after s.homes c (give_all (Empty k)); views = set s.views id new }) (sym turned)
+      (moved start s q id v new (words_of (head_word real 0) d.tail) homes' real 0 0 n.holder at thief (give_length (Empty k) s.homes a ∙ n.slots) refl (released_order d real gap n.claimed o pos)
       (λ l le (lt : l < d.tail + d.aside). let f = n.full l le lt in (f.0, f.1, give_before (Empty k) s.homes a l (omega arith) (omega (arith, len)) ∙ f.2))
       (λ l (le : d.tail + d.aside ≤ l) lt beside outside. dite (dec_le a l)
       (λ (ge : a ≤ l). dite (dec_le (a + k) l)
@@ -74,10 +74,10 @@ module _ {T : Type 0} where
 
   pub releases_rule : (start id : ℕ) (me : Sat T) (k old new : ℕ) → me.0.stage ≡ Claimed → me.0.theft.upto ≡ me.0.theft.at + k → me.1 ≡ hand me.0.theft.at (replicate k None)
       → old ≡ head_word (me.0.theft.at + me.0.theft.gap) me.0.theft.gap → new ≡ head_word (me.0.theft.at + me.0.theft.gap) 0
-      → Allows (LiveQueue start) 256 id me 0 (λ n. either (eqb n old) new n) (releases (step 256 0 old new none) me)
+      → Allows (LiveQueue start) 256 id me 11 (λ n. either (eqb n old) new n) (releases (step 256 11 old new none) me)
   releases_rule start id me k old new st many carries sees writes = let c : List (ℕ × Option T) = hand me.0.theft.at (Empty k) in
-      thief_steps start id 0 me c (λ n. either (eqb n old) new n) (releases (step 256 0 old new none) me) carries (λ s q at.
-      let n = q.kept in let real : ℕ = n.real in let gap : ℕ = n.gap in let d : Own T = q.view.own in let v : View T = me.0 in let hw : ℕ = head_word real gap in let ws : List ℕ = hw ∷ d.tail ∷ [] in
+      thief_steps start id 11 me c (λ n. either (eqb n old) new n) (releases (step 256 11 old new none) me) carries (λ s q at.
+      let n = q.kept in let real : ℕ = n.real in let gap : ℕ = n.gap in let d : Own T = q.view.own in let v : View T = me.0 in let hw : ℕ = head_word real gap in let ws : List ℕ = words_of hw d.tail in
       let small : gap < 512 = gap_fits d real gap n.claimed n.order in let t = v.theft in
       let knew : (id ≡ n.holder) × (0 < gap) × (t.at + gap ≡ real) × (t.upto ≡ t.at + n.claimed) × (t.gap ≤ gap) = subst (λ (x : Stage). Knows d.tail real gap n.claimed n.holder id t x) st (n.each_seat id v at) in
       let fits : t.gap < 512 = omega (arith, knew.4) in let count : k ≡ n.claimed = omega (arith, knew.3, many) in
@@ -86,7 +86,7 @@ module _ {T : Type 0} where
       exchanges start s ws c id hw old new Out (Widened v hw me)
       (λ e. let g : gap ≡ t.gap = sym (gap_of_word real gap small) ∙ ap (λ (x : ℕ). x % 512) (e ∙ sees) ∙ gap_of_word (t.at + t.gap) t.gap fits in
       let r : t.at + t.gap ≡ real = ap (λ (x : ℕ). t.at + x) (sym g) ∙ knew.2 in
-      subst (λ (x : ℕ). Puts start s 0 x Out ws c id) (sym (writes ∙ ap (λ (R : ℕ). head_word R 0) r)) (
+      subst (λ (x : ℕ). Puts start s 11 x Out ws c id) (sym (writes ∙ ap (λ (R : ℕ). head_word R 0) r)) (
         record v { stage = Idle },
         give_all (Empty k),
         give_valid (Empty k) s.homes c,

@@ -46,8 +46,8 @@ module _ {T : Type 0} where
       refl (λ l x e. e) (λ weight. refl)
 
   pub returns : (start id : ℕ) (me : Sat T) (n : ℕ) → me.0.stage ≡ Owns → me.0.own.out_len ≡ n → 0 < n → me.1 ≡ hand me.0.own.out_at (replicate n None)
-      → Allows (LiveQueue start) 256 id me 0 (λ x. x) (returned (step 256 0 0 0 none) me)
-  returns start id me n owns is pos carries = owner_steps start id 0 me (hand me.0.own.out_at (replicate n None)) (λ x. x) (returned (step 256 0 0 0 none) me) owns carries (λ s k at0.
+      → Allows (LiveQueue start) 256 id me 11 (λ x. x) (returned (step 256 11 0 0 none) me)
+  returns start id me n owns is pos carries = owner_steps start id 11 me (hand me.0.own.out_at (replicate n None)) (λ x. x) (returned (step 256 11 0 0 none) me) owns carries (λ s k at0.
       let real : ℕ = k.real in let gap : ℕ = k.gap in let v : View T = me.0 in let t : ℕ = v.own.tail in let small : gap < 512 = gap_fits v.own real gap k.claimed k.order in
       let hw : ℕ = head_word real gap in let c : real ≡ hw / 512 = sym (count_of_word real gap small) in let g : gap ≡ hw % 512 = sym (gap_of_word real gap small) in
       let told : (R H : ℕ) → real ≡ R → gap ≡ H → ((claimed : ℕ) × InOrder v.own R H claimed) × (out (saw v real gap) t 0 ≡ out (saw v R H) t 0)

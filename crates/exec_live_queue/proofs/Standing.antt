@@ -1,6 +1,6 @@
 -- How the seat of an owner stands between its calls.
 use Rattle.std.proofs.Common.{◌≡◌, ℕ, suc, ◌+◌, ◌-◌, ◌<◌, List, [], ◌∷◌, ◌++◌, length, map, replicate, sym, refl, ap, ◌∙◌, subst, arith}
-use Rattle.std.specs.Prelude.{Option, Some, None, slice_get, drop}
+use Rattle.std.specs.Prelude.{Option, Some, None}
 use Rattle.atomic_table.specs.declared.shared.Shared.{Shared}
 use Rattle.exec_live_queue.specs.declared.view.View.{View}
 use Rattle.exec_live_queue.specs.Plays.{hand, values_of}
@@ -39,12 +39,3 @@ module _ {T P : Type 0} where
   -- the last one was handed out
   pub last_of : (words : Shared (Option T) (View T) ℕ P) (seat : Place T) (j left : ℕ) (xs : List T) → HandsOut words seat j xs → length xs + 1 ≡ left → left ≡ 1 → j ≡ 128 → HandsOut words seat 128 []
   last_of words seat j left xs h len one is = let dry : xs ≡ [] = nothing_left xs (omega (arith, len, one)) in subst (λ (n : ℕ). HandsOut words seat n []) is (subst (HandsOut words seat j) dry h)
-
-module _ {X : Type 0} where
-  pub none_left : (xs : List X) → slice_get xs 0 ≡ None → drop 1 xs ≡ []
-  none_left [] e = refl
-  none_left (x ∷ xs) e = absurd (let h : Some x ≡ None = e in cc)
-
-  pub one_fewer : (xs : List X) (x : X) → slice_get xs 0 ≡ Some x → length (drop 1 xs) < length xs
-  one_fewer [] x e = absurd (let h : None ≡ Some x = e in cc)
-  one_fewer (y ∷ xs) x e = omega arith

@@ -36,7 +36,7 @@ module _ {T : Type 0} where
       ((saw_head_owns, saw_head_claimed, empty), (refl, refl), refl, refl, refl)
 
   -- and then the tail
-  pub tails : (m m1 m2 : Sat T) (n t : ℕ) → m.1 ≡ [] → m1 ≡ (at_head m.0 n, m.1) → saw_tail (step 256 1 0 0 none) m1 t m2
+  pub tails : (m m1 m2 : Sat T) (n t : ℕ) → m.1 ≡ [] → m1 ≡ (at_head m.0 n, m.1) → saw_tail (step 256 12 0 0 none) m1 t m2
       → IsThief m2 × HasKept m.0.theft m2.0.theft × (m2.0.theft.at ≡ n / 512) × (m2.0.theft.gap ≡ n % 512) × (m2.0.theft.upto ≡ t) × (m2.0.stage ≡ SawTail) × (t + 256 ≤ 2 ^ 55)
   tails m m1 m2 n t empty e f = let h = heads m m1 n empty e in
       subst (λ (z : Sat T). IsThief z × HasKept m.0.theft z.0.theft × (z.0.theft.at ≡ n / 512) × (z.0.theft.gap ≡ n % 512) × (z.0.theft.upto ≡ t) × (z.0.stage ≡ SawTail) × (t + 256 ≤ 2 ^ 55)) (sym f.1)

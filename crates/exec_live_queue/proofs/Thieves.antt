@@ -11,7 +11,7 @@ use Rattle.atomic_table.proofs.Lists.{at_set, at_snoc, at_longer, set_else, set_
 use Rattle.exec_live_queue.specs.declared.view.View.{View}
 use Rattle.exec_live_queue.specs.declared.view.Stage.{Stage}
 use Rattle.exec_live_queue.specs.declared.view.Stage.TheVariants.{Owns, SawHead, SawTail, Claimed}
-use Rattle.exec_live_queue.specs.Numbers.{head_word, filled, Outside, BesideClaim, InOrder}
+use Rattle.exec_live_queue.specs.Numbers.{head_word, filled, Outside, BesideClaim, InOrder, words_of}
 use Rattle.exec_live_queue.specs.Live.{labels, Homes, HomeAt, FullAt, weight_of, Knows, AsLogged, LiveQueue}
 use Rattle.exec_live_queue.specs.Plays.{Sat, at_head, saw_head, saw_tail, newcomer}
 use Rattle.exec_live_queue.proofs.Orders.{gap_fits}
@@ -21,7 +21,7 @@ use Rattle.exec_live_queue.proofs.Rebuild.{Gives, sum_set, thief_steps}
 module _ {T : Type 0} where
   -- the view of a thief becomes v', and what its step must show of the numbers, slots and labels
   pub moved : (start : ℕ) (s : State (Option T) (View T)) (q : LiveQueue start s) (id : ℕ) (v v' : View T) (ws : List ℕ) (homes : Homes T) (real gap claimed holder : ℕ) → get_elem? s.views id ≡ some v → v.stage ≢ Owns
-      → length homes ≡ 256 → ws ≡ head_word real gap ∷ q.view.own.tail ∷ [] → InOrder q.view.own real gap claimed
+      → length homes ≡ 256 → ws ≡ words_of (head_word real gap) q.view.own.tail → InOrder q.view.own real gap claimed
       → ((l : ℕ) → real ≤ l → l < filled q.view.own → FullAt q.view.own homes l)
       → ((l : ℕ) → filled q.view.own ≤ l → l < real + 256 → BesideClaim real gap claimed l → Outside q.view.own.out_at q.view.own.out_len l → HomeAt homes l None)
       → ((j : ℕ) (u : View T) → j ≢ id → get_elem? s.views j ≡ some u → Knows q.view.own.tail real gap claimed holder j u.theft u.stage)
@@ -76,7 +76,7 @@ module _ {T : Type 0} where
   -- a thief without a claim loads the head
   pub sees_here : (start id : ℕ) (me : Sat T) (c : List (ℕ × Option T)) → me.0.stage ≢ Owns → me.0.stage ≢ Claimed → me.1 ≡ c
       → (s : State (Option T) (View T)) (q : LiveQueue start s) → get_elem? s.views id ≡ some me.0
-      → Gives start s 0 (λ n. n) (saw_head (step 256 0 0 0 none) me) (head_word q.kept.real q.kept.gap ∷ q.view.own.tail ∷ []) c id
+      → Gives start s 11 (λ n. n) (saw_head (step 256 11 0 0 none) me) (words_of (head_word q.kept.real q.kept.gap) q.view.own.tail) c id
   sees_here start id me c thief free carries s q at =
       let k = q.kept in let real : ℕ = k.real in let gap : ℕ = k.gap in let hw : ℕ = head_word real gap in let small : gap < 512 = gap_fits q.view.own real gap k.claimed k.order in
       let w : View T = at_head me.0 hw in let seen : hw / 512 ≤ real = subst (λ (c : ℕ). c ≤ real) (sym (count_of_word real gap small)) (le_refl real) in (
@@ -87,12 +87,12 @@ module _ {T : Type 0} where
         ap (λ (h : List (ℕ × Option T)). (w, h)) (sym carries),
       )
 
-  pub sees_head : (start : ℕ) (id : ℕ) (me : Sat T) → me.0.stage ≢ Owns → me.0.stage ≢ Claimed → Allows (LiveQueue start) 256 id me 0 (λ n. n) (saw_head (step 256 0 0 0 none) me)
-  sees_head start id me thief free = thief_steps start id 0 me me.1 (λ n. n) (saw_head (step 256 0 0 0 none) me) refl (λ s q at. sees_here start id me me.1 thief free refl s q at)
+  pub sees_head : (start : ℕ) (id : ℕ) (me : Sat T) → me.0.stage ≢ Owns → me.0.stage ≢ Claimed → Allows (LiveQueue start) 256 id me 11 (λ n. n) (saw_head (step 256 11 0 0 none) me)
+  sees_head start id me thief free = thief_steps start id 11 me me.1 (λ n. n) (saw_head (step 256 11 0 0 none) me) refl (λ s q at. sees_here start id me me.1 thief free refl s q at)
 
   -- a thief that has seen the head loads the tail
-  pub sees_tail : (start : ℕ) (id : ℕ) (me : Sat T) → me.0.stage ≡ SawHead → Allows (LiveQueue start) 256 id me 1 (λ n. n) (saw_tail (step 256 1 0 0 none) me)
-  sees_tail start id me st = thief_steps start id 1 me me.1 (λ n. n) (saw_tail (step 256 1 0 0 none) me) refl (λ s q at.
+  pub sees_tail : (start : ℕ) (id : ℕ) (me : Sat T) → me.0.stage ≡ SawHead → Allows (LiveQueue start) 256 id me 12 (λ n. n) (saw_tail (step 256 12 0 0 none) me)
+  sees_tail start id me st = thief_steps start id 12 me me.1 (λ n. n) (saw_tail (step 256 12 0 0 none) me) refl (λ s q at.
       let k = q.kept in let tail : ℕ = q.view.own.tail in
       let w : View T = record me.0 { stage = SawTail; theft = record me.0.theft { upto = tail } } in
       let knew : me.0.theft.at ≤ k.real = subst (λ (x : Stage). Knows tail k.real k.gap k.claimed k.holder id me.0.theft x) st (k.each_seat id me.0 at) in

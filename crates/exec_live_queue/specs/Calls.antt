@@ -9,8 +9,8 @@ use Rattle.exec_live_queue.specs.declared.view.Own.{Own}
 use Rattle.exec_live_queue.specs.declared.view.Theft.{Theft}
 use Rattle.exec_live_queue.specs.declared.view.View.{View}
 use Rattle.exec_live_queue.specs.declared.view.Stage.TheVariants.{Owns}
-use Rattle.exec_live_queue.specs.declared.answers.Push.{Push}
-use Rattle.exec_live_queue.specs.declared.answers.Push.TheVariants as answer
+use Rattle.exec_words.specs.declared.queue.PushAnswer.{PushAnswer}
+use Rattle.exec_words.specs.declared.queue.PushAnswer.TheVariants as answer
 use Rattle.exec_live_queue.specs.declared.answers.Try.{Try}
 use Rattle.exec_live_queue.specs.declared.answers.Try.TheVariants as tried
 use Rattle.exec_live_queue.specs.Live.{labels}
@@ -29,7 +29,7 @@ module _ {T : Type 0} where
 
   -- x was popped: the log's value at its label, which comes after all that were popped before
   abbrev pub HasPopped : Own T → T → Own T → Type 0
-  HasPopped d x d' = (label : ℕ) × (get_elem? d.log (label - d.start) ≡ some x) × (d.saw_real ≤ label) × (label < d'.saw_real) × (d' ≡ record (looked d d') { popped = d.popped ++ label ∷ [] })
+  HasPopped d x d' = (label : ℕ) × (get_elem? d.log (label - d.start) ≡ some x) × (d.saw_real ≤ label) × (label < d'.saw_real) × (d'.saw_real ≤ d.tail) × (d' ≡ record (looked d d') { popped = d.popped ++ label ∷ [] })
 
   -- the queue was seen empty
   abbrev pub WasEmpty : Own T → Own T → Type 0
@@ -49,14 +49,14 @@ module _ {T : Type 0} where
       × (d' ≡ record (looked d d') { tail = d.tail + 128; log = d.log ++ take 128 (fully d); exported = d.exported ++ labels (d.tail - 128) 128; relabelled = d.relabelled ++ labels (d.tail - 256) 128 })
 
   -- what a push of x answers and does
-  abbrev pub AfterPush : Own T → T → Own T → Push T → Type 0
+  abbrev pub AfterPush : Own T → T → Own T → PushAnswer T → Type 0
   AfterPush d x d' (answer.Pushed len) = (d.tail < 2 ^ 55 - 512) × HasPublished d (x ∷ []) d' × (d'.saw_real + len ≡ d.tail + 1)
   AfterPush d x d' (answer.Overflow y) = (d.tail < 2 ^ 55 - 512) × (y ≡ x) × HasOverflowed d d'
   AfterPush d x d' (answer.Claimed y) = (d.tail < 2 ^ 55 - 512) × (y ≡ x) × HasLooked d d' × (0 < d'.saw_gap) × (d.tail + d'.saw_gap ≡ d'.saw_real + 256)
   AfterPush d x d' (answer.Spent y) = (2 ^ 55 - 512 ≤ d.tail) × (y ≡ x) × (d' ≡ d)
 
   -- what is handed out after a push
-  abbrev pub handed_after : Own T → Push T → List T
+  abbrev pub handed_after : Own T → PushAnswer T → List T
   handed_after d (answer.Pushed len) = []
   handed_after d (answer.Overflow y) = drop 128 (fully d)
   handed_after d (answer.Claimed y) = []
@@ -102,7 +102,7 @@ module _ {T P : Type 0} where
   HandsOut words seat j xs = IsAt words seat × AtHand seat.me j xs
 
   -- how a push leaves the seat
-  abbrev pub PushLeaves : Shared (Option T) (View T) ℕ P → Place T → Own T → Push T → Type 0
+  abbrev pub PushLeaves : Shared (Option T) (View T) ℕ P → Place T → Own T → PushAnswer T → Type 0
   PushLeaves words seat d (answer.Pushed len) = Rests words seat
   PushLeaves words seat d (answer.Overflow y) = HandsOut words seat 0 (drop 128 (fully d))
   PushLeaves words seat d (answer.Claimed y) = Rests words seat

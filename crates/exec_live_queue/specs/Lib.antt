@@ -1,6 +1,8 @@
+pub mod Alone
 pub mod Calls
 pub mod Examples
 pub mod Handles
+pub mod Kinds
 pub mod Live
 pub mod Numbers
 pub mod Plays

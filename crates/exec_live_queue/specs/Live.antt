@@ -40,7 +40,7 @@ use Rattle.exec_live_queue.specs.declared.view.Theft.{Theft}
 use Rattle.exec_live_queue.specs.declared.view.View.{View}
 use Rattle.exec_live_queue.specs.declared.view.Stage.{Stage}
 use Rattle.exec_live_queue.specs.declared.view.Stage.TheVariants.{Owns, Idle, SawHead, SawTail, Claimed}
-use Rattle.exec_live_queue.specs.Numbers.{head_word, filled, Outside, BesideClaim, InOrder}
+use Rattle.exec_live_queue.specs.Numbers.{head_word, filled, Outside, BesideClaim, InOrder, words_of}
 
 -- the n labels from a on, and what they weigh
 unfoldable pub labels : ℕ → ℕ → List ℕ
@@ -87,7 +87,7 @@ module _ {T : Type 0} where
     pub holder : ℕ
     pub from : v.own.start ≡ start
     pub slots : length s.homes ≡ 256
-    pub words : s.words ≡ head_word real gap ∷ v.own.tail ∷ []
+    pub words : s.words ≡ words_of (head_word real gap) v.own.tail
     pub order : InOrder v.own real gap claimed
     pub long : v.own.start + length v.own.log ≡ filled v.own
     pub full : (l : ℕ) → real ≤ l → l < filled v.own → FullAt v.own s.homes l

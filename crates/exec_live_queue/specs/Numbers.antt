@@ -1,10 +1,18 @@
 -- The numbers of a run queue, and which labels stand where.
-use Rattle.std.specs.Prelude.{◌≡◌, ℕ, ◌+◌, ◌*◌, ◌^◌, ◌<◌, ◌≤◌, ◌⊎◌}
+use Rattle.std.specs.Prelude.{◌≡◌, ℕ, ◌+◌, ◌*◌, ◌^◌, ◌<◌, ◌≤◌, ◌⊎◌, List, [], ◌∷◌, ◌++◌}
 use Rattle.exec_live_queue.specs.declared.view.Own.{Own}
 
 -- the head as a word: the count of the front value, and the gap below it
 abbrev pub head_word : ℕ → ℕ → ℕ
 head_word real gap = real * 512 + gap
+
+-- the words of the table: the head and the tail, in the middle of words that stay 0, so that no other data lies on
+-- their cache lines
+abbrev pub unused : List ℕ
+unused = 0 ∷ 0 ∷ 0 ∷ 0 ∷ 0 ∷ 0 ∷ 0 ∷ 0 ∷ 0 ∷ 0 ∷ 0 ∷ []
+
+abbrev pub words_of : ℕ → ℕ → List ℕ
+words_of head tail = unused ++ head ∷ tail ∷ unused
 
 -- one past the last label that has a value: behind the tail in the middle of an overflow, else the tail
 abbrev pub filled : {T : Type 0} → Own T → ℕ

@@ -26,9 +26,9 @@ module _ {T : Type 0} where
   IsThief m = (m.0.stage ≢ Owns) × (m.0.stage ≢ Claimed) × (m.1 ≡ [])
 
 module _ {T P : Type 0} where
-  -- the seat is one at the queue's table, which has two words and 256 slots
+  -- the seat is one at the queue's table, which has 24 words and 256 slots
   abbrev pub IsAt : Shared (Option T) (View T) ℕ P → Place T → Type 0
-  IsAt words seat = (seat.table_id ≡ words.table_id) × (words.table_id.words ≡ 2) × (words.table_id.slots ≡ 256)
+  IsAt words seat = (seat.table_id ≡ words.table_id) × (words.table_id.words ≡ 24) × (words.table_id.slots ≡ 256)
 
   -- it is the owner's, in the middle of no push, pop or overflow
   abbrev pub Rests : Shared (Option T) (View T) ℕ P → Place T → Type 0
@@ -61,37 +61,37 @@ module _ {T : Type 0} where
   SameSeat old new = (new.table_id ≡ old.table_id) × (new.id ≡ old.id)
 
   abbrev pub laid_by : (ℕ → ℕ) → Place T → ℕ → Place T → Type 0
-  laid_by f old n new = laid f (step 256 0 0 0 none) old.me n new.me
+  laid_by f old n new = laid f (step 256 11 0 0 none) old.me n new.me
 
   abbrev pub returned_by : Place T → ℕ → Place T → Type 0
-  returned_by old n new = returned (step 256 0 0 0 none) old.me n new.me
+  returned_by old n new = returned (step 256 11 0 0 none) old.me n new.me
 
   abbrev pub pops_by : ℕ → Place T → ℕ → Place T → Type 0
-  pops_by seen old n new = pops (step 256 0 seen 0 none) old.me n new.me
+  pops_by seen old n new = pops (step 256 11 seen 0 none) old.me n new.me
 
   abbrev pub pops_last_by : Place T → Place T → Type 0
-  pops_last_by old new = pops_last (step 256 0 0 0 none) old.me 0 new.me
+  pops_last_by old new = pops_last (step 256 11 0 0 none) old.me 0 new.me
 
   abbrev pub flows_over_by : ℕ → Place T → ℕ → Place T → Type 0
-  flows_over_by seen old n new = flows_over (step 256 0 seen 0 none) old.me n new.me
+  flows_over_by seen old n new = flows_over (step 256 11 seen 0 none) old.me n new.me
 
   abbrev pub publishes_by : Place T → Place T → Type 0
-  publishes_by old new = publishes (step 256 1 0 0 none) old.me 0 new.me
+  publishes_by old new = publishes (step 256 12 0 0 none) old.me 0 new.me
 
   abbrev pub restores_by : Place T → Place T → Type 0
-  restores_by old new = restores (step 256 1 0 0 none) old.me 0 new.me
+  restores_by old new = restores (step 256 12 0 0 none) old.me 0 new.me
 
   abbrev pub sees_head_by : Place T → ℕ → Place T → Type 0
-  sees_head_by old n new = saw_head (step 256 0 0 0 none) old.me n new.me
+  sees_head_by old n new = saw_head (step 256 11 0 0 none) old.me n new.me
 
   abbrev pub sees_tail_by : Place T → ℕ → Place T → Type 0
-  sees_tail_by old n new = saw_tail (step 256 1 0 0 none) old.me n new.me
+  sees_tail_by old n new = saw_tail (step 256 12 0 0 none) old.me n new.me
 
   abbrev pub claims_by : ℕ → Place T → ℕ → Place T → Type 0
-  claims_by seen old n new = claims (step 256 0 seen 0 none) old.me n new.me
+  claims_by seen old n new = claims (step 256 11 seen 0 none) old.me n new.me
 
   abbrev pub releases_by : ℕ → Place T → ℕ → Place T → Type 0
-  releases_by seen old n new = releases (step 256 0 seen 0 none) old.me n new.me
+  releases_by seen old n new = releases (step 256 11 seen 0 none) old.me n new.me
 
   -- the seat carries the slot of this label first
   abbrev pub FrontHas : Place T → ℕ → Option T → Type 0

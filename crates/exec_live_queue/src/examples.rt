@@ -7,7 +7,7 @@ ghost use Rattle.exec_live_queue.specs.Live.{labels};
 ghost use Rattle.exec_live_queue.specs.Numbers.{head_word, filled, Outside, BesideClaim};
 ghost use Rattle.exec_live_queue.specs.Plays.{room, half};
 ghost use Rattle.exec_live_queue.specs.Pure.{queue_at};
-ghost use Rattle.exec_live_queue.specs.declared.answers.Push.TheVariants as answer;
+ghost use Rattle.exec_words.specs.declared.queue.PushAnswer.TheVariants as answer;
 ghost use Rattle.exec_words.specs.Queue.{popped, claimed, released};
 
 /// The head as a word, labels, free places, and how many values a claim takes.

@@ -3,9 +3,6 @@
 ghost use Rattle.std.specs.Prelude.{◌≡◌, ◌+◌, ◌^◌, ◌<◌, ◌/◌, ◌%◌, ◌==◌, if◌then◌else◌};
 ghost use Rattle.exec_live_queue.specs.Numbers.{head_word};
 
-#[cfg(test)]
-mod tests;
-
 /// How many values of a gap a head can tell apart.
 pub const GAPS: u64 = 512;
 

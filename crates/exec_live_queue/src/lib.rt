@@ -1,7 +1,9 @@
-//! The run queue of a worker, shared by running threads.
+//! The run queue of a worker: shared by running threads, or exclusive to a lone worker.
 //!
-//! The queue is a table of two words and 256 slots, which threads change in single atomic steps.
-//! The first word is the head: the count `real` of the front value, and the gap. The second is the
+//! An exclusive queue is a plain one: its calls take no atomic step, and no thief gets at it.
+//! A shared queue is a table of words and 256 slots, which threads change in single atomic steps. Two
+//! words are used, in the middle of others that keep their cache lines clear of other data. The
+//! first is the head: the count `real` of the front value, and the gap. The second is the
 //! tail: the count one past the last value. A value's count is its label, and it lies in the slot
 //! `label % 256`. One seat at the table is the owner's: only its holder pushes and pops. Each other
 //! seat is a thief's.
@@ -10,18 +12,20 @@
 //! every step keeps is `specs/Live.antt`, which begins with a page on what each word means, who may
 //! do what, and why no value is lost or handed out twice.
 //!
-//! - `queue` and `owner`: the queue with the seats of its thieves, and its owner.
+//! - `queue` and `owner`: a queue of either kind with its seats, and its owner.
+//! - `shared_queue`, `shared_owner` and `exclusive`: these, of one kind.
 //! - `pop`, `push`, `overflow`, `batch` and `steal`: what they do, over the words and a seat.
 //! - `steps` and `thief`: the steps of the owner and of a thief, one function each.
 //! - `slots`: what a seat does with the slots that are out with it.
 //! - `head` and `inner`: the head as a word, and where the words and slots lie.
-//! - `answers`: what a push answers.
+//! - `answers`: what one try of a push answers.
 //! - `view` and `plays`: what a seat knows, and what each step tells it, for the proofs alone.
 #![tactic(auto)]
 
 pub mod answers;
 pub mod batch;
 pub mod examples;
+pub mod exclusive;
 pub mod head;
 pub mod inner;
 pub mod overflow;
@@ -30,11 +34,11 @@ pub mod plays;
 pub mod pop;
 pub mod push;
 pub mod queue;
+pub mod shared_owner;
+pub mod shared_queue;
 pub mod slots;
 pub mod steal;
 pub mod steps;
-#[cfg(test)]
-mod tests;
 pub mod thief;
 pub mod view;
 
@@ -44,7 +48,9 @@ pub const SLOTS: u64 = 256;
 pub const HALF: u64 = 128;
 /// The count of values from which on a queue takes no more.
 pub const SPENT: u64 = (1 << 55) - 512;
+/// How many words a table has. Only two of them are used; no other data lies on their cache lines.
+pub const WORDS: usize = 24;
 /// The word of a table that is the head.
-pub const HEAD: usize = 0;
+pub const HEAD: usize = 11;
 /// The word of a table that is the tail.
-pub const TAIL: usize = 1;
+pub const TAIL: usize = 12;

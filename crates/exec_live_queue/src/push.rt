@@ -6,16 +6,17 @@ ghost use Rattle.exec_live_queue.specs.Plays.{hand, published_view};
 ghost use Rattle.exec_live_queue.specs.Seats.{IsAt, Rests, SameSeat};
 ghost use Rattle.exec_live_queue.specs.declared.view.Stage.TheVariants.{Owns};
 
-use crate::answers::{Push, Try};
+use crate::answers::Try;
 use crate::head::{gap_of, real_of};
 use crate::slots::put;
 use crate::steps::{flow_over, publish, restore, take_one};
 use crate::view::{Place, Words};
 use crate::{HALF, SLOTS, SPENT};
+use exec_words::queue::PushAnswer;
 
 /// Publishes a value behind the others, by at most two tries: a head that has changed since the
 /// first leaves room for the value, or has a claim.
-pub fn push<T>(words: &Words<T>, seat: &mut Place<T>, tail: u64, value: T) -> Push<T>
+pub fn push<T>(words: &Words<T>, seat: &mut Place<T>, tail: u64, value: T) -> PushAnswer<T>
     requires rests { Rests words.now seat.old }
     requires tail { tail ≡ seat.old.me.0.own.tail }
     ensures same { SameSeat seat.old seat.new }
@@ -23,14 +24,14 @@ pub fn push<T>(words: &Words<T>, seat: &mut Place<T>, tail: u64, value: T) -> Pu
     ensures leaves { PushLeaves words.now seat.new seat.old.me.0.own result }
 {
     if tail >= SPENT {
-        return Push::Spent(value);
+        return PushAnswer::Spent(value);
     }
     match try_push(words, seat, tail, value) {
         Try::Done(push) => push,
         Try::Missed(value) => match try_push(words, seat, tail, value) {
             Try::Done(push) => push,
             // No second try misses.
-            Try::Missed(value) => Push::Claimed(value),
+            Try::Missed(value) => PushAnswer::Claimed(value),
         },
     }
 }
@@ -47,16 +48,16 @@ fn try_push<T>(words: &Words<T>, seat: &mut Place<T>, tail: u64, value: T) -> Tr
     let gap = gap_of(seen);
     if len + gap < SLOTS {
         publish_one(words, seat, tail, value);
-        return Try::Done(Push::Pushed((len + 1) as usize));
+        return Try::Done(PushAnswer::Pushed((len + 1) as usize));
     }
     if gap > 0 {
-        return Try::Done(Push::Claimed(value));
+        return Try::Done(PushAnswer::Claimed(value));
     }
     if flow_over(words, seat, seen) != seen {
         return Try::Missed(value);
     }
     restore(words, seat, tail + HALF);
-    Try::Done(Push::Overflow(value))
+    Try::Done(PushAnswer::Overflow(value))
 }
 
 // Fills the one slot that is out with the owner, and shows it.

@@ -1,73 +1,50 @@
-//! A run queue that running threads share: the queue, the seats of its thieves, and its owner.
+//! The run queue of a worker: shared with thieves, or exclusive.
 //!
-//! The words and slots lie in one place of their own cache lines, which the queue and its owner
-//! hold together. Whoever acts on the queue has a seat. A queue is made with its first seat, from
-//! which the seats of all thieves are split off before it becomes the owner's. What a contract sees
-//! of each is in `specs/Handles.antt`.
+//! The queue of a worker with others beside it is shared: its words and slots lie at one place, and
+//! whoever acts on it has a seat there. A queue is made with its first seat, from which the seats
+//! of all thieves are split off before it becomes the owner's. A lone worker's queue is exclusive:
+//! a plain queue that its owner holds whole. It has the same calls, but no seat for a thief, and
+//! its owner takes nothing from other queues. Ports `Queue`.
 
-ghost use Rattle.std.specs.Prelude.{◌≡◌, ◌≢◌, ◌+◌, ◌^◌, ◌<◌, ◌≤◌, ◌⊎◌, [], IfOk, IsTrue, IsFalse};
-ghost use Rattle.exec_live_queue.specs.Calls.{AfterInto, AfterSteal, HasKept};
-ghost use Rattle.exec_live_queue.specs.Live.{opened};
-ghost use Rattle.exec_live_queue.specs.Plays.{newcomer};
-ghost use Rattle.exec_live_queue.specs.declared.view.Stage.TheVariants.{Owns};
+ghost use Rattle.std.specs.Prelude.{◌≡◌, ◌+◌, ◌^◌, ◌≤◌, ◌⊎◌, ◌<◌, [], IfOk, IsTrue, IsFalse};
+ghost use Rattle.exec_live_queue.specs.Calls.{HasKept};
 
-use crate::SLOTS;
-use crate::head::head_of;
-use crate::inner::{Inner, words_of};
+use crate::exclusive::ExclusiveOwner;
 use crate::owner::Owner;
-use crate::steal::{NoPause, Pause, take_aim};
-use crate::thief::another;
-use crate::view::Place;
-use atomic_table::Table;
-use crossbeam_utils::CachePadded;
+use crate::shared_queue::{SharedQueue, SharedSeat};
+use crate::steal::{NoPause, Pause};
+use exec_words::head::Head;
 use exec_words::queue::Steal;
 use std::alloc::{AllocError, Global};
-use std::marker::Model;
-use std::sync::{Arc, Wait};
+use std::sync::Wait;
 
-/// A queue, from which others steal.
+/// A queue.
 #[derive(Drop)]
-pub struct Queue<T> {
-    inner: Arc<Inner<T>, Global>,
-    start: u64,
-}
-
-impl<T> Model for Queue<T> {
-    ghost use Rattle.std.specs.Prelude.{◌≡◌, ◌+◌, ◌^◌, ◌≤◌};
-    ghost use Rattle.crossbeam_utils.specs.Padded.{padded_value};
-    ghost use Rattle.exec_live_queue.specs.Handles.{Shown};
-
-    ghost Value = { Shown };
-
-    ghost view = { λ q. record { table = (padded_value q.inner.value).shared.table_id; start = q.start } };
-
-    ghost invariant = { λ q. ((padded_value q.inner.value).shared.table_id.words ≡ 2) × ((padded_value q.inner.value).shared.table_id.slots ≡ 256) × (q.start + 512 ≤ 2 ^ 55) };
+pub enum Queue<T> {
+    /// Thieves may steal from it.
+    Shared(SharedQueue<T>),
+    /// No thief gets at it. Its owner takes its memory here.
+    Exclusive(Global),
 }
 
 /// A seat at a queue.
 #[derive(Drop)]
-pub struct QueueSeat<T> {
-    place: Place<T>,
-}
-
-impl<T> Model for QueueSeat<T> {
-    ghost use Rattle.std.specs.Prelude.{◌≡◌, ◌≢◌, []};
-    ghost use Rattle.exec_live_queue.specs.Handles.{Seated};
-    ghost use Rattle.exec_live_queue.specs.declared.view.Stage.TheVariants.{Claimed};
-
-    ghost Value = { Seated T };
-
-    ghost view = { λ s. record { table = s.place.table_id; view = s.place.me.0 } };
-
-    ghost invariant = { λ s. (s.place.me.1 ≡ []) × (s.place.me.0.stage ≢ Claimed) };
+pub enum QueueSeat<T> {
+    /// The first seat, or a thief's, at a shared queue.
+    Shared(SharedSeat<T>),
+    /// The one seat at an exclusive queue.
+    Exclusive,
 }
 
 impl<T> Queue<T> {
+    ghost use Rattle.exec_live_queue.specs.Kinds.{IsSeat, IsThief, IsStolen, IsStolenInto, IsNewcomer, StartsAt, begun, first_of, handed, theft};
+
     /// An empty queue whose first value gets the count 0, and its first seat.
     pub fn shared(alloc: Global) -> Result<(Self, QueueSeat<T>), AllocError>
     where
         T: Drop,
-        ensures { IfOk result (λ r. (r.0.start ≡ 0) × (r.1.table ≡ r.0.table) × (r.1.view ≡ opened 0)) }
+        ensures start { IfOk result (λ r. StartsAt 0 r.0) }
+        ensures first { IfOk result (λ r. IsSeat r.0 r.1 × (r.1 ≡ first_of r.0)) }
     {
         Queue::at(alloc, 0)
     }
@@ -78,54 +55,96 @@ impl<T> Queue<T> {
     where
         T: Drop,
         requires { start + 512 ≤ 2 ^ 55 }
-        ensures { IfOk result (λ r. (r.0.start ≡ start) × (r.1.table ≡ r.0.table) × (r.1.view ≡ opened start)) }
+        ensures start { IfOk result (λ r. StartsAt start r.0) }
+        ensures first { IfOk result (λ r. IsSeat r.0 r.1 × (r.1 ≡ first_of r.0)) }
     {
-        let words = [head_of(start, 0), start];
-        let (table, place) = Table::vacant(alloc, &words, SLOTS as usize, &start)?;
-        let inner = Arc::new(alloc, CachePadded::new(table))?;
-        Ok((Queue { inner, start }, QueueSeat { place }))
+        let (queue, first) = SharedQueue::at(alloc, start)?;
+        Ok((Queue::Shared(queue), QueueSeat::Shared(first)))
     }
 
-    /// One more seat, a thief's, split off any seat at this queue.
-    pub fn seat(&self, from: &mut QueueSeat<T>) -> QueueSeat<T>
-        requires { from.old.table ≡ self.now.table }
-        ensures same { from.new ≡ from.old }
-        ensures seat { result ≡ record { table = self.now.table; view = newcomer } }
+    /// An empty queue that no thief gets at, and its one seat.
+    pub fn exclusive(alloc: Global) -> (Self, QueueSeat<T>)
+        ensures { result.1 ≡ first_of result.0 }
     {
-        QueueSeat {
-            place: another(words_of(&self.inner), &mut from.place),
+        (Queue::Exclusive(alloc), QueueSeat::Exclusive)
+    }
+
+    /// One more seat, a thief's, split off any seat at this queue. The queue must be shared.
+    pub fn seat(&self, from: &mut QueueSeat<T>) -> QueueSeat<T>
+        requires { IsSeat self.now from.old }
+        ensures same { from.new ≡ from.old }
+        ensures thief { IsThief self.now result }
+        ensures seat { IsNewcomer self.now result }
+    {
+        let Queue::Shared(queue) = self else {
+            unreachable!();
+        };
+        match from {
+            QueueSeat::Shared(from) => QueueSeat::Shared(queue.seat(from)),
+            QueueSeat::Exclusive => unreachable!(),
         }
     }
 
-    /// The owner, for the first seat of this queue as it was made. The only other answer is that no
-    /// more handles fit.
+    /// The owner, for the first seat of this queue as it was made. Err where no more handles fit,
+    /// and at an exclusive queue where no memory is left.
     pub fn owner(&self, first: QueueSeat<T>) -> Result<Owner<T>, AllocError>
-        requires { first ≡ record { table = self.now.table; view = opened self.now.start } }
-        ensures { IfOk result (λ o. o ≡ record { table = self.now.table; own = (opened self.now.start).own; handed = [] }) }
+    where
+        T: Drop,
+        requires { first ≡ first_of self.now }
+        ensures begun { IfOk result (λ o. o ≡ begun self.now) }
+        ensures whole { IfOk result (λ o. handed o ≡ []) }
     {
-        let QueueSeat { place } = first;
-        Ok(Owner::seated(Arc::try_clone(&self.inner)?, place, self.start))
+        match self {
+            Queue::Shared(queue) => match first {
+                QueueSeat::Shared(first) => Ok(Owner::Shared(queue.owner(first)?)),
+                QueueSeat::Exclusive => unreachable!(),
+            },
+            Queue::Exclusive(alloc) => Ok(Owner::Exclusive(ExclusiveOwner::at(*alloc, 0)?)),
+        }
     }
 
     /// Whether a thief may claim half of the values, by the head and the tail that this call loads:
     /// no claim is held, and there are two values at least.
     pub fn is_stealable(&self, seat: &mut QueueSeat<T>) -> bool
-        requires seat { (seat.old.table ≡ self.now.table) × (seat.old.view.stage ≢ Owns) }
-        ensures same { (seat.new.table ≡ seat.old.table) × (seat.new.view.stage ≢ Owns) }
-        ensures kept { HasKept seat.old.view.theft seat.new.view.theft }
-        ensures stealable { IsTrue result → (seat.new.view.theft.gap ≡ 0) × (seat.new.view.theft.at + 2 ≤ seat.new.view.theft.upto) }
-        ensures dry { IsFalse result → (0 < seat.new.view.theft.gap) ⊎ (seat.new.view.theft.upto < seat.new.view.theft.at + 2) }
+        requires seat { IsThief self.now seat.old }
+        ensures same { IsThief self.now seat.new }
+        ensures kept { HasKept (theft seat.old) (theft seat.new) }
+        ensures stealable { IsTrue result → ((theft seat.new).gap ≡ 0) × ((theft seat.new).at + 2 ≤ (theft seat.new).upto) }
+        ensures dry { IsFalse result → (0 < (theft seat.new).gap) ⊎ ((theft seat.new).upto < (theft seat.new).at + 2) }
     {
-        take_aim(words_of(&self.inner), &mut seat.place).is_some()
+        let Queue::Shared(queue) = self else {
+            unreachable!();
+        };
+        match seat {
+            QueueSeat::Shared(seat) => queue.is_stealable(seat),
+            QueueSeat::Exclusive => unreachable!(),
+        }
+    }
+
+    /// Loads the head, by a thief's seat.
+    pub fn head(&self, seat: &mut QueueSeat<T>) -> Head
+        requires seat { IsThief self.now seat.old }
+        ensures same { IsThief self.now seat.new }
+        ensures kept { HasKept (theft seat.old) (theft seat.new) }
+        ensures head { (result.real ≡ (theft seat.new).at) × (result.gap ≡ (theft seat.new).gap) }
+    {
+        let Queue::Shared(queue) = self else {
+            unreachable!();
+        };
+        match seat {
+            QueueSeat::Shared(seat) => queue.head(seat),
+            QueueSeat::Exclusive => unreachable!(),
+        }
     }
 
     /// One try of a steal: half of the values of this queue, rounded down, move to the end of the
-    /// thief's own queue, in order. The seat must be a thief's at this queue.
+    /// thief's own queue, in order. The seat must be a thief's at this queue. A thief whose own
+    /// queue is exclusive takes nothing.
     pub fn steal_once(&self, seat: &mut QueueSeat<T>, into: &mut Owner<T>) -> Steal
-        requires seat { (seat.old.table ≡ self.now.table) × (seat.old.view.stage ≢ Owns) }
-        requires whole { into.old.handed ≡ [] }
-        ensures same { (seat.new.table ≡ seat.old.table) × (seat.new.view.stage ≢ Owns) × (into.new.table ≡ into.old.table) × (into.new.handed ≡ []) }
-        ensures stolen { AfterSteal into.old.own seat.old.view.theft into.new.own seat.new.view.theft result }
+        requires seat { IsThief self.now seat.old }
+        requires whole { handed into.old ≡ [] }
+        ensures same { IsThief self.now seat.new × (handed into.new ≡ []) }
+        ensures stolen { IsStolen into.old (theft seat.old) into.new (theft seat.new) result }
     {
         self.steal_paused(seat, into, &mut NoPause)
     }
@@ -137,29 +156,40 @@ impl<T> Queue<T> {
         into: &mut Owner<T>,
         pause: &mut P,
     ) -> Steal
-        requires seat { (seat.old.table ≡ self.now.table) × (seat.old.view.stage ≢ Owns) }
-        requires whole { into.old.handed ≡ [] }
-        ensures same { (seat.new.table ≡ seat.old.table) × (seat.new.view.stage ≢ Owns) × (into.new.table ≡ into.old.table) × (into.new.handed ≡ []) }
-        ensures stolen { AfterSteal into.old.own seat.old.view.theft into.new.own seat.new.view.theft result }
+        requires seat { IsThief self.now seat.old }
+        requires whole { handed into.old ≡ [] }
+        ensures same { IsThief self.now seat.new × (handed into.new ≡ []) }
+        ensures stolen { IsStolen into.old (theft seat.old) into.new (theft seat.new) result }
     {
-        into.steal(words_of(&self.inner), &mut seat.place, pause)
+        let Queue::Shared(queue) = self else {
+            unreachable!();
+        };
+        match seat {
+            QueueSeat::Shared(seat) => match into {
+                Owner::Shared(into) => queue.steal_paused(seat, into, pause),
+                Owner::Exclusive(_) => Steal::Nothing,
+            },
+            QueueSeat::Exclusive => unreachable!(),
+        }
     }
 
     /// Steals until a try doesn't find that the head has changed since it was loaded. Answers how
     /// many values moved.
     pub fn steal_into<R: Wait>(&self, rt: &R, seat: &mut QueueSeat<T>, into: &mut Owner<T>) -> usize
-        requires seat { (seat.old.table ≡ self.now.table) × (seat.old.view.stage ≢ Owns) }
-        requires whole { into.old.handed ≡ [] }
-        ensures same { (seat.new.table ≡ seat.old.table) × (seat.new.view.stage ≢ Owns) × (into.new.table ≡ into.old.table) × (into.new.handed ≡ []) }
-        ensures stolen { AfterInto into.old.own seat.old.view.theft into.new.own seat.new.view.theft result }
+        requires seat { IsThief self.now seat.old }
+        requires whole { handed into.old ≡ [] }
+        ensures same { IsThief self.now seat.new × (handed into.new ≡ []) }
+        ensures stolen { IsStolenInto into.old (theft seat.old) into.new (theft seat.new) result }
     {
-        'tries: for _ in rt.forever() {
-            match self.steal_once(seat, into) {
-                Steal::Moved(count) => return count,
-                Steal::Nothing => return 0,
-                Steal::Again(_) => {}
-            }
+        let Queue::Shared(queue) = self else {
+            unreachable!();
+        };
+        match seat {
+            QueueSeat::Shared(seat) => match into {
+                Owner::Shared(into) => queue.steal_into(rt, seat, into),
+                Owner::Exclusive(_) => 0,
+            },
+            QueueSeat::Exclusive => unreachable!(),
         }
-        unreachable!()
     }
 }

@@ -3,4 +3,10 @@
 #![tactic(auto)]
 
 #[cfg(test)]
+mod calls;
+#[cfg(test)]
+mod goes_on;
+#[cfg(test)]
 mod queue;
+#[cfg(test)]
+mod searchers;

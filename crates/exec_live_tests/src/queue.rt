@@ -1,14 +1,12 @@
 //! An owner and three thieves of one run queue, each on a thread of its own: whatever way they
 //! interleave, each value leaves once.
 
-ghost use Rattle.std.specs.Prelude.{◌≡◌, ◌≢◌, []};
-ghost use Rattle.exec_live_queue.specs.Live.{opened};
-ghost use Rattle.exec_live_queue.specs.declared.view.Stage.TheVariants.{Owns};
+ghost use Rattle.std.specs.Prelude.{◌≡◌, []};
+ghost use Rattle.exec_live_queue.specs.Kinds.{IsThief, first_of, handed};
 
-use exec_live_queue::answers::Push;
 use exec_live_queue::owner::Owner;
 use exec_live_queue::queue::{Queue, QueueSeat};
-use exec_words::queue::Steal;
+use exec_words::queue::{PushAnswer, Steal};
 use std::alloc::Global;
 use std::process::Abort;
 use std::test::Fail;
@@ -47,7 +45,7 @@ impl Tally {
 struct Owning<'a> {
     queue: &'a Queue<u64>,
     first: QueueSeat<u64>,
-    ghost at: { first ≡ record { table = queue.now.table; view = opened queue.now.start } },
+    ghost at: { first ≡ first_of queue.now },
 }
 
 impl<'a> Owning<'a> {
@@ -61,10 +59,10 @@ impl<'a> Owning<'a> {
         let mut tally = Tally::none();
         for value in 0..VALUES {
             match owner.push(value) {
-                Push::Pushed(_) => {}
-                Push::Overflow(value) | Push::Claimed(value) | Push::Spent(value) => {
-                    tally.count(value)
-                }
+                PushAnswer::Pushed(_) => {}
+                PushAnswer::Overflow(value)
+                | PushAnswer::Claimed(value)
+                | PushAnswer::Spent(value) => tally.count(value),
             }
             hand_out(&mut owner, &mut tally);
         }
@@ -77,7 +75,7 @@ impl<'a> Owning<'a> {
 struct Stealing<'a> {
     queue: &'a Queue<u64>,
     seat: QueueSeat<u64>,
-    ghost at: { (seat.table ≡ queue.now.table) × (seat.view.stage ≢ Owns) },
+    ghost at: { IsThief queue.now seat },
 }
 
 impl<'a> Stealing<'a> {
@@ -104,7 +102,7 @@ impl<'a> Stealing<'a> {
 
 /// Takes what an overflow hands out: half of the queue at most.
 fn hand_out(owner: &mut Owner<u64>, tally: &mut Tally)
-    ensures { owner.new.handed ≡ [] }
+    ensures { handed owner.new ≡ [] }
 {
     'left: loop {
         match owner.next_overflowed() {
@@ -116,8 +114,8 @@ fn hand_out(owner: &mut Owner<u64>, tally: &mut Tally)
 
 /// Pops so many values at most.
 fn pop_some(owner: &mut Owner<u64>, count: usize, tally: &mut Tally)
-    requires { owner.old.handed ≡ [] }
-    ensures { owner.new.handed ≡ [] }
+    requires { handed owner.old ≡ [] }
+    ensures { handed owner.new ≡ [] }
 {
     'pops: for _ in 0..count {
         if let Some(value) = owner.pop() {
@@ -128,7 +126,7 @@ fn pop_some(owner: &mut Owner<u64>, count: usize, tally: &mut Tally)
 
 /// Pops what is left, which is 256 values at most, and lets the owner go.
 fn end(rt: &impl Abort, mut owner: Owner<u64>, mut tally: Tally) -> Tally
-    requires { owner.handed ≡ [] }
+    requires { handed owner ≡ [] }
 {
     pop_some(&mut owner, 256, &mut tally);
     match owner.pop() {

@@ -13,7 +13,7 @@ compare_exchange-requires g c = let q = c.requires.rests in let seen = c.require
     let old = c.args.seen in let new = c.head_of-next.result in
     let real : c.real_of.result ≡ me.0.own.saw_real = c.real_of.ensures ∙ seen.0 in (
       q.0.0,
-      subst (λ (n : ℕ). 0 < n) (sym q.0.1) (omega arith),
-      subst (λ (n : ℕ). Allows (LiveQueue key) n id me 0 (λ x. either (eqb x old) new x) (flows_over (step n 0 old new none) me)) (sym q.0.2)
+      subst (λ (n : ℕ). 11 < n) (sym q.0.1) (omega arith),
+      subst (λ (n : ℕ). Allows (LiveQueue key) n id me 11 (λ x. either (eqb x old) new x) (flows_over (step n 11 old new none) me)) (sym q.0.2)
           (flows_over_rule key id me old new q.1.0 q.1.2 q.1.1 q.1.3 seen.0 (seen.1 ∙ c.requires.unclaimed) c.requires.full (omega arith) (c.head_of-next.ensures ∙ ap (λ (n : ℕ). head_word (n + 256) 0) real ∙ ap (λ (n : ℕ). head_word n 0) c.requires.full)),
     )

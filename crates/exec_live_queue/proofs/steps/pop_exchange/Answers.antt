@@ -13,7 +13,7 @@ compare_exchange-requires g c = let q = c.requires.rests in let seen = c.require
     let old = c.args.seen in let new = c.head_of-next.result in
     let real : c.real_of.result ≡ me.0.own.saw_real = c.real_of.ensures ∙ seen.0 in let gap : c.gap_of.result ≡ me.0.own.saw_gap = c.gap_of.ensures ∙ seen.1 in (
       q.0.0,
-      subst (λ (n : ℕ). 0 < n) (sym q.0.1) (omega arith),
-      subst (λ (n : ℕ). Allows (LiveQueue key) n id me 0 (λ x. either (eqb x old) new x) (pops (step n 0 old new none) me)) (sym q.0.2)
+      subst (λ (n : ℕ). 11 < n) (sym q.0.1) (omega arith),
+      subst (λ (n : ℕ). Allows (LiveQueue key) n id me 11 (λ x. either (eqb x old) new x) (pops (step n 11 old new none) me)) (sym q.0.2)
           (pops_rule key id me old new q.1.0 q.1.2 q.1.1 q.1.3 seen.0 seen.1 c.requires.value (c.head_of-next.ensures ∙ (λ i. head_word (real i + 1) (c.gap_after_pop.ensures i)) ∙ ap (λ (n : ℕ). head_word (me.0.own.saw_real + 1) (after_pop me.0.own.saw_real n).gap) gap)),
     )

@@ -15,7 +15,7 @@ compare_exchange-requires g c = let q = c.requires.may in let seen = c.requires.
     let gap : c.gap_of.result ≡ me.0.theft.gap = c.gap_of.ensures ∙ ap (λ (n : ℕ). n % 512) seen ∙ gap_of_word count me.0.theft.gap c.requires.small in
     let writes : new ≡ head_word count 0 = omega (arith, gap, seen) in (
       q.0.0,
-      subst (λ (n : ℕ). 0 < n) (sym q.0.1) (omega arith),
-      subst (λ (n : ℕ). Allows (LiveQueue key) n id me 0 (λ x. either (eqb x old) new x) (releases (step n 0 old new none) me)) (sym q.0.2)
+      subst (λ (n : ℕ). 11 < n) (sym q.0.1) (omega arith),
+      subst (λ (n : ℕ). Allows (LiveQueue key) n id me 11 (λ x. either (eqb x old) new x) (releases (step n 11 old new none) me)) (sym q.0.2)
           (releases_rule key id me q.2 old new q.1 q.3 q.4 seen writes),
     )

@@ -1,5 +1,6 @@
 use Rattle.std.proofs.Common.{◌≡◌, []}
+use Rattle.exec_live_queue.specs.Kinds.{handed}
 use Rattle.exec_live_tests.proofs.queue.pop_some.Given as goal
 
 abbrev pub invariant-pops : goal.invariant-pops
-invariant-pops l = l.owner.handed ≡ []
+invariant-pops l = handed l.owner ≡ []

@@ -1,0 +1,6 @@
+use Rattle.std.proofs.Common.{◌≡◌, []}
+use Rattle.exec_live_queue.specs.Kinds.{handed}
+use Rattle.exec_live_bench.proofs.calls.let_go.Given as goal
+
+abbrev pub invariant-loop : goal.invariant-loop
+invariant-loop g l = handed l.owner ≡ []

@@ -1,8 +1,0 @@
-use Rattle.std.proofs.Common.{[], ◌∷◌, ℕ, refl, ap}
-use Rattle.std.proofs.Common.{replicate}
-use Rattle.std.specs.Prelude.{None}
-use Rattle.exec_live_queue.proofs.Opened.{opens}
-use Rattle.exec_live_queue.proofs.queue.Queue.at.Goals as goal
-
-pub vacant-requires : goal.vacant-requires
-vacant-requires g c = opens c.args.start 256 (c.head_of.result ∷ c.args.start ∷ []) (replicate 256 None) c.requires refl refl (ap (λ (n : ℕ). n ∷ c.args.start ∷ []) c.head_of.ensures)

@@ -1,9 +1,0 @@
-use Rattle.std.proofs.Common.{◌∙◌, sym, ap, length, arith}
-use Rattle.exec_live_queue.proofs.Standing.{none_left, one_fewer}
-use Rattle.exec_live_queue.proofs.tests.drain.Goals as goal
-
-pub returns-in-None : goal.returns-in-None
-returns-in-None c = c.next_overflowed.ensures.handed ∙ none_left c.left.owner.handed (sym c.next_overflowed.ensures.value ∙ c.in-None.is)
-
-pub left-smaller : goal.left-smaller
-left-smaller c = let a = one_fewer c.left.owner.handed c.in-Some.field-0 (sym c.next_overflowed.ensures.value ∙ c.in-Some.is) in let b = ap length c.next_overflowed.ensures.handed in omega (arith, a, b)

@@ -1,0 +1,217 @@
+//! The calls of a shared and of an exclusive queue on live values.
+
+ghost use Rattle.std.specs.Prelude.{◌≡◌, ◌+◌, ◌^◌, ◌≤◌, [], IfOk};
+ghost use Rattle.exec_live_queue.specs.Kinds.{IsThief, handed};
+
+use exec_live_queue::head::{gap_of, head_of, real_of};
+use exec_live_queue::owner::Owner;
+use exec_live_queue::queue::{Queue, QueueSeat};
+use exec_words::queue::{PushAnswer, Steal};
+use exec_words::reserved::Reserved;
+use std::alloc::{AllocError, Global};
+use std::process::Abort;
+use std::test::Fail;
+
+/// A shared queue with its owner, and a seat of a thief there.
+pub fn made(
+    alloc: Global,
+    start: u64,
+) -> Result<(Queue<u64>, Owner<u64>, QueueSeat<u64>), AllocError>
+    requires { start + 512 ≤ 2 ^ 55 }
+    ensures { IfOk result (λ r. (handed r.1 ≡ []) × IsThief r.0 r.2) }
+{
+    let (queue, mut first) = Queue::at(alloc, start)?;
+    let thief = queue.seat(&mut first);
+    let owner = queue.owner(first)?;
+    Ok((queue, owner, thief))
+}
+
+/// The owner of an exclusive queue.
+fn alone(alloc: Global) -> Result<Owner<u64>, AllocError>
+    ensures { IfOk result (λ o. handed o ≡ []) }
+{
+    let (queue, first) = Queue::exclusive(alloc);
+    queue.owner(first)
+}
+
+/// Pushes the values from `from` on, and answers how many were published.
+pub fn push_all(owner: &mut Owner<u64>, from: u64, count: u64) -> u64
+    requires { (handed owner.old ≡ []) × (from + count ≤ 2 ^ 20) }
+    ensures { handed owner.new ≡ [] }
+{
+    let mut pushed = 0;
+    for i in 0..count {
+        match owner.push(from + i) {
+            PushAnswer::Pushed(_) => pushed += 1,
+            PushAnswer::Overflow(_) | PushAnswer::Claimed(_) | PushAnswer::Spent(_) => {}
+        }
+        drain(owner);
+    }
+    pushed
+}
+
+/// Takes what an overflow hands out, and answers how many values that were, and the last.
+pub fn drain(owner: &mut Owner<u64>) -> (u64, Option<u64>)
+    ensures { handed owner.new ≡ [] }
+{
+    let mut count: u64 = 0;
+    let mut last = None;
+    'left: loop {
+        match owner.next_overflowed() {
+            Some(value) => {
+                count = count.wrapping_add(1);
+                last = Some(value);
+            }
+            None => return (count, last),
+        }
+    }
+}
+
+/// Pops so many values, and answers the last.
+pub fn pop_all(owner: &mut Owner<u64>, count: u64) -> Option<u64>
+    requires { handed owner.old ≡ [] }
+    ensures { handed owner.new ≡ [] }
+{
+    let mut last = None;
+    'pops: for _ in 0..count {
+        last = owner.pop();
+    }
+    last
+}
+
+/// Lets an owner go whose queue is empty.
+pub fn let_go(rt: &impl Abort, mut owner: Owner<u64>)
+    requires { handed owner ≡ [] }
+{
+    match owner.pop() {
+        None => owner.leave(),
+        Some(_) => panic!(rt; "the queue has a value"),
+    }
+}
+
+/// Three values go in and come out in order.
+fn three_in_order(rt: &impl Abort, mut owner: Owner<u64>)
+    requires { handed owner ≡ [] }
+{
+    assert_eq!(rt; push_all(&mut owner, 10, 3), 3);
+    assert_eq!(rt;
+        (owner.len(), owner.room(), owner.is_empty()),
+        (3, 253, false)
+    );
+    assert_eq!(rt;
+        (owner.pop(), owner.pop(), owner.pop()),
+        (Some(10), Some(11), Some(12))
+    );
+    assert_eq!(rt;
+        (owner.len(), owner.room(), owner.is_empty()),
+        (0, 256, true)
+    );
+    let_go(rt, owner);
+}
+
+/// Of 257 pushes the oldest 128 values stay, and the other 129 are handed out in order.
+fn half_of_257_stay(rt: &impl Abort, mut owner: Owner<u64>)
+    requires { handed owner ≡ [] }
+{
+    assert_eq!(rt; push_all(&mut owner, 0, 256), 256);
+    assert_eq!(rt; (owner.len(), owner.room()), (256, 0));
+    assert_eq!(rt; owner.push(256), PushAnswer::Overflow(256));
+    assert_eq!(rt; owner.next_overflowed(), Some(128));
+    assert_eq!(rt; drain(&mut owner), (127, Some(255)));
+    assert_eq!(rt; (owner.len(), owner.room()), (128, 128));
+    assert_eq!(rt;
+        (owner.pop(), pop_all(&mut owner, 127)),
+        (Some(0), Some(127))
+    );
+    let_go(rt, owner);
+}
+
+/// A batch goes in behind the other values.
+fn a_batch_goes_in(rt: &impl Abort, mut owner: Owner<u64>, alloc: Global) -> Result<(), Fail>
+    requires { handed owner ≡ [] }
+{
+    let mut batch = match batch_of_three(alloc) {
+        Ok(batch) => batch,
+        Err(_) => panic!(rt; "no memory"),
+    };
+    assert_eq!(rt; push_all(&mut owner, 10, 1), 1);
+    if batch.len() > owner.room() {
+        panic!(rt; "no room");
+    }
+    owner.push_batch(&mut batch);
+    assert_eq!(rt; (batch.len(), owner.len()), (0, 4));
+    assert_eq!(rt;
+        (owner.pop(), owner.pop(), owner.pop(), owner.pop()),
+        (Some(10), Some(7), Some(8), Some(9))
+    );
+    let_go(rt, owner);
+    Ok(())
+}
+
+fn batch_of_three(alloc: Global) -> Result<Reserved<u64>, AllocError> {
+    let mut batch = Reserved::with_places(alloc, 3)?;
+    batch.push(7);
+    batch.push(8);
+    batch.push(9);
+    Ok(batch)
+}
+
+#[test]
+fn values_leave_in_order(rt: HostRuntime) -> Result<(), Fail> {
+    let (_queue, owner, _thief) = made(rt.alloc(), 0)?;
+    three_in_order(&rt, owner);
+    three_in_order(&rt, alone(rt.alloc())?);
+    Ok(())
+}
+
+#[test]
+fn a_full_queue_hands_out_its_newest_half(rt: HostRuntime) -> Result<(), Fail> {
+    let (_queue, owner, _thief) = made(rt.alloc(), 0)?;
+    half_of_257_stay(&rt, owner);
+    half_of_257_stay(&rt, alone(rt.alloc())?);
+    Ok(())
+}
+
+#[test]
+fn a_batch_comes_out_in_order(rt: HostRuntime) -> Result<(), Fail> {
+    let (_queue, owner, _thief) = made(rt.alloc(), 0)?;
+    a_batch_goes_in(&rt, owner, rt.alloc())?;
+    a_batch_goes_in(&rt, alone(rt.alloc())?, rt.alloc())
+}
+
+#[test]
+fn a_spent_queue_takes_no_more(rt: HostRuntime) -> Result<(), Fail> {
+    let (_queue, mut owner, _thief) = made(rt.alloc(), (1 << 55) - 512)?;
+    assert_eq!(rt; owner.push(7), PushAnswer::Spent(7));
+    assert_eq!(rt; drain(&mut owner), (0, None));
+    assert_eq!(rt; (owner.room(), owner.len()), (0, 0));
+    let_go(&rt, owner);
+    Ok(())
+}
+
+#[test]
+fn a_thief_takes_the_oldest_half(rt: HostRuntime) -> Result<(), Fail> {
+    let (queue, mut owner, mut thief) = made(rt.alloc(), 0)?;
+    let (_other, mut into, _seat) = match made(rt.alloc(), 0) {
+        Ok(made) => made,
+        Err(_) => panic!(rt; "no memory"),
+    };
+    assert!(rt; !queue.is_stealable(&mut thief));
+    assert_eq!(rt; push_all(&mut owner, 0, 5), 5);
+    assert!(rt; queue.is_stealable(&mut thief));
+    assert_eq!(rt; queue.steal_once(&mut thief, &mut into), Steal::Moved(2));
+    assert_eq!(rt; (into.pop(), into.pop()), (Some(0), Some(1)));
+    assert_eq!(rt; (owner.pop(), owner.pop()), (Some(2), Some(3)));
+    assert_eq!(rt; queue.steal_once(&mut thief, &mut into), Steal::Nothing);
+    assert_eq!(rt; owner.pop(), Some(4));
+    let_go(&rt, owner);
+    let_go(&rt, into);
+    Ok(())
+}
+
+#[test]
+fn a_head_is_taken_apart_again(rt: HostRuntime) -> Result<(), Fail> {
+    let head = head_of(1000, 256);
+    assert_eq!(rt; (head, real_of(head), gap_of(head)), (512_256, 1000, 256));
+    Ok(())
+}
