@@ -1,4 +1,5 @@
-//! Tests of the public calls of waiters, apart from their crate, so that it is proved once.
+//! Tests of the public calls of waiters, and of registrations over a driver, apart from their crates, so that these are
+//! proved once.
 #![tactic(auto)]
 
 #[cfg(test)]

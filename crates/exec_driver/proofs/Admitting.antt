@@ -1,0 +1,160 @@
+-- The room that an admission makes, and gives up again.
+use Rattle.std.proofs.Common.{◌≡◌, ℕ, ◌+◌, ◌-◌, ◌*◌, ◌^◌, ◌<◌, ◌≤◌, ltb, Bool, true, false, not, List, [], ◌∷◌, length, Option, Some, None, Result, Ok, Err, refl, sym, ap, ◌∙◌, inl, inr, arith}
+use Rattle.exec_driver.proofs.Words.{cases_Bool}
+use Rattle.std.specs.Prelude.{is_some, is_err, count_by, IsSomeAnd, OnOk, OnErr}
+use Rattle.std.proofs.lemmas.Bool.{false≢true, ltb-true, ltb-false}
+use Rattle.std.proofs.lemmas.List.Sums.{sum_by-cons}
+use Rattle.exec_base.specs.Slab.{Slab}
+use Rattle.exec_base.specs.declared.slab.Slot.{Slot}
+use Rattle.exec_base.specs.declared.slab.Slot.TheVariants.{Live, Vacant, Retired}
+use Rattle.exec_request.specs.Buffers.{batch_of}
+use Rattle.exec_request.specs.Requests.{window_by}
+use Rattle.exec_request.specs.States.{asks_cancel}
+use Rattle.exec_request.specs.Syncing.{is_syncing}
+use Rattle.exec_request.specs.Ways.{is_direct}
+use Rattle.exec_request.specs.declared.buffers.WriteBuffers.{WriteBuffers}
+use Rattle.exec_request.specs.declared.buffers.WriteBuffers.TheVariants.{Single, Vectored}
+use Rattle.exec_request.specs.declared.request.Request.{Request}
+use Rattle.exec_request.specs.declared.request.Request.TheVariants.{Send, Recv, ReadAt, WriteAt, Sync, Connect, Poll}
+use Rattle.exec_request.specs.declared.window.Window.{Window}
+use Rattle.exec_ring.specs.Kernels.{Landing}
+use Rattle.exec_ring.specs.Rings.{RingState, taken_places, fresh as fresh_ring}
+use Rattle.exec_time.specs.Wheel.{Wheel, fresh}
+use Rattle.exec_waiters.specs.States.{counts_pending, pending_count}
+use Rattle.exec_waiters.specs.declared.waiter.Entry.{Entry}
+use Rattle.exec_waiters.specs.declared.waiter.Entry.TheVariants.{Pending, Ready}
+use Rattle.exec_waiters.proofs.Changes.{one_if}
+use Rattle.exec_driver.specs.Driving.{Driving, is_cancelled}
+use Rattle.exec_driver.specs.Lists.{no_lists}
+use Rattle.exec_driver.specs.Sound.{IsSound, IsHeld, is_uncancelled, counts, count_of}
+use Rattle.exec_driver.specs.Steps.{widened, bytes_left, footprint_of}
+use Rattle.exec_driver.proofs.Counting.{flying_few, pending_is}
+use Rattle.exec_driver.proofs.Shifts.{few}
+use Rattle.exec_driver.proofs.Stepping.{sound_ring}
+
+-- THE BYTES OF A REQUEST END WITHIN WHAT 64 BITS CAN SAY
+
+widened_ends : (w : Window) (n : ℕ) → (n < 2 ^ 32 → w.offset + n < 2 ^ 64) → (2 ^ 32 ≤ n → w.offset + w.length < 2 ^ 64) → (widened w n).offset + (widened w n).length < 2 ^ 64
+widened_ends w n small large =
+    elim (cases_Bool (ltb n (2 ^ 32))) [
+      | inl fits ↦ rw fits (small (ltb-true n (2 ^ 32) fits))
+      | inr over ↦ rw over (large (ltb-false n (2 ^ 32) over))
+    ]
+
+batch_within : (b : WriteBuffers) → batch_of b < 2 ^ 32
+batch_within (Single buf offset) = omega arith
+batch_within (Vectored bufs chunk offset remaining) = omega arith
+
+pub footprint_ends : (r : Request) → (footprint_of r).offset + (footprint_of r).length < 2 ^ 64
+footprint_ends (Send s) =
+    widened_ends (window_by false (Send s)) (bytes_left s.write) (λ small. omega (arith, small)) (λ large. omega (arith, batch_within s.write))
+footprint_ends (Recv r) = omega arith
+footprint_ends (ReadAt r) =
+    elim (cases_Bool (is_direct r.way)) [
+      | inl is ↦ rw is (omega (arith, r.within, r.ends))
+      | inr is ↦ rw is (omega (arith, r.within, r.ends))
+    ]
+footprint_ends (WriteAt w) =
+    elim (cases_Bool (is_syncing w.state)) [
+      | inl is ↦
+          widened_ends (window_by false (WriteAt w)) (bytes_left w.write) (λ small. rw is (omega (arith, small))) (λ large. rw is (omega arith))
+      | inr is ↦
+          widened_ends (window_by false (WriteAt w)) (bytes_left w.write) (λ small. rw is (omega (arith, w.ends))) (λ large. rw is (omega (arith, large, w.ends, batch_within w.write)))
+    ]
+footprint_ends (Sync s) = omega arith
+footprint_ends (Connect c) = omega arith
+footprint_ends (Poll p) = omega arith
+
+module _ {S F : Type 0} where
+  -- how many places a ring must have
+  abbrev pub needed : Driving S F → ℕ
+  needed d = pending_count d.requests + count_of is_uncancelled d.requests + length d.lists.cancels + d.cancels_under_way + 1
+
+  pub taken_few : (d : Driving S F) → IsSound d → taken_places d.ring ≤ needed d
+  taken_few d sound =
+      let less = flying_few d.requests in
+      elim (cases_Bool d.armed) [
+        | inl holds ↦ let e = rw holds at sound.entries in omega (arith, e, less)
+        | inr fails ↦ let e = rw fails at sound.entries in omega (arith, e, less)
+      ]
+
+  -- a ring with other places, enough of them
+  pub held_places : (d : Driving S F) (ls : List Landing) (n m room most spots : ℕ) → needed d ≤ n → m ≡ n → IsHeld d room most spots → IsHeld (record d { ring = record d.ring { places = n }; landings = ls }) room most m
+  held_places d ls n m room most spots enough is held =
+      record {
+        sound = sound_ring d (record d { ring = record d.ring { places = n }; landings = ls }) refl refl refl held.sound.entries enough held.sound;
+        room = held.room;
+        wheel_room = held.wheel_room;
+        limit = held.limit;
+        places = is;
+      }
+
+  -- each request needs two, a cancel under way one, and the wake poll one
+  parts : (p q r : Slot (Entry S F) → Bool) → ((o : Slot (Entry S F)) → one_if (p o) + one_if (q o) ≡ one_if (r o)) → (xs : List (Slot (Entry S F))) → count_by p xs + count_by q xs ≡ count_by r xs
+  parts p q r split [] = refl
+  parts p q r split (x ∷ xs) =
+      omega (arith, sum_by-cons (λ o. one_if (p o)) x xs, sum_by-cons (λ o. one_if (q o)) x xs, sum_by-cons (λ o. one_if (r o)) x xs, split x, parts p q r split xs)
+
+  one_of : (o : Slot (Entry S F)) → one_if (counts is_cancelled o) + one_if (counts is_uncancelled o) ≡ one_if (counts is_some o)
+  one_of (Live g (Pending w)) = by (asks_cancel w.state)
+    where
+      by : (b : Bool) → one_if b + one_if (not b) ≡ 1
+      by true = refl
+      by false = refl
+  one_of (Live g (Ready told)) = refl
+  one_of (Vacant g) = refl
+  one_of Retired = refl
+
+  pub needed_few : (d : Driving S F) → IsSound d → needed d ≤ pending_count d.requests * 2 + d.cancels_under_way + 1
+  needed_few d sound =
+      let asked = few is_cancelled is_cancelled refl refl (λ w is. is) d.lists.cancels d.requests sound.cancels.all sound.cancels.once in
+      let split = parts (counts is_cancelled) (counts is_uncancelled) (counts is_some) one_of d.requests.slots in
+      omega (arith, asked, split, pending_is d.requests)
+
+  -- A NEW DRIVER
+
+  none_at : (p : Slot (Entry S F) → Bool) (s : Slab (Entry S F)) → s.slots ≡ [] → count_by p s.slots ≡ 0
+  none_at p s empty = rw empty refl
+
+  pub held_fresh : (s : Slab (Entry S F)) (w : Wheel) (ring : RingState) (ls : List Landing) (size room most : ℕ) → s.slots ≡ [] → w.ready ≡ [] → ((t : ℕ) → w.active t ≡ 0) → ring ≡ record (fresh_ring size) { places = 1 } → most ≡ size → IsHeld (record { requests = s; wheel = w; ring = ring; landings = ls; lists = no_lists; cancels_under_way = 0; armed = false }) room most 1
+  held_fresh s w ring ls size room most empty drained idle is limit =
+      record {
+        sound = record {
+          queued = record { all = refl; once = refl };
+          gated = record { all = refl; once = refl };
+          enrolments = record { all = refl; once = refl };
+          due = record { all = refl; once = refl };
+          cancels = record { all = refl; once = refl };
+          permits = λ id. rw empty refl;
+          ticks = λ t. idle t ∙ sym (none_at _ s empty);
+          drained = drained;
+          entries = rw is (omega arith);
+          places = rw is (omega (arith, none_at counts_pending s empty, none_at (counts is_uncancelled) s empty));
+        };
+        room = omega (arith, none_at counts_pending s empty);
+        wheel_room = omega arith;
+        limit = rw is limit;
+        places = rw is refl;
+      }
+
+  pub is_fresh : (slots : Option ℕ) (d : Driving S F) (size horizon tick now : ℕ) → d.requests.slots ≡ [] → d.requests.vacant ≡ [] → d.requests.first ≡ 0 → IsSomeAnd slots (λ n. d.wheel ≡ fresh horizon tick now n) → d.ring ≡ record (fresh_ring size) { places = 1 } → d.lists ≡ no_lists → d.cancels_under_way ≡ 0 → d.armed ≡ false → IsSomeAnd slots (λ n. (d.requests.slots ≡ []) × (d.requests.vacant ≡ []) × (d.requests.first ≡ 0) × (d.wheel ≡ fresh horizon tick now n) × (d.ring ≡ record (fresh_ring size) { places = 1 }) × (d.lists ≡ no_lists) × (d.cancels_under_way ≡ 0) × (d.armed ≡ false))
+  is_fresh (Some n) d size horizon tick now slots vacant first wheel ring lists none idle = (slots, vacant, first, wheel, ring, lists, none, idle)
+  is_fresh None d size horizon tick now slots vacant first wheel ring lists none idle = absurd (wheel)
+
+-- a call that was right did what it says of that
+pub on_ok : {A E P : Type 0} (r : Result A E) → is_err r ≡ false → OnOk r P → P
+on_ok (Ok x) right then = then
+on_ok (Err e) right then = absurd (false≢true (sym right))
+
+pub on_err : {A E P : Type 0} (r : Result A E) → is_err r ≡ true → OnErr r P → P
+on_err (Ok x) wrong then = absurd (false≢true wrong)
+on_err (Err e) wrong then = then
+
+-- a new wheel has nothing in it
+pub record IsUnused (w : Wheel) : Type 0 where
+  pub drained : w.ready ≡ []
+  pub idle : (t : ℕ) → w.active t ≡ 0
+
+pub unused : (slots : Option ℕ) (w : Wheel) (horizon tick now : ℕ) → IsSomeAnd slots (λ n. w ≡ fresh horizon tick now n) → IsUnused w
+unused (Some n) w horizon tick now is = record { drained = ap (λ (v : Wheel). v.ready) is; idle = λ t. ap (λ (v : Wheel). v.active t) is }
+unused None w horizon tick now is = absurd (is)

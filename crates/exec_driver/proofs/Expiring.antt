@@ -1,0 +1,84 @@
+-- Who is taken out of what is due, or of what is to be enrolled, leaves a driver as it should be.
+use Rattle.std.proofs.Common.{◌≡◌, ◌<◌, ◌≤◌, ◌+◌, ◌^◌, ltb, cond, true, false, Ok, Err, ℕ, Bool, List, [], ◌∷◌, length, Option, Some, None, refl, sym, ap, ◌∙◌, arith}
+use Rattle.exec_driver.proofs.Words.{false≢true, ltb-true, Slab, Wheel, target_of, moment_of, waiter_at, Waiter, Entry, WaiterId, Driving, is_unenrolled, is_enrolled, Lists, first_of, rest_of, after_due, after_enrolment, IsListed, IsSound, IsHeld, tick_for, count_of, is_at_tick, and_parts}
+use Rattle.exec_base.specs.declared.error.Error.{Error}
+use Rattle.exec_driver.specs.Steps.{tick_by}
+use Rattle.exec_driver.proofs.Granting.{IsUnset, unset_tells}
+use Rattle.exec_driver.proofs.Stepping.{first_in}
+use Rattle.exec_driver.proofs.Timing.{target_tells}
+
+rest_none : (ids : List WaiterId) → first_of ids ≡ None → rest_of ids ≡ ids
+rest_none [] is = refl
+rest_none (x ∷ ids) is = absurd (cc)
+
+pub none_due : (l : Lists) → first_of l.due ≡ None → after_due l ≡ l
+none_due l is = ap (λ (ids : List WaiterId). record l { due = ids }) (rest_none l.due is)
+
+pub none_unenrolled : (l : Lists) → first_of l.enrolments ≡ None → after_enrolment l ≡ l
+none_unenrolled l is = ap (λ (ids : List WaiterId). record l { enrolments = ids }) (rest_none l.enrolments is)
+
+rest_within : (ids : List WaiterId) → length (rest_of ids) ≤ length ids
+rest_within [] = omega arith
+rest_within (x ∷ ids) = omega arith
+
+-- an enrolment that gives a tick gives one that the wheel takes
+ticks : (b : Bool) (t tick : ℕ) (e : Error) → cond b (Ok t) (Err e) ≡ Ok tick → (b ≡ true) × (t ≡ tick)
+ticks true t tick e is = (refl, cc)
+ticks false t tick e is = absurd (cc)
+
+by_target : (w : Wheel) (o : Option (Option ℕ)) (tick : ℕ) → tick_by w o ≡ Ok tick → (o ≡ Some (Some tick)) × (moment_of w tick < 2 ^ 64)
+by_target w None tick is = absurd (cc)
+by_target w (Some None) tick is = absurd (cc)
+by_target w (Some (Some t)) tick is =
+    let got = ticks (ltb (moment_of w t) (2 ^ 64)) t tick _ is in
+    (ap (λ (k : ℕ). Some (Some k)) got.1, rw (← got.1) (ltb-true (moment_of w t) (2 ^ 64) got.0))
+
+pub record IsTaken (w : Wheel) (tick : ℕ) : Type 0 where
+  pub ahead : w.current < tick
+  pub span : tick < w.current + w.slots
+  pub in_time : moment_of w tick < 2 ^ 64
+
+pub tick_tells : (w : Wheel) (deadline now tick : ℕ) → tick_for w deadline now ≡ Ok tick → IsTaken w tick
+tick_tells w deadline now tick is =
+    let by = by_target w (target_of w deadline now) tick is in
+    let range = target_tells w deadline now tick by.0 in
+    record { ahead = range.0; span = range.1; in_time = by.1 }
+
+pub some_first : (ids : List WaiterId) (id : WaiterId) → first_of ids ≡ Some id → 0 < length ids
+some_first [] id is = absurd (cc)
+some_first (x ∷ ids) id is = omega arith
+
+module _ {S F : Type 0} where
+  rest_listed : (place : Option (Waiter S F) → Bool) (s : Slab (Entry S F)) (ids : List WaiterId) → IsListed place s ids → IsListed place s (rest_of ids)
+  rest_listed place s [] listed = listed
+  rest_listed place s (x ∷ ids) listed = record { all = (and_parts _ _ listed.all).1; once = (and_parts _ _ listed.once).1 }
+
+  -- a change of what is due, and of the wheel but for what is active in it
+  pub held_due : (d : Driving S F) (w : Wheel) (due : List WaiterId) (room room' most spots : ℕ) → ((t : ℕ) → w.active t ≡ d.wheel.active t) → w.ready ≡ [] → IsListed is_enrolled d.requests due → room ≤ room' → IsHeld d room most spots → IsHeld (record d { wheel = w; lists = record d.lists { due = due } }) room' most spots
+  held_due d w due room room' most spots active ready listed more held =
+      let ticks : (t : ℕ) → w.active t ≡ count_of (is_at_tick t) d.requests = λ t. active t ∙ held.sound.ticks t in
+      let wheel_room : length d.lists.enrolments ≤ room' = omega (arith, held.wheel_room, more) in
+      assumption (ready, listed, ticks, wheel_room)
+
+  pub held_undue : (d : Driving S F) (room most spots : ℕ) → IsHeld d room most spots → IsHeld (record d { lists = after_due d.lists }) room most spots
+  held_undue d room most spots held =
+      held_due d d.wheel (rest_of d.lists.due) room room most spots (λ t. refl) held.sound.drained (rest_listed _ _ _ held.sound.due) (omega arith) held
+
+  pub held_left : (d : Driving S F) (room most spots : ℕ) → IsHeld d room most spots → IsHeld (record d { lists = after_enrolment d.lists }) room most spots
+  held_left d room most spots held =
+      let listed = rest_listed _ _ _ held.sound.enrolments in
+      let wheel_room : length (rest_of d.lists.enrolments) ≤ room = omega (arith, held.wheel_room, rest_within d.lists.enrolments) in
+      assumption (listed, wheel_room)
+
+  -- the first whose deadline is to be enrolled is there
+  pub record IsUnsetThere (o : Option (Waiter S F)) : Type 0 where
+    pub w : Waiter S F
+    pub at : o ≡ Some w
+    pub unset : IsUnset w
+
+  unset_by : (o : Option (Waiter S F)) → is_unenrolled o ≡ true → IsUnsetThere o
+  unset_by None is = absurd (false≢true is)
+  unset_by (Some w) is = record { w = w; at = refl; unset = unset_tells w is }
+
+  pub unset_there : (s : Slab (Entry S F)) (ids : List WaiterId) (id : WaiterId) → first_of ids ≡ Some id → IsListed is_unenrolled s ids → IsUnsetThere (waiter_at s id.0)
+  unset_there s ids id first listed = unset_by (waiter_at s id.0) (first_in is_unenrolled s ids id first listed)

@@ -1,0 +1,158 @@
+-- A permit, a deadline that is enrolled, and one that has come, keep a driver as it should be.
+use Rattle.std.proofs.Common.{◌≡◌, ◌⊎◌, ℕ, ◌+◌, ◌-◌, ◌*◌, ◌^◌, ◌<◌, ◌≤◌, ltb, eqb, Bool, true, false, not, ◌&&◌, ◌||◌, cond, List, [], ◌∷◌, ◌++◌, length, Option, Some, None, refl, sym, ap, ◌∙◌, inl, inr, arith}
+use Rattle.exec_driver.proofs.Words.{is_some, false≢true, eqb_tells, Slab, written, Id, deadline_of, asks_cancel, WaiterState, Active, CancelRequested, Wheel, with_permit, with_tick, waiter_at, is_flying, pending_count, flying_count, needs_permit, takes_tick, is_unset, Waiter, Entry, Pending, WaiterId, one_if, Driving, request_at, is_queued, is_gated, is_unenrolled, is_enrolled, is_cancelled, first_of, rest_of, is_same, is_among, with_queued, after_enrolment, without, IsListed, IsSound, IsHeld, is_unpermitted, is_at_tick, is_tick, is_uncancelled, are_all, count_of, and_parts, not-true}
+use Rattle.exec_time.specs.Wheel.{scheduled}
+use Rattle.exec_driver.specs.Lists.{without_gated}
+use Rattle.exec_driver.proofs.Names.{same_tells, fewer_without}
+use Rattle.exec_driver.proofs.Counting.{pending_is, flying_is}
+use Rattle.exec_driver.proofs.Shifts.{Shift, Left, Kept, Joined, First, shifted, nowhere, room_for}
+use Rattle.exec_driver.proofs.Endings.{one_changed}
+use Rattle.exec_driver.proofs.Stepping.{stays, there_by, first_in, first_tells}
+
+-- one more is active at a tick
+ticks_more : (w : Wheel) (id : Id) (tick : ℕ) (n n' : ℕ → ℕ) → ((t : ℕ) → w.active t ≡ n t) → ((t : ℕ) → n' t ≡ n t + one_if (is_tick t (Some tick))) → (t : ℕ) → (scheduled w id tick).active t ≡ n' t
+unfolding scheduled
+ticks_more w id tick n n' active more t =
+    let fact = more t in
+    elim (eqb_tells t tick) [
+      | inl same ↦ let fact' = rw same.0 at fact in rw same.0 (omega (arith, active t, fact'))
+      | inr other ↦ let fact' = rw other.0 at fact in rw other.0 (omega (arith, active t, fact'))
+    ]
+
+ready_scheduled : (w : Wheel) (id : Id) (tick : ℕ) → (scheduled w id tick).ready ≡ w.ready
+unfolding scheduled
+ready_scheduled w id tick = refl
+
+takes_tells : (s : WaiterState) → takes_tick s ≡ true → s ≡ Active None
+takes_tells (Active None) is = refl
+takes_tells (Active (Some tick)) is = absurd (false≢true is)
+takes_tells CancelRequested is = absurd (false≢true is)
+
+permit_there : (b : Bool) → (b && not true) ≡ false
+permit_there true = refl
+permit_there false = refl
+
+-- a choice that is both is one
+pub same_some : {A : Type 0} (o : Option A) (x y : A) → o ≡ Some x → o ≡ Some y → x ≡ y
+same_some o x y a b = cc
+
+module _ {S F : Type 0} where
+  -- what is listed is in its place
+  pub among_in : (p : Option (Waiter S F) → Bool) (s : Slab (Entry S F)) (id : WaiterId) (ids : List WaiterId) → are_all p s ids ≡ true → is_among id ids ≡ true → p (waiter_at s id.0) ≡ true
+  among_in p s id [] all among = absurd (false≢true among)
+  among_in p s id (x ∷ ids) all among =
+      let parts = and_parts (p (waiter_at s x.0)) (are_all p s ids) all in
+      elim (same_tells x id) [
+        | inl same ↦ rw (← same.1) parts.0
+        | inr other ↦ among_in p s id ids parts.1 (rw other.0 at among)
+      ]
+
+  -- one that waits at a gate
+  pub record IsWaiting (w : Waiter S F) : Type 0 where
+    pub idle : w.in_flight ≡ false
+    pub lacks : needs_permit w ≡ true
+    pub active : asks_cancel w.state ≡ false
+
+  pub waiting_tells : (w : Waiter S F) → is_gated (Some w) ≡ true → IsWaiting w
+  waiting_tells w is =
+      let outer = and_parts (not w.in_flight && needs_permit w) (not (asks_cancel w.state)) is in
+      let inner = and_parts (not w.in_flight) (needs_permit w) outer.0 in
+      record { idle = not-true _ inner.0; lacks = inner.1; active = not-true _ outer.1 }
+
+  pub permitted_now : (w : Waiter S F) → needs_permit (with_permit w) ≡ false
+  permitted_now w = permit_there _
+
+  -- who stands in the list of those that wait is there, and waits
+  pub record IsThere (d : Driving S F) (id : WaiterId) : Type 0 where
+    pub w : Waiter S F
+    pub at : request_at d id ≡ Some w
+    pub waits : IsWaiting w
+
+  pub gated_there : (d : Driving S F) (id : WaiterId) → IsSound d → is_among id d.lists.gated ≡ true → IsThere d id
+  gated_there d id sound among =
+      let place = among_in is_gated d.requests id d.lists.gated sound.gated.all among in
+      let there = there_by is_gated (waiter_at d.requests id.0) refl place in
+      record { w = there.0; at = there.1; waits = waiting_tells there.0 (rw there.1 at place) }
+
+  pub held_permitted : (d : Driving S F) (id : WaiterId) (w : Waiter S F) (room most spots : ℕ) → request_at d id ≡ Some w → IsWaiting w → IsHeld d room most spots → IsHeld (record d { requests = written d.requests id.0 (Pending (with_permit w)); lists = without_gated id d.lists }) room most spots
+  held_permitted d id w room most spots at waits held =
+      let sound = held.sound in
+      let w' = with_permit w in
+      let one = one_changed d.requests id.0 w w' at in
+      let same = one.numbers is_some refl in
+      let flying = one.numbers is_flying refl in
+      let uncancelled = one.numbers is_uncancelled refl in
+      let s' = written d.requests id.0 (Pending w') in
+      record {
+        sound = record {
+          queued = shifted is_queued _ _ id _ _ _ _ one (Kept refl (inr (rw (waits.idle, waits.active, waits.lacks) refl))) sound.queued;
+          gated = shifted is_gated _ _ id _ _ _ _ one (Left refl) sound.gated;
+          enrolments = shifted is_unenrolled _ _ id _ _ _ _ one (stays is_unenrolled (Some w) (Some w') id _ refl) sound.enrolments;
+          due = shifted is_enrolled _ _ id _ _ _ _ one (stays is_enrolled (Some w) (Some w') id _ refl) sound.due;
+          cancels = shifted is_cancelled _ _ id _ _ _ _ one (stays is_cancelled (Some w) (Some w') id _ refl) sound.cancels;
+          permits = nowhere is_unpermitted _ _ id.0 _ _ one (rw waits.idle refl) sound.permits;
+          ticks = λ t. let n = one.numbers (is_at_tick t) refl in omega (arith, n, sound.ticks t);
+          drained = sound.drained;
+          entries = omega (arith, sound.entries, flying, flying_is d.requests, flying_is s');
+          places = omega (arith, sound.places, same, uncancelled, pending_is d.requests, pending_is s');
+        };
+        room = omega (arith, held.room, same, pending_is d.requests, pending_is s');
+        wheel_room = held.wheel_room;
+        limit = held.limit;
+        places = held.places;
+      }
+
+  pub held_granted : (d : Driving S F) (id : WaiterId) (w : Waiter S F) (room most spots : ℕ) → request_at d id ≡ Some w → IsWaiting w → IsHeld d room most spots → IsHeld (record d { requests = written d.requests id.0 (Pending (with_permit w)); lists = with_queued id (without_gated id d.lists) }) room most spots
+  held_granted d id w room most spots at waits held =
+      let before = held_permitted d id w room most spots at waits held in
+      let one = one_changed d.requests id.0 w (with_permit w) at in
+      let queued = shifted is_queued _ _ id _ _ _ (d.lists.queued ++ id ∷ []) one (Joined refl (rw (waits.idle, waits.active, waits.lacks) refl) (rw (waits.idle, waits.active, permitted_now w) refl)) held.sound.queued in
+      assumption (before, queued)
+
+  pub room_to_grant : (d : Driving S F) (id : WaiterId) (w : Waiter S F) (room most spots : ℕ) → request_at d id ≡ Some w → IsWaiting w → IsHeld d room most spots → length d.lists.queued < d.lists.room
+  room_to_grant d id w room most spots at waits held =
+      let one = one_changed d.requests id.0 w (with_permit w) at in
+      let same = one.numbers is_some refl in
+      let s' = written d.requests id.0 (Pending (with_permit w)) in
+      room_for is_queued d.requests s' id (Some w) (with_permit w) d.lists.queued d.lists.room refl one (rw (waits.idle, waits.active, waits.lacks) refl) (rw (waits.idle, waits.active, permitted_now w) refl) held.sound.queued (omega (arith, held.room, same, pending_is d.requests, pending_is s'))
+
+  -- ENROLLED
+  pub record IsUnset (w : Waiter S F) : Type 0 where
+    pub idle : w.in_flight ≡ false
+    pub state : w.state ≡ Active None
+    pub deadline : is_some (deadline_of w.request) ≡ true
+
+  pub unset_tells : (w : Waiter S F) → is_unenrolled (Some w) ≡ true → IsUnset w
+  unset_tells w is =
+      let outer = and_parts (not w.in_flight && takes_tick w.state) (is_some (deadline_of w.request)) is in
+      let inner = and_parts (not w.in_flight) (takes_tick w.state) outer.0 in
+      record { idle = not-true _ inner.0; state = takes_tells w.state inner.1; deadline = outer.1 }
+
+  pub held_enrolled : (d : Driving S F) (id : WaiterId) (w : Waiter S F) (tick room room' most spots : ℕ) → request_at d id ≡ Some w → first_of d.lists.enrolments ≡ Some id → IsUnset w → room ≤ room' + 1 → IsHeld d room most spots → IsHeld (record d { requests = written d.requests id.0 (Pending (with_tick tick w)); wheel = scheduled d.wheel id.0 tick; lists = after_enrolment d.lists }) room' most spots
+  held_enrolled d id w tick room room' most spots at first unset more held =
+      let sound = held.sound in
+      let w' = with_tick tick w in
+      let one = one_changed d.requests id.0 w w' at in
+      let same = one.numbers is_some refl in
+      let flying = one.numbers is_flying refl in
+      let uncancelled = rw unset.state at (one.numbers is_uncancelled refl) in
+      let s' = written d.requests id.0 (Pending w') in
+      let long = ap length (first_tells d.lists.enrolments id first) in
+      record {
+        sound = record {
+          queued = shifted is_queued _ _ id _ _ _ _ one (stays is_queued (Some w) (Some w') id _ (rw unset.state refl)) sound.queued;
+          gated = shifted is_gated _ _ id _ _ _ _ one (stays is_gated (Some w) (Some w') id _ (rw unset.state refl)) sound.gated;
+          enrolments = shifted is_unenrolled _ _ id _ _ _ _ one (First (first_tells d.lists.enrolments id first)) sound.enrolments;
+          due = shifted is_enrolled _ _ id _ _ _ _ one (Kept refl (inl refl)) sound.due;
+          cancels = shifted is_cancelled _ _ id _ _ _ _ one (Kept refl (inr (rw unset.state refl))) sound.cancels;
+          permits = nowhere is_unpermitted _ _ id.0 _ _ one (rw unset.idle refl) sound.permits;
+          ticks = ticks_more d.wheel id.0 tick (λ t. count_of (is_at_tick t) d.requests) (λ t. count_of (is_at_tick t) s') sound.ticks (λ t. let n = rw unset.state at (one.numbers (is_at_tick t) refl) in omega (arith, n));
+          drained = ready_scheduled d.wheel id.0 tick ∙ sound.drained;
+          entries = omega (arith, sound.entries, flying, flying_is d.requests, flying_is s');
+          places = omega (arith, sound.places, same, uncancelled, pending_is d.requests, pending_is s');
+        };
+        room = omega (arith, held.room, same, pending_is d.requests, pending_is s');
+        wheel_room = omega (arith, held.wheel_room, long, more);
+        limit = held.limit;
+        places = held.places;
+      }

@@ -1,0 +1,53 @@
+-- An operation that ends in a ring in memory keeps a driver as it should be.
+use Rattle.std.proofs.Common.{◌≡◌, ◌⊎◌, ℕ, Bool, true, false, not, ◌&&◌, cond, Option, Some, None, Result, Ok, Err, refl, sym, ap, ◌∙◌, inl, inr}
+use Rattle.std.specs.Prelude.{OnOk, OnErr}
+use Rattle.exec_driver.proofs.Words.{Slab, written, is_durable, Asked, OpResult, asked_of, Request, landed, may_land, flight_of, RingState, waiter_at, is_flying, needs_permit, Waiter, Entry, Pending, WaiterId, Driving, request_at, IsHeld, cases_Bool}
+use Rattle.exec_ring.specs.declared.landing.Unlawful.{Unlawful}
+use Rattle.exec_ring.specs.declared.store.Store.{Store}
+use Rattle.exec_waiters.specs.Events.{Lands}
+use Rattle.exec_waiters.specs.Ids.{user_data_of}
+use Rattle.exec_waiters.proofs.Fits.{asked_after}
+use Rattle.exec_driver.specs.Steps.{LandsOne}
+use Rattle.exec_driver.proofs.Endings.{one_changed, flying_there}
+use Rattle.exec_driver.proofs.Entering.{landed_within}
+use Rattle.exec_driver.proofs.Observing.{held_alike}
+use Rattle.exec_driver.proofs.Stepping.{held_ring}
+
+-- what came of a landing: the answer, the ring, and the requests with the store
+pub record Landed {S F : Type 0} (d : Driving S F) (s' : Slab (Entry S F)) (ring' : RingState) (id : WaiterId) (given : OpResult) (answer : Result (Unit {0}) Unlawful) (st st' : Store) : Type 0 where
+  pub answer_is : answer ≡ cond (may_land d.ring (user_data_of id.0) given) (Ok tt) (Err (record { 0 = user_data_of id.0; 1 = given }))
+  pub ring_is : ring' ≡ cond (may_land d.ring (user_data_of id.0) given) (landed d.ring (user_data_of id.0) given) d.ring
+  pub moved : OnOk answer ((w : Waiter S F) → request_at d id ≡ Some w → Lands d.requests s' id.0 w (flight_of d.ring (user_data_of id.0)) given st st')
+  pub same : OnErr answer (s' ≡ d.requests)
+
+module _ {S F : Type 0} where
+  abbrev moved_to : Waiter S F → Request → Waiter S F
+  moved_to w request = record w { request = request }
+
+  permit_stays : (w : Waiter S F) (request : Request) → asked_of request ≡ asked_of w.request → needs_permit (moved_to w request) ≡ needs_permit w
+  permit_stays w request same = ap (λ (a : Asked). is_durable a.kind && not w.permit) same
+
+  -- the bytes of one in flight moved
+  held_moved : (d : Driving S F) (id : WaiterId) (w : Waiter S F) (request : Request) (room most spots : ℕ) → request_at d id ≡ Some w → w.in_flight ≡ true → asked_of request ≡ asked_of w.request → IsHeld d room most spots → IsHeld (record d { requests = written d.requests id.0 (Pending (moved_to w request)) }) room most spots
+  held_moved d id w request room most spots at flies asked held =
+      held_alike d _ id (Some w) (Some (moved_to w request)) room most spots (one_changed d.requests id.0 w (moved_to w request) at) (rw flies refl) (rw flies refl) (rw flies refl) refl refl (ap (λ (b : Bool). w.in_flight && b) (permit_stays w request asked)) (λ t. refl) refl refl refl held
+
+  pub held_land : (d : Driving S F) (s' : Slab (Entry S F)) (ring' : RingState) (id : WaiterId) (given : OpResult) (answer : Result (Unit {0}) Unlawful) (st st' : Store) (room most spots : ℕ) → IsHeld d room most spots → is_flying (request_at d id) ≡ true → Landed d s' ring' id given answer st st' → IsHeld (record d { requests = s'; ring = ring' }) room most spots
+  held_land d s' ring' id given answer st st' room most spots held flies so =
+      elim (cases_Bool (may_land d.ring (user_data_of id.0) given)) [
+        | inl may ↦
+            let there = flying_there (request_at d id) flies in
+            let one = (rw (rw may at so.answer_is) at so.moved) there.w there.is in
+            let step = held_moved d id there.w one.request room most spots there.is there.flies (asked_after (Ok tt) _ given _ _ st st' one.moved tt) held in
+            rw (one.slab, rw may at so.ring_is) (held_ring (record d { requests = written d.requests id.0 (Pending (moved_to there.w one.request)) }) (landed d.ring (user_data_of id.0) given) d.landings room most spots (landed_within d.ring (user_data_of id.0) given may) step)
+        | inr bars ↦ rw (rw (rw bars at so.answer_is) at so.same, rw bars at so.ring_is) held
+      ]
+
+  pub lands_one : (d : Driving S F) (s' : Slab (Entry S F)) (ring' : RingState) (id : WaiterId) (given : OpResult) (answer : Result (Unit {0}) Unlawful) (st st' : Store) → Landed d s' ring' id given answer st st' → OnOk answer ((w : Waiter S F) → request_at d id ≡ Some w → LandsOne d (record d { requests = s'; ring = ring' }) id w given st st')
+  lands_one d s' ring' id given answer st st' so =
+      elim (cases_Bool (may_land d.ring (user_data_of id.0) given)) [
+        | inl may ↦
+            let lands = rw (rw may at so.answer_is) at so.moved in
+            rw (rw may at so.answer_is) (λ w at. record { lands = lands w at; driver = ap (λ (r : RingState). record d { requests = s'; ring = r }) (rw may at so.ring_is) })
+        | inr bars ↦ rw (rw bars at so.answer_is) tt
+      ]

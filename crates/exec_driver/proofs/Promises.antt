@@ -1,0 +1,108 @@
+-- Why the laws hold.
+use Rattle.std.proofs.Common.{◌≡◌, ◌≢◌, ℕ, Bool, true, false, not, ◌&&◌, ◌||◌, cond, List, [], ◌∷◌, Option, Some, None, Ok, Err, refl, sym, ap, subst, ◌∙◌}
+use Rattle.std.proofs.lemmas.Bool.{false≢true}
+use Rattle.exec_base.specs.declared.error.Error.{Error}
+use Rattle.exec_base.specs.declared.slab.Id.{Id}
+use Rattle.exec_outcomes.specs.Accounts.{Account, is_durable, outcome_at_grant}
+use Rattle.exec_outcomes.specs.declared.outcome.Kind.{Kind}
+use Rattle.exec_outcomes.specs.declared.outcome.Kind.TheVariants as kind
+use Rattle.exec_outcomes.specs.declared.outcome.OpResult.{OpResult}
+use Rattle.exec_outcomes.specs.declared.outcome.Outcome.TheVariants.{Failure}
+use Rattle.exec_request.specs.Requests.{asked_of, deadline_of, goes_on_alone, output_of}
+use Rattle.exec_request.specs.States.{Ended, asks_cancel}
+use Rattle.exec_request.specs.Ways.{asked_by}
+use Rattle.exec_request.specs.declared.way.Way.{Way}
+use Rattle.exec_request.specs.declared.way.Way.TheVariants.{Buffered, Hinted, Direct, Switched}
+use Rattle.exec_request.specs.declared.request.Request.{Request}
+use Rattle.exec_request.specs.declared.request.Request.TheVariants.{Send, Recv, ReadAt, WriteAt, Sync, Connect, Poll}
+use Rattle.exec_waiters.specs.Events.{ending_of, cancelled}
+use Rattle.exec_waiters.specs.declared.waiter.Waiter.{Waiter}
+use Rattle.exec_waiters.specs.declared.waiter.Entry.{Entry}
+use Rattle.exec_base.specs.Slab.{Slab}
+use Rattle.exec_waiters.specs.declared.waiter_id.WaiterId.{WaiterId}
+use Rattle.exec_waiters.proofs.Changes.{entry_of}
+use Rattle.exec_driver.specs.Driving.{Driving, request_at}
+use Rattle.exec_driver.specs.Laws.{ShareGates, IsDurableFlight, GoesOnFlying}
+use Rattle.exec_driver.specs.Lists.{Lists, withdrawn}
+use Rattle.exec_driver.specs.Laws.{is_listed}
+use Rattle.exec_driver.specs.Opens.{OpenState, holder_at}
+use Rattle.exec_driver.specs.Steps.{let_go, without_observer, cancelled_at, cancelling, lawful_of}
+use Rattle.exec_driver.specs.declared.opens.WaiterKey.{WaiterKey}
+use Rattle.exec_driver.proofs.Endings.{one_changed}
+use Rattle.exec_driver.proofs.Granting.{same_some}
+use Rattle.exec_driver.proofs.Names.{among_without}
+use Rattle.exec_driver.proofs.Turns.{if_tells}
+
+never : (b : Bool) → (b && not true) ≡ false
+never true = refl
+never false = refl
+
+pub untimed : (r : Request) → goes_on_alone r ≡ true → deadline_of r ≡ None
+untimed (Send s) alone = absurd (false≢true alone)
+untimed (Recv s) alone = absurd (false≢true alone)
+untimed (ReadAt s) alone = absurd (false≢true alone)
+untimed (WriteAt s) alone = refl
+untimed (Sync s) alone = refl
+untimed (Connect s) alone = absurd (false≢true alone)
+untimed (Poll s) alone = absurd (false≢true alone)
+
+pub fails_at_grant : (k : Kind) (account : Account) (error : Error) → is_durable k ≡ true → account.failure ≡ Some error → outcome_at_grant k account ≡ Some (Failure error)
+fails_at_grant kind.Dsync account error durable fails = rw fails refl
+fails_at_grant kind.Many account error durable fails = rw fails refl
+fails_at_grant kind.Sync account error durable fails = rw fails refl
+fails_at_grant kind.Poll account error durable fails = absurd (false≢true durable)
+fails_at_grant kind.Send account error durable fails = absurd (false≢true durable)
+fails_at_grant kind.Recv account error durable fails = absurd (false≢true durable)
+fails_at_grant kind.Fill account error durable fails = absurd (false≢true durable)
+fails_at_grant kind.Connect account error durable fails = absurd (false≢true durable)
+fails_at_grant kind.Read account error durable fails = absurd (false≢true durable)
+fails_at_grant kind.Hint account error durable fails = absurd (false≢true durable)
+fails_at_grant kind.Direct account error durable fails = absurd (false≢true durable)
+fails_at_grant kind.Write account error durable fails = absurd (false≢true durable)
+
+recv_never : (b : Bool) → is_durable (cond b kind.Fill kind.Recv) ≡ true → ⊥
+recv_never true is = false≢true is
+recv_never false is = false≢true is
+
+way_never : (way : Way) (n : ℕ) → is_durable (asked_by way n).kind ≡ true → ⊥
+way_never Buffered n is = false≢true is
+way_never Hinted n is = false≢true is
+way_never (Direct skip len) n is = false≢true is
+way_never (Switched skip len) n is = false≢true is
+
+pub fails_over : (r : Request) (account : Account) (error : Error) → is_durable (asked_of r).kind ≡ true → account.failure ≡ Some error → ending_of (output_of r (Ok tt) (Some account)) ≡ Err error
+fails_over (WriteAt w) account error durable fails = rw (durable, fails) refl
+fails_over (Sync s) account error durable fails = rw fails refl
+fails_over (Send s) account error durable fails = absurd (false≢true durable)
+fails_over (Recv s) account error durable fails = absurd (recv_never s.exact durable)
+fails_over (ReadAt s) account error durable fails = absurd (way_never s.way _ durable)
+fails_over (Connect s) account error durable fails = absurd (false≢true durable)
+fails_over (Poll s) account error durable fails = absurd (false≢true durable)
+
+pub unlisted : (id : WaiterId) (l : Lists) → is_listed id (withdrawn id l) ≡ false
+unlisted id l = rw (among_without id l.queued, among_without id l.gated, among_without id l.enrolments, among_without id l.due, among_without id l.cancels) refl
+
+module _ {S F : Type 0} where
+  pub at_most_one : (drivers : ℕ → Driving S F) (opens : List OpenState) (a b : WaiterKey) (file : ℕ) → ShareGates drivers opens → IsDurableFlight (drivers a.worker) a.id file → IsDurableFlight (drivers b.worker) b.id file → a ≡ b
+  at_most_one drivers opens a b file share one other =
+      let first = share.holds a one.w file one.at (share.flies a one.w file one.at one.flies one.gate) one.gate in
+      let second = share.holds b other.w file other.at (share.flies b other.w file other.at other.flies other.gate) other.gate in
+      same_some (holder_at opens file) a b first second
+
+  pub goes_on : (d : Driving S F) (id : WaiterId) (w : Waiter S F) → request_at d id ≡ Some w → goes_on_alone w.request ≡ true → let_go d id ≡ without_observer d id
+  goes_on d id w at alone = rw (entry_of _ w at, alone, never _) refl
+
+  pub flying_on : (d : Driving S F) (id : WaiterId) (w : Waiter S F) → request_at d id ≡ Some w → w.in_flight ≡ true → GoesOnFlying (cancelled_at d id) id w
+  flying_on d id w at flies = by (asks_cancel w.state) refl
+    where
+      by : (b : Bool) → asks_cancel w.state ≡ b → GoesOnFlying (cancelled_at d id) id w
+      by true asked =
+          let is : cancelled_at d id ≡ d = rw (at, flies, asked) refl in
+          subst (λ (e : Driving S F). GoesOnFlying e id w) (sym is) (record { after = w; at = at; flies = flies; same = refl })
+      by false asked =
+          let is : cancelled_at d id ≡ cancelling d id w = rw (at, flies, asked) refl in
+          subst (λ (e : Driving S F). GoesOnFlying e id w) (sym is) (record { after = cancelled w; at = (one_changed d.requests id.0 w (cancelled w) at).is_at; flies = flies; same = refl })
+
+  pub completed_named : (s : Slab (Entry S F)) (given : OpResult) (o : Option Id) (id : Id) → lawful_of s given o ≡ Some id → o ≡ Some id
+  completed_named s given None id is = absurd (cc)
+  completed_named s given (Some other) id is = ap Some ((if_tells other id _ given is).2)

@@ -1,0 +1,237 @@
+-- Deadlines that are kept: one that is enrolled, and when a wheel is settled.
+use Rattle.std.proofs.Common.{zero, suc, ◌≡◌, ◌≢◌, ◌⊎◌, ℕ, ◌+◌, ◌%◌, ◌<◌, ◌≤◌, eqb, Bool, true, false, not, ◌&&◌, ◌||◌, cond, List, [], ◌∷◌, ◌++◌, length, get_or, Option, Some, None, Ok, Err, Result, refl, sym, ap, subst, ◌∙◌, inl, inr, arith}
+use Rattle.exec_driver.proofs.Words.{cases_Bool}
+use Rattle.std.specs.Prelude.{count_by, is_some, Contains}
+use Rattle.std.specs.Option.{IfSome, IfNone}
+use Rattle.std.proofs.lemmas.Bool.{false≢true, cases_lt}
+use Rattle.std.proofs.lemmas.Bool.Decides.{eqb_tells}
+use Rattle.std.proofs.lemmas.List.Sums.{sum_by-cons}
+use Rattle.std.proofs.lemmas.List.Elements.{Contains-append_left, Contains-append_right}
+use Rattle.exec_base.specs.Slab.{Slab, written}
+use Rattle.exec_base.specs.declared.error.Error.{Error}
+use Rattle.exec_base.specs.declared.slab.Id.{Id}
+use Rattle.exec_base.specs.declared.slab.Slot.{Slot}
+use Rattle.exec_base.specs.declared.slab.Slot.TheVariants.{Live, Vacant, Retired}
+use Rattle.exec_request.specs.Requests.{deadline_of}
+use Rattle.exec_time.specs.Wheel.{Wheel, IsSettled, IsWithinReach, slot_of, scheduled}
+use Rattle.exec_time.specs.WheelView.{wheel_of}
+use Rattle.exec_time.specs.declared.wheel.TimeoutWheel.{TimeoutWheel}
+use Rattle.exec_time.proofs.Ranges.{slots_apart}
+use Rattle.exec_waiters.specs.Events.{with_tick}
+use Rattle.exec_waiters.specs.States.{waiter_at, tick_in, tick_of}
+use Rattle.exec_waiters.specs.Told.{Tells}
+use Rattle.exec_waiters.specs.declared.deferred.Deferred.{Deferred}
+use Rattle.exec_waiters.specs.declared.waiter.Waiter.{Waiter}
+use Rattle.exec_waiters.specs.declared.waiter.Entry.{Entry}
+use Rattle.exec_waiters.specs.declared.waiter.Entry.TheVariants.{Pending, Ready}
+use Rattle.exec_waiters.specs.declared.waiter_id.WaiterId.{WaiterId}
+use Rattle.exec_waiters.proofs.Changes.{one_if}
+use Rattle.exec_driver.specs.Driving.{Driving, request_at, is_unenrolled}
+use Rattle.exec_driver.specs.Lists.{has_first, first_of, is_among, without, after_enrolment}
+use Rattle.exec_driver.specs.Punctual.{IsPunctual}
+use Rattle.exec_driver.specs.Sound.{IsSound, is_tick, is_at_tick, counts, count_of}
+use Rattle.exec_driver.specs.Steps.{advanced_to, tick_for, enrolled, told_by_enrolment, ended, Enrols}
+use Rattle.exec_driver.specs.Turns.{CanTell, GoesOn, Serves}
+use Rattle.exec_driver.specs.declared.driver.timing.Enrolled.{Enrolled}
+use Rattle.exec_driver.proofs.Coming.{advanced_punctual}
+use Rattle.exec_driver.proofs.Names.{same_tells, fewer_without}
+use Rattle.exec_driver.proofs.Counting.{pending_is}
+use Rattle.exec_driver.proofs.Endings.{one_changed, ticked}
+use Rattle.exec_driver.proofs.Expiring.{IsTaken, tick_tells, unset_there}
+use Rattle.exec_driver.proofs.Serving.{eases_ended, keeps_still, keeps_both, serves_by, room_ended, room_still, none_without}
+use Rattle.exec_driver.proofs.Stepping.{first_tells}
+
+-- WHEELS
+
+pub reach_of : (w : TimeoutWheel) → IsWithinReach (wheel_of w)
+unfolding wheel_of
+reach_of w = record { span = w.in_span }
+
+pub turns_of : (w : TimeoutWheel) → 0 < (wheel_of w).tick
+unfolding wheel_of
+turns_of w = w.turns
+
+pub some_slots_of : (w : TimeoutWheel) → 0 < (wheel_of w).slots
+unfolding wheel_of
+some_slots_of w = w.has_slots
+
+-- the entries of a bucket stay where another is scheduled
+bucket_kept : (w : Wheel) (id other : Id) (tick t : ℕ) → 0 < w.slots → w.current < t → t < w.current + w.slots → w.current < tick → tick < w.current + w.slots → 0 < w.active t → Contains (w.bucket (slot_of w t)) other → Contains ((scheduled w id tick).bucket (slot_of w t)) other
+unfolding scheduled
+bucket_kept w id other tick t some after within after' within' active there =
+    elim (eqb_tells (slot_of w t) (slot_of w tick)) [
+      | inr apart ↦ rw apart.0 there
+      | inl same ↦
+          let is : t ≡ tick = one_slot t tick after within after' within' same.1 in
+          let busy : eqb (w.active tick) 0 ≡ false = positive (w.active tick) (rw (← is) active) in
+          rw (same.0, busy) (Contains-append_left _ _ _ there)
+    ]
+  where
+    positive : (n : ℕ) → 0 < n → eqb n 0 ≡ false
+    positive n some = elim (eqb_tells n 0) [ inl none ↦ absurd (omega (arith, some, none.1)) | inr other ↦ other.0 ]
+
+    one_slot : (a b : ℕ) → w.current < a → a < w.current + w.slots → w.current < b → b < w.current + w.slots → slot_of w a ≡ slot_of w b → a ≡ b
+    one_slot a b after within after' within' same =
+        elim (cases_lt a b) [
+          | inl less ↦ absurd (slots_apart w.slots a b some less (omega (arith, within', after)) same)
+          | inr more ↦
+              elim (cases_lt b a) [
+                | inl less ↦ absurd (slots_apart w.slots b a some less (omega (arith, within, after')) (sym same))
+                | inr more' ↦ omega (arith, more, more')
+              ]
+        ]
+
+bucket_own : (w : Wheel) (id : Id) (tick : ℕ) → Contains ((scheduled w id tick).bucket (slot_of w tick)) id
+unfolding scheduled
+bucket_own w id tick = elim (eqb_tells (slot_of w tick) (slot_of w tick)) [ inl same ↦ rw same.0 (Contains-append_right _ (id ∷ []) id (0, omega arith, refl)) | inr other ↦ absurd (other.1 refl) ]
+
+like_scheduled : (w : Wheel) (id : Id) (tick : ℕ) → ((scheduled w id tick).current ≡ w.current) × ((scheduled w id tick).slots ≡ w.slots)
+unfolding scheduled
+like_scheduled w id tick = (refl, refl)
+
+none_among : (ids : List WaiterId) (id : WaiterId) → has_first ids ≡ false → is_among id ids ≡ false
+none_among [] id none = refl
+none_among (x ∷ ids) id none = absurd (false≢true (sym none))
+
+tick_is : (t : ℕ) (tick : Option ℕ) → is_tick t tick ≡ true → tick ≡ Some t
+tick_is t None is = absurd (false≢true is)
+tick_is t (Some k) is = elim (eqb_tells t k) [ inl same ↦ ap Some (sym same.1) | inr other ↦ absurd (false≢true (sym other.0 ∙ is)) ]
+
+no_first : (ids : List WaiterId) → has_first ids ≡ true → first_of ids ≡ None → ⊥
+no_first [] some is = false≢true some
+no_first (x ∷ ids) some is = absurd (cc)
+
+module _ {S F : Type 0} where
+  -- where some are counted, there is one
+  counted : (p : Slot (Entry S F) → Bool) (d : Slot (Entry S F)) (xs : List (Slot (Entry S F))) → 0 < count_by p xs → (i : ℕ) × (p (get_or xs i d) ≡ true)
+  counted p d [] some = absurd (omega (arith, some))
+  counted p d (x ∷ xs) some =
+      elim (cases_Bool (p x)) [
+        | inl there ↦ (0, there)
+        | inr other ↦
+            let none : one_if (p x) ≡ 0 = rw other refl in
+            let rest = counted p d xs (omega (arith, some, none, sum_by-cons (λ o. one_if (p o)) x xs)) in
+            (suc rest.0, rest.1)
+      ]
+
+  named_there : (s : Slab (Entry S F)) (t i : ℕ) (o : Slot (Entry S F)) → get_or s.slots i (Vacant s.first) ≡ o → counts (is_at_tick t) o ≡ true → (id : WaiterId) × (tick_of (waiter_at s id.0) ≡ Some t)
+  named_there s t i (Live g (Pending w)) at is =
+      let self : eqb g g ≡ true = elim (eqb_tells g g) [ inl same ↦ same.0 | inr other ↦ absurd (other.1 refl) ] in
+      (record { 0 = record { index = i; generation = g } }, rw (at, self) (tick_is t (tick_in w.state) is))
+  named_there s t i (Live g (Ready told)) at is = absurd (false≢true is)
+  named_there s t i (Vacant g) at is = absurd (false≢true is)
+  named_there s t i Retired at is = absurd (false≢true is)
+
+  -- A wheel is settled once all that is due was told.
+  pub settled : (d : Driving S F) → ((t : ℕ) → d.wheel.active t ≡ count_of (is_at_tick t) d.requests) → IsPunctual d → has_first d.lists.due ≡ false → IsSettled d.wheel
+  settled d ticks punctual none =
+      record {
+        ahead = λ t some.
+            let place = counted (counts (is_at_tick t)) (Vacant d.requests.first) d.requests.slots (omega (arith, some, ticks t)) in
+            let there = named_there d.requests t place.0 _ refl place.1 in
+            (punctual.ahead there.0 t there.1 (none_among d.lists.due there.0 none)).0;
+      }
+
+  active_of : (d : Driving S F) (id : WaiterId) (t : ℕ) (o : Option (Waiter S F)) → request_at d id ≡ o → tick_of o ≡ Some t → IsSound d → 0 < d.wheel.active t
+  active_of d id t None at is sound = absurd (cc)
+  active_of d id t (Some w) at is sound = let active = ticked d id w at sound in rw is at active
+
+  -- one more deadline is kept
+  enrolled_punctual : (d d' : Driving S F) (id : WaiterId) (w : Waiter S F) (tick : ℕ) → 0 < d.wheel.slots → IsWithinReach d.wheel → IsSound d → IsTaken d.wheel tick → request_at d id ≡ Some w → d'.requests ≡ written d.requests id.0 (Pending (with_tick tick w)) → d'.wheel ≡ scheduled d.wheel id.0 tick → d'.lists.due ≡ d.lists.due → IsPunctual d → IsPunctual d'
+  enrolled_punctual d d' id w tick slots reach sound taken at requests wheel due punctual =
+      let one = one_changed d.requests id.0 w (with_tick tick w) at in
+      let like = like_scheduled d.wheel id.0 tick in
+      record {
+        ahead = λ other t is out.
+            elim (same_tells other id) [
+              | inl same ↦
+                  let now : Some tick ≡ Some t = ap tick_of (sym one.is_at) ∙ rw (same.1, requests) at is in
+                  let e : tick ≡ t = cc in
+                  rw (wheel, like.0, like.1, same.1, ← e) (taken.ahead, bucket_own d.wheel id.0 tick)
+              | inr apart ↦
+                  let before : tick_of (request_at d other) ≡ Some t = ap tick_of (sym (one.others other.0 apart.1)) ∙ rw requests at is in
+                  let was = punctual.ahead other t before (rw due at out) in
+                  let active = active_of d other t _ refl before sound in
+                  rw (wheel, like.0, like.1) (was.0, bucket_kept d.wheel id.0 other.0 tick t slots was.0 (reach.span t active) taken.ahead taken.span active was.1)
+            ];
+      }
+
+  -- what an enrolment leaves
+  pub record EnrolsOne (d d' : Driving S F) (x y : Deferred S F) : Type 0 where
+    pub serves : Serves d d' x y
+    pub due : has_first d.lists.due ≡ false → has_first d'.lists.due ≡ false
+    pub fewer : length d'.lists.enrolments < length d.lists.enrolments
+
+  enrol_by : (d d' : Driving S F) (id : WaiterId) (w : Waiter S F) (x y : Deferred S F) (deadline now : ℕ) (r : Result ℕ Error) → 0 < d.wheel.slots → IsWithinReach d.wheel → IsSound d → tick_for d.wheel deadline now ≡ r → request_at d id ≡ Some w → first_of d.lists.enrolments ≡ Some id → d' ≡ enrolled d id w deadline now → Tells x y (told_by_enrolment id w (tick_for d.wheel deadline now)) → EnrolsOne d d' x y
+  enrol_by d d' id w x y deadline now (Ok tick) slots reach sound tick_at at first is tells =
+      let list = ap length (first_tells d.lists.enrolments id first) in
+      let left : Driving S F = record d { lists = after_enrolment d.lists } in
+      let e : Driving S F = record left { requests = written left.requests id.0 (Pending (with_tick tick w)); wheel = scheduled left.wheel id.0 tick } in
+      let same : d' ≡ e = is ∙ rw tick_at refl in
+      let one = one_changed d.requests id.0 w (with_tick tick w) at in
+      let n = one.numbers is_some refl in
+      let told = rw tick_at at tells in
+      subst (λ (f : Driving S F). EnrolsOne d f x y) (sym same) (record {
+        serves = record {
+          going = record {
+            pending = omega (arith, n, pending_is d.requests, pending_is e.requests);
+            punctual = enrolled_punctual d e id w tick slots reach sound (tick_tells d.wheel deadline now tick tick_at) at refl refl refl;
+            size = refl;
+            free = λ b. b;
+          };
+          room = room_still x y _ _ told (omega (arith, n, pending_is d.requests, pending_is e.requests));
+        };
+        due = λ none. none;
+        fewer = omega (arith, list);
+      })
+  enrol_by d d' id w x y deadline now (Err error) slots reach sound tick_at at first is tells =
+      let list = ap length (first_tells d.lists.enrolments id first) in
+      let left : Driving S F = record d { lists = after_enrolment d.lists } in
+      let e = ended left id w (Err error) None in
+      let same : d' ≡ e = is ∙ rw tick_at refl in
+      let over = eases_ended left id w (Err error) None at in
+      let told = rw tick_at at tells in
+      let less = fewer_without id left.lists.enrolments in
+      subst (λ (f : Driving S F). EnrolsOne d f x y) (sym same) (record {
+        serves = serves_by d e x y (keeps_both d left e (keeps_still d left refl refl refl refl (λ b. b)) over.keeps) (room_ended left id w (Err error) None None x y at told);
+        due = over.done.due;
+        fewer = omega (arith, list, less);
+      })
+
+  pub enrol_serves : (d d' : Driving S F) (o : Option Enrolled) (x y : Deferred S F) (now : ℕ) → 0 < d.wheel.slots → IsWithinReach d.wheel → IsSound d → has_first d.lists.enrolments ≡ true → IfSome o (λ e. first_of d.lists.enrolments ≡ Some e.id) → IfNone o (first_of d.lists.enrolments ≡ None) → IfSome o (λ e. Enrols d d' x y e.id e.ended now) → EnrolsOne d d' x y
+  enrol_serves d d' None x y now slots reach sound some first none enrols = absurd (no_first d.lists.enrolments some none)
+  enrol_serves d d' (Some e) x y now slots reach sound some first none enrols =
+      let there = unset_there d.requests d.lists.enrolments e.id first sound.enrolments in
+      let set = set_there (deadline_of there.w.request) there.unset.deadline in
+      let how = enrols there.w set.0 there.at set.1 in
+      enrol_by d d' e.id there.w x y set.0 now _ slots reach sound refl there.at first how.driver how.tells
+    where
+      set_there : (o : Option ℕ) → is_some o ≡ true → (t : ℕ) × (o ≡ Some t)
+      set_there None is = absurd (false≢true is)
+      set_there (Some t) is = (t, refl)
+
+  -- the wheel goes on once all that was due is told
+  pub advance_goes : (d d' : Driving S F) (now : ℕ) → d' ≡ advanced_to d now → 0 < d.wheel.tick → IsWithinReach d.wheel → IsSound d → has_first d.lists.due ≡ false → GoesOn d d'
+  advance_goes d d' now is turns reach sound none =
+      subst (λ (f : Driving S F). GoesOn d f) (sym is) (record {
+        pending = omega arith;
+        punctual = λ p. advanced_punctual d now turns (settled d sound.ticks p none) reach sound.ticks p;
+        size = refl;
+        free = λ b. b;
+      })
+
+-- who puts the kernel off
+pub put_off : (n m : ℕ) (defer a b : Bool) → m ≤ n → eqb m 0 ≡ false → (not (eqb n 0) && (not defer || a || b)) ≡ false → defer ≡ true
+put_off n m true a b less some is = refl
+put_off n m false a b less some is = absurd (false≢true (sym (true_and (not (eqb n 0)) is) ∙ alone n m less some))
+  where
+    true_and : (b : Bool) → (b && true) ≡ false → b ≡ false
+    true_and true is = absurd (false≢true (sym is))
+    true_and false is = refl
+
+    alone : (n m : ℕ) → m ≤ n → eqb m 0 ≡ false → not (eqb n 0) ≡ true
+    alone n m less some =
+        elim (eqb_tells n 0) [
+          | inr other ↦ rw other.0 refl
+          | inl none ↦ elim (eqb_tells m 0) [ inl is ↦ absurd (false≢true (sym some ∙ is.0)) | inr other ↦ absurd (other.1 (omega (arith, less, none.1))) ]
+        ]

@@ -1,0 +1,229 @@
+-- A completion that is taken in keeps a driver as it should be.
+use Rattle.std.proofs.Common.{zero, suc, ◌≡◌, ◌⊎◌, ℕ, ◌+◌, ◌-◌, ◌<◌, ◌≤◌, eqb, Bool, true, false, not, ◌&&◌, ◌||◌, cond, List, [], ◌∷◌, ◌++◌, length, Option, Some, None, refl, sym, ap, ◌∙◌, inl, inr, arith, append-nil}
+use Rattle.std.specs.Prelude.{slice_get, slice_set}
+use Rattle.exec_driver.proofs.Words.{is_some, false≢true, eqb_tells, Slab, written, is_durable, Asked, Kind, OpResult, may_complete, told_by_finish, Id, asked_of, Ended, asks_cancel, Request, wake_completion, Landing, next_completion, reaped, RingState, taken_places, Completion, Account, hinted_of, result_in, waiter_at, is_flying, pending_count, flying_count, needs_permit, Tells, Deferred, Waiter, Entry, Pending, WaiterId, one_if, Driving, request_at, is_queued, is_gated, is_unenrolled, is_enrolled, is_cancelled, with_queued, IsSound, IsHeld, is_unpermitted, is_at_tick, is_uncancelled, OpenState, account_in, with_account, is_control, under_way_after, armed_after, noted, taken_out, open_after, ended}
+use Rattle.exec_outcomes.specs.Outcomes.{Cursor, Part, outcome_next, outcome_by as answer_by, outcome_by_stop, outcome_of_part, passes_on, first_part, second_part, with_totals, verdict}
+use Rattle.exec_outcomes.specs.declared.outcome.Judged.{Judged}
+use Rattle.exec_outcomes.specs.declared.outcome.Outcome.{Outcome}
+use Rattle.exec_waiters.specs.Events.{is_lawful_for, outcome_by}
+use Rattle.exec_waiters.specs.declared.completed.CompletionOutcome.{CompletionOutcome}
+use Rattle.exec_waiters.specs.declared.completed.CompletionOutcome.TheVariants.{Requeue, Complete}
+use Rattle.exec_outcomes.specs.Outcomes.{is_unsupported}
+use Rattle.exec_request.specs.Hints.{without_hint}
+use Rattle.exec_waiters.specs.States.{name_of, named}
+use Rattle.exec_waiters.specs.Told.{nothing_told}
+use Rattle.exec_driver.specs.Opens.{account_by, open_at, with_open_in, keeping}
+use Rattle.exec_driver.specs.Steps.{landed_at, lawful_of, if_lawful}
+use Rattle.exec_driver.specs.declared.driver.reaping.Reaped.{Reaped}
+use Rattle.exec_waiters.proofs.Changes.{name_tells, named_flies}
+use Rattle.exec_driver.proofs.Counting.{pending_is, flying_is}
+use Rattle.exec_driver.proofs.Shifts.{Shift, Left, Kept, Joined, First, shifted, nowhere, room_for}
+use Rattle.exec_driver.proofs.Endings.{one_changed}
+use Rattle.exec_driver.proofs.Stepping.{sound_ring, stays}
+use Rattle.exec_driver.proofs.Entering.{Within, less_reaped, within_reaped, no_wake}
+
+-- where no result decides, nobody asked for the cancel
+by_none : (kind : Kind) (b : Bool) (o : Option (Judged × ℕ)) → answer_by kind b o ≡ None → b ≡ false
+by_none kind b (Some r) is = absurd (cc)
+by_none kind true None is = absurd (cc)
+by_none kind false None is = refl
+
+choice : (c : Bool) (x y : Option Outcome) (b : Bool) → (x ≡ None → b ≡ false) → (y ≡ None → b ≡ false) → cond c x y ≡ None → b ≡ false
+choice true x y b one other is = one is
+choice false x y b one other is = other is
+
+by_stop : (asked : Asked) (b : Bool) (o : Option (Judged × ℕ)) (later : List Judged) → outcome_by_stop asked b o later ≡ None → b ≡ false
+by_stop asked b None later is = by_none asked.kind b None is
+by_stop asked b (Some r) later is =
+    choice (passes_on asked.kind (first_part asked) r) (outcome_of_part (second_part asked) b (with_totals 0 later)) (Some (verdict asked.kind r.0)) b (λ e. by_none _ b _ e) (λ e. absurd (cc)) is
+
+pub goes_on_uncancelled : (asked : Asked) (cursor : Cursor) (r : Judged) → outcome_next asked cursor r ≡ None → r.cancelled ≡ false
+goes_on_uncancelled asked cursor r is = choice cursor.switched _ _ r.cancelled (λ e. by_none _ r.cancelled _ e) (λ e. by_stop asked r.cancelled _ _ e) is
+
+-- what is under way after a completion of no operation
+fewer_under_way : (c : Completion) (u : ℕ) → under_way_after c u ≤ u
+fewer_under_way c u = elim (eqb_tells c.user_data 4294967295) [ inl same ↦ rw same.0 (omega arith) | inr other ↦ rw other.0 (omega arith) ]
+
+armed_case : (armed more : Bool) (t t' m : ℕ) → t' ≤ t → (more ≡ false → t' + 1 ≤ t) → t ≤ m + one_if armed → t' ≤ m + one_if (armed && more)
+armed_case true true t t' m less fewer within = omega (arith, less, within)
+armed_case true false t t' m less fewer within = omega (arith, fewer refl, within)
+armed_case false more t t' m less fewer within = omega (arith, less, within)
+
+noted_entries : (s : RingState) (c : Completion) (n u : ℕ) (armed : Bool) → next_completion s ≡ Some c → taken_places s ≤ n + u + one_if armed → taken_places (reaped s) ≤ n + under_way_after c u + one_if (armed_after c armed)
+noted_entries s c n u armed next within =
+    elim (eqb_tells c.user_data 4294967295) [
+      | inl same ↦
+          let less = less_reaped s c next (λ e. absurd (false≢true (rw e at same.0))) in
+          rw same.0 (omega (arith, less, within))
+      | inr other ↦
+          rw other.0 (armed_case armed c.more (taken_places s) (taken_places (reaped s)) (n + u) (within_reaped s) (λ last. omega (arith, less_reaped s c next (λ e. false≢true (sym last ∙ ap (λ (d : Completion). d.more) e)))) within)
+    ]
+
+false_and : (a b : Bool) → a ≡ true → (a && b) ≡ false → b ≡ false
+false_and true b is none = none
+false_and false b is none = absurd (false≢true is)
+
+-- what an outcome says of the answer, and of whose it is
+pub requeue_tells : (id : Id) (answer : Option Ended) (other : WaiterId) → outcome_by id answer ≡ Requeue other → (answer ≡ None) × (record { 0 = id } ≡ other)
+requeue_tells id None other is = (refl, cc)
+requeue_tells id (Some how) other is = absurd (cc)
+
+pub complete_tells : (id : Id) (answer : Option Ended) (other : WaiterId) (how : Ended) → outcome_by id answer ≡ Complete other how → (answer ≡ Some how) × (record { 0 = id } ≡ other)
+complete_tells id None other how is = absurd (cc)
+complete_tells id (Some e) other how is = (cc, cc)
+
+pub outcome_same : (o : Option CompletionOutcome) (x y : CompletionOutcome) → o ≡ Some x → o ≡ Some y → x ≡ y
+outcome_same o x y a b = cc
+
+name_none : (o : Option Id) → name_of o ≡ None → o ≡ None
+name_none None is = refl
+name_none (Some id) is = absurd (cc)
+
+-- what is told of its end
+pub told_over : (a b : WaiterId) (given : OpResult) (how : Ended) (p q : Option ℕ) → a ≡ b → p ≡ q → let t : Reaped = record { id = b; given = given; ended = Some how; permit = p } in let t' : Reaped = record { id = a; given = given; ended = Some how; permit = q } in Some t ≡ Some t'
+told_over a b given how p q same permit = rw (same, permit) refl
+
+-- what was written is there
+set_there : {A : Type 0} (xs : List A) (i : ℕ) (x y : A) → slice_get xs i ≡ Some x → slice_get (slice_set xs i y) i ≡ Some y
+set_there [] i x y at = absurd (cc)
+set_there (z ∷ zs) zero x y at = refl
+set_there (z ∷ zs) (suc i) x y at = set_there zs i x y at
+
+module _ {S F : Type 0} where
+  pub held_noted : (d : Driving S F) (c : Completion) (ls : List Landing) (room most spots : ℕ) → next_completion d.ring ≡ Some c → IsHeld d room most spots → IsHeld (record (noted c (taken_out d)) { landings = ls }) room most spots
+  held_noted d c ls room most spots next held =
+      let sound = sound_ring d (record (noted c (taken_out d)) { landings = ls }) refl refl refl (noted_entries d.ring c (flying_count d.requests) d.cancels_under_way d.armed next held.sound.entries) (omega (arith, held.sound.places, fewer_under_way c d.cancels_under_way)) held.sound in
+      assumption sound
+
+  pub held_taken : (d : Driving S F) (ls : List Landing) (room most spots : ℕ) → IsHeld d room most spots → IsHeld (record (taken_out d) { landings = ls }) room most spots
+  held_taken d ls room most spots held =
+      let sound = sound_ring d (record (taken_out d) { landings = ls }) refl refl refl (omega (arith, within_reaped d.ring, held.sound.entries)) held.sound.places held.sound in
+      assumption sound
+
+  -- a completion that is taken in names a request in flight, which may give this
+  pub record IsNamed (s : Slab (Entry S F)) (user_data : ℕ) (id : Id) (given : OpResult) : Type 0 where
+    pub w : Waiter S F
+    pub is : named s user_data ≡ Some id
+    pub at : waiter_at s id ≡ Some w
+    pub lawful : is_lawful_for w given ≡ true
+    pub flies : w.in_flight ≡ true
+
+  pub named_there : (s : Slab (Entry S F)) (user_data : ℕ) (given : OpResult) (name : Option WaiterId) (may : Bool) (id : WaiterId) → name ≡ name_of (named s user_data) → name ≡ Some id → may ≡ may_complete (waiter_at s id.0) given → may ≡ true → IsNamed s user_data id.0 given
+  named_there s user_data given name may id names there gives holds = by (waiter_at s id.0) refl (sym gives ∙ holds)
+    where
+      by : (o : Option (Waiter S F)) → waiter_at s id.0 ≡ o → may_complete o given ≡ true → IsNamed s user_data id.0 given
+      by None at lawful = absurd (false≢true lawful)
+      by (Some w) at lawful =
+          let is = name_tells (named s user_data) id (sym names ∙ there) in
+          record { w = w; is = is; at = at; lawful = lawful; flies = named_flies s user_data id.0 w is at }
+
+  -- AN OPERATION IS OVER
+
+  abbrev pub landed_of : Waiter S F → Request → Waiter S F
+  landed_of w request = record w { in_flight = false; request = request }
+
+  pub permit_of : (d : Driving S F) (id : WaiterId) (w : Waiter S F) → request_at d id ≡ Some w → w.in_flight ≡ true → IsSound d → needs_permit w ≡ false
+  permit_of d id w at flies sound = false_and w.in_flight (needs_permit w) flies (ap is_unpermitted (sym at) ∙ sound.permits id.0)
+
+  -- what decides whether it lacks a permit stays
+  pub landed_permit : (w : Waiter S F) (request : Request) → asked_of request ≡ asked_of w.request → needs_permit (landed_of w request) ≡ needs_permit w
+  landed_permit w request same = ap (λ (a : Asked). is_durable a.kind && not w.permit) same
+
+  pub held_landed : (d : Driving S F) (id : WaiterId) (w : Waiter S F) (request : Request) (c : Completion) (ls : List Landing) (room most spots : ℕ) → request_at d id ≡ Some w → w.in_flight ≡ true → next_completion d.ring ≡ Some c → is_control c ≡ false → IsHeld d room most spots → IsHeld (record (landed_at (taken_out d) id (landed_of w request)) { landings = ls }) room most spots
+  held_landed d id w request c ls room most spots at flies next operation held =
+      let sound = held.sound in
+      let w' = landed_of w request in
+      let one = one_changed d.requests id.0 w w' at in
+      let same = one.numbers is_some refl in
+      let flying = rw flies at (one.numbers is_flying refl) in
+      let uncancelled = one.numbers is_uncancelled refl in
+      let s' = written d.requests id.0 (Pending w') in
+      let less = less_reaped d.ring c next (no_wake c operation) in
+      record {
+        sound = record {
+          queued = shifted is_queued _ _ id _ _ _ _ one (Kept refl (inr (rw flies refl))) sound.queued;
+          gated = shifted is_gated _ _ id _ _ _ _ one (Kept refl (inr (rw flies refl))) sound.gated;
+          enrolments = shifted is_unenrolled _ _ id _ _ _ _ one (Kept refl (inr (rw flies refl))) sound.enrolments;
+          due = shifted is_enrolled _ _ id _ _ _ _ one (stays is_enrolled (Some w) (Some w') id _ refl) sound.due;
+          cancels = shifted is_cancelled _ _ id _ _ _ _ one (stays is_cancelled (Some w) (Some w') id _ refl) sound.cancels;
+          permits = nowhere is_unpermitted _ _ id.0 _ _ one refl sound.permits;
+          ticks = λ t. let n = one.numbers (is_at_tick t) refl in omega (arith, n, sound.ticks t);
+          drained = sound.drained;
+          entries = omega (arith, sound.entries, flying, less, flying_is d.requests, flying_is s');
+          places = omega (arith, sound.places, same, uncancelled, pending_is d.requests, pending_is s');
+        };
+        room = omega (arith, held.room, same, pending_is d.requests, pending_is s');
+        wheel_room = held.wheel_room;
+        limit = held.limit;
+        places = held.places;
+      }
+
+  -- it goes on at the end of what is queued
+  pub held_requeued : (d : Driving S F) (id : WaiterId) (w : Waiter S F) (request : Request) (c : Completion) (ls : List Landing) (room most spots : ℕ) → request_at d id ≡ Some w → w.in_flight ≡ true → asks_cancel w.state ≡ false → needs_permit (landed_of w request) ≡ false → next_completion d.ring ≡ Some c → is_control c ≡ false → IsHeld d room most spots → IsHeld (record (landed_at (taken_out d) id (landed_of w request)) { lists = with_queued id d.lists; landings = ls }) room most spots
+  held_requeued d id w request c ls room most spots at flies active permit next operation held =
+      let before = held_landed d id w request c ls room most spots at flies next operation held in
+      let one = one_changed d.requests id.0 w (landed_of w request) at in
+      let queued = shifted is_queued _ _ id _ _ _ (d.lists.queued ++ id ∷ []) one (Joined refl (rw flies refl) (rw (active, permit) refl)) held.sound.queued in
+      assumption (before, queued)
+
+  pub room_to_queue : (d : Driving S F) (id : WaiterId) (w : Waiter S F) (request : Request) (room most spots : ℕ) → request_at d id ≡ Some w → w.in_flight ≡ true → asks_cancel w.state ≡ false → needs_permit (landed_of w request) ≡ false → IsHeld d room most spots → length d.lists.queued < d.lists.room
+  room_to_queue d id w request room most spots at flies active permit held =
+      let one = one_changed d.requests id.0 w (landed_of w request) at in
+      let same = one.numbers is_some refl in
+      let s' = written d.requests id.0 (Pending (landed_of w request)) in
+      room_for is_queued d.requests s' id (Some w) (landed_of w request) d.lists.queued d.lists.room refl one (rw flies refl) (rw (active, permit) refl) held.sound.queued (omega (arith, held.room, same, pending_is d.requests, pending_is s'))
+
+  -- OF WHICH REQUEST A COMPLETION IS
+  pub none_named : (s : Slab (Entry S F)) (c : Completion) → name_of (named s c.user_data) ≡ None → lawful_of s (result_in c.result) (named s c.user_data) ≡ None
+  none_named s c is = ap (lawful_of s (result_in c.result)) (name_none (named s c.user_data) is)
+
+  if_not : (id : Id) (o : Option (Waiter S F)) (given : OpResult) → may_complete o given ≡ false → if_lawful id o given ≡ None
+  if_not id None given may = refl
+  if_not id (Some w) given may = rw may refl
+
+  pub none_given : (s : Slab (Entry S F)) (c : Completion) (id : Id) → named s c.user_data ≡ Some id → may_complete (waiter_at s id) (result_in c.result) ≡ false → lawful_of s (result_in c.result) (named s c.user_data) ≡ None
+  none_given s c id is may = ap (lawful_of s (result_in c.result)) is ∙ if_not id (waiter_at s id) (result_in c.result) may
+
+  pub some_given : (s : Slab (Entry S F)) (c : Completion) (id : Id) (given : OpResult) → IsNamed s c.user_data id given → given ≡ result_in c.result → lawful_of s (result_in c.result) (named s c.user_data) ≡ Some id
+  some_given s c id given there is = rw (there.is, there.at, ← is, there.lawful) refl
+
+  pub tells_nothing : (d : Deferred S F) → Tells d d nothing_told
+  tells_nothing d =
+      record {
+        notes = record { wakes_added = sym (append-nil _); completions_added = sym (append-nil _); wakes_memory = omega arith; completions_memory = omega arith };
+        outputs_added = sym (append-nil _);
+        resources_added = sym (append-nil _);
+        results_added = sym (append-nil _);
+        outputs_memory = omega arith;
+        resources_memory = omega arith;
+        results_memory = omega arith;
+      }
+
+  -- WHAT IS KEPT OF THE OPEN
+  no_account : (w : Waiter S F) (given : OpResult) → open_after w given None ≡ None
+  no_account w given = by (hinted_of w.request && is_unsupported given)
+    where
+      by : (b : Bool) → cond b (without_hint None) None ≡ None
+      by true = refl
+      by false = refl
+
+  pub kept_of_open : (w : Waiter S F) (given : OpResult) (opens : List OpenState) (file : Option ℕ) → account_in (with_account opens file (open_after w given (account_in opens file))) file ≡ open_after w given (account_in opens file)
+  kept_of_open w given opens None = sym (no_account w given)
+  kept_of_open w given opens (Some file) = by (open_at opens file) refl
+    where
+      by : (o : Option OpenState) → open_at opens file ≡ o → account_by (open_at (with_open_in opens file (keeping (open_after w given (account_by o))) o) file) ≡ open_after w given (account_by o)
+      by None at = ap account_by at ∙ sym (no_account w given)
+      by (Some o) at = ap account_by (set_there opens file o _ at)
+
+  -- it ends, by its name as the part gives it
+  pub ended_over : (old d d' : Driving S F) (a b : WaiterId) (w : Waiter S F) (how : Ended) (account account' : Option Account) → a ≡ b → d' ≡ ended d b w how account → d ≡ record (landed_at (taken_out old) a w) { landings = d.landings } → account ≡ account' → d' ≡ record (ended (landed_at (taken_out old) a w) a w how account') { landings = d'.landings }
+  ended_over old d d' a b w how account account' same is mid kept =
+      let landed : d'.landings ≡ d.landings = ap (λ (e : Driving S F). e.landings) is in
+      is
+      ∙ ap (λ (x : WaiterId). ended d x w how account) (sym same)
+      ∙ ap (λ (e : Driving S F). ended e a w how account) mid
+      ∙ ap (λ (o : Option Account). record (ended (landed_at (taken_out old) a w) a w how o) { landings = d.landings }) kept
+      ∙ ap (λ (ls : List Landing). record (ended (landed_at (taken_out old) a w) a w how account') { landings = ls }) (sym landed)
+
+  pub tells_over : (before after : Deferred S F) (a b : WaiterId) (w : Waiter S F) (how : Ended) (account account' : Option Account) → a ≡ b → account ≡ account' → Tells before after (told_by_finish b.0 w how account) → Tells before after (told_by_finish a.0 w how account')
+  tells_over before after a b w how account account' same kept tells = rw (← same, kept) at tells

@@ -1,0 +1,287 @@
+-- What each step of a service keeps.
+use Rattle.std.proofs.Common.{◌≡◌, ◌≢◌, ◌⊎◌, ℕ, ◌+◌, ◌-◌, ◌<◌, ◌≤◌, eqb, ltb, Bool, true, false, not, ◌&&◌, ◌||◌, cond, List, [], ◌∷◌, ◌++◌, length, vec_len, Option, Some, None, refl, sym, ap, subst, ◌∙◌, inl, inr, arith, length-append}
+use Rattle.exec_driver.proofs.Words.{cases_Bool}
+use Rattle.std.specs.Prelude.{is_some, fold}
+use Rattle.std.specs.Vec.{vec_capacity}
+use Rattle.std.proofs.lemmas.Bool.{false≢true}
+use Rattle.exec_base.specs.Slab.{Slab, written}
+use Rattle.exec_base.specs.declared.slab.Id.{Id}
+use Rattle.exec_outcomes.specs.Accounts.{Account}
+use Rattle.exec_outcomes.specs.declared.outcome.OpResult.{OpResult}
+use Rattle.exec_request.specs.States.{Ended, asks_cancel}
+use Rattle.exec_ring.specs.Completions.{result_in}
+use Rattle.exec_ring.specs.Kernels.{Landing, is_quiet, has_none, next_completion, next_in, posted_left, wakes_left, reaped}
+use Rattle.exec_ring.specs.Rings.{RingState}
+use Rattle.exec_ring.specs.declared.completion.Completion.{Completion}
+use Rattle.exec_ring.specs.declared.completion.Posted.{Posted}
+use Rattle.exec_time.specs.Wheel.{Wheel, removed, slot_of}
+use Rattle.exec_waiters.specs.Events.{told_by_finish}
+use Rattle.exec_waiters.specs.States.{waiter_at, pending_count, tick_in, tick_of, file_of}
+use Rattle.exec_waiters.specs.Told.{Told, HasPlaces, Tells, nothing_told}
+use Rattle.exec_waiters.specs.declared.deferred.Deferred.{Deferred}
+use Rattle.exec_waiters.specs.declared.waiter.Waiter.{Waiter}
+use Rattle.exec_waiters.specs.declared.waiter.Entry.{Entry}
+use Rattle.exec_waiters.specs.declared.waiter.Entry.TheVariants.{Pending}
+use Rattle.exec_waiters.specs.declared.waiter_id.WaiterId.{WaiterId}
+use Rattle.exec_waiters.proofs.Changes.{one_if}
+use Rattle.exec_driver.specs.Driving.{Driving, request_at}
+use Rattle.exec_driver.specs.Lists.{Lists, has_first, rest_of, is_among, is_same, without, withdrawn, with_queued}
+use Rattle.exec_driver.specs.Opens.{OpenState, account_in}
+use Rattle.exec_driver.specs.Steps.{open_after, is_control, unscheduled, ended, cancelling, noted, swept, swept_from, taken_out, landed_at, judged_as_over, told_by_end, Reaps, ReapsFrom, ReapsNext, completed_in, lawful_of, if_lawful}
+use Rattle.exec_driver.specs.Punctual.{IsPunctual}
+use Rattle.exec_driver.specs.Turns.{CanTell, GoesOn, Serves, StaysDone, unreaped}
+use Rattle.exec_driver.specs.declared.driver.reaping.Reaped.{Reaped}
+use Rattle.exec_driver.proofs.Names.{same_tells}
+use Rattle.exec_driver.proofs.Counting.{OneChanged, pending_is}
+use Rattle.exec_driver.proofs.Endings.{one_changed, one_finished}
+use Rattle.exec_driver.proofs.Telling.{few_finished, room_left, room_within}
+
+-- a list without a name is empty where it was, and has every other that it had
+pub none_without : (id : WaiterId) (ids : List WaiterId) → has_first ids ≡ false → has_first (without id ids) ≡ false
+none_without id [] none = refl
+none_without id (x ∷ ids) none = absurd (false≢true (sym none))
+
+pub none_rest : (ids : List WaiterId) → has_first ids ≡ false → has_first (rest_of ids) ≡ false
+none_rest [] none = refl
+none_rest (x ∷ ids) none = absurd (false≢true (sym none))
+
+among_others : (x id : WaiterId) (ids : List WaiterId) → x.0 ≢ id.0 → is_among x ids ≡ true → is_among x (without id ids) ≡ true
+among_others x id [] apart among = among
+among_others x id (y ∷ ids) apart among =
+    elim (same_tells y id) [
+      | inl same ↦ rw same.0 (among_others x id ids apart (elim (same_tells y x) [ inl is ↦ absurd (apart (ap (λ (n : WaiterId). n.0) (sym is.1 ∙ same.1))) | inr other ↦ rw other.0 at among ]))
+      | inr other ↦ rw other.0 (elim (cases_Bool (is_same y x)) [ inl is ↦ rw is refl | inr differs ↦ rw differs (among_others x id ids apart (rw differs at among)) ])
+    ]
+
+-- a wheel with the same entries in its buckets
+pub record IsLike (w w' : Wheel) : Type 0 where
+  pub current : w'.current ≡ w.current
+  pub bucket : w'.bucket ≡ w.bucket
+  pub slots : w'.slots ≡ w.slots
+
+pub like_unscheduled : (w : Wheel) (tick : Option ℕ) → IsLike w (unscheduled w tick)
+unfolding removed
+like_unscheduled w None = record { current = refl; bucket = refl; slots = refl }
+like_unscheduled w (Some k) = record { current = refl; bucket = refl; slots = refl }
+
+same_long : {A : Type 0} (a b : List A) → b ≡ a ++ [] → length b ≤ length a
+same_long a b is = let long = ap length is ∙ length-append a [] in omega (arith, long)
+
+at_most_one : (b : Bool) → one_if b ≤ 1
+at_most_one true = omega arith
+at_most_one false = omega arith
+
+module _ {S F : Type 0} where
+  pub goes_itself : (d : Driving S F) → GoesOn d d
+  goes_itself d = record { pending = omega arith; punctual = λ p. p; size = refl; free = λ b. b }
+
+  pub goes_both : (d e f : Driving S F) → GoesOn d e → GoesOn e f → GoesOn d f
+  goes_both d e f one other =
+      record {
+        pending = omega (arith, one.pending, other.pending);
+        punctual = λ p. other.punctual (one.punctual p);
+        size = other.size ∙ one.size;
+        free = λ b. other.free (one.free b);
+      }
+
+  pub serves_itself : (d : Driving S F) (told : Deferred S F) → Serves d d told told
+  serves_itself d told = record { going = goes_itself d; room = λ r. r }
+
+  pub serves_both : (d e f : Driving S F) (x y z : Deferred S F) → Serves d e x y → Serves e f y z → Serves d f x z
+  serves_both d e f x y z one other = record { going = goes_both d e f one.going other.going; room = λ r. other.room (one.room r) }
+
+  pub done_itself : (d : Driving S F) → StaysDone d d
+  done_itself d = record { due = λ n. n; enrolments = λ n. n; cancels = λ n. n }
+
+  pub done_both : (d e f : Driving S F) → StaysDone d e → StaysDone e f → StaysDone d f
+  done_both d e f one other =
+      record {
+        due = λ n. other.due (one.due n);
+        enrolments = λ n. other.enrolments (one.enrolments n);
+        cancels = λ n. other.cancels (one.cancels n);
+      }
+
+  -- WHAT IS TOLD
+
+  pub room_still : (d d' : Deferred S F) (n m : ℕ) → Tells d d' nothing_told → m ≤ n → HasPlaces d (n + 1) → HasPlaces d' (m + 1)
+  room_still d d' n m tells fewer room =
+      record {
+        notes = record {
+          wakes = omega (arith, fewer, room.notes.wakes, tells.notes.wakes_memory, same_long d.notes.wakes.items d'.notes.wakes.items tells.notes.wakes_added, d.notes.wakes.ok.0, d'.notes.wakes.ok.0);
+          completions = omega (arith, fewer, room.notes.completions, tells.notes.completions_memory, same_long d.notes.completions.items d'.notes.completions.items tells.notes.completions_added, d.notes.completions.ok.0, d'.notes.completions.ok.0);
+        };
+        outputs = omega (arith, fewer, room.outputs, tells.outputs_memory, same_long d.outputs.items d'.outputs.items tells.outputs_added, d.outputs.ok.0, d'.outputs.ok.0);
+        resources = omega (arith, fewer, room.resources, tells.resources_memory, same_long d.resources.items d'.resources.items tells.resources_added, d.resources.ok.0, d'.resources.ok.0);
+        results = omega (arith, fewer, room.results, tells.results_memory, same_long d.results.items d'.results.items tells.results_added, d.results.ok.0, d'.results.ok.0);
+      }
+
+  -- WHAT A STEP CHANGES
+
+  -- No deadline comes into the wheel, and none is forgotten.
+  pub record Keeps (d d' : Driving S F) : Type 0 where
+    pub pending : pending_count d'.requests ≤ pending_count d.requests
+    pub ticks : (id : WaiterId) (t : ℕ) → tick_of (request_at d' id) ≡ Some t → tick_of (request_at d id) ≡ Some t
+    pub due : (id : WaiterId) (t : ℕ) → tick_of (request_at d' id) ≡ Some t → is_among id d.lists.due ≡ true → is_among id d'.lists.due ≡ true
+    pub wheel : IsLike d.wheel d'.wheel
+    pub size : d'.ring.size ≡ d.ring.size
+    pub free : d.ring.busy ≡ false → d'.ring.busy ≡ false
+
+  pub keeps_both : (d e f : Driving S F) → Keeps d e → Keeps e f → Keeps d f
+  keeps_both d e f one other =
+      record {
+        pending = omega (arith, one.pending, other.pending);
+        ticks = λ id t is. one.ticks id t (other.ticks id t is);
+        due = λ id t is among. other.due id t is (one.due id t (other.ticks id t is) among);
+        wheel = record { current = other.wheel.current ∙ one.wheel.current; bucket = other.wheel.bucket ∙ one.wheel.bucket; slots = other.wheel.slots ∙ one.wheel.slots };
+        size = other.size ∙ one.size;
+        free = λ b. other.free (one.free b);
+      }
+
+  -- a change of neither requests, wheel nor what is due
+  pub keeps_still : (d d' : Driving S F) → d'.requests ≡ d.requests → d'.wheel ≡ d.wheel → d'.lists.due ≡ d.lists.due → d'.ring.size ≡ d.ring.size → (d.ring.busy ≡ false → d'.ring.busy ≡ false) → Keeps d d'
+  keeps_still d d' requests wheel due size free =
+      record {
+        pending = rw requests (omega arith);
+        ticks = λ id t is. rw requests at is;
+        due = λ id t is among. rw due among;
+        wheel = record { current = ap (λ (w : Wheel). w.current) wheel; bucket = ap (λ (w : Wheel). w.bucket) wheel; slots = ap (λ (w : Wheel). w.slots) wheel };
+        size = size;
+        free = free;
+      }
+
+  -- one request changed, and its deadline stays where it is, or goes
+  pub keeps_one : (d d' : Driving S F) (id : WaiterId) (w : Waiter S F) (is : Option (Waiter S F)) → OneChanged d.requests d'.requests id.0 (Some w) is → ((t : ℕ) → tick_of is ≡ Some t → (tick_in w.state ≡ Some t) × (d'.lists.due ≡ d.lists.due)) → (d'.lists.due ≡ d.lists.due) ⊎ (d'.lists.due ≡ without id d.lists.due) → IsLike d.wheel d'.wheel → d'.ring.size ≡ d.ring.size → d'.ring.busy ≡ d.ring.busy → Keeps d d'
+  keeps_one d d' id w is one at due wheel size busy =
+      record {
+        pending = let n = one.numbers is_some refl in omega (arith, n, at_most_one (is_some is), pending_is d.requests, pending_is d'.requests);
+        ticks = λ other t at'.
+            elim (same_tells other id) [
+              | inl same ↦ rw same.1 (ap tick_of one.was_at ∙ (at t (ap tick_of (sym one.is_at) ∙ rw same.1 at at')).0)
+              | inr apart ↦ ap tick_of (sym (one.others other.0 apart.1)) ∙ at'
+            ];
+        due = λ other t at' among.
+            elim due [
+              | inl kept ↦ rw kept among
+              | inr left ↦
+                  elim (same_tells other id) [
+                    | inl same ↦ rw ((at t (ap tick_of (sym one.is_at) ∙ rw same.1 at at')).1) among
+                    | inr apart ↦ rw left (among_others other id d.lists.due apart.1 among)
+                  ]
+            ];
+        wheel = wheel;
+        size = size;
+        free = λ b. busy ∙ b;
+      }
+
+  -- so each deadline in the wheel is kept
+  pub keeps_punctual : (d d' : Driving S F) → Keeps d d' → IsPunctual d → IsPunctual d'
+  keeps_punctual d d' keeps punctual =
+      record {
+        ahead = λ id t is out.
+            let before : is_among id d.lists.due ≡ false = elim (cases_Bool (is_among id d.lists.due)) [ inl among ↦ absurd (false≢true (sym out ∙ keeps.due id t is among)) | inr apart ↦ apart ] in
+            rw (keeps.wheel.current, keeps.wheel.bucket, keeps.wheel.slots) (punctual.ahead id t (keeps.ticks id t is) before);
+      }
+
+  pub goes_by : (d d' : Driving S F) → Keeps d d' → GoesOn d d'
+  goes_by d d' keeps = record { pending = keeps.pending; punctual = keeps_punctual d d' keeps; size = keeps.size; free = keeps.free }
+
+  pub serves_by : (d d' : Driving S F) (x y : Deferred S F) → Keeps d d' → (CanTell d x → CanTell d' y) → Serves d d' x y
+  serves_by d d' x y keeps room = record { going = goes_by d d' keeps; room = room }
+
+  pub serves_untold : (d d' : Driving S F) (x : Deferred S F) → GoesOn d d' → Serves d d' x x
+  serves_untold d d' x going = record { going = going; room = room_within _ _ x (omega (arith, going.pending)) }
+
+  -- and what was done with is done with
+  pub record Eases (d d' : Driving S F) : Type 0 where
+    pub keeps : Keeps d d'
+    pub done : StaysDone d d'
+
+  pub eases_itself : (d : Driving S F) → Eases d d
+  eases_itself d = record { keeps = keeps_still d d refl refl refl refl (λ b. b); done = done_itself d }
+
+  pub eases_both : (d e f : Driving S F) → Eases d e → Eases e f → Eases d f
+  eases_both d e f one other = record { keeps = keeps_both d e f one.keeps other.keeps; done = done_both d e f one.done other.done }
+
+  -- a change of the ring alone
+  pub eases_ring : (d d' : Driving S F) → d'.requests ≡ d.requests → d'.wheel ≡ d.wheel → d'.lists ≡ d.lists → d'.ring.size ≡ d.ring.size → (d.ring.busy ≡ false → d'.ring.busy ≡ false) → Eases d d'
+  eases_ring d d' requests wheel lists size free =
+      record {
+        keeps = keeps_still d d' requests wheel (ap (λ (l : Lists). l.due) lists) size free;
+        done = record { due = λ n. rw lists n; enrolments = λ n. rw lists n; cancels = λ n. rw lists n };
+      }
+
+  pub eases_is : (d x d' : Driving S F) → d' ≡ record x { landings = d'.landings } → Eases d x → Eases d d'
+  eases_is d x d' is eases = subst (λ (e : Driving S F). Eases d e) (sym is) (eases_both d x (record x { landings = d'.landings }) eases (eases_ring x (record x { landings = d'.landings }) refl refl refl refl (λ b. b)))
+
+  -- one request is written whose deadline stays where it is
+  pub eases_written : (d d' : Driving S F) (id : WaiterId) (w w' : Waiter S F) → request_at d id ≡ Some w → w'.state ≡ w.state → d'.requests ≡ written d.requests id.0 (Pending w') → d'.wheel ≡ d.wheel → d'.lists.due ≡ d.lists.due → d'.lists.enrolments ≡ d.lists.enrolments → d'.lists.cancels ≡ d.lists.cancels → d'.ring.size ≡ d.ring.size → d'.ring.busy ≡ d.ring.busy → Eases d d'
+  eases_written d d' id w w' at state requests wheel due enrolments cancels size busy =
+      record {
+        keeps = keeps_one d d' id w (Some w') (rw requests (one_changed d.requests id.0 w w' at)) (λ t is. (ap tick_in (sym state) ∙ is, due)) (inl due) (rw wheel (record { current = refl; bucket = refl; slots = refl })) size busy;
+        done = record { due = λ n. rw due n; enrolments = λ n. rw enrolments n; cancels = λ n. rw cancels n };
+      }
+
+  pub eases_ended : (d : Driving S F) (id : WaiterId) (w : Waiter S F) (how : Ended) (account : Option Account) → request_at d id ≡ Some w → Eases d (ended d id w how account)
+  eases_ended d id w how account at =
+      record {
+        keeps = keeps_one d (ended d id w how account) id w None (one_finished d.requests id.0 w how account at) (λ t is. absurd (cc)) (inr refl) (like_unscheduled d.wheel (tick_in w.state)) refl refl;
+        done = record { due = none_without id d.lists.due; enrolments = none_without id d.lists.enrolments; cancels = none_without id d.lists.cancels };
+      }
+
+  -- one fewer is to be told of
+  pub room_ended : (d : Driving S F) (id : WaiterId) (w : Waiter S F) (how : Ended) (account account' : Option Account) (x y : Deferred S F) → request_at d id ≡ Some w → Tells x y (told_by_finish id.0 w how account') → CanTell d x → CanTell (ended d id w how account) y
+  room_ended d id w how account account' x y at tells room =
+      let n = (one_finished d.requests id.0 w how account at).numbers is_some refl in
+      room_left _ _ x y _ (omega (arith, n, pending_is d.requests, pending_is (ended d id w how account).requests)) (few_finished id.0 w how account') tells room
+
+  -- COMPLETIONS
+
+  pub eases_swept : (ps : List Posted) (d : Driving S F) → Eases d (swept_from ps d)
+  eases_swept [] d = eases_ring d (swept_from [] d) refl refl refl refl (λ b. b)
+  eases_swept (p ∷ ps) d =
+      elim (cases_Bool (is_control p.completion)) [
+        | inl holds ↦ rw holds (eases_both d (noted p.completion d) _ (eases_ring d (noted p.completion d) refl refl refl refl (λ b. b)) (eases_swept ps (noted p.completion d)))
+        | inr fails ↦ rw fails (eases_ring d _ refl refl refl refl (λ b. b))
+      ]
+
+  pub eases_judged : (d : Driving S F) (id : WaiterId) (w : Waiter S F) (answer : Option Ended) (account : Option Account) → request_at d id ≡ Some w → Eases d (judged_as_over d id w answer account)
+  eases_judged d id w None account at = record { keeps = keeps_still d _ refl refl refl refl (λ b. b); done = record { due = λ n. n; enrolments = λ n. n; cancels = λ n. n } }
+  eases_judged d id w (Some how) account at = eases_ended d id w how account at
+
+  pub judged_ring : (d : Driving S F) (id : WaiterId) (w : Waiter S F) (answer : Option Ended) (account : Option Account) → (judged_as_over d id w answer account).ring ≡ d.ring
+  judged_ring d id w None account = refl
+  judged_ring d id w (Some how) account = refl
+
+  pub room_judged : (d : Driving S F) (id : WaiterId) (w : Waiter S F) (answer : Option Ended) (account : Option Account) (x y : Deferred S F) → request_at d id ≡ Some w → Tells x y (told_by_end id w answer account) → CanTell d x → CanTell (judged_as_over d id w answer account) y
+  room_judged d id w None account x y at tells room = room_still x y _ _ tells (omega arith) room
+  room_judged d id w (Some how) account x y at tells room = room_ended d id w how account account x y at tells room
+
+  -- what was done with is done with, and there is room to tell
+  pub record Answers (d d' : Driving S F) (x y : Deferred S F) : Type 0 where
+    pub eases : Eases d d'
+    pub room : CanTell d x → CanTell d' y
+
+  pub reaps_ring : (d d' : Driving S F) (opens opens' : List OpenState) (x y : Deferred S F) (id : WaiterId) (w : Waiter S F) (given : OpResult) (told : Option Reaped) → Reaps d d' opens opens' x y id w given told → d'.ring ≡ reaped d.ring
+  reaps_ring d d' opens opens' x y id w given told r =
+      let w' : Waiter S F = record w { in_flight = false; request = r.request } in
+      ap (λ (e : Driving S F). e.ring) r.driver ∙ judged_ring (landed_at (taken_out d) id w') id w' r.answer (open_after w given (account_in opens (file_of w.request)))
+
+  pub after_reap : (d d' : Driving S F) (opens opens' : List OpenState) (x y : Deferred S F) (id : WaiterId) (w : Waiter S F) (given : OpResult) (told : Option Reaped) → request_at d id ≡ Some w → Reaps d d' opens opens' x y id w given told → Answers d d' x y
+  after_reap d d' opens opens' x y id w given told at r =
+      let w' : Waiter S F = record w { in_flight = false; request = r.request } in
+      let e = landed_at (taken_out d) id w' in
+      let first = eases_written d e id w w' at refl refl refl refl refl refl refl refl in
+      let there : request_at e id ≡ Some w' = (one_changed d.requests id.0 w w' at).is_at in
+      let last = eases_judged e id w' r.answer _ there in
+      record {
+        eases = eases_is d _ d' r.driver (eases_both d e _ first last);
+        room = λ room. subst (λ (f : Driving S F). CanTell f y) (sym r.driver) (room_judged e id w' r.answer _ x y there r.tells (room_within _ _ x (omega (arith, first.keeps.pending)) room));
+      }
+
+  -- a cancel is staged, or the wake poll, or the kernel was entered
+  pub eases_queued : (d d' : Driving S F) → d'.requests ≡ d.requests → d'.wheel ≡ d.wheel → d'.lists.due ≡ d.lists.due → d'.lists.enrolments ≡ d.lists.enrolments → (has_first d.lists.cancels ≡ false → has_first d'.lists.cancels ≡ false) → d'.ring.size ≡ d.ring.size → (d.ring.busy ≡ false → d'.ring.busy ≡ false) → Eases d d'
+  eases_queued d d' requests wheel due enrolments cancels size free =
+      record {
+        keeps = keeps_still d d' requests wheel due size free;
+        done = record { due = λ n. rw due n; enrolments = λ n. rw enrolments n; cancels = cancels };
+      }

@@ -1,0 +1,144 @@
+-- Each other step keeps a driver sound.
+use Rattle.std.proofs.Common.{◌≡◌, ◌≢◌, ◌⊎◌, ℕ, ◌+◌, ◌-◌, ◌<◌, ◌≤◌, eqb, Bool, true, false, not, ◌&&◌, ◌||◌, cond, List, [], ◌∷◌, ◌++◌, length, Option, Some, None, refl, sym, ap, ◌∙◌, inl, inr, arith, length-append}
+use Rattle.exec_driver.proofs.Words.{is_some, false≢true, eqb_tells, Slab, value_at, written, Id, is_durable, Asked, deadline_of, asked_of, asks_cancel, Request, Landing, RingState, taken_places, Submission, Wheel, scheduled, with_permit, with_tick, waiter_at, is_flying, pending_count, flying_count, tick_in, takes_tick, needs_permit, is_unset, Waiter, Entry, Pending, Ready, WaiterId, WaiterState, Active, CancelRequested, Driving, request_at, is_queued, is_gated, is_unenrolled, is_enrolled, is_cancelled, first_of, rest_of, without, after_due, after_enrolment, with_queued, IsListed, IsSound, IsHeld, is_tick, is_unpermitted, is_at_tick, is_uncancelled, count_of, are_all, cases_Bool, and_parts, not-true}
+use Rattle.exec_driver.specs.Lists.{after_queued, after_cancel, has_first}
+use Rattle.exec_driver.specs.Steps.{with_staged}
+use Rattle.exec_driver.proofs.Names.{fewer_without}
+use Rattle.exec_driver.proofs.Counting.{OneChanged, pending_is, flying_is, flying_few}
+use Rattle.exec_driver.proofs.Shifts.{Shift, Left, Kept, Joined, First, shifted, nowhere, room_for}
+use Rattle.exec_driver.proofs.Endings.{one_changed}
+use Rattle.exec_driver.proofs.Entering.{Within}
+
+-- a list with a first
+pub first_tells : (ids : List WaiterId) (id : WaiterId) → first_of ids ≡ Some id → ids ≡ id ∷ rest_of ids
+first_tells [] id is = absurd (cc)
+first_tells (x ∷ ids) id is = cc
+
+pub none_first : (ids : List WaiterId) → has_first ids ≡ false → ids ≡ []
+none_first [] is = refl
+none_first (x ∷ ids) is = absurd (false≢true (sym is))
+
+module _ {S F : Type 0} where
+  -- a place in which a request stays as it was
+  pub stays : (p : Option (Waiter S F) → Bool) (was is : Option (Waiter S F)) (id : WaiterId) (ids : List WaiterId) → p is ≡ p was → Shift p was is id ids ids
+  stays p was is id ids same = elim (cases_Bool (p was)) [ inl there ↦ Kept refl (inl (same ∙ there)) | inr out ↦ Kept refl (inr out) ]
+
+  -- the first of a list is in its place
+  pub first_in : (p : Option (Waiter S F) → Bool) (s : Slab (Entry S F)) (ids : List WaiterId) (id : WaiterId) → first_of ids ≡ Some id → IsListed p s ids → p (waiter_at s id.0) ≡ true
+  first_in p s [] id is listed = absurd (cc)
+  first_in p s (x ∷ ids) id is listed = let same : x ≡ id = cc in rw (← same) ((and_parts (p (waiter_at s x.0)) (are_all p s ids) listed.all).0)
+
+  pub there_by : (p : Option (Waiter S F) → Bool) (o : Option (Waiter S F)) → p None ≡ false → p o ≡ true → (w : Waiter S F) × (o ≡ Some w)
+  there_by p None none is = absurd (false≢true (sym none ∙ is))
+  there_by p (Some w) none is = (w, refl)
+
+  pub first_there : (p : Option (Waiter S F) → Bool) → p None ≡ false → (s : Slab (Entry S F)) (ids : List WaiterId) (id : WaiterId) → first_of ids ≡ Some id → IsListed p s ids → (w : Waiter S F) × (waiter_at s id.0 ≡ Some w)
+  first_there p none s ids id first listed = there_by p (waiter_at s id.0) none (first_in p s ids id first listed)
+
+  -- what decides whether it lacks a permit stays
+  pub permit_same : (w : Waiter S F) (request : Request) → asked_of request ≡ asked_of w.request → needs_permit (record w { in_flight = true; request = request }) ≡ needs_permit w
+  permit_same w request same = ap (λ (a : Asked). is_durable a.kind && not w.permit) same
+
+  -- a change of the ring alone
+  pub sound_ring : (d : Driving S F) (d' : Driving S F) → d'.requests ≡ d.requests → d'.wheel ≡ d.wheel → d'.lists ≡ d.lists → taken_places d'.ring ≤ flying_count d.requests + d'.cancels_under_way + cond d'.armed 1 0 → pending_count d.requests + count_of is_uncancelled d.requests + length d.lists.cancels + d'.cancels_under_way + 1 ≤ d'.ring.places → IsSound d → IsSound d'
+  sound_ring d d' requests wheel lists entries places sound =
+      record {
+        queued = rw (requests, lists) sound.queued;
+        gated = rw (requests, lists) sound.gated;
+        enrolments = rw (requests, lists) sound.enrolments;
+        due = rw (requests, lists) sound.due;
+        cancels = rw (requests, lists) sound.cancels;
+        permits = rw requests sound.permits;
+        ticks = rw (requests, wheel) sound.ticks;
+        drained = rw wheel sound.drained;
+        entries = rw requests entries;
+        places = rw (requests, lists) places;
+      }
+
+  -- what lands within the next enter is nothing that is held
+  pub relanded : (d : Driving S F) (ls : List Landing) (room most spots : ℕ) → IsHeld d room most spots → IsHeld (record d { landings = ls }) room most spots
+  relanded d ls room most spots held = assumption held
+
+  -- QUEUED IS IN FLIGHT
+  pub record IsQueued (w : Waiter S F) : Type 0 where
+    pub idle : w.in_flight ≡ false
+    pub active : asks_cancel w.state ≡ false
+    pub permitted : needs_permit w ≡ false
+
+  pub queued_tells : (w : Waiter S F) → is_queued (Some w) ≡ true → IsQueued w
+  queued_tells w is =
+      let outer = and_parts (not w.in_flight && not (asks_cancel w.state)) (not (needs_permit w)) is in
+      let inner = and_parts (not w.in_flight) (not (asks_cancel w.state)) outer.0 in
+      record { idle = not-true _ inner.0; active = not-true _ inner.1; permitted = not-true _ outer.1 }
+
+  abbrev pub flown : Waiter S F → Request → Waiter S F
+  flown w request = record w { in_flight = true; request = request }
+
+  pub sound_staged : (d : Driving S F) (id : WaiterId) (w : Waiter S F) (request : Request) (entry : Submission) → request_at d id ≡ Some w → first_of d.lists.queued ≡ Some id → has_first d.lists.enrolments ≡ false → needs_permit (flown w request) ≡ needs_permit w → IsSound d → IsSound (with_staged (record d { requests = written d.requests id.0 (Pending (flown w request)); lists = after_queued d.lists }) entry)
+  sound_staged d id w request entry at first nothing permit sound =
+      let w' = flown w request in
+      let one = one_changed d.requests id.0 w w' at in
+      let q = queued_tells w (rw at at (first_in is_queued d.requests d.lists.queued id first sound.queued)) in
+      let same = one.numbers is_some refl in
+      let flying = rw q.idle at (one.numbers is_flying refl) in
+      let uncancelled = one.numbers is_uncancelled refl in
+      let s' = written d.requests id.0 (Pending w') in
+      let nil = none_first d.lists.enrolments nothing in
+      record {
+        queued = shifted is_queued _ _ id _ _ _ _ one (First (first_tells d.lists.queued id first)) sound.queued;
+        gated = shifted is_gated _ _ id _ _ _ _ one (Kept refl (inr (rw (q.idle, q.permitted) refl))) sound.gated;
+        enrolments = shifted is_unenrolled _ _ id _ _ _ _ one (Left (rw nil refl)) sound.enrolments;
+        due = shifted is_enrolled _ _ id _ _ _ _ one (stays is_enrolled (Some w) (Some w') id _ refl) sound.due;
+        cancels = shifted is_cancelled _ _ id _ _ _ _ one (Kept refl (inr q.active)) sound.cancels;
+        permits = nowhere is_unpermitted _ _ id.0 _ _ one (permit ∙ q.permitted) sound.permits;
+        ticks = λ t. let n = one.numbers (is_at_tick t) refl in omega (arith, n, sound.ticks t);
+        drained = sound.drained;
+        entries = omega (arith, sound.entries, flying, length-append d.ring.staged (entry ∷ []), flying_is d.requests, flying_is s');
+        places = omega (arith, sound.places, same, uncancelled, pending_is d.requests, pending_is s');
+      }
+
+  -- a staged request keeps the driver as it should be, and the ring has a place for its entry
+  pub held_staged : (d : Driving S F) (id : WaiterId) (w : Waiter S F) (request : Request) (entry : Submission) (room most spots : ℕ) → request_at d id ≡ Some w → first_of d.lists.queued ≡ Some id → has_first d.lists.enrolments ≡ false → needs_permit (flown w request) ≡ needs_permit w → IsHeld d room most spots → IsHeld (with_staged (record d { requests = written d.requests id.0 (Pending (flown w request)); lists = after_queued d.lists }) entry) room most spots
+  held_staged d id w request entry room most spots at first nothing permit held =
+      let same = (one_changed d.requests id.0 w (flown w request) at).numbers is_some refl in
+      let sound = sound_staged d id w request entry at first nothing permit held.sound in
+      let room' : pending_count (written d.requests id.0 (Pending (flown w request))) ≤ d.lists.room = omega (arith, held.room, same, pending_is d.requests, pending_is (written d.requests id.0 (Pending (flown w request)))) in
+      assumption (sound, room')
+
+  pub place_for_request : (d : Driving S F) (id : WaiterId) (w : Waiter S F) → request_at d id ≡ Some w → first_of d.lists.queued ≡ Some id → IsSound d → taken_places d.ring < d.ring.places
+  place_for_request d id w at first sound =
+      let q = queued_tells w (rw at at (first_in is_queued d.requests d.lists.queued id first sound.queued)) in
+      let w' = flown w w.request in
+      let one = one_changed d.requests id.0 w w' at in
+      let s' = written d.requests id.0 (Pending w') in
+      let same = one.numbers is_some refl in
+      let flying = rw q.idle at (one.numbers is_flying refl) in
+      let less = flying_few s' in
+      elim (cases_Bool d.armed) [
+        | inl holds ↦ let e = rw holds at sound.entries in omega (arith, e, sound.places, same, flying, less, pending_is d.requests, pending_is s', flying_is d.requests, flying_is s')
+        | inr fails ↦ let e = rw fails at sound.entries in omega (arith, e, sound.places, same, flying, less, pending_is d.requests, pending_is s', flying_is d.requests, flying_is s')
+      ]
+
+  pub place_for_cancel : (d : Driving S F) (id : WaiterId) → first_of d.lists.cancels ≡ Some id → IsSound d → taken_places d.ring < d.ring.places
+  place_for_cancel d id first sound =
+      let some : d.lists.cancels ≡ id ∷ rest_of d.lists.cancels = first_tells d.lists.cancels id first in
+      let long = ap length some in
+      let less = flying_few d.requests in
+      elim (cases_Bool d.armed) [
+        | inl holds ↦ let e = rw holds at sound.entries in omega (arith, e, sound.places, long, less)
+        | inr fails ↦ let e = rw fails at sound.entries in omega (arith, e, sound.places, long, less)
+      ]
+
+  pub place_for_poll : (d : Driving S F) → d.armed ≡ false → IsSound d → taken_places d.ring < d.ring.places
+  place_for_poll d fails sound =
+      let less = flying_few d.requests in
+      let e = rw fails at sound.entries in
+      omega (arith, e, sound.places, less)
+
+  -- a change of the ring that adds no entry
+  pub held_ring : (d : Driving S F) (ring : RingState) (ls : List Landing) (room most spots : ℕ) → Within d.ring ring 0 → IsHeld d room most spots → IsHeld (record d { ring = ring; landings = ls }) room most spots
+  held_ring d ring ls room most spots within held =
+      let sound = sound_ring d (record d { ring = ring; landings = ls }) refl refl refl (omega (arith, within.taken, held.sound.entries)) (rw within.places held.sound.places) held.sound in
+      let limit : most ≡ ring.size = rw within.size held.limit in
+      let places : spots ≡ ring.places = rw within.places held.places in
+      assumption (sound, limit, places)

@@ -1,0 +1,126 @@
+-- Completions of no operation are swept away one after the other.
+use Rattle.std.proofs.Common.{◌≡◌, ℕ, suc, ltb, ◌+◌, ◌-◌, ◌<◌, Bool, true, false, ◌&&◌, cond, List, [], ◌∷◌, Option, Some, None, refl, sym, ap, ◌∙◌, inl, inr, arith}
+use Rattle.exec_driver.proofs.Words.{false≢true, ltb-true, ltb-false, Landing, next_in, next_completion, posted_left, reaped, wake_completion, RingState, Completion, Posted, Driving, is_control, noted, taken_out, cases_Bool}
+use Rattle.exec_ring.specs.Kernels.{wakes_left}
+use Rattle.exec_driver.specs.Steps.{is_next_control, swept_from, swept, after_next_control}
+use Rattle.exec_driver.specs.Turns.{waiting}
+
+pub one_less : (w : ℕ) → 0 < w → w - 1 < w
+one_less w some = omega (arith, some)
+
+one_fewer : (k n : ℕ) → 0 < k → suc (k - 1 + n) < suc (k + n)
+one_fewer k n some = omega (arith, some)
+
+first_fewer : (k n : ℕ) → n < suc (k + n)
+first_fewer k n = omega arith
+
+pub none_left : (w : ℕ) → ltb 0 w ≡ false → w ≡ 0
+none_left w is = let no = ltb-false 0 w is in omega (arith, no)
+
+pub fewer_by : (b : Bool) (p : Posted) (ps : List Posted) (w : ℕ) → ltb 0 p.wakes ≡ b → waiting (cond b (record p { wakes = p.wakes - 1 } ∷ ps) ps) w < waiting (p ∷ ps) w
+fewer_by true p ps w some = one_fewer p.wakes (waiting ps w) (ltb-true 0 p.wakes some)
+fewer_by false p ps w none = first_fewer p.wakes (waiting ps w)
+
+fewer_wakes : (b : Bool) (w : ℕ) → ltb 0 w ≡ b → is_next_control (cond b (Some (wake_completion true)) None) ≡ true → w - 1 < w
+fewer_wakes true w some is = one_less w (ltb-true 0 w some)
+fewer_wakes false w none is = absurd (false≢true is)
+
+pub fewer : (ps : List Posted) (w : ℕ) → is_next_control (next_in ps w) ≡ true → waiting (posted_left ps) (wakes_left ps w) < waiting ps w
+fewer [] w is = fewer_wakes (ltb 0 w) w refl is
+fewer (p ∷ ps) w is = fewer_by (ltb 0 p.wakes) p ps w refl
+
+and_true : (b : Bool) → (b && true) ≡ b
+and_true true = refl
+and_true false = refl
+
+module _ {S F : Type 0} where
+  -- the driver with these completions
+  abbrev having : Driving S F → List Posted → ℕ → Driving S F
+  having d ps w = record d { ring = record d.ring { posted = ps; wakes = w } }
+
+  either_way : (b : Bool) (x x' y y' : Driving S F) (fs : List Landing) → record x { landings = fs } ≡ record x' { landings = fs } → record y { landings = fs } ≡ record y' { landings = fs } → record (cond b x y) { landings = fs } ≡ record (cond b x' y') { landings = fs }
+  either_way true x x' y y' fs one other = one
+  either_way false x x' y y' fs one other = other
+
+  -- what was posted before, and what else ends, decides nothing
+  alike : (ps : List Posted) (d : Driving S F) (q : List Posted) (ls fs : List Landing) → record (swept_from ps (record d { ring = record d.ring { posted = q }; landings = ls })) { landings = fs } ≡ record (swept_from ps d) { landings = fs }
+  alike [] d q ls fs = refl
+  alike (p ∷ ps) d q ls fs = either_way (is_control p.completion) _ _ _ _ fs (alike ps (noted p.completion d) q ls fs) refl
+
+  swept_by : (b : Bool) (k : ℕ) (p : Posted) (ps : List Posted) (w : ℕ) (d : Driving S F) (ls fs : List Landing) → is_control (cond b (wake_completion true) p.completion) ≡ true → record (swept (record (cond (is_control (cond b (wake_completion true) p.completion)) (noted (cond b (wake_completion true) p.completion) (having d (cond b (record p { wakes = k } ∷ ps) ps) w)) (having d (p ∷ ps) w)) { landings = ls })) { landings = fs } ≡ record (swept (having d (p ∷ ps) w)) { landings = fs }
+  swept_by false k p ps w d ls fs is = rw is (alike ps (noted p.completion (having d (p ∷ ps) w)) ps ls fs)
+  swept_by true k p ps w d ls fs is =
+      ap (λ (b : Bool). record (swept (record (having d (record p { wakes = k } ∷ ps) w) { armed = b; landings = ls })) { landings = fs }) (and_true d.armed)
+      ∙ either_way (is_control p.completion) _ _ _ _ fs (alike ps (noted p.completion (having d (p ∷ ps) w)) (record p { wakes = k } ∷ ps) ls fs) refl
+
+  swept_wakes : (b : Bool) (w : ℕ) (d : Driving S F) (ls fs : List Landing) → is_next_control (cond b (Some (wake_completion true)) None) ≡ true → record (swept (record (after_next_control (having d [] w) (cond b (Some (wake_completion true)) None)) { landings = ls })) { landings = fs } ≡ record (swept (having d [] w)) { landings = fs }
+  swept_wakes true w d ls fs is = ap (λ (b : Bool). record (having d [] 0) { armed = b; landings = fs }) (and_true d.armed)
+  swept_wakes false w d ls fs is = absurd (false≢true is)
+
+  step_by : (ps : List Posted) (w : ℕ) (d : Driving S F) (ls fs : List Landing) → is_next_control (next_in ps w) ≡ true → record (swept (record (after_next_control (having d ps w) (next_in ps w)) { landings = ls })) { landings = fs } ≡ record (swept (having d ps w)) { landings = fs }
+  step_by [] w d ls fs is = swept_wakes (ltb 0 w) w d ls fs is
+  step_by (p ∷ ps) w d ls fs is = swept_by (ltb 0 p.wakes) (p.wakes - 1) p ps w d ls fs is
+
+  still_by : (b : Bool) (p : Posted) (ps : List Posted) (w : ℕ) (d : Driving S F) → ltb 0 p.wakes ≡ b → is_control (cond b (wake_completion true) p.completion) ≡ false → swept (having d (p ∷ ps) w) ≡ having d (p ∷ ps) w
+  still_by true p ps w d at is = absurd (false≢true (sym is))
+  still_by false p ps w d at is = rw is (ap (λ (k : ℕ). having d (record p { wakes = k } ∷ ps) w) (sym (none_left p.wakes at)))
+
+  still_wakes : (b : Bool) (w : ℕ) (d : Driving S F) → ltb 0 w ≡ b → is_next_control (cond b (Some (wake_completion true)) None) ≡ false → swept (having d [] w) ≡ having d [] w
+  still_wakes true w d at is = absurd (false≢true (sym is))
+  still_wakes false w d at is = ap (having d []) (sym (none_left w at))
+
+  still : (ps : List Posted) (w : ℕ) (d : Driving S F) → is_next_control (next_in ps w) ≡ false → swept (having d ps w) ≡ having d ps w
+  still [] w d is = still_wakes (ltb 0 w) w d refl is
+  still (p ∷ ps) w d is = still_by (ltb 0 p.wakes) p ps w d refl is
+
+  after_control : (d : Driving S F) (o : Option Completion) → is_next_control o ≡ true → (after_next_control d o).ring ≡ reaped d.ring
+  after_control d None is = absurd (false≢true is)
+  after_control d (Some c) is = rw is refl
+
+  after_other : (d : Driving S F) (o : Option Completion) → is_next_control o ≡ false → after_next_control d o ≡ d
+  after_other d None is = refl
+  after_other d (Some c) is = rw is refl
+
+  -- the sweep of one makes of it what that of the other does, but for what else ends
+  pub record SweepsAlike (d first : Driving S F) : Type 0 where
+    pub swept_alike : (fs : List Landing) → record (swept d) { landings = fs } ≡ record (swept first) { landings = fs }
+
+  pub sweeps_itself : (d : Driving S F) → SweepsAlike d d
+  sweeps_itself d = record { swept_alike = λ fs. refl }
+
+  pub sweeps_on : (d d' first : Driving S F) → is_next_control (next_completion d.ring) ≡ true → d' ≡ record (after_next_control d (next_completion d.ring)) { landings = d'.landings } → SweepsAlike d first → SweepsAlike d' first
+  sweeps_on d d' first is taken so =
+      record {
+        swept_alike = λ fs. ap (λ (e : Driving S F). record (swept e) { landings = fs }) taken ∙ step_by d.ring.posted d.ring.wakes d d'.landings fs is ∙ so.swept_alike fs;
+      }
+
+  pub sweeps_less : (d d' : Driving S F) → is_next_control (next_completion d.ring) ≡ true → d' ≡ record (after_next_control d (next_completion d.ring)) { landings = d'.landings } → waiting d'.ring.posted d'.ring.wakes < waiting d.ring.posted d.ring.wakes
+  sweeps_less d d' is taken =
+      let ring : d'.ring ≡ reaped d.ring = ap (λ (e : Driving S F). e.ring) taken ∙ after_control d (next_completion d.ring) is in
+      let same = ap (λ (s : RingState). waiting s.posted s.wakes) ring in
+      let less = fewer d.ring.posted d.ring.wakes is in
+      omega (arith, same, less)
+
+  pub all_swept : (d d' first : Driving S F) → is_next_control (next_completion d.ring) ≡ false → d' ≡ record (after_next_control d (next_completion d.ring)) { landings = d'.landings } → SweepsAlike d first → d' ≡ record (swept first) { landings = d'.landings }
+  all_swept d d' first is taken so =
+      taken
+      ∙ ap (λ (e : Driving S F). record e { landings = d'.landings }) (after_other d (next_completion d.ring) is ∙ sym (still d.ring.posted d.ring.wakes d is))
+      ∙ so.swept_alike d'.landings
+
+  -- what is swept has no completion of no operation before the first of one
+  after_sweep : (ps : List Posted) (d : Driving S F) → is_next_control (next_completion (swept_from ps d).ring) ≡ false
+  after_sweep [] d = refl
+  after_sweep (p ∷ ps) d =
+      elim (cases_Bool (is_control p.completion)) [
+        | inl holds ↦ rw holds (after_sweep ps (noted p.completion d))
+        | inr fails ↦ rw fails fails
+      ]
+
+  pub operation_next : (first d : Driving S F) (c : Completion) → first ≡ record (swept d) { landings = first.landings } → next_completion first.ring ≡ Some c → is_control c ≡ false
+  operation_next first d c is next = ap is_next_control (sym next) ∙ ap (λ (e : Driving S F). is_next_control (next_completion e.ring)) is ∙ after_sweep d.ring.posted d
+
+  pub stale_swept : (first second new : Driving S F) → second ≡ record (taken_out first) { landings = second.landings } → new ≡ record (swept second) { landings = new.landings } → new ≡ record (swept (taken_out first)) { landings = new.landings }
+  stale_swept first second new taken is =
+      is
+      ∙ ap (λ (e : Driving S F). record (swept e) { landings = new.landings }) taken
+      ∙ alike (taken_out first).ring.posted (taken_out first) (taken_out first).ring.posted second.landings new.landings

@@ -1,0 +1,59 @@
+-- Why the drivers of the worked example share gates, or don't.
+use Rattle.std.proofs.Common.{◌≡◌, ℕ, zero, suc, Bool, true, false, ◌||◌, ◌==◌, eqb, [], ◌∷◌, get_or, Some, refl, sym, ap, subst, ◌∙◌, inl, inr, arith}
+use Rattle.exec_base.specs.Slab.{value_in}
+use Rattle.exec_base.specs.declared.slab.Slot.TheVariants.{Live, Vacant}
+use Rattle.exec_base.proofs.Slots.{same_id}
+use Rattle.exec_request.specs.Requests.{gate_of}
+use Rattle.exec_waiters.specs.Examples.{sync, here}
+use Rattle.exec_driver.specs.Examples.{first, workers, held}
+use Rattle.exec_driver.specs.Laws.{ShareGates}
+use Rattle.exec_driver.specs.Opens.{holder_at}
+use Rattle.exec_driver.specs.Sharing.{LineUp, StandsAt, key_of}
+use Rattle.exec_driver.specs.Steps.{newcomer}
+use Rattle.exec_driver.specs.declared.opens.WaiterKey.{WaiterKey}
+use Rattle.exec_driver.proofs.Standing.{live_tells}
+use Rattle.exec_driver.proofs.Words.{eqb_tells, false≢true, waiter_of, Waiter, Pending}
+
+abbrev alone : Bool → Waiter ℕ ℕ
+alone permit = record (newcomer sync here) { permit = permit }
+
+-- the one request is the first, and none other
+one_there : (permit : Bool) (i g : ℕ) (w : Waiter ℕ ℕ) → waiter_of (value_in (get_or (Live 0 (Pending (alone permit)) ∷ []) i (Vacant 0)) g) ≡ Some w → (0 ≡ i) × (0 ≡ g) × (alone permit ≡ w)
+one_there permit zero g w at = let live = live_tells 0 (Pending (alone permit)) g w at in (refl, live.0, let same : Some (alone permit) ≡ Some w = live.1 in cc)
+one_there permit (suc i) g w at = absurd (cc)
+
+own_gate : (file : ℕ) (key : WaiterKey) → StandsAt held file key → Some 1 ≡ Some file
+own_gate zero key (inl holds) = absurd (cc)
+own_gate zero key (inr waits) = let within = waits.1 in absurd (omega (arith, within))
+own_gate (suc zero) key stands = refl
+own_gate (suc (suc file)) key stands = absurd stands
+
+permitted_third : (worker : ℕ) → ((worker == 3) || false) ≡ true → 3 ≡ worker
+permitted_third worker is = elim (eqb_tells worker 3) [ inl same ↦ sym same.1 | inr other ↦ absurd (false≢true (rw other.0 at is)) ]
+
+pub shared : LineUp (workers false) held
+shared =
+    record {
+      share = record {
+        holds = λ key w file at has gate.
+            let there = one_there ((key.worker == 3) || false) key.id.0.index key.id.0.generation w at in
+            let third = permitted_third key.worker (ap (λ (v : Waiter ℕ ℕ). v.permit) there.2 ∙ has) in
+            let id : first.0 ≡ key.id.0 = same_id first.0 key.id.0 there.0 there.1 in
+            let is : key_of 3 first ≡ key = λ k. record { worker = third k; id = record { 0 = id k } } in
+            let file_is : Some 1 ≡ Some file = ap (λ (v : Waiter ℕ ℕ). gate_of v.request) there.2 ∙ gate in
+            let one : 1 ≡ file = cc in
+            subst (λ (f : ℕ). holder_at held f ≡ Some key) one (ap Some is);
+        flies = λ key w file at flying gate.
+            let there = one_there ((key.worker == 3) || false) key.id.0.index key.id.0.generation w at in
+            absurd (false≢true (ap (λ (v : Waiter ℕ ℕ). v.in_flight) there.2 ∙ flying));
+      };
+      lines = λ key w file at stands.
+          let there = one_there ((key.worker == 3) || false) key.id.0.index key.id.0.generation w at in
+          sym (ap (λ (v : Waiter ℕ ℕ). gate_of v.request) there.2) ∙ own_gate file key stands;
+    }
+
+pub not_shared : ShareGates (workers true) held → ⊥
+not_shared share =
+    let holds : Some (key_of 3 first) ≡ Some (key_of 4 first) = share.holds (key_of 4 first) (alone true) 1 refl refl refl in
+    let same : key_of 3 first ≡ key_of 4 first = cc in
+    false≢true (sym (ap (λ (k : WaiterKey). eqb k.worker 3) same))

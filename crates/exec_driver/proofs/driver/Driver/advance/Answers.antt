@@ -1,0 +1,13 @@
+use Rattle.std.proofs.Common.{◌≡◌, ◌≤◌, refl, arith}
+use Rattle.exec_time.specs.WheelView.{room_of}
+use Rattle.exec_driver.proofs.Advancing.{held_on}
+use Rattle.exec_driver.proofs.driver.Driver.advance.Goals as goal
+
+pub invariant_of-self : goal.invariant_of-self
+invariant_of-self g c =
+    let more : room_of c.self.inside.wheel ≤ room_of c.drain.new.wheel = omega (arith, c.advance-count.ensures.room, c.drain.ensures.wheel_room) in
+    let listed = rw (c.drain.ensures.due, c.advance-count.ensures.wheel) at c.drain.ensures.listed in
+    rw (c.drain.ensures.wheel, c.drain.ensures.due, c.advance-count.ensures.wheel) (held_on _ c.args.now _ _ _ _ more listed c.self.invariant)
+
+pub returns : goal.returns
+returns g c = rw (← c.self.view_is) (rw (c.drain.ensures.wheel, c.drain.ensures.due, c.advance-count.ensures.wheel) refl)

@@ -1,0 +1,27 @@
+use Rattle.std.proofs.Common.{◌≡◌, true, false, sym, ◌∙◌, refl, arith}
+use Rattle.exec_base.specs.Slab.{value_at}
+use Rattle.exec_waiters.specs.Events.{asks_cancel_by_orphan}
+use Rattle.exec_driver.proofs.Observing.{held_orphaned}
+use Rattle.exec_driver.proofs.Telling.{tells_both, few_closed, room_left}
+use Rattle.exec_driver.proofs.driver.Driver.close.Goals.{then-closed, else-closed}
+use Rattle.exec_driver.proofs.driver.Driver.close.Goals as goal
+
+pub invariant_of-self-then-closed : goal.invariant_of-self-then-closed
+invariant_of-self-then-closed g c = rw c.in_ok-closed.ensures.orphaned (held_orphaned _ c.in_ok-closed.closed.id _ _ _ c.self.invariant)
+
+pub cancel-requires : goal.cancel-requires
+cancel-requires g c = record { room = room_left 2 1 _ _ _ (omega arith) (few_closed c.in_ok-closed.closed.id.0 _) c.in_ok-closed.ensures.told c.requires.room }
+
+pub invariant_of-self-else-closed : goal.invariant_of-self-else-closed
+invariant_of-self-else-closed g c = rw c.in_ok-closed.ensures.orphaned (held_orphaned _ c.in_ok-closed.closed.id _ _ _ c.self.invariant)
+
+pub returns-clause-told : goal.returns-clause-told
+returns-clause-told g c =
+    elim c.if-closed.branch [
+      | then-closed w ↦
+          let asks : asks_cancel_by_orphan (value_at c.self.inside.waiters c.in_ok-closed.closed.id.0) ≡ true = sym c.in_ok-closed.ensures.answer ∙ w.if-closed.true in
+          rw (w.deferred-is, ← c.self.view_is, asks) (tells_both _ _ _ _ _ c.in_ok-closed.ensures.told (rw c.in_ok-closed.ensures.orphaned at w.cancel.ensures.told))
+      | else-closed w ↦
+          let asks : asks_cancel_by_orphan (value_at c.self.inside.waiters c.in_ok-closed.closed.id.0) ≡ false = sym c.in_ok-closed.ensures.answer ∙ w.if-closed.false in
+          rw (w.deferred-is, ← c.self.view_is, asks) c.in_ok-closed.ensures.told
+    ]

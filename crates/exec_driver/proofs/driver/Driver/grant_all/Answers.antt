@@ -1,0 +1,26 @@
+use Rattle.std.proofs.Common.{◌≡◌, ◌≤◌, ◌+◌, ◌<◌, Some, None, sym, ◌∙◌, arith, rules}
+use Rattle.exec_driver.specs.Driving.{seen}
+use Rattle.exec_driver.proofs.Serving.{serves_itself, serves_both, done_itself, done_both}
+use Rattle.exec_driver.proofs.Turns.{gate_from, added_tells}
+use Rattle.exec_driver.proofs.driver.Driver.grant_all.Goals as goal
+
+pub gates-init : goal.gates-init
+gates-init g c = (serves_itself _ _, done_itself _)
+
+pub grant_one-requires : goal.grant_one-requires
+grant_one-requires g c = record { room = c.gates.invariant.0.room c.requires.room }
+
+pub gates-smaller : goal.gates-smaller
+gates-smaller g c =
+    let low = gate_from c.gates.from (seen c.gates.self).requests (seen c.gates.self).lists.gated None (λ f none. absurd (cc)) c.in-Some.file (sym c.next_gate.ensures ∙ c.in-Some.is) in
+    let next = added_tells c.in-Some.file c.checked_add.result c.in-Some-checked_add.next c.checked_add.ensures c.in-Some-checked_add.is in
+    omega (arith, low, next.0, next.1)
+
+pub gates-preserved : goal.gates-preserved
+gates-preserved g c = (serves_both _ _ _ _ _ _ c.gates.invariant.0 c.grant_one.ensures.serves, done_both _ _ _ c.gates.invariant.1 c.grant_one.ensures.done)
+
+pub returns-clause-serves : goal.returns-clause-serves
+returns-clause-serves g c = c.gates.invariant.0
+
+pub returns-clause-done : goal.returns-clause-done
+returns-clause-done g c = c.gates.invariant.1

@@ -1,0 +1,150 @@
+use Rattle.std.proofs.Common.{◌≡◌, Some, None, true, false, sym, ap, ◌∙◌, refl, rules}
+use Rattle.exec_driver.proofs.Words.{asked_of, hinted_of, result_in, wheel_of, may_complete, waiter_at, file_of, file_in, gate_in, account_in, with_account, open_after}
+use Rattle.exec_request.specs.Judging.{judged_as}
+use Rattle.exec_request.specs.Requests.{cursor_of}
+use Rattle.exec_waiters.proofs.Changes.{name_tells}
+use Rattle.exec_driver.proofs.Endings.{one_changed}
+use Rattle.exec_driver.proofs.Reaping.{held_taken, held_landed, held_requeued, room_to_queue, permit_of, goes_on_uncancelled, named_there, landed_of, landed_permit, requeue_tells, complete_tells, outcome_same, none_named, none_given, some_given, tells_nothing, kept_of_open, told_over, ended_over, tells_over}
+use Rattle.exec_driver.proofs.Granting.{same_some}
+use Rattle.exec_driver.proofs.Windows.{asked_same, file_same}
+use Rattle.exec_driver.proofs.driver.Driver.judge.Goals as goal
+
+pub invariant_of-self : goal.invariant_of-self
+invariant_of-self g c = rw c.reap-same.ensures.after (held_taken _ _ _ _ _ c.self.invariant)
+
+pub invariant_of-self-then-not-may_give : goal.invariant_of-self-then-not-may_give
+invariant_of-self-then-not-may_give g c = rw c.reap-same.ensures.after (held_taken _ _ _ _ _ c.self.invariant)
+
+pub invariant_of-self-in-Complete : goal.invariant_of-self-in-Complete
+invariant_of-self-in-Complete g c =
+    let there = named_there c.self.inside.waiters c.args.completion.user_data c.given-given.result _ _ c.in_ok-id.id c.named.ensures c.in_ok-id.was c.may_give.ensures c.if-not-may_give.false in
+    let over = c.on_completion-outcome.ensures.completes c.in_ok-id.id.0 there.w there.is there.at in
+    rw (over.slab, c.reap-same.ensures.after) (held_landed _ c.in_ok-id.id there.w over.request c.args.completion _ _ _ _ there.at there.flies (rw (← c.self.view_is) at c.requires.next) c.requires.operation c.self.invariant)
+
+pub on_completion-outcome-requires : goal.on_completion-outcome-requires
+on_completion-outcome-requires g c =
+    let there = named_there c.self.inside.waiters c.args.completion.user_data c.given-given.result _ _ c.in_ok-id.id c.named.ensures c.in_ok-id.was c.may_give.ensures c.if-not-may_give.false in
+    record {
+      lawful = λ id w' n at'.
+          let same-id : c.in_ok-id.id.0 ≡ id = same_some _ _ _ there.is n in
+          let at : waiter_at c.self.inside.waiters c.in_ok-id.id.0 ≡ Some w' = rw same-id at' in
+          let same : there.w ≡ w' = same_some _ _ _ there.at at in
+          rw (← same) there.lawful;
+    }
+
+pub unreachable-requires : goal.unreachable-requires
+unreachable-requires g c =
+    let there = named_there c.self.inside.waiters c.args.completion.user_data c.given-given.result _ _ c.in_ok-id.id c.named.ensures c.in_ok-id.was c.may_give.ensures c.if-not-may_give.false in
+    let over = c.on_completion-outcome.ensures.completes c.in_ok-id.id.0 there.w there.is there.at in
+    let told = over.told_is in
+    absurd (cc)
+
+pub queue-requires : goal.queue-requires
+queue-requires g c =
+    let there = named_there c.self.inside.waiters c.args.completion.user_data c.given-given.result _ _ c.in_ok-id.id c.named.ensures c.in_ok-id.was c.may_give.ensures c.if-not-may_give.false in
+    let over = c.on_completion-outcome.ensures.completes c.in_ok-id.id.0 there.w there.is there.at in
+    let tells = requeue_tells c.in_ok-id.id.0 over.answer c.in-Requeue.id (outcome_same _ _ _ over.told_is c.in-Some.is ∙ c.in-Requeue.is) in
+    let active = goes_on_uncancelled (asked_of there.w.request) (cursor_of there.w.request) (judged_as (hinted_of there.w.request) there.w.state c.given-given.result) (sym (rw tells.0 at over.judges.next)) in
+    let permit = landed_permit there.w over.request (asked_same _ _ over.kept) ∙ permit_of _ c.in_ok-id.id there.w there.at there.flies c.self.invariant.sound in
+    record { room = room_to_queue _ c.in_ok-id.id there.w over.request _ _ _ there.at there.flies active permit c.self.invariant }
+
+pub invariant_of-self-in-Requeue : goal.invariant_of-self-in-Requeue
+invariant_of-self-in-Requeue g c =
+    let there = named_there c.self.inside.waiters c.args.completion.user_data c.given-given.result _ _ c.in_ok-id.id c.named.ensures c.in_ok-id.was c.may_give.ensures c.if-not-may_give.false in
+    let over = c.on_completion-outcome.ensures.completes c.in_ok-id.id.0 there.w there.is there.at in
+    let tells = requeue_tells c.in_ok-id.id.0 over.answer c.in-Requeue.id (outcome_same _ _ _ over.told_is c.in-Some.is ∙ c.in-Requeue.is) in
+    let active = goes_on_uncancelled (asked_of there.w.request) (cursor_of there.w.request) (judged_as (hinted_of there.w.request) there.w.state c.given-given.result) (sym (rw tells.0 at over.judges.next)) in
+    let permit = landed_permit there.w over.request (asked_same _ _ over.kept) ∙ permit_of _ c.in_ok-id.id there.w there.at there.flies c.self.invariant.sound in
+    rw (over.slab, c.reap-same.ensures.after, c.queue.ensures, ← tells.1) (held_requeued _ c.in_ok-id.id there.w over.request c.args.completion _ _ _ _ there.at there.flies active permit (rw (← c.self.view_is) at c.requires.next) c.requires.operation c.self.invariant)
+
+pub end-requires-clause-idle : goal.end-requires-clause-idle
+end-requires-clause-idle g c =
+    let there = named_there c.self.inside.waiters c.args.completion.user_data c.given-given.result _ _ c.in_ok-id.id c.named.ensures c.in_ok-id.was c.may_give.ensures c.if-not-may_give.false in
+    let over = c.on_completion-outcome.ensures.completes c.in_ok-id.id.0 there.w there.is there.at in
+    let tells = complete_tells c.in_ok-id.id.0 over.answer c.in-Complete.id c.in-Complete.ended (outcome_same _ _ _ over.told_is c.in-Some.is ∙ c.in-Complete.is) in
+    let one = one_changed c.self.inside.waiters c.in_ok-id.id.0 there.w (landed_of there.w over.request) there.at in
+    rw (← tells.1, over.slab, one.is_at) refl
+
+pub returns-in_err-id-clause-reaps : goal.returns-in_err-id-clause-reaps
+returns-in_err-id-clause-reaps g c =
+    rw (← c.self.view_is) (λ id w is at.
+    let none = none_named c.self.inside.waiters c.args.completion (sym c.named.ensures ∙ c.in_err-id.was) in
+    absurd (cc))
+
+pub returns-in_err-id-clause-none : goal.returns-in_err-id-clause-none
+returns-in_err-id-clause-none g c = rw (← c.self.view_is) (λ is. (c.from_residual.ensures, rw c.reap-same.ensures.after refl, refl, refl))
+
+pub returns-then-not-may_give-clause-reaps : goal.returns-then-not-may_give-clause-reaps
+returns-then-not-may_give-clause-reaps g c =
+    let named-is = name_tells _ _ (sym c.named.ensures ∙ c.in_ok-id.was) in
+    let may : c.may_give.result ≡ false = search rules in
+    let gives : may_complete (waiter_at c.self.inside.waiters c.in_ok-id.id.0) (result_in c.args.completion.result) ≡ false = rw (← c.given-given.ensures) (sym c.may_give.ensures ∙ may) in
+    rw (← c.self.view_is) (λ id w is at.
+    let none = none_given c.self.inside.waiters c.args.completion c.in_ok-id.id.0 named-is gives in
+    absurd (cc))
+
+pub returns-then-not-may_give-clause-none : goal.returns-then-not-may_give-clause-none
+returns-then-not-may_give-clause-none g c = rw (← c.self.view_is) (λ is. (refl, rw c.reap-same.ensures.after refl, refl, refl))
+
+pub returns-in-Requeue-clause-reaps : goal.returns-in-Requeue-clause-reaps
+returns-in-Requeue-clause-reaps g c =
+    let there = named_there c.self.inside.waiters c.args.completion.user_data c.given-given.result _ _ c.in_ok-id.id c.named.ensures c.in_ok-id.was c.may_give.ensures c.if-not-may_give.false in
+    let over = c.on_completion-outcome.ensures.completes c.in_ok-id.id.0 there.w there.is there.at in
+    let tells = requeue_tells c.in_ok-id.id.0 over.answer c.in-Requeue.id (outcome_same _ _ _ over.told_is c.in-Some.is ∙ c.in-Requeue.is) in
+    rw (← c.self.view_is) (λ id w done at.
+    let same-id : c.in_ok-id.id.0 ≡ id = same_some _ _ _ (some_given c.self.inside.waiters c.args.completion c.in_ok-id.id.0 _ there c.given-given.ensures) done in
+    let here : waiter_at c.self.inside.waiters c.in_ok-id.id.0 ≡ Some w = rw same-id at in
+    let same : there.w ≡ w = same_some _ _ _ there.at here in
+    let file : c.open_of-file.result ≡ file_of there.w.request = c.open_of-file.ensures ∙ ap file_in there.at in
+    rw (← same-id, ← same, ← c.given-given.ensures) (record {
+      request = over.request;
+      answer = None;
+      told_is = rw tells.1 refl;
+      driver = rw (over.slab, c.reap-same.ensures.after, c.queue.ensures, ← tells.1) refl;
+      judges = rw tells.0 at over.judges;
+      kept = over.kept;
+      tells = tells_nothing _;
+      opens_after = rw (c.set_account.ensures, over.account, c.account-account.ensures, file) refl;
+    }))
+
+pub returns-in-Requeue-clause-none : goal.returns-in-Requeue-clause-none
+returns-in-Requeue-clause-none g c =
+    let there = named_there c.self.inside.waiters c.args.completion.user_data c.given-given.result _ _ c.in_ok-id.id c.named.ensures c.in_ok-id.was c.may_give.ensures c.if-not-may_give.false in
+    let over = c.on_completion-outcome.ensures.completes c.in_ok-id.id.0 there.w there.is there.at in
+    rw (← c.self.view_is) (λ none.
+    let some = some_given c.self.inside.waiters c.args.completion c.in_ok-id.id.0 _ there c.given-given.ensures in
+    absurd (cc))
+
+pub returns-in-Complete-clause-reaps : goal.returns-in-Complete-clause-reaps
+returns-in-Complete-clause-reaps g c =
+    let there = named_there c.self.inside.waiters c.args.completion.user_data c.given-given.result _ _ c.in_ok-id.id c.named.ensures c.in_ok-id.was c.may_give.ensures c.if-not-may_give.false in
+    let over = c.on_completion-outcome.ensures.completes c.in_ok-id.id.0 there.w there.is there.at in
+    let tells = complete_tells c.in_ok-id.id.0 over.answer c.in-Complete.id c.in-Complete.ended (outcome_same _ _ _ over.told_is c.in-Some.is ∙ c.in-Complete.is) in
+    let one = one_changed c.self.inside.waiters c.in_ok-id.id.0 there.w (landed_of there.w over.request) there.at in
+    let now : waiter_at c.on_completion-outcome.new.self c.in-Complete.id.0 ≡ Some (landed_of there.w over.request) = rw (← tells.1, over.slab) one.is_at in
+    let file : c.open_of-file.result ≡ file_of there.w.request = c.open_of-file.ensures ∙ ap file_in there.at in
+    let opens-are : c.set_account.new.self ≡ with_account c.args.opens.now (file_of there.w.request) (open_after there.w c.given-given.result (account_in c.args.opens.now (file_of there.w.request))) = rw (c.set_account.ensures, over.account, c.account-account.ensures, file) refl in
+    let same-file = file_same there.w.request over.request over.kept in
+    let account : account_in c.set_account.new.self (file_of over.request) ≡ open_after there.w c.given-given.result (account_in c.args.opens.now (file_of there.w.request)) = rw (same-file, opens-are) (kept_of_open there.w c.given-given.result c.args.opens.now (file_of there.w.request)) in
+    rw (← c.self.view_is) (λ id w done at.
+    let same-id : c.in_ok-id.id.0 ≡ id = same_some _ _ _ (some_given c.self.inside.waiters c.args.completion c.in_ok-id.id.0 _ there c.given-given.ensures) done in
+    let here : waiter_at c.self.inside.waiters c.in_ok-id.id.0 ≡ Some w = rw same-id at in
+    let same : there.w ≡ w = same_some _ _ _ there.at here in
+    rw (← same-id, ← same, ← c.given-given.ensures) (record {
+      request = over.request;
+      answer = Some c.in-Complete.ended;
+      told_is = told_over _ _ _ _ _ _ tells.1 (c.durability-permit.ensures ∙ ap gate_in now);
+      driver = ended_over (record { requests = c.self.inside.waiters; wheel = wheel_of c.self.inside.wheel; ring = g.R.Ring.state c.self.inside.ring; landings = g.R.Ring.landings c.self.inside.ring; lists = c.self.inside.lists; cancels_under_way = c.self.inside.cancels_under_way; armed = c.self.inside.armed }) _ _ _ _ (landed_of there.w over.request) _ _ _ tells.1 (c.end.ensures.ended (landed_of there.w over.request) now) (rw (over.slab, c.reap-same.ensures.after) refl) account;
+      judges = rw tells.0 at over.judges;
+      kept = over.kept;
+      tells = tells_over _ _ _ _ (landed_of there.w over.request) _ _ _ tells.1 account (c.end.ensures.told (landed_of there.w over.request) now);
+      opens_after = rw (← opens-are) (c.end.ensures.opens (landed_of there.w over.request) now);
+    }))
+
+pub returns-in-Complete-clause-none : goal.returns-in-Complete-clause-none
+returns-in-Complete-clause-none g c =
+    let there = named_there c.self.inside.waiters c.args.completion.user_data c.given-given.result _ _ c.in_ok-id.id c.named.ensures c.in_ok-id.was c.may_give.ensures c.if-not-may_give.false in
+    let over = c.on_completion-outcome.ensures.completes c.in_ok-id.id.0 there.w there.is there.at in
+    rw (← c.self.view_is) (λ none.
+    let some = some_given c.self.inside.waiters c.args.completion c.in_ok-id.id.0 _ there c.given-given.ensures in
+    absurd (cc))

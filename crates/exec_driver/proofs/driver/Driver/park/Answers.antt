@@ -1,0 +1,20 @@
+use Rattle.std.proofs.Common.{◌≡◌, true, false, sym, ◌∙◌, ap, rules}
+use Rattle.exec_driver.specs.Driving.{seen}
+use Rattle.exec_driver.proofs.Turns.{wait_pending, wait_full, wait_calm, way_free, poll_any}
+use Rattle.exec_driver.proofs.driver.Driver.park.Goals as goal
+
+pub returns-then-has_pending_submissions-clause-answer : goal.returns-then-has_pending_submissions-clause-answer
+returns-then-has_pending_submissions-clause-answer g c =
+    let is : c.has_pending_submissions.result ≡ true = search rules in
+    wait_pending (seen c.args.self.now) (seen c.make_way.new.self) _ c.make_way.ensures (sym c.has_pending_submissions.ensures ∙ is)
+
+pub returns-clause-answer : goal.returns-clause-answer
+returns-clause-answer g c =
+    let is : c.has_pending_submissions.result ≡ false = search rules in
+    let poll : c.stage_wake_poll.result ≡ true = search rules in
+    wait_calm (seen c.args.self.now) (seen c.make_way.new.self) _ _ c.make_way.ensures (sym c.has_pending_submissions.ensures ∙ is) (sym c.stage_wake_poll.ensures.answer ∙ poll) c.arm-calm.ensures
+
+pub returns-clause-entered : goal.returns-clause-entered
+returns-clause-entered g c = λ yes free.
+    let way = way_free (seen c.args.self.now) (seen c.make_way.new.self) c.make_way.ensures free in
+    c.enter_if.ensures.entered yes ((poll_any (seen c.make_way.new.self) (seen c.stage_wake_poll.new.self) c.stage_wake_poll.ensures.staged).eases.keeps.free way)

@@ -1,0 +1,5 @@
+use Rattle.exec_driver.proofs.Observing.{held_waked}
+use Rattle.exec_driver.proofs.driver.Driver.set_waker.Goals as goal
+
+pub invariant_of-self : goal.invariant_of-self
+invariant_of-self g c = rw c.set_waker.ensures.set (held_waked _ c.args.id _ _ _ _ c.self.invariant)

@@ -1,0 +1,42 @@
+use Rattle.std.proofs.Common.{◌≡◌, Some, true, sym, ap, ◌∙◌, refl}
+use Rattle.exec_driver.proofs.Words.{is_durable, Asked, waiter_at, needs_permit, file_of, file_in, account_in, request_at, is_queued, first_of}
+use Rattle.exec_driver.proofs.Stepping.{first_there, held_staged, place_for_request, permit_same, relanded}
+use Rattle.exec_driver.proofs.Windows.{is_no_poll, asked_same}
+use Rattle.exec_driver.proofs.driver.Driver.stage.Goals as goal
+
+pub stage-requires-clause-place : goal.stage-requires-clause-place
+stage-requires-clause-place g c =
+    let first = sym c.next_queued.ensures.first ∙ c.in_ok-id.was in
+    let there = first_there is_queued refl c.self.inside.waiters c.self.inside.lists.queued c.in_ok-id.id first c.self.invariant.sound.queued in
+    place_for_request _ c.in_ok-id.id there.0 there.1 first c.self.invariant.sound
+
+pub stage-requires-clause-poll : goal.stage-requires-clause-poll
+stage-requires-clause-poll g c =
+    let first = sym c.next_queued.ensures.first ∙ c.in_ok-id.was in
+    let there = first_there is_queued refl c.self.inside.waiters c.self.inside.lists.queued c.in_ok-id.id first c.self.invariant.sound.queued in
+    let staged = c.stage-submission.ensures.staged there.0 there.1 in
+    rw staged.window (is_no_poll _ there.0.request _)
+
+pub invariant_of-self-2 : goal.invariant_of-self-2
+invariant_of-self-2 g c =
+    let first = sym c.next_queued.ensures.first ∙ c.in_ok-id.was in
+    let there = first_there is_queued refl c.self.inside.waiters c.self.inside.lists.queued c.in_ok-id.id first c.self.invariant.sound.queued in
+    let staged = c.stage-submission.ensures.staged there.0 there.1 in
+    rw (staged.slab, c.stage.ensures, c.next_queued.ensures.rest) (relanded _ _ _ _ _ (held_staged _ c.in_ok-id.id there.0 staged.request c.stage-submission.result _ _ _ there.1 first (rw (← c.self.view_is) at c.requires.enrolled) (permit_same there.0 staged.request (asked_same _ _ staged.kept)) c.self.invariant))
+
+pub returns-clause-staged : goal.returns-clause-staged
+returns-clause-staged g c = λ w is.
+    let at : waiter_at c.self.inside.waiters c.in_ok-id.id.0 ≡ Some w = rw (← c.self.view_is) at is in
+    let staged = c.stage-submission.ensures.staged w at in
+    let same : c.account-account.result ≡ account_in c.args.opens.now (file_of w.request) = c.account-account.ensures ∙ ap (account_in c.args.opens.now) (c.open_of.ensures ∙ ap file_in at) in
+    record {
+      request = staged.request;
+      entry = c.stage-submission.result;
+      driver = rw (staged.slab, c.stage.ensures, c.next_queued.ensures.rest, ← c.self.view_is) refl;
+      user_data = staged.user_data;
+      window = rw (← same) staged.window;
+      hint = staged.hint;
+      again = staged.again;
+      goes_on = staged.goes_on;
+      kept = staged.kept;
+    }

@@ -1,0 +1,46 @@
+use Rattle.std.proofs.Common.{◌≡◌, true, false, sym, ap, ◌∙◌, rules, arith}
+use Rattle.std.proofs.lemmas.Bool.{false≢true}
+use Rattle.exec_driver.specs.Driving.{seen}
+use Rattle.exec_driver.proofs.Queues.{taken_answer, busy_answer}
+use Rattle.exec_driver.proofs.Serving.{goes_itself, goes_both, goes_by, done_itself, done_both}
+use Rattle.exec_driver.proofs.Turns.{enter_any, filled_less, not_full}
+use Rattle.exec_driver.proofs.driver.Driver.stage_all.Goals as goal
+
+pub queues-init : goal.queues-init
+queues-init g c = (goes_itself _, done_itself _)
+
+pub stage_some-requires : goal.stage_some-requires
+stage_some-requires g c = record { enrolled = c.queues.invariant.1.enrolments c.requires.enrolled }
+
+pub returns-in-Busy-clause-going : goal.returns-in-Busy-clause-going
+returns-in-Busy-clause-going g c = goes_both _ _ _ c.queues.invariant.0 (goes_both _ _ _ c.stage_some.ensures.going (goes_by _ _ (enter_any (seen c.stage_some.new.self) (seen c.enter.new.self) c.enter.ensures.entered).0.eases.keeps))
+
+pub returns-in-Busy-clause-done : goal.returns-in-Busy-clause-done
+returns-in-Busy-clause-done g c = done_both _ _ _ c.queues.invariant.1 (done_both _ _ _ c.stage_some.ensures.done (enter_any (seen c.stage_some.new.self) (seen c.enter.new.self) c.enter.ensures.entered).0.eases.done)
+
+pub returns-in-Busy-clause-staged : goal.returns-in-Busy-clause-staged
+returns-in-Busy-clause-staged g c = λ free.
+    let busy = busy_answer (seen c.stage_some.new.self).ring (sym c.enter.ensures.answer ∙ c.in-Busy.is) in
+    absurd (false≢true (sym (c.stage_some.ensures.going.free (c.queues.invariant.0.free free)) ∙ busy))
+
+pub queues-smaller : goal.queues-smaller
+queues-smaller g c =
+    let filled : c.stage_some.result ≡ true = search rules in
+    let e = enter_any (seen c.stage_some.new.self) (seen c.enter.new.self) c.enter.ensures.entered in
+    let free = taken_answer (seen c.stage_some.new.self).ring _ (sym c.enter.ensures.answer ∙ c.in-Taken.is) in
+    let size = e.1.size ∙ c.stage_some.ensures.going.size ∙ c.queues.invariant.0.size in
+    let some = c.requires.ring in
+    filled_less (seen c.queues.self) (seen c.stage_some.new.self) (seen c.enter.new.self) c.stage_some.ensures.less (c.stage_some.ensures.some filled) e.0.no_more (not_full (seen c.enter.new.self) (omega (arith, size, some)) (e.1.taken free))
+
+pub queues-preserved : goal.queues-preserved
+queues-preserved g c =
+    let e = enter_any (seen c.stage_some.new.self) (seen c.enter.new.self) c.enter.ensures.entered in (
+      goes_both _ _ _ c.queues.invariant.0 (goes_both _ _ _ c.stage_some.ensures.going (goes_by _ _ e.0.eases.keeps)),
+      done_both _ _ _ c.queues.invariant.1 (done_both _ _ _ c.stage_some.ensures.done e.0.eases.done),
+    )
+
+pub returns-clause-going : goal.returns-clause-going
+returns-clause-going g c = goes_both _ _ _ c.queues.invariant.0 c.stage_some.ensures.going
+
+pub returns-clause-done : goal.returns-clause-done
+returns-clause-done g c = done_both _ _ _ c.queues.invariant.1 c.stage_some.ensures.done

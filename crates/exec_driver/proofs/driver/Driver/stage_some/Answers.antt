@@ -1,0 +1,48 @@
+use Rattle.std.proofs.Common.{◌≡◌, ◌<◌, true, false, sym, ◌∙◌, rules, arith}
+use Rattle.std.proofs.lemmas.Bool.{false≢true}
+use Rattle.exec_driver.specs.Driving.{seen}
+use Rattle.exec_driver.proofs.Serving.{goes_itself, goes_both, goes_by, done_itself, done_both}
+use Rattle.exec_driver.proofs.Turns.{poll_any, poll_refused}
+use Rattle.exec_driver.proofs.driver.Driver.stage_some.Goals as goal
+
+pub entries-init : goal.entries-init
+entries-init g c = (goes_itself _, done_itself _, omega arith, λ free full. absurd (false≢true (sym free ∙ full)))
+
+pub returns-then-is_full-clause-some : goal.returns-then-is_full-clause-some
+returns-then-is_full-clause-some g c = λ yes free.
+    let is : c.is_full.result ≡ true = search rules in
+    c.entries.invariant.3 free (sym c.is_full.ensures ∙ is)
+
+pub stage_one-requires-clause-enrolled : goal.stage_one-requires-clause-enrolled
+stage_one-requires-clause-enrolled g c = c.entries.invariant.1.enrolments c.requires.enrolled
+
+pub entries-smaller : goal.entries-smaller
+entries-smaller g c = c.stage_one.ensures.fewer
+
+pub entries-preserved : goal.entries-preserved
+entries-preserved g c =
+    let less = c.stage_one.ensures.fewer in
+    let so = c.entries.invariant.2 in (
+      goes_both _ _ _ c.entries.invariant.0 c.stage_one.ensures.going,
+      done_both _ _ _ c.entries.invariant.1 c.stage_one.ensures.done,
+      omega (arith, less, so),
+      λ free full. omega (arith, less, so),
+    )
+
+pub returns-clause-going : goal.returns-clause-going
+returns-clause-going g c = goes_both _ _ _ c.entries.invariant.0 (goes_by _ _ (poll_any (seen c.entries.self) (seen c.stage_wake_poll.new.self) c.stage_wake_poll.ensures.staged).eases.keeps)
+
+pub returns-clause-done : goal.returns-clause-done
+returns-clause-done g c = done_both _ _ _ c.entries.invariant.1 (poll_any (seen c.entries.self) (seen c.stage_wake_poll.new.self) c.stage_wake_poll.ensures.staged).eases.done
+
+pub returns-clause-less : goal.returns-clause-less
+returns-clause-less g c =
+    let less = (poll_any (seen c.entries.self) (seen c.stage_wake_poll.new.self) c.stage_wake_poll.ensures.staged).no_more in
+    omega (arith, less, c.entries.invariant.2)
+
+pub returns-clause-some : goal.returns-clause-some
+returns-clause-some g c = λ yes free.
+    let refused : c.stage_wake_poll.result ≡ false = search rules in
+    let less = (poll_any (seen c.entries.self) (seen c.stage_wake_poll.new.self) c.stage_wake_poll.ensures.staged).no_more in
+    let fewer = c.entries.invariant.3 free (poll_refused (seen c.entries.self) (sym c.stage_wake_poll.ensures.answer ∙ refused)) in
+    omega (arith, less, fewer)

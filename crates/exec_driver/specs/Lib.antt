@@ -1,0 +1,11 @@
+pub mod Opens
+pub mod Lists
+pub mod Driving
+pub mod Steps
+pub mod Sound
+pub mod Admission
+pub mod Punctual
+pub mod Turns
+pub mod Laws
+pub mod Sharing
+pub mod Examples

@@ -1,0 +1,81 @@
+-- What holds of a driver between its calls. No public clause cites this module.
+use Rattle.std.specs.Prelude.{◌≡◌, ℕ, Bool, true, false, not, ◌+◌, ◌<◌, ◌≤◌, ◌==◌, ◌&&◌, List, [], ◌∷◌, length, count_by, All, Option, Some, None, if◌then◌else◌}
+use Rattle.exec_base.specs.Slab.{Slab}
+use Rattle.exec_base.specs.declared.slab.Slot.{Slot}
+use Rattle.exec_base.specs.declared.slab.Slot.TheVariants.{Live, Vacant, Retired}
+use Rattle.exec_request.specs.States.{asks_cancel}
+use Rattle.exec_ring.specs.Rings.{taken_places}
+use Rattle.exec_waiters.specs.States.{waiter_at, waiter_in, flying_count, pending_count, tick_in, needs_permit}
+use Rattle.exec_base.specs.declared.slab.Id.{Id}
+use Rattle.exec_waiters.specs.declared.waiter.Waiter.{Waiter}
+use Rattle.exec_waiters.specs.declared.waiter.Entry.{Entry}
+use Rattle.exec_waiters.specs.declared.waiter_id.WaiterId.{WaiterId}
+use Rattle.exec_driver.specs.Lists.{is_among}
+use Rattle.exec_driver.specs.Driving.{Driving, is_queued, is_gated, is_unenrolled, is_enrolled, is_cancelled}
+
+-- no name stands twice in a list
+abbrev pub is_once : List WaiterId → Bool
+is_once [] = true
+is_once (id ∷ ids) = not (is_among id ids) && is_once ids
+
+-- a tick of the wheel is that one
+abbrev pub is_tick : ℕ → Option ℕ → Bool
+is_tick t None = false
+is_tick t (Some tick) = t == tick
+
+module _ {S F : Type 0} where
+  -- each name of a list is of a request in this place
+  abbrev pub are_all : (Option (Waiter S F) → Bool) → Slab (Entry S F) → List WaiterId → Bool
+  are_all place s [] = true
+  are_all place s (id ∷ ids) = place (waiter_at s id.0) && are_all place s ids
+
+  pub record IsListed (place : Option (Waiter S F) → Bool) (s : Slab (Entry S F)) (ids : List WaiterId) : Type 0 where
+    pub all : are_all place s ids ≡ true
+    pub once : is_once ids ≡ true
+
+  -- how many requests that aren't over are in a place
+  abbrev pub counts : (Option (Waiter S F) → Bool) → Slot (Entry S F) → Bool
+  counts place (Live generation entry) = place (waiter_in entry)
+  counts place (Vacant generation) = false
+  counts place Retired = false
+
+  abbrev pub count_of : (Option (Waiter S F) → Bool) → Slab (Entry S F) → ℕ
+  count_of place s = count_by (counts place) s.slots
+
+  -- it wasn't cancelled; it stands in the wheel at a tick
+  abbrev pub is_uncancelled : Option (Waiter S F) → Bool
+  is_uncancelled None = false
+  is_uncancelled (Some w) = not (asks_cancel w.state)
+
+  abbrev pub is_at_tick : ℕ → Option (Waiter S F) → Bool
+  is_at_tick t None = false
+  is_at_tick t (Some w) = is_tick t (tick_in w.state)
+
+  -- the kernel has an operation of it, and it lacks the permit that it needs
+  abbrev pub is_unpermitted : Option (Waiter S F) → Bool
+  is_unpermitted None = false
+  is_unpermitted (Some w) = w.in_flight && needs_permit w
+
+  -- Each list has the requests of its place, each once. An entry of the wheel is active for each enrolled request. The
+  -- ring has no more entries than those of requests in flight, of cancels under way and of the wake poll; and it has
+  -- places for those, and for the cancels that may still come.
+  pub record IsSound (d : Driving S F) : Type 0 where
+    pub queued : IsListed is_queued d.requests d.lists.queued
+    pub gated : IsListed is_gated d.requests d.lists.gated
+    pub enrolments : IsListed is_unenrolled d.requests d.lists.enrolments
+    pub due : IsListed is_enrolled d.requests d.lists.due
+    pub cancels : IsListed is_cancelled d.requests d.lists.cancels
+    pub permits : (id : Id) → is_unpermitted (waiter_at d.requests id) ≡ false
+    pub ticks : (t : ℕ) → d.wheel.active t ≡ count_of (is_at_tick t) d.requests
+    pub drained : d.wheel.ready ≡ []
+    pub entries : taken_places d.ring ≤ flying_count d.requests + d.cancels_under_way + (if d.armed then 1 else 0)
+    pub places : pending_count d.requests + count_of is_uncancelled d.requests + length d.lists.cancels + d.cancels_under_way + 1 ≤ d.ring.places
+
+  -- The lists have room for all requests that aren't over, and the wheel for each whose deadline is to be enrolled. The
+  -- driver knows how many may be in flight, and how many places the ring has.
+  pub record IsHeld (d : Driving S F) (room_there most spots : ℕ) : Type 0 where
+    pub sound : IsSound d
+    pub room : pending_count d.requests ≤ d.lists.room
+    pub wheel_room : length d.lists.enrolments ≤ room_there
+    pub limit : most ≡ d.ring.size
+    pub places : spots ≡ d.ring.places

@@ -1,0 +1,35 @@
+//! What a driver is lent to reach workers: the wake word of its own, and the signals to all.
+//!
+//! A worker arms its word before it waits on its ring: from then on who sends it something raises a wake in its ring.
+//! The word refuses where something was sent since the worker last looked, or where a signal stands there; the worker
+//! must look then, and may not wait. Whether it was refused or not, the worker disarms the word before it goes on.
+//!
+//! Who gives up the permit of an open signals the worker of the next holder, the own one too, since a permit is granted
+//! by a service of that worker.
+
+ghost use Rattle.std.specs.Prelude.{◌≡◌, ℕ, Bool, List, Option};
+ghost use Rattle.exec_base.specs.Post.{Takes};
+
+/// The wake word of a worker.
+pub trait Armed {
+    // The word stands as the worker left it: no signal, and no batch of messages but those that were taken.
+    ghost is_calm: { Self → ℕ → Bool };
+
+    /// Says that the worker waits on its ring from now on, having taken `processed` batches of messages. False just
+    /// where a signal stands there or another batch was sent.
+    fn arm(&mut self, processed: u32) -> bool
+        ensures { result ≡ is_calm self.old processed };
+
+    /// Says that the worker waits no more, and takes the signal out.
+    fn disarm(&mut self);
+}
+
+/// The signals to workers.
+pub trait Signals {
+    // Whom it signalled so far, the first first, where that is known.
+    ghost signalled: { Self → Option (List ℕ) };
+
+    /// Signals a worker.
+    fn signal(&mut self, worker: u32)
+        ensures { Takes (signalled self.old) worker (signalled self.new) };
+}

@@ -1,0 +1,158 @@
+//! Completions: what the kernel has done with.
+
+ghost use Rattle.std.specs.Prelude.{◌≡◌, ◌-◌, ◌==◌, Some, None, IfSome, IfNone, true, false};
+ghost use Rattle.exec_base.specs.declared.slab.Id.{Id as Name};
+ghost use Rattle.exec_ring.specs.Completions.{result_in};
+ghost use Rattle.exec_ring.specs.Kernels.{next_completion};
+ghost use Rattle.exec_waiters.specs.Told.{HasPlaces, Tells};
+ghost use Rattle.exec_driver.specs.Driving.{seen, request_at};
+ghost use Rattle.exec_driver.specs.Steps.{swept, under_way_after, armed_after, is_control, taken_out, completed_in, with_landings, Reaps, ReapsNext, is_next_control, after_next_control};
+
+use super::Driver;
+use crate::opens::Opens;
+use exec_base::error::Error;
+use exec_outcomes::outcome::OpResult;
+use exec_ring::completion::{CANCEL_USER_DATA, Completion, WAKE_USER_DATA};
+use exec_ring::ring::Ring;
+use exec_waiters::completed::CompletionOutcome;
+use exec_waiters::deferred::Deferred;
+use exec_waiters::waiter_id::WaiterId;
+
+/// A completion of an operation that was taken in.
+#[derive(Clone, Copy, Debug, PartialEq, Eq)]
+pub struct Reaped {
+    /// Of which request.
+    pub id: WaiterId,
+    /// What its number says.
+    pub given: OpResult,
+    /// How the request ended. None where it goes on with another operation.
+    pub ended: Option<Result<(), Error>>,
+    /// The open whose permit it gives up, by `Opens::leave`. None where it had none, or goes on.
+    pub permit: Option<u32>,
+}
+
+impl<R: Ring + Drop, S: Drop, F: Drop> Driver<R, S, F> {
+    ghost use Rattle.exec_waiters.specs.declared.waiter.Waiter.{Waiter as Asking};
+
+    /// Takes the next completion of an operation in, with what stands before it and after it that is none of an
+    /// operation's: wakes, and acknowledgements of cancels. None where there is none of an operation. A request that
+    /// goes on joins the end of what is queued. The caller must lend the opens, and have made room in what is to be
+    /// told.
+    ///
+    /// Afterwards another is there just where `has_completion` says so.
+    pub fn reap(&mut self, opens: &mut Opens, deferred: &mut Deferred<S, F>) -> Option<Reaped>
+        requires room { HasPlaces deferred.old 1 }
+        ensures { ReapsNext (seen self.old) (seen self.new) opens.old opens.new deferred.old deferred.new result }
+    {
+        self.sweep();
+        let completion = self.ring.peek()?;
+        let reaped = self.judge(completion, opens, deferred);
+        self.sweep();
+        reaped
+    }
+
+    // Takes out what stands before the next completion of an operation.
+    fn sweep(&mut self)
+        ensures { seen self.new ≡ with_landings (seen self.new) (swept (seen self.old)) }
+    {
+        'controls: while self.take_control() {}
+    }
+
+    // Takes out a wake or an acknowledgement, where the next completion is one.
+    fn take_control(&mut self) -> bool
+        ensures answer { result ≡ is_next_control (next_completion (seen self.old).ring) }
+        ensures taken { seen self.new ≡ with_landings (seen self.new) (after_next_control (seen self.old) (next_completion (seen self.old).ring)) }
+    {
+        let Some(next) = self.ring.peek() else {
+            return false;
+        };
+        if !is_control(next) {
+            return false;
+        }
+        let _same = self.ring.reap();
+        self.cancels_under_way = under_way_after(next, self.cancels_under_way);
+        self.armed = armed_after(next, self.armed);
+        true
+    }
+
+    // Takes the next completion in, which is of an operation. Nothing else changes where it is of no operation that is
+    // under way, or says what its operation could not give.
+    fn judge(
+        &mut self,
+        completion: Completion,
+        opens: &mut Opens,
+        deferred: &mut Deferred<S, F>,
+    ) -> Option<Reaped>
+        requires next { next_completion (seen self.old).ring ≡ Some completion }
+        requires operation { is_control completion ≡ false }
+        requires room { HasPlaces deferred.old 1 }
+        ensures reaps { (id : Name) → (w : Asking S F) → completed_in (seen self.old) completion ≡ Some id → request_at (seen self.old) (record { 0 = id }) ≡ Some w → Reaps (seen self.old) (seen self.new) opens.old opens.new deferred.old deferred.new (record { 0 = id }) w (result_in completion.result) result }
+        ensures none { completed_in (seen self.old) completion ≡ None → (result ≡ None) × (seen self.new ≡ with_landings (seen self.new) (taken_out (seen self.old))) × (opens.new ≡ opens.old) × (deferred.new ≡ deferred.old) }
+    {
+        let given = completion.given();
+        let _same = self.ring.reap();
+        let id = self.waiters.named(completion.user_data)?;
+        if !self.waiters.may_give(id, given) {
+            return None;
+        }
+        let file = self.waiters.open_of(id);
+        let mut account = opens.account(file);
+        let outcome = self
+            .waiters
+            .on_completion(completion.user_data, given, &mut account);
+        opens.set_account(file, account);
+        let Some(outcome) = outcome else {
+            unreachable!()
+        };
+        match outcome {
+            CompletionOutcome::Requeue(id) => {
+                self.lists.queue(id);
+                Some(Reaped {
+                    id,
+                    given,
+                    ended: None,
+                    permit: None,
+                })
+            }
+            CompletionOutcome::Complete(id, ended) => {
+                let permit = self.waiters.durability(id);
+                self.end(id, ended, opens, deferred);
+                Some(Reaped {
+                    id,
+                    given,
+                    ended: Some(ended),
+                    permit,
+                })
+            }
+        }
+    }
+}
+
+/// How many cancels are under way after a completion that is of no operation.
+fn under_way_after(control: Completion, count: usize) -> usize
+    ensures { result ≡ under_way_after control count }
+{
+    if control.user_data == CANCEL_USER_DATA {
+        count.saturating_sub(1)
+    } else {
+        count
+    }
+}
+
+/// Whether the wake poll is out after a completion that is of no operation: a wake may have ended it.
+fn armed_after(control: Completion, armed: bool) -> bool
+    ensures { result ≡ armed_after control armed }
+{
+    if control.user_data == CANCEL_USER_DATA {
+        armed
+    } else {
+        armed && control.more
+    }
+}
+
+/// Whether a completion is of no operation: a wake, or the acknowledgement of a cancel.
+fn is_control(completion: Completion) -> bool
+    ensures { result ≡ is_control completion }
+{
+    completion.user_data == WAKE_USER_DATA || completion.user_data == CANCEL_USER_DATA
+}

@@ -1,0 +1,322 @@
+//! A whole service, and a whole wait on the ring, made of their steps.
+//!
+//! A service goes through these in order: what completed is reaped; what is due is told, and cancelled where the kernel
+//! has it; deadlines are enrolled; permits are granted; what may be staged is staged; the kernel takes it in; and what
+//! completed by then is reaped. A worker's own loop makes the same steps one by one.
+//!
+//! Afterwards no completion is there, and no deadline is due or to be enrolled. No cancel waits either, unless the
+//! kernel was busy: a request that goes on is the only one that may wait to be staged. Each step ends a request or
+//! none and tells of one end at most, so the room that was there for the ends of all requests is there for those that
+//! are left.
+
+ghost use Rattle.std.specs.Prelude.{◌≡◌, ◌<◌, ◌≤◌, ◌&&◌, ◌||◌, ◌==◌, [], true, false, IsTrue};
+ghost use Rattle.exec_ring.specs.Kernels.{is_quiet};
+ghost use Rattle.exec_time.specs.Wheel.{IsWithinReach};
+ghost use Rattle.exec_waiters.specs.States.{pending_count};
+ghost use Rattle.exec_driver.specs.Opens.{next_at, with_open, passed};
+ghost use Rattle.exec_driver.specs.Driving.{seen, is_full, may_stage_one};
+ghost use Rattle.exec_driver.specs.Lists.{has_first};
+ghost use Rattle.exec_driver.specs.Punctual.{IsPunctual};
+ghost use Rattle.exec_driver.specs.Sound.{IsSound};
+ghost use Rattle.exec_driver.specs.Steps.{with_landings};
+ghost use Rattle.exec_driver.specs.Turns.{CanTell, GoesOn, Serves, StaysDone, IsStaged, unstaged, unreaped, may_wait, made_way, must_enter, is_after, PassesTo};
+
+use super::Driver;
+use super::reaping::Reaped;
+use super::staging::Granted;
+use crate::armed::{Armed, Signals};
+use crate::opens::Opens;
+use exec_ring::ring::{Entered, Ring};
+use exec_waiters::deferred::Deferred;
+
+impl<R: Ring + Drop, S: Drop, F: Drop> Driver<R, S, F> {
+    /// Serves the requests at the moment `now`: takes completions in, tells what is due, enrols deadlines, grants
+    /// permits, stages cancels and requests, and lets the kernel work. Whose permit comes next is signalled.
+    ///
+    /// Answers whether it left its last enter out: where `defer` is set, requests stand, and neither is anything to
+    /// be told nor a submission pending. The caller must have told what was due, have made room in what is to be told,
+    /// and have a ring that takes an entry at all. Ports `service`.
+    pub fn service<W: Signals>(
+        &mut self,
+        worker: u32,
+        now: u64,
+        defer: bool,
+        opens: &mut Opens,
+        deferred: &mut Deferred<S, F>,
+        workers: &mut W,
+    ) -> bool
+        requires room { CanTell (seen self.old) deferred.old }
+        requires punctual { IsPunctual (seen self.old) }
+        requires told { has_first (seen self.old).lists.due ≡ false }
+        requires ring { 0 < (seen self.old).ring.size }
+        ensures serves { Serves (seen self.old) (seen self.new) deferred.old deferred.new }
+        ensures reaped { is_quiet (seen self.new).ring ≡ true }
+        ensures told { has_first (seen self.new).lists.due ≡ false }
+        ensures enrolled { has_first (seen self.new).lists.enrolments ≡ false }
+        ensures cancelled { (seen self.old).ring.busy ≡ false → has_first (seen self.new).lists.cancels ≡ false }
+        ensures put_off { IsTrue result → IsTrue defer }
+        ensures stand { IsTrue result → (pending_count (seen self.new).requests == 0) ≡ false }
+    {
+        self.reap_all(opens, deferred, workers);
+        self.sound();
+        self.advance(now);
+        self.expire_all(deferred);
+        self.enrol_all(now, deferred);
+        self.grant_all(worker, opens, deferred, workers);
+        self.stage_all(opens);
+        let enters = self.must_enter(defer, deferred);
+        self.enter_if(enters);
+        self.reap_all(opens, deferred, workers);
+        !enters && !self.is_empty()
+    }
+
+    /// Whether a service has to let the kernel work at its end: requests stand, and it isn't to be put off, or
+    /// something is to be told, or a submission is pending.
+    pub fn must_enter(&self, defer: bool, deferred: &Deferred<S, F>) -> bool
+        ensures { result ≡ must_enter (seen self.now) defer deferred.now }
+    {
+        !self.is_empty() && (!defer || !deferred.is_empty() || self.has_pending_submissions())
+    }
+
+    /// Whether a worker that entered its ring may sleep: no completion is there, and its deadline is after `now`.
+    pub fn may_sleep(&self, now: u64, deadline: Option<u64>) -> bool
+        ensures { result ≡ (is_after now deadline && is_quiet (seen self.now).ring) }
+    {
+        let later = match deadline {
+            Some(deadline) => deadline > now,
+            None => true,
+        };
+        later && self.ring.is_quiet()
+    }
+
+    /// Makes ready to wait on the ring, having taken `processed` batches of messages, and enters it. The worker then
+    /// sleeps while `may_sleep` says so. False just where it may not: a submission is pending, the wake poll has no
+    /// room, or the word had a signal or another batch. Ports `park`.
+    pub fn park<A: Armed>(&mut self, processed: u32, word: &mut A) -> bool
+        ensures answer { result ≡ (may_wait (seen self.old) && A.is_calm word.old processed) }
+        ensures armed { IsTrue result → (seen self.new).armed ≡ true }
+        ensures entered { IsTrue result → (seen self.old).ring.busy ≡ false → (seen self.new).ring.staged ≡ [] }
+        ensures same { seen self.new ≡ record (seen self.old) { ring = (seen self.new).ring; landings = (seen self.new).landings; armed = (seen self.new).armed } }
+    {
+        self.make_way();
+        if self.has_pending_submissions() {
+            return false;
+        }
+        if !self.stage_wake_poll() {
+            return false;
+        }
+        let calm = word.arm(processed);
+        self.enter_if(calm);
+        word.disarm();
+        calm
+    }
+
+    // Lets the kernel work, where this is set.
+    fn enter_if(&mut self, enters: bool)
+        ensures going { GoesOn (seen self.old) (seen self.new) }
+        ensures entered { IsTrue enters → (seen self.old).ring.busy ≡ false → (seen self.new).ring.staged ≡ [] }
+        ensures same { seen self.new ≡ record (seen self.old) { ring = (seen self.new).ring; landings = (seen self.new).landings } }
+        ensures done { StaysDone (seen self.old) (seen self.new) }
+    {
+        if enters {
+            self.enter();
+        }
+    }
+
+    // Enters a full queue.
+    fn make_way(&mut self)
+        ensures { seen self.new ≡ with_landings (seen self.new) (made_way (seen self.old)) }
+    {
+        if self.is_full() {
+            self.enter();
+        }
+    }
+
+    // What holds of a driver between its calls, for a proof to see.
+    fn sound(&self)
+        ensures sound { IsSound (seen self.now) }
+        ensures reach { IsWithinReach (seen self.now).wheel }
+        ensures tick { 0 < (seen self.now).wheel.tick }
+        ensures slots { 0 < (seen self.now).wheel.slots }
+    {
+        let _lists = &self.lists;
+    }
+
+    // Takes all completions in that are there, and gives up the permits of those that are over.
+    fn reap_all<W: Signals>(
+        &mut self,
+        opens: &mut Opens,
+        deferred: &mut Deferred<S, F>,
+        workers: &mut W,
+    )
+        requires room { CanTell (seen self.old) deferred.old }
+        ensures serves { Serves (seen self.old) (seen self.new) deferred.old deferred.new }
+        ensures done { StaysDone (seen self.old) (seen self.new) }
+        ensures quiet { is_quiet (seen self.new).ring ≡ true }
+    {
+        'completions: while self.has_completion() {
+            self.reap_one(opens, deferred, workers);
+        }
+    }
+
+    // Takes the next completion in, and gives up the permit of a request that is over.
+    fn reap_one<W: Signals>(
+        &mut self,
+        opens: &mut Opens,
+        deferred: &mut Deferred<S, F>,
+        workers: &mut W,
+    )
+        requires room { CanTell (seen self.old) deferred.old }
+        ensures serves { Serves (seen self.old) (seen self.new) deferred.old deferred.new }
+        ensures done { StaysDone (seen self.old) (seen self.new) }
+        ensures fewer { is_quiet (seen self.old).ring ≡ false → unreaped (seen self.new).ring < unreaped (seen self.old).ring }
+    {
+        let reaped = self.reap(opens, deferred);
+        if let Some(
+            Reaped {
+                id: _,
+                given: _,
+                ended: _,
+                permit: Some(file),
+            },
+        ) = reaped
+        {
+            pass_on(file, opens, workers);
+        }
+    }
+
+    // Tells all whose deadline has come.
+    fn expire_all(&mut self, deferred: &mut Deferred<S, F>)
+        requires room { CanTell (seen self.old) deferred.old }
+        ensures serves { Serves (seen self.old) (seen self.new) deferred.old deferred.new }
+        ensures told { has_first (seen self.new).lists.due ≡ false }
+    {
+        'due: while self.has_due() {
+            self.sound();
+            self.expire(deferred);
+        }
+    }
+
+    // Enrols all deadlines that are to be.
+    fn enrol_all(&mut self, now: u64, deferred: &mut Deferred<S, F>)
+        requires room { CanTell (seen self.old) deferred.old }
+        requires punctual { IsPunctual (seen self.old) }
+        requires told { has_first (seen self.old).lists.due ≡ false }
+        ensures serves { Serves (seen self.old) (seen self.new) deferred.old deferred.new }
+        ensures told { has_first (seen self.new).lists.due ≡ false }
+        ensures enrolled { has_first (seen self.new).lists.enrolments ≡ false }
+    {
+        'enrolments: while self.has_enrolments() {
+            self.sound();
+            self.enrol(now, deferred);
+        }
+    }
+
+    // Grants the permit of each open at whose gate a request of this worker waits.
+    fn grant_all<W: Signals>(
+        &mut self,
+        worker: u32,
+        opens: &mut Opens,
+        deferred: &mut Deferred<S, F>,
+        workers: &mut W,
+    )
+        requires room { CanTell (seen self.old) deferred.old }
+        ensures serves { Serves (seen self.old) (seen self.new) deferred.old deferred.new }
+        ensures done { StaysDone (seen self.old) (seen self.new) }
+    {
+        let mut from = 0;
+        'gates: while let Some(file) = self.next_gate(from) {
+            self.grant_one(worker, file, opens, deferred, workers);
+            let Some(next) = file.checked_add(1) else {
+                return;
+            };
+            from = next;
+        }
+    }
+
+    // Grants the permit of an open, where a request of this worker has its turn there.
+    fn grant_one<W: Signals>(
+        &mut self,
+        worker: u32,
+        file: u32,
+        opens: &mut Opens,
+        deferred: &mut Deferred<S, F>,
+        workers: &mut W,
+    )
+        requires room { CanTell (seen self.old) deferred.old }
+        ensures serves { Serves (seen self.old) (seen self.new) deferred.old deferred.new }
+        ensures done { StaysDone (seen self.old) (seen self.new) }
+    {
+        self.sound();
+        let granted = self.grant(worker, file, opens, deferred);
+        if let Some(
+            Granted {
+                id: _,
+                ended: Some(_),
+            },
+        ) = granted
+        {
+            pass_on(file, opens, workers);
+        }
+    }
+
+    // Stages all that may be staged, and enters a full queue, until an enter takes nothing.
+    fn stage_all(&mut self, opens: &Opens)
+        requires enrolled { has_first (seen self.old).lists.enrolments ≡ false }
+        requires ring { 0 < (seen self.old).ring.size }
+        ensures going { GoesOn (seen self.old) (seen self.new) }
+        ensures done { StaysDone (seen self.old) (seen self.new) }
+        ensures staged { (seen self.old).ring.busy ≡ false → IsStaged (seen self.new) }
+    {
+        'queues: while self.stage_some(opens) {
+            match self.enter() {
+                Entered::Busy => return,
+                Entered::Taken(_) => {}
+            }
+        }
+    }
+
+    // Stages until nothing is left, and then the wake poll, or until the queue is full. Answers whether it is full.
+    fn stage_some(&mut self, opens: &Opens) -> bool
+        requires enrolled { has_first (seen self.old).lists.enrolments ≡ false }
+        ensures going { GoesOn (seen self.old) (seen self.new) }
+        ensures done { StaysDone (seen self.old) (seen self.new) }
+        ensures full { IsTrue result → is_full (seen self.new) ≡ true }
+        ensures staged { result ≡ false → IsStaged (seen self.new) }
+        ensures less { unstaged (seen self.new) ≤ unstaged (seen self.old) }
+        ensures some { IsTrue result → is_full (seen self.old) ≡ false → unstaged (seen self.new) < unstaged (seen self.old) }
+    {
+        'entries: while self.has_cancels() || self.may_stage() {
+            if self.is_full() {
+                return true;
+            }
+            self.stage_one(opens);
+        }
+        !self.stage_wake_poll()
+    }
+
+    // Stages the next cancel, or else the next request.
+    fn stage_one(&mut self, opens: &Opens)
+        requires room { is_full (seen self.old) ≡ false }
+        requires some { (has_first (seen self.old).lists.cancels || may_stage_one (seen self.old)) ≡ true }
+        requires enrolled { has_first (seen self.old).lists.enrolments ≡ false }
+        ensures going { GoesOn (seen self.old) (seen self.new) }
+        ensures done { StaysDone (seen self.old) (seen self.new) }
+        ensures fewer { unstaged (seen self.new) < unstaged (seen self.old) }
+    {
+        self.sound();
+        if self.stage_cancel().is_none() {
+            self.stage(opens);
+        }
+    }
+}
+
+/// The holder gives the permit of an open up, and the worker of the next holder is signalled.
+fn pass_on<W: Signals>(file: u32, opens: &mut Opens, workers: &mut W)
+    ensures opens { opens.new ≡ with_open opens.old file passed }
+    ensures signalled { PassesTo (next_at opens.old file) (W.signalled workers.old) (W.signalled workers.new) }
+{
+    if let Some(next) = opens.leave(file) {
+        workers.signal(next.worker);
+    }
+}

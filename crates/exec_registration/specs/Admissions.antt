@@ -1,0 +1,77 @@
+-- What a registration of a request, and the beginning of a sync, do.
+use Rattle.std.specs.Prelude.{◌≡◌, ℕ, ◌*◌, Bool, true, false, List, Option, Some, None, Err, Ok}
+use Rattle.exec_base.specs.Slab.{Slab, next_id, live_count, IsPast, TakesId}
+use Rattle.exec_base.specs.declared.error.Error.{Error}
+use Rattle.exec_base.specs.declared.slab.InsertError.{InsertError}
+use Rattle.exec_base.specs.declared.slab.InsertError.TheVariants.{Full, NoMemory}
+use Rattle.exec_driver.specs.Opens.{OpenState}
+use Rattle.exec_driver.specs.Admission.{Admits, with_rooms}
+use Rattle.exec_driver.specs.Steps.{told_at_admission, newcomer}
+use Rattle.exec_outcomes.specs.Accounts.{Account, is_dirty}
+use Rattle.exec_registration.specs.Homes.{HomeState}
+use Rattle.exec_registration.specs.declared.operation.Started.{Started}
+use Rattle.exec_registration.specs.declared.operation.Started.TheVariants.{UnderWay}
+use Rattle.exec_registration.specs.declared.registration.RegistrationState.{RegistrationState}
+use Rattle.exec_registration.specs.declared.registration.RegistrationState.TheVariants.{Waiting}
+use Rattle.exec_request.specs.States.{Ended}
+use Rattle.exec_request.specs.declared.request.Request.{Request}
+use Rattle.exec_ring.specs.Stores.{Same}
+use Rattle.exec_ring.specs.declared.store.Store.{Store}
+use Rattle.exec_waiters.specs.States.{is_full}
+use Rattle.exec_waiters.specs.Told.{HasPlaces, Tells, nothing_told}
+use Rattle.exec_waiters.specs.declared.observer.Observer.{Observer}
+use Rattle.exec_waiters.specs.declared.observer.Observer.TheVariants.{Local}
+use Rattle.exec_waiters.specs.declared.waiter.Entry.{Entry}
+use Rattle.exec_waiters.specs.declared.waiter.Refused.{Refused}
+use Rattle.exec_waiters.specs.declared.waiter_id.WaiterId.{WaiterId}
+
+-- What ends a sync at once: the failure that its open keeps, or that every change is durable. Of an open that isn't
+-- there nothing is known.
+abbrev pub ends_with : Option Error → Bool → Option Ended
+ends_with (Some error) dirty = Some (Err error)
+ends_with None true = None
+ends_with None false = Some (Ok tt)
+
+abbrev pub over_at_once : Option Account → Option Ended
+over_at_once None = None
+over_at_once (Some account) = ends_with account.failure (is_dirty account)
+
+module _ {S F : Type 0} where
+  -- nothing changed
+  pub record Untouched (old new : HomeState S F) (opens opens' : List OpenState) (store store' : Store) : Type 0 where
+    pub home : new ≡ old
+    pub opens_same : opens' ≡ opens
+    pub stored : Same store store'
+
+  -- nothing changed but for how much there is memory
+  pub record IsKept (old new : HomeState S F) (opens opens' : List OpenState) (store store' : Store) : Type 0 where
+    pub home : new ≡ record old { driver = with_rooms new.driver old.driver; deferred = new.deferred }
+    pub untold : Tells old.deferred new.deferred nothing_told
+    pub opens_same : opens' ≡ opens
+    pub stored : Same store store'
+
+  -- a worker admitted a request under this name, which nothing had before, with room for all that may be told
+  pub record TakesIn (old new : HomeState S F) (opens opens' : List OpenState) (request : Request) (observer : Observer S F) (now : ℕ) (id : WaiterId) : Type 0 where
+    pub next : next_id old.driver.requests ≡ Some id.0
+    pub admits : Admits old.driver new.driver opens opens' id request observer now
+    pub told : Tells old.deferred new.deferred (told_at_admission id (newcomer request observer) now)
+    pub places : HasPlaces new.deferred (2 * live_count new.driver.requests)
+    pub rest : new ≡ record old { driver = new.driver; deferred = new.deferred }
+    pub never_before : IsPast old.driver.requests id.0 → ⊥
+    pub never_again : TakesId old.driver.requests new.driver.requests id.0
+
+  -- it is registered, or a sync goes on alone
+  pub record Registers (old new : HomeState S F) (opens opens' : List OpenState) (request : Request) (now : ℕ) (state : RegistrationState WaiterId) : Type 0 where
+    pub id : WaiterId
+    pub waits : state ≡ Waiting old.worker id
+    pub takes : TakesIn old new opens opens' request (Local None) now id
+
+  pub record Begins (old new : HomeState S F) (opens opens' : List OpenState) (request : Request) (observer : Observer S F) (now : ℕ) (started : Started) : Type 0 where
+    pub id : WaiterId
+    pub under_way : started ≡ UnderWay id
+    pub takes : TakesIn old new opens opens' request observer now id
+
+  -- it was refused, and comes back: `Full` only where no request can be named any more
+  abbrev pub IsRefused : Slab (Entry S F) → Refused S F → InsertError (Refused S F) → Type 0
+  IsRefused s back (Full v) = (v ≡ back) × (is_full s ≡ true)
+  IsRefused s back (NoMemory v) = v ≡ back
