@@ -1,0 +1,17 @@
+pub mod State
+pub mod Cells
+pub mod Pick
+pub mod Callback
+pub mod Load
+pub mod Serve
+pub mod Submit
+pub mod Mail
+pub mod Wait
+pub mod Poll
+pub mod Close
+pub mod Move
+pub mod Seen
+pub mod Heights
+pub mod Credit
+pub mod Plays
+pub mod Departures

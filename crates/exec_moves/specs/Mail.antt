@@ -1,0 +1,46 @@
+-- Moves at the mailbox.
+use Rattle.std.specs.Prelude.{ℕ, true, ◌+◌, ◌||◌, List, [], ◌∷◌, nat_le, if◌then◌else◌}
+use Rattle.exec_words.specs.Word.{next_batch}
+use Rattle.exec_words.specs.declared.word.PureWord.{PureWord}
+use Rattle.exec_abstract.specs.declared.event.Event.TheVariants.{Apply}
+use Rattle.exec_abstract.specs.declared.state.MailMessage.{MailMessage}
+use Rattle.exec_abstract.specs.declared.state.MailMessage.TheVariants as message
+use Rattle.exec_abstract.specs.World.{Task}
+use Rattle.exec_abstract.specs.Tests.{is_empty}
+use Rattle.exec_moves.specs.declared.place.AfterCallbacks.TheVariants as after
+use Rattle.exec_moves.specs.declared.place.InCallbacks.TheVariants as callback
+use Rattle.exec_moves.specs.declared.place.InMail.TheVariants as mail
+use Rattle.exec_moves.specs.declared.place.Place.{Place}
+use Rattle.exec_moves.specs.declared.place.Place.TheVariants as at
+use Rattle.exec_moves.specs.State.{Desk, Moved, Own, turns, does}
+use Rattle.exec_moves.specs.Load.{has_mail}
+use Rattle.exec_moves.specs.Callback.{flagged_by}
+
+abbrev pub to_callbacks : Place
+to_callbacks = at.Callbacks callback.TakeBatch after.Test
+
+-- the next message, or the callbacks once 64 were applied
+abbrev pub after_message : ℕ → List MailMessage → Place
+after_message applied batch = if is_empty batch || nat_le 64 applied then to_callbacks else at.Mail (mail.Apply applied true)
+
+-- the wake word
+abbrev pub load_mail_word : Desk → PureWord → Moved PureWord
+load_mail_word d w = if has_mail d w then turns (at.Mail mail.TakeMail) d w else turns to_callbacks d w
+
+-- The inbox. Its messages are the machine's until each is applied.
+abbrev pub take_mail : Desk → List MailMessage → Moved (List MailMessage)
+take_mail d [] = turns (after_message 0 []) d []
+take_mail d (m ∷ ms) = turns (after_message 0 (m ∷ ms)) (record d { batch = m ∷ ms; processed = next_batch d.processed }) []
+
+-- a message to the root wakes it
+abbrev pub flagged_by_message : MailMessage → Task → Desk → Desk
+flagged_by_message message.Root root d = flagged_by root d
+flagged_by_message _ root d = d
+
+abbrev pub apply : ℕ → Task → Desk → Moved Own
+apply applied root d = applied_first d.batch
+  where
+    applied_first : List MailMessage → Moved Own
+    applied_first [] = turns to_callbacks d tt
+    applied_first (m ∷ ms) =
+        does (Apply m) (record (flagged_by_message m root d) { batch = ms; place = after_message (applied + 1) ms }) tt

@@ -1,0 +1,161 @@
+-- Moves of a service, but for its middle: sampling, completions, permits, the last enter, sleepers.
+use Rattle.std.specs.Prelude.{ℕ, suc, Bool, true, false, not, ◌+◌, ◌&&◌, ◌||◌, List, [], ◌∷◌, ◌++◌, length, nat_le, Option, Some, None, if◌then◌else◌}
+use Rattle.exec_outcomes.specs.declared.outcome.OpResult.{OpResult}
+use Rattle.exec_outcomes.specs.declared.outcome.OpResult.TheVariants.{Count}
+use Rattle.exec_outcomes.specs.declared.outcome.Outcome.{Outcome}
+use Rattle.exec_outcomes.specs.Accounts.{is_durable}
+use Rattle.exec_words.specs.declared.word.PureWord.{PureWord}
+use Rattle.exec_abstract.specs.declared.config.Configuration.{Configuration}
+use Rattle.exec_abstract.specs.declared.event.Event.TheVariants.{Enter, Busy, Reap, Fire}
+use Rattle.exec_abstract.specs.declared.state.RequestPhase.{RequestPhase}
+use Rattle.exec_abstract.specs.declared.state.RequestPhase.TheVariants as phase
+use Rattle.exec_abstract.specs.declared.state.Request.{Request}
+use Rattle.exec_abstract.specs.World.{Common, Open, request_of, sleeper_of, seat_of}
+use Rattle.exec_abstract.specs.World.{Own as Books}
+use Rattle.exec_abstract.specs.Tests.{is_empty, is_asleep, is_open}
+use Rattle.exec_abstract.specs.Requests.{outcome_given, outcome_shown, account_of_open}
+use Rattle.exec_abstract.specs.Deadlines.{is_none_earlier}
+use Rattle.exec_moves.specs.declared.place.AfterPermit.{AfterPermit}
+use Rattle.exec_moves.specs.declared.place.AfterPermit.TheVariants as permit
+use Rattle.exec_moves.specs.declared.place.AfterService.{AfterService}
+use Rattle.exec_moves.specs.declared.place.AfterService.TheVariants as back
+use Rattle.exec_moves.specs.declared.place.AfterCallbacks.TheVariants as after
+use Rattle.exec_moves.specs.declared.place.InCallbacks.TheVariants as callback
+use Rattle.exec_moves.specs.declared.place.InMail.TheVariants as mail
+use Rattle.exec_moves.specs.declared.place.InService.{InService}
+use Rattle.exec_moves.specs.declared.place.InService.TheVariants as step
+use Rattle.exec_moves.specs.declared.place.Reaping.{Reaping}
+use Rattle.exec_moves.specs.declared.place.Reaping.TheVariants as reaping
+use Rattle.exec_moves.specs.declared.place.Service.{Service}
+use Rattle.exec_moves.specs.declared.place.Place.{Place}
+use Rattle.exec_moves.specs.declared.place.Place.TheVariants as at
+use Rattle.exec_moves.specs.State.{Desk, Moved, Own, does, serves}
+use Rattle.exec_moves.specs.Callback.{has_callbacks, has_requests, told_if_ended}
+use Rattle.exec_moves.specs.Load.{has_submissions}
+
+-- the latch goes out of the wake word, and a sleeper's wake comes into the callbacks
+abbrev pub unlatched : PureWord → PureWord
+unlatched w = record w { latch = false }
+
+-- the wake word; that it samples the clock is the machine's `serve`
+abbrev pub sample : Service → Desk → PureWord → Moved PureWord
+sample v d w = serves (at.Service (step.Reap reaping.First) v) d (unlatched w)
+
+-- COMPLETIONS
+
+-- what follows a reaping that found all, or a permit that was given up
+abbrev pub after_permit : AfterPermit → InService
+after_permit (permit.Reap r) = step.Reap r
+after_permit (permit.Reaped reaping.First) = step.AdvanceWheel
+after_permit (permit.Reaped reaping.Last) = step.EndService
+after_permit (permit.Submit gate) = step.Submit gate
+
+-- another completion of an operation is there, or none
+abbrev pub back_from_reap : Reaping → List ℕ → AfterPermit
+back_from_reap r [] = permit.Reaped r
+back_from_reap r (next ∷ later) = permit.Reap r
+
+-- a durable request that is over gives its permit up
+abbrev pub after_reap : Request → Option Outcome → AfterPermit → InService
+after_reap it None b = after_permit b
+after_reap it (Some outcome) b = if is_durable it.operation.kind then step.PassPermit it.operation.target b else after_permit b
+
+-- What of no operation stands before the next completion of one, or at the end, is dropped.
+abbrev pub others_after_reap : List ℕ → Desk → Desk
+others_after_reap [] d = record d { others = 0 }
+others_after_reap (next ∷ later) d = d
+
+abbrev pub result_in : RequestPhase → OpResult
+result_in (phase.Landed n) = n
+result_in _ = Count 0
+
+-- the ring: what has landed there, in order
+abbrev pub reap : ℕ → Service → Reaping → Common → Desk → List ℕ → Moved (List ℕ)
+reap i v r s d [] = serves (at.Service (after_permit (permit.Reaped r)) v) (record d { others = 0 }) []
+reap i v r s d (q ∷ later) = judged (request_of s q) (result_in (request_of s q).phase)
+  where
+    told : Request → OpResult → Option Outcome → Moved (List ℕ)
+    told it n given =
+        does
+        (Reap q n (outcome_shown (account_of_open s it) it.operation.kind given))
+        (record (told_if_ended given it (others_after_reap later d)) { place = at.Service (after_reap it given (back_from_reap r later)) v })
+        later
+
+    judged : Request → OpResult → Moved (List ℕ)
+    judged it n = told it n (outcome_given it n)
+
+-- PERMITS. The machine passes a permit on as its request ends, so what it has as the holder is whom the gate names now.
+
+abbrev pub after_passing : Option ℕ → AfterPermit → InService
+after_passing None b = after_permit b
+after_passing (Some worker) b = step.Signal worker b
+
+abbrev pub worker_of : Common → Option ℕ → Option ℕ
+worker_of s None = None
+worker_of s (Some r) = Some (request_of s r).worker
+
+-- the gate
+abbrev pub pass_permit : Service → AfterPermit → Common → Desk → Open → Moved Open
+pass_permit v b s d o = serves (at.Service (after_passing (worker_of s o.holder) b) v) d o
+
+-- the wake word of the next holder's worker
+abbrev pub signal : Service → AfterPermit → Desk → PureWord → Moved PureWord
+signal v b d w = serves (at.Service (after_permit b) v) d (record w { latch = true })
+
+-- THE LAST ENTER
+
+abbrev pub advance_wheel : Service → Desk → Moved Own
+advance_wheel v d = serves (at.Service (step.Submit 0) v) d tt
+
+-- With requests an enter follows the staging, unless it may be put off, and nothing is to be told or staged.
+abbrev pub enters : Configuration → ℕ → Service → Books → Common → Desk → Bool
+enters c i v me s d = has_requests i s && (not v.defer || has_callbacks me d || has_submissions c me)
+
+abbrev pub after_staging : Configuration → ℕ → Service → Books → Common → Desk → Desk
+after_staging c i v me s d =
+    record d {
+      place = at.Service (if enters c i v me s d then step.EnterLast else step.Reap reaping.Last) v;
+      may_put_off = v.defer;
+      put_off = has_requests i s && not (enters c i v me s d);
+    }
+
+-- The kernel takes all entries in, unless the ring was set busy: each cancel is acknowledged at once.
+abbrev pub entered : ℕ → Desk → Desk
+entered cancels d = record d { entries = 0; others = d.others + cancels }
+
+-- the ring, which was set busy or not
+abbrev pub enter : Books → Desk → Bool → Moved Bool
+enter me d true = does Busy d false
+enter me d false = does Enter (entered (length me.untold) d) false
+
+abbrev pub at_place : {T : Type 0} → Place → Moved T → Moved T
+at_place p m = record m { desk = record m.desk { place = p } }
+
+abbrev pub enter_last : Service → Books → Desk → Bool → Moved Bool
+enter_last v me d busy = at_place (at.Service (step.Reap reaping.Last) v) (enter me d busy)
+
+-- SLEEPERS
+
+-- the first number, from n on, whose element passes the test
+abbrev pub first_numbered : {X : Type 0} → (ℕ → X → Bool) → ℕ → List X → Option ℕ
+first_numbered test n [] = None
+first_numbered test n (x ∷ xs) = if test n x then Some n else first_numbered test (suc n) xs
+
+-- the first sleeper of the worker that is due by the sampled moment, of an open worker
+abbrev pub first_to_fire : ℕ → Books → Common → Option ℕ
+first_to_fire i me s =
+    if is_open (seat_of s i).phase
+    then first_numbered (λ n z. is_asleep i z && nat_le z.until me.sampled && is_none_earlier i z.until s.sleepers) 0 s.sleepers
+    else None
+
+abbrev pub after_service : AfterService → Desk → Place
+after_service back.Mail d = if is_empty d.batch then at.Mail mail.LoadMailWord else at.Mail (mail.Apply 0 false)
+after_service back.Begin d = at.Callbacks callback.TakeBatch after.Begin
+after_service back.Finish d = at.Callbacks callback.TakeBatch after.Finish
+
+abbrev pub end_service : ℕ → Service → Books → Common → Desk → Moved Own
+end_service i v me s d = fired (first_to_fire i me s)
+  where
+    fired : Option ℕ → Moved Own
+    fired None = serves (after_service v.back d) d tt
+    fired (Some z) = does (Fire z) (record d { wakes = d.wakes ++ (sleeper_of s z).task ∷ [] }) tt

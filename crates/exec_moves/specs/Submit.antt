@@ -1,0 +1,128 @@
+-- Moves of the middle of a service: deadlines, gates and stagings, which share one place.
+use Rattle.std.specs.Prelude.{ℕ, suc, Bool, true, not, ◌+◌, ◌==◌, ◌&&◌, ◌||◌, nat_lt, nat_le, slice_get, Option, Some, None, if◌then◌else◌}
+use Rattle.std.specs.List.{list_any}
+use Rattle.exec_outcomes.specs.declared.outcome.Outcome.{Outcome}
+use Rattle.exec_outcomes.specs.Accounts.{outcome_at_grant}
+use Rattle.exec_abstract.specs.declared.config.Configuration.{Configuration}
+use Rattle.exec_abstract.specs.declared.event.Event.TheVariants.{Serve, Expire, Enrol, Grant, Cancel, Stage}
+use Rattle.exec_abstract.specs.declared.event.Event.{Event}
+use Rattle.exec_abstract.specs.declared.event.Event.TheVariants as event
+use Rattle.exec_abstract.specs.declared.state.Request.{Request}
+use Rattle.exec_abstract.specs.Ranges.{ring_size}
+use Rattle.exec_abstract.specs.World.{Common, Open, request_of}
+use Rattle.exec_abstract.specs.World.{Own as Books}
+use Rattle.exec_abstract.specs.Tests.{is_empty, is_gated}
+use Rattle.exec_abstract.specs.Requests.{account_of_open}
+use Rattle.exec_abstract.specs.Deadlines.{outcome_at_enrol, is_first_due, outcome_at_expiry}
+use Rattle.exec_moves.specs.declared.place.AfterPermit.TheVariants as permit
+use Rattle.exec_moves.specs.declared.place.InService.TheVariants as step
+use Rattle.exec_moves.specs.declared.place.Service.{Service}
+use Rattle.exec_moves.specs.declared.place.Place.TheVariants as at
+use Rattle.exec_moves.specs.State.{Desk, Moved, Own, does}
+use Rattle.exec_moves.specs.Callback.{told_if_ended, is_full}
+use Rattle.exec_moves.specs.Load.{may_stage}
+use Rattle.exec_moves.specs.Serve.{after_staging, enter, first_numbered}
+
+-- WHAT IS NEXT
+
+-- the first deadline that is due by the sampled moment, in the order of the wheel
+abbrev pub first_due : Configuration → ℕ → Books → Common → Option ℕ
+first_due c i me s = first_numbered (λ r it. is_first_due c me i s.requests r) 0 s.requests
+
+-- a request of the worker waits at the gate of this open
+abbrev pub waits_at : ℕ → ℕ → Request → Bool
+waits_at i file r = (r.worker == i) && is_gated r.phase && (r.operation.target == file)
+
+-- the open with the least number, from this one on, at whose gate a request of the worker waits
+abbrev pub next_gate : ℕ → ℕ → Common → Option ℕ
+next_gate i from s = first_numbered (λ file o. nat_le from file && list_any (waits_at i file) s.requests) 0 s.opens
+
+-- what the middle of a service comes to next
+pub data Due : Type 0 where
+  Expires : ℕ → Due
+  Enrols : ℕ → Due
+  AtGate : ℕ → Due
+  -- a cancel, a request, or the wake poll is to go into a full submission queue
+  Flushes : Due
+  Cancels : ℕ → Due
+  Stages : ℕ → Due
+  Ends : Due
+
+abbrev pub or_else : Option ℕ → (ℕ → Due) → Due → Due
+or_else None due later = later
+or_else (Some r) due later = due r
+
+abbrev pub request_due : Configuration → Books → Due
+request_due c me = if nat_lt me.in_flight (ring_size c) then or_else (slice_get me.ready 0) Stages Ends else Ends
+
+abbrev pub staging_due : Configuration → Books → Desk → Due
+staging_due c me d =
+    if is_full (ring_size c) d && (not (is_empty me.cancels) || may_stage c me || not d.polled) then Flushes
+    else or_else (slice_get me.cancels 0) Cancels (request_due c me)
+
+abbrev pub due_next : Configuration → ℕ → ℕ → Books → Common → Desk → Due
+due_next c i gate me s d =
+    or_else (first_due c i me s) Expires
+    (or_else (slice_get me.unenrolled 0) Enrols
+    (or_else (next_gate i gate s) AtGate (staging_due c me d)))
+
+-- THE MOVES
+
+-- at this gate again, or at the next one
+abbrev pub submits : Service → ℕ → Desk → Desk
+submits v gate d = record d { place = at.Service (step.Submit gate) v }
+
+abbrev pub expire : Service → ℕ → ℕ → Common → Desk → Moved Own
+expire v gate r s d =
+    let it = request_of s r in
+    does (Expire r (outcome_at_expiry it)) (submits v gate (told_if_ended (outcome_at_expiry it) it d)) tt
+
+abbrev pub enrol : Configuration → Service → ℕ → ℕ → Books → Common → Desk → Moved Own
+enrol c v gate r me s d =
+    let it = request_of s r in
+    let outcome = outcome_at_enrol c me it.operation.deadline in
+    does (Enrol r outcome) (submits v gate (told_if_ended outcome it d)) tt
+
+-- the gate: granted where its holder is a request of this worker that waits
+abbrev pub granted_at : ℕ → Open → Common → Option ℕ
+granted_at i o s = holder_waiting o.holder
+  where
+    holder_waiting : Option ℕ → Option ℕ
+    holder_waiting None = None
+    holder_waiting (Some r) = if ((request_of s r).worker == i) && is_gated (request_of s r).phase then Some r else None
+
+abbrev pub after_grant : Service → ℕ → Option Outcome → Desk → Desk
+after_grant v file None d = submits v (suc file) d
+after_grant v file (Some outcome) d = record d { place = at.Service (step.PassPermit file (permit.Submit (suc file))) v }
+
+abbrev pub try_gate : ℕ → Service → ℕ → Common → Desk → Open → Moved Open
+try_gate i v file s d o = tried (granted_at i o s)
+  where
+    told : ℕ → Request → Option Outcome → Moved Open
+    told r it outcome = does (Grant r outcome) (after_grant v file outcome (told_if_ended outcome it d)) o
+
+    tried : Option ℕ → Moved Open
+    tried None = does Serve (submits v (suc file) d) o
+    tried (Some r) = told r (request_of s r) (outcome_at_grant (request_of s r).operation.kind (account_of_open s (request_of s r)))
+
+-- one more entry in the submission queue
+abbrev pub one_more : Desk → Desk
+one_more d = record d { entries = d.entries + 1 }
+
+-- the wake poll goes in last, where it must and there is a place
+abbrev pub with_poll : ℕ → Desk → Desk
+with_poll size d = if d.polled || is_full size d then d else (record (one_more d) { polled = true })
+
+-- the ring: set busy or not
+abbrev pub stage_next : Configuration → ℕ → Service → ℕ → Books → Common → Desk → Bool → Due → Moved Bool
+stage_next c i v gate me s d busy Flushes = flushed (enter me (submits v gate d) busy)
+  where
+    ended_by : Event → Desk → Desk
+    ended_by event.Busy x = after_staging c i v me s x
+    ended_by _ x = x
+
+    flushed : Moved Bool → Moved Bool
+    flushed m = record m { desk = ended_by m.event m.desk }
+stage_next c i v gate me s d busy (Cancels r) = does (Cancel r) (submits v gate (one_more d)) busy
+stage_next c i v gate me s d busy (Stages r) = does (Stage r) (submits v gate (one_more d)) busy
+stage_next c i v gate me s d busy _ = does Serve (after_staging c i v me s (with_poll (ring_size c) d)) busy

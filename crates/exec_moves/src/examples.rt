@@ -1,0 +1,79 @@
+//! Worked examples, proved by computation: single moves, and whole logs.
+
+ghost use Rattle.std.specs.Prelude.{◌≡◌, [], ◌∷◌, Some};
+ghost use Rattle.exec_outcomes.specs.declared.outcome.OpResult.TheVariants.{Count};
+ghost use Rattle.exec_outcomes.specs.declared.outcome.Outcome.TheVariants.{Success};
+ghost use Rattle.exec_abstract.specs.declared.event.Event.TheVariants.{Turn, Serve, Enter, Reap, Sleep, Close, Stop};
+ghost use Rattle.exec_abstract.specs.declared.step.Action.TheVariants as action;
+ghost use Rattle.exec_abstract.specs.declared.step.Step.TheVariants as step;
+ghost use Rattle.exec_abstract.specs.Choice.Payer.{ByRequest};
+ghost use Rattle.exec_abstract.specs.Examples.{usual, does, pays};
+ghost use Rattle.exec_abstract.specs.Logs.{a_send};
+ghost use Rattle.exec_abstract.specs.MoreLogs.{a_deadline, a_late_enrolment};
+ghost use Rattle.exec_abstract.specs.MoreLogs.{deadlines_in_order, the_wheel_goes_round};
+ghost use Rattle.exec_abstract.specs.MoreLogs.{a_clock_in_a_service, a_clock_between_samples};
+ghost use Rattle.exec_abstract.specs.MoreLogs.{a_cancel_in_time, parts, what_a_task_held};
+ghost use Rattle.exec_moves.specs.declared.place.First.TheVariants as first;
+ghost use Rattle.exec_moves.specs.declared.place.InPick.TheVariants as pick;
+ghost use Rattle.exec_moves.specs.declared.place.Place.TheVariants as at;
+ghost use Rattle.exec_moves.specs.Pick.{count_down};
+ghost use Rattle.exec_moves.specs.Plays.{first_desk, IsPlayed, IsPaidFor};
+ghost use Rattle.exec_moves.specs.Departures.{Departs, two_sends};
+
+/// The pick that brings the countdown to its end looks at the global queue first.
+pub fn the_global_look()
+    ensures far { (count_down 31 (record (first_desk usual) { countdown = 2 })).desk.place ≡ at.Pick (pick.Pop first.Own) }
+    ensures near { (count_down 31 (record (first_desk usual) { countdown = 1 })).desk.place ≡ at.Pick (pick.LoadMirror first.Global) }
+    ensures set_back { (count_down 31 (record (first_desk usual) { countdown = 1 })).desk.countdown ≡ 31 }
+{}
+
+/// The log that the moves make of a trace is the good one, line by line, and at each line the place says what the machine has
+/// of the worker.
+pub fn logs_by_moves()
+    ensures of_a_send { IsPlayed a_send }
+    ensures of_a_deadline { IsPlayed a_deadline }
+    ensures of_a_late_enrolment { IsPlayed a_late_enrolment }
+{}
+
+/// The same of deadlines in their order, of the clock within a service, and of what is let go.
+pub fn more_logs_by_moves()
+    ensures of_deadlines_in_order { IsPlayed deadlines_in_order }
+    ensures of_the_wheel_goes_round { IsPlayed the_wheel_goes_round }
+    ensures of_a_clock_in_a_service { IsPlayed a_clock_in_a_service }
+    ensures of_a_clock_between_samples { IsPlayed a_clock_between_samples }
+    ensures of_a_cancel_in_time { IsPlayed a_cancel_in_time }
+    ensures of_parts { IsPlayed parts }
+    ensures of_what_a_task_held { IsPlayed what_a_task_held }
+{}
+
+/// What the machine allows, and no log by moves has. A turn skips its callbacks; a service leaves out its first reap, or puts
+/// its last enter off though a task is to be woken; a worker sleeps without its second look; a root that is over isn't followed
+/// by the closing; a closing forgets to stop the pool.
+pub fn refused_lines()
+    ensures skips_callbacks { Departs a_send.plan (step.Work 0 36 ∷ step.One (action.Land 0 (Count 10)) ∷ step.Work 0 19 ∷ [])
+        (pays (action.Work 0) 0 (ByRequest 0)) (does 0 Turn) }
+    ensures leaves_out_the_reap { Departs a_send.plan (step.Work 0 36 ∷ step.One (action.Land 0 (Count 10)) ∷ step.Work 0 12 ∷ [])
+        (does 0 (Reap 0 (Count 10) (Some Success))) (does 0 Serve) }
+    ensures always_defers { Departs two_sends (step.Work 0 38 ∷ step.One (action.Land 1 (Count 10)) ∷ step.Work 0 15 ∷ [])
+        (does 0 Enter) (does 0 Serve) }
+    ensures sleeps_at_once { Departs a_send.plan (step.Work 0 34 ∷ step.One (action.Land 0 (Count 10)) ∷ [])
+        (does 0 Turn) (does 0 (Sleep (Some 10000000))) }
+    ensures never_closes { Departs a_send.plan (step.Work 0 36 ∷ step.One (action.Land 0 (Count 10)) ∷ step.Work 0 33 ∷ [])
+        (does 0 Close) (does 0 Turn) }
+    ensures never_stops { Departs a_send.plan (step.Work 0 36 ∷ step.One (action.Land 0 (Count 10)) ∷ step.Work 0 36 ∷ [])
+        (does 0 Stop) (does 0 Turn) }
+{}
+
+/// Each quiet step costs credit.
+pub fn quiet_steps_are_paid()
+    ensures of_a_send { IsPaidFor a_send }
+    ensures of_a_deadline { IsPaidFor a_deadline }
+    ensures of_a_late_enrolment { IsPaidFor a_late_enrolment }
+    ensures of_deadlines_in_order { IsPaidFor deadlines_in_order }
+    ensures of_the_wheel_goes_round { IsPaidFor the_wheel_goes_round }
+    ensures of_a_clock_in_a_service { IsPaidFor a_clock_in_a_service }
+    ensures of_a_clock_between_samples { IsPaidFor a_clock_between_samples }
+    ensures of_a_cancel_in_time { IsPaidFor a_cancel_in_time }
+    ensures of_parts { IsPaidFor parts }
+    ensures of_what_a_task_held { IsPaidFor what_a_task_held }
+{}
