@@ -1,15 +1,17 @@
 -- An operation that ends in a ring in memory keeps a driver as it should be.
-use Rattle.std.proofs.Common.{◌≡◌, ◌⊎◌, ℕ, Bool, true, false, not, ◌&&◌, cond, Option, Some, None, Result, Ok, Err, refl, sym, ap, ◌∙◌, inl, inr}
+use Rattle.std.proofs.Common.{◌≡◌, ℕ, Bool, true, not, ◌&&◌, cond, Some, Result, Ok, Err, refl, ap, inl, inr}
 use Rattle.std.specs.Prelude.{OnOk, OnErr}
-use Rattle.exec_driver.proofs.Words.{Slab, written, is_durable, Asked, OpResult, asked_of, Request, landed, may_land, flight_of, RingState, waiter_at, is_flying, needs_permit, Waiter, Entry, Pending, WaiterId, Driving, request_at, IsHeld, cases_Bool}
+use Rattle.exec_driver.proofs.Words.{Slab, written, is_durable, Asked, OpResult, asked_of, Request, landed, may_land, flight_of, RingState, is_flying, needs_permit, Waiter, Entry, Pending, WaiterId, Driving, request_at, IsHeld, cases_Bool}
 use Rattle.exec_ring.specs.declared.landing.Unlawful.{Unlawful}
 use Rattle.exec_ring.specs.declared.store.Store.{Store}
 use Rattle.exec_waiters.specs.Events.{Lands}
 use Rattle.exec_waiters.specs.Ids.{user_data_of}
 use Rattle.exec_waiters.proofs.Fits.{asked_after}
+use Rattle.exec_driver.specs.Punctual.{IsPunctual}
 use Rattle.exec_driver.specs.Steps.{LandsOne}
 use Rattle.exec_driver.proofs.Endings.{one_changed, flying_there}
 use Rattle.exec_driver.proofs.Entering.{landed_within}
+use Rattle.exec_driver.proofs.Keeping.{punctual_one}
 use Rattle.exec_driver.proofs.Observing.{held_alike}
 use Rattle.exec_driver.proofs.Stepping.{held_ring}
 
@@ -50,4 +52,16 @@ module _ {S F : Type 0} where
             let lands = rw (rw may at so.answer_is) at so.moved in
             rw (rw may at so.answer_is) (λ w at. record { lands = lands w at; driver = ap (λ (r : RingState). record d { requests = s'; ring = r }) (rw may at so.ring_is) })
         | inr bars ↦ rw (rw bars at so.answer_is) tt
+      ]
+
+  -- and keeps each deadline
+  pub landed_punctual : (d : Driving S F) (s' : Slab (Entry S F)) (ring' : RingState) (id : WaiterId) (given : OpResult) (answer : Result (Unit {0}) Unlawful) (st st' : Store) → is_flying (request_at d id) ≡ true → Landed d s' ring' id given answer st st' → IsPunctual d → IsPunctual (record d { requests = s'; ring = ring' })
+  landed_punctual d s' ring' id given answer st st' flies so punctual =
+      elim (cases_Bool (may_land d.ring (user_data_of id.0) given)) [
+        | inl may ↦
+            let there = flying_there (request_at d id) flies in
+            let one = (rw (rw may at so.answer_is) at so.moved) there.w there.is in
+            let step = punctual_one d (record d { requests = written d.requests id.0 (Pending (moved_to there.w one.request)) }) id (Some there.w) (Some (moved_to there.w one.request)) (one_changed d.requests id.0 there.w (moved_to there.w one.request) there.is) (λ t is. is) refl refl punctual in
+            rw one.slab (record { ahead = step.ahead })
+        | inr bars ↦ rw (rw (rw bars at so.answer_is) at so.same) (record { ahead = punctual.ahead })
       ]

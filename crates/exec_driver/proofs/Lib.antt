@@ -26,6 +26,7 @@ pub mod Serving
 pub mod Turns
 pub mod Punctual
 pub mod Promises
+pub mod Keeping
 pub mod Standing
 pub mod Sharing
 pub mod Workers

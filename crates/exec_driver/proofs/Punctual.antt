@@ -137,7 +137,7 @@ module _ {S F : Type 0} where
   active_of d id t (Some w) at is sound = let active = ticked d id w at sound in rw is at active
 
   -- one more deadline is kept
-  enrolled_punctual : (d d' : Driving S F) (id : WaiterId) (w : Waiter S F) (tick : ℕ) → 0 < d.wheel.slots → IsWithinReach d.wheel → IsSound d → IsTaken d.wheel tick → request_at d id ≡ Some w → d'.requests ≡ written d.requests id.0 (Pending (with_tick tick w)) → d'.wheel ≡ scheduled d.wheel id.0 tick → d'.lists.due ≡ d.lists.due → IsPunctual d → IsPunctual d'
+  pub enrolled_punctual : (d d' : Driving S F) (id : WaiterId) (w : Waiter S F) (tick : ℕ) → 0 < d.wheel.slots → IsWithinReach d.wheel → IsSound d → IsTaken d.wheel tick → request_at d id ≡ Some w → d'.requests ≡ written d.requests id.0 (Pending (with_tick tick w)) → d'.wheel ≡ scheduled d.wheel id.0 tick → d'.lists.due ≡ d.lists.due → IsPunctual d → IsPunctual d'
   enrolled_punctual d d' id w tick slots reach sound taken at requests wheel due punctual =
       let one = one_changed d.requests id.0 w (with_tick tick w) at in
       let like = like_scheduled d.wheel id.0 tick in

@@ -266,7 +266,7 @@ module _ {S F : Type 0} where
     pub eases : Eases d d'
     pub no_more : unstaged d' ≤ unstaged d
 
-  stage_serves : (old new : Driving S F) (id : WaiterId) (w : Waiter S F) (account : Option Account) → request_at old id ≡ Some w → first_of old.lists.queued ≡ Some id → StagesOne old new id w account → Stages old new × (unstaged new < unstaged old)
+  pub stage_serves : (old new : Driving S F) (id : WaiterId) (w : Waiter S F) (account : Option Account) → request_at old id ≡ Some w → first_of old.lists.queued ≡ Some id → StagesOne old new id w account → Stages old new × (unstaged new < unstaged old)
   stage_serves old new id w account at first s =
       let w' : Waiter S F = record w { in_flight = true; request = s.request } in
       let list = ap length (first_tells old.lists.queued id first) in

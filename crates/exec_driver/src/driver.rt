@@ -33,6 +33,7 @@ ghost use Rattle.exec_time.specs.Wheel.{IsSettled, next_moment};
 ghost use Rattle.exec_waiters.specs.States.{pending_count};
 ghost use Rattle.exec_driver.specs.Driving.{seen, has_pending, may_stage_one, is_full};
 ghost use Rattle.exec_driver.specs.Lists.{has_first};
+ghost use Rattle.exec_driver.specs.Punctual.{IsPunctual};
 ghost use Rattle.exec_driver.specs.Steps.{IsFresh};
 
 use crate::lists::Lists;
@@ -119,6 +120,7 @@ impl<R: Ring + Drop, S: Drop, F: Drop> Driver<R, S, F> {
         requires fresh { R.state ring ≡ fresh_ring (R.state ring).size }
         requires layout { IsSome (slots_of horizon tick) }
         ensures made { IfOk result (λ d. IsFresh (seen d) (R.state ring).size horizon tick now) }
+        ensures punctual { IfOk result (λ d. IsPunctual (seen d)) }
         ensures ring { IfErr result (λ back. R.state back ≡ R.state ring) }
     {
         let limit = ring.room();
@@ -231,7 +233,8 @@ impl<R: Ring + Drop, S: Drop, F: Drop> Driver<R, S, F> {
 
     /// Raises a wake in the ring.
     pub fn raise(&mut self)
-        ensures { seen self.new ≡ record (seen self.old) { ring = with_wake (seen self.old).ring; landings = (seen self.new).landings } }
+        ensures raised { seen self.new ≡ record (seen self.old) { ring = with_wake (seen self.old).ring; landings = (seen self.new).landings } }
+        ensures punctual { IsPunctual (seen self.old) → IsPunctual (seen self.new) }
     {
         self.ring.raise();
     }

@@ -8,7 +8,7 @@
 //! A caller lends the opens to each call that may need one. A number that no open has is none: its record is none, and
 //! it has no gate.
 
-ghost use Rattle.std.specs.Prelude.{◌≡◌, IfSome, ◌<◌, ◌+◌, ◌≤◌, length, replicate, slice_get, Some, IfOk, OnOk, OnErr};
+ghost use Rattle.std.specs.Prelude.{◌≡◌, ◌↔◌, IsTrue, IfSome, ◌<◌, ◌+◌, ◌≤◌, length, replicate, slice_get, Some, IfOk, OnOk, OnErr};
 ghost use Rattle.exec_driver.specs.Opens.{account_in, open_at, open_named, with_account, with_open, with_named, holder_at, next_at, placed, displaced, joined, passed, keeping, writing, fresh_open};
 
 use exec_base::gate::Gate;
@@ -94,6 +94,12 @@ impl Open {
         ensures { self.new ≡ displaced self.old }
     {
         self.coming -= 1;
+    }
+
+    fn has_place(&self) -> bool
+        ensures { IsTrue result ↔ (0 < self.now.coming) }
+    {
+        self.coming > 0
     }
 
     fn join(&mut self, key: WaiterKey)
@@ -214,8 +220,19 @@ impl Opens {
         }
     }
 
+    /// Whether one may join the line of an open: a place was made that nobody took. So it is where there is no such
+    /// open.
+    pub fn has_place(&self, file: u32) -> bool
+        ensures { IsTrue result ↔ IfSome (open_at self.now file) (λ o. 0 < o.coming) }
+    {
+        match self.opens.get(file as usize) {
+            Some(open_) => open_.has_place(),
+            None => true,
+        }
+    }
+
     /// A durable request joins the line of its open. It holds the gate at once where nobody does. The caller must have
-    /// made a place for it.
+    /// made a place for it (`has_place`).
     pub fn join(&mut self, file: u32, key: WaiterKey)
         requires made { IfSome (open_at self.old file) (λ o. 0 < o.coming) }
         ensures { self.new ≡ with_open self.old file (joined key) }

@@ -1,6 +1,6 @@
 //! Admission: a request comes in, with all the memory that it will need.
 
-ghost use Rattle.std.specs.Prelude.{◌≡◌, ◌+◌, ◌*◌, ◌-◌, ◌^◌, ◌<◌, ◌≤◌, true, Some, IfOk, IfErr, IfSome, OnOk, OnErr};
+ghost use Rattle.std.specs.Prelude.{◌≡◌, ◌+◌, ◌*◌, ◌-◌, ◌^◌, ◌<◌, ◌≤◌, ◌⊎◌, ◌↔◌, true, Some, None, IfOk, IfErr, IfSome, IsTrue, OnOk, OnErr};
 ghost use Rattle.exec_base.specs.Slab.{next_id, live_count, IsPast, TakesId};
 ghost use Rattle.exec_request.specs.Requests.{gate_of};
 ghost use Rattle.exec_ring.specs.Rings.{taken_places};
@@ -9,6 +9,7 @@ ghost use Rattle.exec_waiters.specs.States.{suits, gate_in, pending_count};
 ghost use Rattle.exec_waiters.specs.Told.{HasPlaces, Tells, nothing_told};
 ghost use Rattle.exec_driver.specs.Opens.{open_named, with_named, placed, displaced, joined};
 ghost use Rattle.exec_driver.specs.Driving.{seen, request_at};
+ghost use Rattle.exec_driver.specs.Punctual.{IsPunctual};
 ghost use Rattle.exec_driver.specs.Steps.{placed_at, told_at_admission, newcomer, plainly_written, footprint_of, widened, taken_in, is_late};
 ghost use Rattle.exec_driver.specs.Admission.{IsRefused, Admits, with_rooms, HasTwoMore};
 
@@ -60,6 +61,8 @@ impl<R: Ring + Drop, S: Drop, F: Drop> Driver<R, S, F> {
         ensures opens { OnErr result (opens.new ≡ opens.old) }
         ensures untold { OnErr result (Tells deferred.old deferred.new nothing_told) }
         ensures unstored { OnErr result (Same store.old store.new) }
+        ensures joins { IfOk result (λ id. IfSome (open_named opens.new (gate_in (request_at (seen self.new) id))) (λ o. 0 < o.coming)) }
+        ensures punctual { IsPunctual (seen self.old) → IsPunctual (seen self.new) }
     {
         let window = footprint(&request);
         let gate = request.durability();
@@ -82,13 +85,24 @@ impl<R: Ring + Drop, S: Drop, F: Drop> Driver<R, S, F> {
     }
 
     /// A durable request that was admitted joins the line of its open. The caller must do so once after `admit`, which
-    /// made a place for it. Nothing changes for any other request.
+    /// made a place for it, as `may_join` says. Nothing changes for any other request.
     pub fn join(&self, worker: u32, id: WaiterId, opens: &mut Opens)
         requires made { IfSome (open_named opens.old (gate_in (request_at (seen self.now) id))) (λ o. 0 < o.coming) }
         ensures { opens.new ≡ with_named opens.old (gate_in (request_at (seen self.now) id)) (joined (record { worker = worker; id = id })) }
     {
         if let Some(file) = self.waiters.durability(id) {
             opens.join(file, WaiterKey { worker, id });
+        }
+    }
+
+    /// Whether a request may join the line of its open: a place was made there that nobody took, or none is needed. So
+    /// it is for one that was admitted just now.
+    pub fn may_join(&self, id: WaiterId, opens: &Opens) -> bool
+        ensures { IsTrue result ↔ IfSome (open_named opens.now (gate_in (request_at (seen self.now) id))) (λ o. 0 < o.coming) }
+    {
+        match self.waiters.durability(id) {
+            Some(file) => opens.has_place(file),
+            None => true,
         }
     }
 
@@ -175,6 +189,8 @@ impl<R: Ring + Drop, S: Drop, F: Drop> Driver<R, S, F> {
         ensures kept { OnErr result (seen self.new ≡ with_rooms (seen self.new) (seen self.old)) }
         ensures spots { (seen self.new).ring ≡ (seen self.old).ring }
         ensures untold { OnErr result (Tells deferred.old deferred.new nothing_told) }
+        ensures gate { IfOk result (λ id. (gate_in (request_at (seen self.new) id) ≡ gate_of request) ⊎ (gate_in (request_at (seen self.new) id) ≡ None)) }
+        ensures punctual { IsPunctual (seen self.old) → IsPunctual (seen self.new) }
     {
         let Ok(count) = self.make_places(alloc, deferred) else {
             return Err(InsertError::NoMemory(Refused { request, observer }));

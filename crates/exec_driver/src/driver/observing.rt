@@ -7,6 +7,7 @@ ghost use Rattle.exec_waiters.specs.States.{is_observed_here, may_be_seen, is_he
 ghost use Rattle.exec_waiters.specs.Events.{changed, with_waker, waker_of, seen_by, taken, forwarded, told_by_forward, told_by_orphan, told_by_close, IsFirstHeld};
 ghost use Rattle.exec_waiters.specs.Told.{HasPlaces, Tells};
 ghost use Rattle.exec_driver.specs.Driving.{seen, request_at};
+ghost use Rattle.exec_driver.specs.Punctual.{IsPunctual};
 ghost use Rattle.exec_driver.specs.Steps.{let_go, told_by_let_go};
 
 use super::Driver;
@@ -38,6 +39,7 @@ impl<R: Ring + Drop, S: Drop, F: Drop> Driver<R, S, F> {
         requires watched { may_be_seen (value_at (seen self.old).requests id.0) ≡ true }
         ensures answer { result ≡ seen_by waker (value_at (seen self.old).requests id.0) }
         ensures taken { seen self.new ≡ record (seen self.old) { requests = taken (seen self.old).requests id.0 } }
+        ensures punctual { IsPunctual (seen self.old) → IsPunctual (seen self.new) }
     {
         self.waiters.observe(id, waker)
     }
@@ -48,6 +50,7 @@ impl<R: Ring + Drop, S: Drop, F: Drop> Driver<R, S, F> {
         requires here { is_observed_here (request_at (seen self.old) id) ≡ true }
         ensures answer { result ≡ waker_of (request_at (seen self.old) id) }
         ensures set { seen self.new ≡ record (seen self.old) { requests = changed (seen self.old).requests id.0 (with_waker waker) } }
+        ensures punctual { IsPunctual (seen self.old) → IsPunctual (seen self.new) }
     {
         self.waiters.set_waker(id, waker)
     }
@@ -59,6 +62,7 @@ impl<R: Ring + Drop, S: Drop, F: Drop> Driver<R, S, F> {
         requires room { HasPlaces deferred.old 1 }
         ensures forwarded { seen self.new ≡ record (seen self.old) { requests = forwarded (seen self.old).requests id.0 sender } }
         ensures told { Tells deferred.old deferred.new (told_by_forward id.0 sender (value_at (seen self.old).requests id.0)) }
+        ensures punctual { IsPunctual (seen self.old) → IsPunctual (seen self.new) }
     {
         self.waiters.forward(id, sender, deferred);
     }
@@ -70,6 +74,7 @@ impl<R: Ring + Drop, S: Drop, F: Drop> Driver<R, S, F> {
         requires room { HasPlaces deferred.old 2 }
         ensures let_go { seen self.new ≡ let_go (seen self.old) id }
         ensures told { Tells deferred.old deferred.new (told_by_let_go (seen self.old) id (told_by_orphan id.0 (value_at (seen self.old).requests id.0))) }
+        ensures punctual { IsPunctual (seen self.old) → IsPunctual (seen self.new) }
     {
         if self.waiters.orphan(id, deferred) {
             self.cancel(id, deferred);
@@ -86,6 +91,7 @@ impl<R: Ring + Drop, S: Drop, F: Drop> Driver<R, S, F> {
         ensures told { IfSome result (λ id. Tells deferred.old deferred.new (told_by_let_go (seen self.old) id (told_by_close id.0 (value_at (seen self.old).requests id.0)))) }
         ensures none { IfNone result ((id : Name) → is_held_at (value_at (seen self.old).requests id) ≡ false) }
         ensures same { IfNone result ((seen self.new ≡ seen self.old) × (deferred.new ≡ deferred.old)) }
+        ensures punctual { IsPunctual (seen self.old) → IsPunctual (seen self.new) }
     {
         let closed = self.waiters.close(deferred)?;
         if closed.cancels {

@@ -6,6 +6,7 @@ ghost use Rattle.exec_ring.specs.Completions.{result_in};
 ghost use Rattle.exec_ring.specs.Kernels.{next_completion};
 ghost use Rattle.exec_waiters.specs.Told.{HasPlaces, Tells};
 ghost use Rattle.exec_driver.specs.Driving.{seen, request_at};
+ghost use Rattle.exec_driver.specs.Punctual.{IsPunctual};
 ghost use Rattle.exec_driver.specs.Steps.{swept, under_way_after, armed_after, is_control, taken_out, completed_in, with_landings, Reaps, ReapsNext, is_next_control, after_next_control};
 
 use super::Driver;
@@ -42,7 +43,8 @@ impl<R: Ring + Drop, S: Drop, F: Drop> Driver<R, S, F> {
     /// Afterwards another is there just where `has_completion` says so.
     pub fn reap(&mut self, opens: &mut Opens, deferred: &mut Deferred<S, F>) -> Option<Reaped>
         requires room { HasPlaces deferred.old 1 }
-        ensures { ReapsNext (seen self.old) (seen self.new) opens.old opens.new deferred.old deferred.new result }
+        ensures reaps { ReapsNext (seen self.old) (seen self.new) opens.old opens.new deferred.old deferred.new result }
+        ensures punctual { IsPunctual (seen self.old) → IsPunctual (seen self.new) }
     {
         self.sweep();
         let completion = self.ring.peek()?;

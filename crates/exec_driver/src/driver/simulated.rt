@@ -7,6 +7,7 @@ ghost use Rattle.exec_waiters.specs.Events.{Lands};
 ghost use Rattle.exec_waiters.specs.Ids.{user_data_of};
 ghost use Rattle.exec_waiters.specs.States.{is_flying};
 ghost use Rattle.exec_driver.specs.Driving.{seen, request_at};
+ghost use Rattle.exec_driver.specs.Punctual.{IsPunctual};
 ghost use Rattle.exec_driver.specs.Steps.{LandsOne};
 
 use super::Driver;
@@ -28,6 +29,7 @@ impl<S: Drop, F: Drop> Driver<SimRing, S, F> {
         ensures lands { OnOk result ((w : Asking S F) → request_at (seen self.old) id ≡ Some w → LandsOne (seen self.old) (seen self.new) id w given store.old store.new) }
         ensures same { OnErr result (seen self.new ≡ seen self.old) }
         ensures store { OnErr result (store.new ≡ store.old) }
+        ensures punctual { IsPunctual (seen self.old) → IsPunctual (seen self.new) }
     {
         if !self.waiters.is_in_flight(id) {
             return Err(Unlawful(id.user_data(), given));
@@ -44,14 +46,16 @@ impl<S: Drop, F: Drop> Driver<SimRing, S, F> {
 
     /// The next enter takes nothing.
     pub fn busy(&mut self)
-        ensures { seen self.new ≡ record (seen self.old) { ring = record (seen self.old).ring { busy = true } } }
+        ensures set { seen self.new ≡ record (seen self.old) { ring = record (seen self.old).ring { busy = true } } }
+        ensures punctual { IsPunctual (seen self.old) → IsPunctual (seen self.new) }
     {
         self.ring.busy();
     }
 
     /// The next wake completion ends the wake poll.
     pub fn last(&mut self)
-        ensures { seen self.new ≡ record (seen self.old) { ring = record (seen self.old).ring { last = true } } }
+        ensures set { seen self.new ≡ record (seen self.old) { ring = record (seen self.old).ring { last = true } } }
+        ensures punctual { IsPunctual (seen self.old) → IsPunctual (seen self.new) }
     {
         self.ring.last();
     }

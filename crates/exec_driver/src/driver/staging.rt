@@ -9,6 +9,7 @@ ghost use Rattle.exec_waiters.specs.Told.{HasPlaces, Tells};
 ghost use Rattle.exec_driver.specs.Opens.{account_in, holder_at};
 ghost use Rattle.exec_driver.specs.Driving.{seen, request_at, is_full, may_stage_one};
 ghost use Rattle.exec_driver.specs.Lists.{has_first, first_of};
+ghost use Rattle.exec_driver.specs.Punctual.{IsPunctual};
 ghost use Rattle.exec_driver.specs.Sharing.{FliesPermitted};
 ghost use Rattle.exec_driver.specs.Steps.{lowest_gate, lower, granted, is_turn_of, Grants, cancel_staged, StagesOne, poll_staged, entered, with_landings};
 
@@ -61,6 +62,7 @@ impl<R: Ring + Drop, S: Drop, F: Drop> Driver<R, S, F> {
         ensures granted { IfSome result (λ g. Grants (seen self.old) (seen self.new) opens.old opens.new deferred.old deferred.new worker file g) }
         ensures none { IfNone result (is_turn_of worker (seen self.old).lists (holder_at opens.old file) ≡ false) }
         ensures same { IfNone result ((seen self.new ≡ seen self.old) × (opens.new ≡ opens.old) × (deferred.new ≡ deferred.old)) }
+        ensures punctual { IsPunctual (seen self.old) → IsPunctual (seen self.new) }
     {
         let WaiterKey { worker: home, id } = opens.holder(file)?;
         if home != worker || !self.lists.is_gated(id) {
@@ -91,6 +93,7 @@ impl<R: Ring + Drop, S: Drop, F: Drop> Driver<R, S, F> {
         ensures first { result ≡ first_of (seen self.old).lists.cancels }
         ensures staged { IfSome result (λ id. seen self.new ≡ with_landings (seen self.new) (cancel_staged (seen self.old) id)) }
         ensures same { IfNone result (seen self.new ≡ seen self.old) }
+        ensures punctual { IsPunctual (seen self.old) → IsPunctual (seen self.new) }
     {
         let id = self.lists.next_cancel()?;
         self.ring
@@ -107,6 +110,7 @@ impl<R: Ring + Drop, S: Drop, F: Drop> Driver<R, S, F> {
         requires enrolled { has_first (seen self.old).lists.enrolments ≡ false }
         ensures first { result ≡ first_of (seen self.old).lists.queued }
         ensures staged { IfSome result (λ id. (w : Asking S F) → request_at (seen self.old) id ≡ Some w → StagesOne (seen self.old) (seen self.new) id w (account_in opens.now (file_of w.request))) }
+        ensures punctual { IsPunctual (seen self.old) → IsPunctual (seen self.new) }
     {
         let id = self.lists.next_queued()?;
         let account = opens.account(self.waiters.open_of(id));
@@ -120,6 +124,7 @@ impl<R: Ring + Drop, S: Drop, F: Drop> Driver<R, S, F> {
     pub fn stage_wake_poll(&mut self) -> bool
         ensures answer { result ≡ ((seen self.old).armed || not (is_full (seen self.old))) }
         ensures staged { seen self.new ≡ with_landings (seen self.new) (if (seen self.old).armed then (seen self.old) else (if is_full (seen self.old) then (seen self.old) else poll_staged (seen self.old))) }
+        ensures punctual { IsPunctual (seen self.old) → IsPunctual (seen self.new) }
     {
         if self.armed {
             return true;
@@ -137,6 +142,7 @@ impl<R: Ring + Drop, S: Drop, F: Drop> Driver<R, S, F> {
         ensures answer { result ≡ answer_of_enter (seen self.old).ring }
         ensures entered { seen self.new ≡ with_landings (seen self.new) (entered (seen self.old)) }
         ensures lands { MayAllLand (seen self.old).landings (all_taken (seen self.old).ring) }
+        ensures punctual { IsPunctual (seen self.old) → IsPunctual (seen self.new) }
     {
         self.ring.enter()
     }

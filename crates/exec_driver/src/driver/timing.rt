@@ -8,6 +8,7 @@ ghost use Rattle.exec_driver.specs.Sound.{IsListed};
 ghost use Rattle.exec_waiters.specs.Told.{HasPlaces, Tells};
 ghost use Rattle.exec_driver.specs.Driving.{seen, request_at, is_enrolled};
 ghost use Rattle.exec_driver.specs.Lists.{first_of, after_due, after_enrolment};
+ghost use Rattle.exec_driver.specs.Punctual.{IsPunctual};
 ghost use Rattle.exec_driver.specs.Steps.{advanced_to, all_due, fallen_due, expired, told_by_cancel, enrolled_by, tick_for, in_time, told_by_enrolment, Enrols};
 
 use super::Driver;
@@ -33,7 +34,8 @@ impl<R: Ring + Drop, S: Drop, F: Drop> Driver<R, S, F> {
     /// must have told all that were due before.
     pub fn advance(&mut self, now: u64)
         requires settled { IsSettled (seen self.old).wheel }
-        ensures { seen self.new ≡ advanced_to (seen self.old) now }
+        ensures advanced { seen self.new ≡ advanced_to (seen self.old) now }
+        ensures punctual { IsPunctual (seen self.old) → IsPunctual (seen self.new) }
     {
         let _count = self.wheel.advance(now);
         drain(&self.waiters, &mut self.wheel, &mut self.lists);
@@ -47,6 +49,7 @@ impl<R: Ring + Drop, S: Drop, F: Drop> Driver<R, S, F> {
         ensures expired { IfSome result (λ id. seen self.new ≡ expired (seen self.old) id) }
         ensures told { IfSome result (λ id. Tells deferred.old deferred.new (told_by_cancel id (request_at (seen self.old) id))) }
         ensures same { IfNone result ((seen self.new ≡ seen self.old) × (deferred.new ≡ deferred.old)) }
+        ensures punctual { IsPunctual (seen self.old) → IsPunctual (seen self.new) }
     {
         let id = self.lists.next_due()?;
         self.cancel(id, deferred);
@@ -63,6 +66,7 @@ impl<R: Ring + Drop, S: Drop, F: Drop> Driver<R, S, F> {
         ensures none { IfNone result (first_of (seen self.old).lists.enrolments ≡ None) }
         ensures enrolled { IfSome result (λ e. Enrols (seen self.old) (seen self.new) deferred.old deferred.new e.id e.ended now) }
         ensures same { IfNone result ((seen self.new ≡ seen self.old) × (deferred.new ≡ deferred.old)) }
+        ensures punctual { IsPunctual (seen self.old) → IsPunctual (seen self.new) }
     {
         let id = self.lists.next_enrolment()?;
         let Some(deadline) = self.waiters.deadline(id) else {

@@ -97,6 +97,7 @@ impl<R: Ring + Drop, S: Drop, F: Drop> Driver<R, S, F> {
         ensures armed { IsTrue result → (seen self.new).armed ≡ true }
         ensures entered { IsTrue result → (seen self.old).ring.busy ≡ false → (seen self.new).ring.staged ≡ [] }
         ensures same { seen self.new ≡ record (seen self.old) { ring = (seen self.new).ring; landings = (seen self.new).landings; armed = (seen self.new).armed } }
+        ensures punctual { IsPunctual (seen self.old) → IsPunctual (seen self.new) }
     {
         self.make_way();
         if self.has_pending_submissions() {

@@ -1,12 +1,13 @@
-use Rattle.std.proofs.Common.{false, refl, sym, ap, ◌∙◌}
+use Rattle.std.proofs.Common.{refl, sym, ap, ◌∙◌}
 use Rattle.exec_base.specs.Slab.{live_count}
-use Rattle.exec_driver.specs.Driving.{Driving, seen}
-use Rattle.exec_driver.specs.Opens.{placed}
+use Rattle.exec_waiters.specs.States.{gate_in}
+use Rattle.exec_driver.specs.Driving.{Driving, seen, request_at}
 use Rattle.exec_driver.specs.Steps.{placed_at, taken_in, newcomer}
 use Rattle.exec_driver.proofs.Admitting.{on_ok}
 use Rattle.exec_driver.proofs.Arriving.{placed_over, rooms_over, refused_over, takes_over, takes_still, two_still}
 use Rattle.exec_driver.proofs.Lines.{placed_back, placed_there}
 use Rattle.exec_driver.proofs.Storing.{reserved_still, given_back}
+use Rattle.exec_driver.proofs.Keeping.{rooms_punctual, place_made}
 use Rattle.exec_driver.proofs.driver.Driver.admit.Goals as goal
 
 pub take_in-requires-clause-places : goal.take_in-requires-clause-places
@@ -74,3 +75,17 @@ pub returns-in-Err-clause-unstored : goal.returns-in-Err-clause-unstored
 returns-in-Err-clause-unstored g c =
     let made = sym c.is_err.ensures.value ∙ c.if-is_err.false in
     given_back _ _ _ _ (on_ok c.make_room.result made c.make_room.ensures.stored) c.give_up_places.ensures.store
+
+pub returns-then-is_err-clause-punctual : goal.returns-then-is_err-clause-punctual
+returns-then-is_err-clause-punctual g c = rooms_punctual _ _ c.make_room.ensures.same
+
+pub returns-in-Ok-clause-joins : goal.returns-in-Ok-clause-joins
+returns-in-Ok-clause-joins g c =
+    let named = ap (λ (m : Driving g.row.S.Denot g.row.F.Denot). gate_in (request_at m c.in-Ok.id)) c.trim.ensures.same in
+    rw named (place_made c.args.opens.now _ _ _ _ (returns-in-Ok-clause-admits g c).opens_after c.in-Ok.ensures.gate)
+
+pub returns-in-Ok-clause-punctual : goal.returns-in-Ok-clause-punctual
+returns-in-Ok-clause-punctual g c = λ p. rooms_punctual _ _ c.trim.ensures.same (c.take_in.ensures.punctual (rooms_punctual _ _ c.make_room.ensures.same p))
+
+pub returns-in-Err-clause-punctual : goal.returns-in-Err-clause-punctual
+returns-in-Err-clause-punctual g c = λ p. rooms_punctual _ _ c.give_up_places.ensures.same (c.take_in.ensures.punctual (rooms_punctual _ _ c.make_room.ensures.same p))

@@ -1,8 +1,9 @@
-use Rattle.std.proofs.Common.{◌≡◌, true, false, sym, ◌∙◌, refl, arith}
+use Rattle.std.proofs.Common.{◌≡◌, true, false, sym, ◌∙◌, arith}
 use Rattle.exec_base.specs.Slab.{value_at}
 use Rattle.exec_waiters.specs.Events.{asks_cancel_by_orphan}
 use Rattle.exec_driver.proofs.Observing.{held_orphaned}
 use Rattle.exec_driver.proofs.Telling.{tells_both, few_closed, room_left}
+use Rattle.exec_driver.proofs.Keeping.{cancelled_punctual, orphaned_punctual}
 use Rattle.exec_driver.proofs.driver.Driver.close.Goals.{then-closed, else-closed}
 use Rattle.exec_driver.proofs.driver.Driver.close.Goals as goal
 
@@ -24,4 +25,16 @@ returns-clause-told g c =
       | else-closed w ↦
           let asks : asks_cancel_by_orphan (value_at c.self.inside.waiters c.in_ok-closed.closed.id.0) ≡ false = sym c.in_ok-closed.ensures.answer ∙ w.if-closed.false in
           rw (w.deferred-is, ← c.self.view_is, asks) c.in_ok-closed.ensures.told
+    ]
+
+pub returns-clause-punctual : goal.returns-clause-punctual
+returns-clause-punctual g c =
+    elim c.if-closed.branch [
+      | then-closed w ↦ λ p.
+          let before = rw (← c.self.view_is) at p in
+          let mid = rw (← c.in_ok-closed.ensures.orphaned) at (orphaned_punctual _ c.in_ok-closed.closed.id before) in
+          rw (w.self-is, w.cancel.ensures.cancelled) (cancelled_punctual _ c.in_ok-closed.closed.id mid)
+      | else-closed w ↦ λ p.
+          let before = rw (← c.self.view_is) at p in
+          rw (w.self-is, c.in_ok-closed.ensures.orphaned) (orphaned_punctual _ c.in_ok-closed.closed.id before)
     ]

@@ -1,9 +1,11 @@
-use Rattle.std.proofs.Common.{◌≡◌, Some, Ok, Err, sym, ◌∙◌, refl, arith}
+use Rattle.std.proofs.Common.{◌≡◌, Some, None, Ok, Err, sym, ◌∙◌, refl, arith}
 use Rattle.exec_driver.proofs.Words.{wheel_of, with_tick, waiter_at, first_of, tick_for}
 use Rattle.exec_waiters.specs.States.{deadline_in}
 use Rattle.exec_driver.proofs.Endings.{changed_is}
 use Rattle.exec_driver.proofs.Expiring.{tick_tells, some_first, unset_there}
 use Rattle.exec_driver.proofs.Granting.{held_enrolled, same_some}
+use Rattle.exec_driver.proofs.Keeping.{ended_punctual}
+use Rattle.exec_driver.proofs.Punctual.{enrolled_punctual, reach_of, some_slots_of}
 use Rattle.exec_driver.proofs.driver.Driver.enrol.Goals as goal
 
 pub schedule-requires : goal.schedule-requires
@@ -46,3 +48,17 @@ returns-in-Err-clause-enrolled g c =
       tells = rw err (c.refuse.ensures.told w at);
       told_is = rw err refl;
     })
+
+pub returns-in-Ok-clause-punctual : goal.returns-in-Ok-clause-punctual
+returns-in-Ok-clause-punctual g c =
+    let first : first_of c.self.inside.lists.enrolments ≡ Some c.in_ok-id.id = sym c.next_enrolment.ensures.first ∙ c.in_ok-id.was in
+    let there = unset_there c.self.inside.waiters _ c.in_ok-id.id first c.self.invariant.sound.enrolments in
+    let tick : tick_for (wheel_of c.self.inside.wheel) c.in-Some.deadline c.args.now ≡ Ok c.in-Ok.tick = sym c.tick_for.ensures ∙ c.in-Ok.is in
+    rw (← c.self.view_is, c.set_deadline.ensures, changed_is c.self.inside.waiters c.in_ok-id.id.0 there.w (with_tick c.in-Ok.tick) there.at, c.schedule.ensures.scheduled, c.next_enrolment.ensures.rest)
+    (enrolled_punctual _ _ c.in_ok-id.id there.w c.in-Ok.tick (some_slots_of c.self.inside.wheel) (reach_of c.self.inside.wheel) c.self.invariant.sound (tick_tells (wheel_of c.self.inside.wheel) c.in-Some.deadline c.args.now c.in-Ok.tick tick) there.at refl refl refl)
+
+pub returns-in-Err-clause-punctual : goal.returns-in-Err-clause-punctual
+returns-in-Err-clause-punctual g c = λ p.
+    let there = unset_there c.self.inside.waiters _ c.in_ok-id.id (sym c.next_enrolment.ensures.first ∙ c.in_ok-id.was) c.self.invariant.sound.enrolments in
+    let before = rw (← c.self.view_is) at p in
+    rw (c.refuse.ensures.ended there.w there.at, c.next_enrolment.ensures.rest) (ended_punctual _ c.in_ok-id.id there.w (Err c.in-Err.error) None there.at (record { ahead = before.ahead }))

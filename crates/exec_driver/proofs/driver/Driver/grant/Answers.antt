@@ -3,6 +3,10 @@ use Rattle.exec_driver.proofs.Words.{with_permit, waiter_at, is_among}
 use Rattle.exec_driver.proofs.Endings.{changed_is, one_changed}
 use Rattle.exec_driver.proofs.Granting.{gated_there, held_permitted, held_granted, room_to_grant, same_some}
 use Rattle.exec_driver.specs.declared.opens.WaiterKey.{WaiterKey}
+use Rattle.exec_driver.specs.Driving.{seen}
+use Rattle.exec_driver.specs.Sound.{IsSound}
+use Rattle.exec_driver.proofs.Keeping.{punctual_one}
+use Rattle.exec_driver.proofs.Turns.{grant_serves}
 use Rattle.exec_driver.proofs.driver.Driver.grant.Goals as goal
 
 pub acquire_durability-ended-requires : goal.acquire_durability-ended-requires
@@ -57,3 +61,16 @@ returns-in-Some-clause-granted g c =
             answer = rw (c.in-Some.is, there.at, c.account-account.ensures) at c.acquire_durability-ended.ensures.answer;
           });
     })
+
+pub returns-in-Some-clause-punctual : goal.returns-in-Some-clause-punctual
+returns-in-Some-clause-punctual g c =
+    let sound : IsSound (seen c.args.self.now) = rw (← c.self.view_is) c.self.invariant.sound in
+    (grant_serves _ _ _ _ _ _ _ _ _ sound (returns-in-Some-clause-granted g c)).0.going.punctual
+
+pub returns-in-None-clause-punctual : goal.returns-in-None-clause-punctual
+returns-in-None-clause-punctual g c =
+    let among : is_among c.in_ok-home.field-0.id c.self.inside.lists.gated ≡ true = search rules in
+    let there = gated_there _ c.in_ok-home.field-0.id c.self.invariant.sound among in
+    let one = one_changed c.self.inside.waiters c.in_ok-home.field-0.id.0 there.w (with_permit there.w) there.at in
+    rw (← c.self.view_is, c.acquire_durability-ended.ensures.permit, changed_is c.self.inside.waiters c.in_ok-home.field-0.id.0 there.w with_permit there.at, c.queue.ensures, c.ungate.ensures)
+    (punctual_one _ _ c.in_ok-home.field-0.id (Some there.w) (Some (with_permit there.w)) one (λ t is. is) refl refl)

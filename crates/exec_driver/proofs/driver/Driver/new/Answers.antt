@@ -3,6 +3,7 @@ use Rattle.exec_ring.specs.Rings.{RingState}
 use Rattle.exec_time.specs.Layouts.{slots_of}
 use Rattle.exec_time.specs.WheelView.{wheel_of}
 use Rattle.exec_driver.proofs.Admitting.{held_fresh, is_fresh, unused, on_ok}
+use Rattle.exec_driver.proofs.Keeping.{fresh_punctual}
 use Rattle.exec_driver.proofs.driver.Driver.new.Goals as goal
 
 pub invariant_of-result : goal.invariant_of-result
@@ -16,3 +17,6 @@ pub returns-clause-made : goal.returns-clause-made
 returns-clause-made g c =
     let ring = on_ok c.reserve.result (sym c.is_err.ensures.value ∙ c.if-is_err.false) c.reserve.ensures.ok ∙ ap (λ (s : RingState). record s { places = s.places + 1 }) c.requires.fresh in
     is_fresh (slots_of c.args.horizon c.args.tick) (record { requests = c.in-Ok-new.waiters; wheel = wheel_of c.in-Ok.wheel; ring = g.R.Ring.state c.reserve.new.self; landings = g.R.Ring.landings c.reserve.new.self; lists = c.new-3.result; cancels_under_way = 0; armed = false }) (g.R.Ring.state c.args.ring).size _ _ _ c.in-Ok-new.ensures.slots c.in-Ok-new.ensures.vacant c.in-Ok-new.ensures.first c.in-Ok.ensures ring c.new-3.ensures refl refl
+
+pub returns-clause-punctual : goal.returns-clause-punctual
+returns-clause-punctual g c = fresh_punctual _ c.in-Ok-new.ensures.slots

@@ -1,8 +1,10 @@
-use Rattle.std.proofs.Common.{◌≡◌, true, false, sym, ◌∙◌, refl, rules, arith}
+use Rattle.std.proofs.Common.{◌≡◌, true, false, sym, ◌∙◌, refl, arith}
 use Rattle.exec_base.specs.Slab.{value_at}
 use Rattle.exec_waiters.specs.Events.{asks_cancel_by_orphan}
 use Rattle.exec_driver.proofs.Observing.{held_orphaned}
 use Rattle.exec_driver.proofs.Telling.{tells_both, few_orphaned, room_left}
+use Rattle.exec_driver.specs.Driving.{seen}
+use Rattle.exec_driver.proofs.Keeping.{orphaned_punctual, let_go_punctual}
 use Rattle.exec_driver.proofs.driver.Driver.orphan.Goals as goal
 
 pub invariant_of-self : goal.invariant_of-self
@@ -33,3 +35,9 @@ returns-else-orphan-clause-told g c =
 
 pub invariant_of-self-else-orphan : goal.invariant_of-self-else-orphan
 invariant_of-self-else-orphan g c = rw c.orphan.ensures.orphaned (held_orphaned _ c.args.id _ _ _ c.self.invariant)
+
+pub returns-then-orphan-clause-punctual : goal.returns-then-orphan-clause-punctual
+returns-then-orphan-clause-punctual g c = rw (returns-then-orphan-clause-let_go g c) (let_go_punctual (seen c.args.self.now) c.args.id)
+
+pub returns-else-orphan-clause-punctual : goal.returns-else-orphan-clause-punctual
+returns-else-orphan-clause-punctual g c = rw (← c.self.view_is, c.orphan.ensures.orphaned) (orphaned_punctual _ c.args.id)

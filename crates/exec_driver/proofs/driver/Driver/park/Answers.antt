@@ -1,6 +1,7 @@
-use Rattle.std.proofs.Common.{◌≡◌, true, false, sym, ◌∙◌, ap, rules}
+use Rattle.std.proofs.Common.{◌≡◌, true, false, sym, ◌∙◌, rules}
 use Rattle.exec_driver.specs.Driving.{seen}
-use Rattle.exec_driver.proofs.Turns.{wait_pending, wait_full, wait_calm, way_free, poll_any}
+use Rattle.exec_driver.proofs.Keeping.{way_punctual}
+use Rattle.exec_driver.proofs.Turns.{wait_pending, wait_calm, way_free, poll_any}
 use Rattle.exec_driver.proofs.driver.Driver.park.Goals as goal
 
 pub returns-then-has_pending_submissions-clause-answer : goal.returns-then-has_pending_submissions-clause-answer
@@ -18,3 +19,6 @@ pub returns-clause-entered : goal.returns-clause-entered
 returns-clause-entered g c = λ yes free.
     let way = way_free (seen c.args.self.now) (seen c.make_way.new.self) c.make_way.ensures free in
     c.enter_if.ensures.entered yes ((poll_any (seen c.make_way.new.self) (seen c.stage_wake_poll.new.self) c.stage_wake_poll.ensures.staged).eases.keeps.free way)
+
+pub returns-clause-punctual : goal.returns-clause-punctual
+returns-clause-punctual g c = λ p. c.enter_if.ensures.going.punctual (c.stage_wake_poll.ensures.punctual (way_punctual _ _ c.make_way.ensures p))

@@ -2,6 +2,7 @@ use Rattle.std.proofs.Common.{◌≡◌, Some, None, sym, ◌∙◌, refl}
 use Rattle.exec_driver.proofs.Words.{next_completion, seen}
 use Rattle.exec_driver.proofs.Granting.{same_some}
 use Rattle.exec_driver.proofs.Sweeping.{operation_next, stale_swept}
+use Rattle.exec_driver.proofs.Turns.{reap_serves}
 use Rattle.exec_driver.proofs.driver.Driver.reap.Goals as goal
 
 pub judge-reaped-requires-clause-operation : goal.judge-reaped-requires-clause-operation
@@ -9,8 +10,8 @@ judge-reaped-requires-clause-operation g c =
     let next : next_completion (seen c.sweep.new.self).ring ≡ Some c.in_ok-completion.completion = rw (← c.self.view_is) (sym c.peek.ensures ∙ c.in_ok-completion.was) in
     operation_next (seen c.sweep.new.self) (seen c.args.self.now) c.in_ok-completion.completion c.sweep.ensures next
 
-pub returns-in_err-completion : goal.returns-in_err-completion
-returns-in_err-completion g c =
+pub returns-in_err-completion-clause-reaps : goal.returns-in_err-completion-clause-reaps
+returns-in_err-completion-clause-reaps g c =
     let next : next_completion (seen c.sweep.new.self).ring ≡ None = rw (← c.self.view_is) (sym c.peek.ensures ∙ c.in_err-completion.was) in
     record {
       first = seen c.sweep.new.self;
@@ -20,8 +21,8 @@ returns-in_err-completion g c =
       some = λ d id w is done at. let no = sym next ∙ is in absurd (cc);
     }
 
-pub returns : goal.returns
-returns g c =
+pub returns-clause-reaps : goal.returns-clause-reaps
+returns-clause-reaps g c =
     let next : next_completion (seen c.sweep.new.self).ring ≡ Some c.in_ok-completion.completion = rw (← c.self.view_is) (sym c.peek.ensures ∙ c.in_ok-completion.was) in
     record {
       first = seen c.sweep.new.self;
@@ -35,3 +36,9 @@ returns g c =
           let same : c.in_ok-completion.completion ≡ d = same_some _ _ _ next is in
           rw (← same) (record { second = seen c.judge-reaped.new.self; reaps = c.judge-reaped.ensures.reaps id w (rw same done) at; swept_last = c.sweep-2.ensures });
     }
+
+pub returns-in_err-completion-clause-punctual : goal.returns-in_err-completion-clause-punctual
+returns-in_err-completion-clause-punctual g c = (reap_serves _ _ _ _ _ _ _ (returns-in_err-completion-clause-reaps g c)).0.going.punctual
+
+pub returns-clause-punctual : goal.returns-clause-punctual
+returns-clause-punctual g c = (reap_serves _ _ _ _ _ _ _ (returns-clause-reaps g c)).0.going.punctual

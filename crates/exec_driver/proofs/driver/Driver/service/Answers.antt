@@ -12,26 +12,26 @@ advance-requires g c = record { settled = settled _ c.sound.ensures.sound.ticks 
 pub expire_all-requires : goal.expire_all-requires
 expire_all-requires g c =
     let first = c.reap_all.ensures in
-    let on = advance_goes (seen c.reap_all.new.self) (seen c.advance.new.self) c.args.now c.advance.ensures c.sound.ensures.tick c.sound.ensures.reach c.sound.ensures.sound (first.done.due c.requires.told) in
+    let on = advance_goes (seen c.reap_all.new.self) (seen c.advance.new.self) c.args.now c.advance.ensures.advanced c.sound.ensures.tick c.sound.ensures.reach c.sound.ensures.sound (first.done.due c.requires.told) in
     record { room = (serves_untold _ _ c.reap_all.new.deferred on).room (first.serves.room c.requires.room) }
 
 pub enrol_all-requires-clause-punctual : goal.enrol_all-requires-clause-punctual
 enrol_all-requires-clause-punctual g c =
     let first = c.reap_all.ensures in
-    let on = advance_goes (seen c.reap_all.new.self) (seen c.advance.new.self) c.args.now c.advance.ensures c.sound.ensures.tick c.sound.ensures.reach c.sound.ensures.sound (first.done.due c.requires.told) in
+    let on = advance_goes (seen c.reap_all.new.self) (seen c.advance.new.self) c.args.now c.advance.ensures.advanced c.sound.ensures.tick c.sound.ensures.reach c.sound.ensures.sound (first.done.due c.requires.told) in
     c.expire_all.ensures.serves.going.punctual (on.punctual (first.serves.going.punctual c.requires.punctual))
 
 pub stage_all-requires-clause-ring : goal.stage_all-requires-clause-ring
 stage_all-requires-clause-ring g c =
     let first = c.reap_all.ensures in
-    let on = advance_goes (seen c.reap_all.new.self) (seen c.advance.new.self) c.args.now c.advance.ensures c.sound.ensures.tick c.sound.ensures.reach c.sound.ensures.sound (first.done.due c.requires.told) in
+    let on = advance_goes (seen c.reap_all.new.self) (seen c.advance.new.self) c.args.now c.advance.ensures.advanced c.sound.ensures.tick c.sound.ensures.reach c.sound.ensures.sound (first.done.due c.requires.told) in
     let before = serves_both _ _ _ _ _ _ (serves_both _ _ _ _ _ _ (serves_both _ _ _ _ _ _ first.serves (serves_untold _ _ c.reap_all.new.deferred on)) c.expire_all.ensures.serves) (serves_both _ _ _ _ _ _ c.enrol_all.ensures.serves c.grant_all.ensures.serves) in
     omega (arith, before.going.size, c.requires.ring)
 
 pub reap_all-requires-2 : goal.reap_all-requires-2
 reap_all-requires-2 g c =
     let first = c.reap_all.ensures in
-    let on = advance_goes (seen c.reap_all.new.self) (seen c.advance.new.self) c.args.now c.advance.ensures c.sound.ensures.tick c.sound.ensures.reach c.sound.ensures.sound (first.done.due c.requires.told) in
+    let on = advance_goes (seen c.reap_all.new.self) (seen c.advance.new.self) c.args.now c.advance.ensures.advanced c.sound.ensures.tick c.sound.ensures.reach c.sound.ensures.sound (first.done.due c.requires.told) in
     let before = serves_both _ _ _ _ _ _ (serves_both _ _ _ _ _ _ (serves_both _ _ _ _ _ _ first.serves (serves_untold _ _ c.reap_all.new.deferred on)) c.expire_all.ensures.serves) (serves_both _ _ _ _ _ _ c.enrol_all.ensures.serves c.grant_all.ensures.serves) in
     let all = serves_both _ _ _ _ _ _ before (serves_untold _ _ c.grant_all.new.deferred (goes_both _ _ _ c.stage_all.ensures.going c.enter_if.ensures.going)) in
     record { room = all.room c.requires.room }
@@ -39,7 +39,7 @@ reap_all-requires-2 g c =
 pub returns-then-not-enters-clause-serves : goal.returns-then-not-enters-clause-serves
 returns-then-not-enters-clause-serves g c =
     let first = c.reap_all.ensures in
-    let on = advance_goes (seen c.reap_all.new.self) (seen c.advance.new.self) c.args.now c.advance.ensures c.sound.ensures.tick c.sound.ensures.reach c.sound.ensures.sound (first.done.due c.requires.told) in
+    let on = advance_goes (seen c.reap_all.new.self) (seen c.advance.new.self) c.args.now c.advance.ensures.advanced c.sound.ensures.tick c.sound.ensures.reach c.sound.ensures.sound (first.done.due c.requires.told) in
     let before = serves_both _ _ _ _ _ _ (serves_both _ _ _ _ _ _ (serves_both _ _ _ _ _ _ first.serves (serves_untold _ _ c.reap_all.new.deferred on)) c.expire_all.ensures.serves) (serves_both _ _ _ _ _ _ c.enrol_all.ensures.serves c.grant_all.ensures.serves) in
     let all = serves_both _ _ _ _ _ _ before (serves_untold _ _ c.grant_all.new.deferred (goes_both _ _ _ c.stage_all.ensures.going c.enter_if.ensures.going)) in
     serves_both _ _ _ _ _ _ all c.reap_all-2.ensures.serves
@@ -52,7 +52,7 @@ returns-then-not-enters-clause-put_off g c = λ yes.
 pub returns-else-not-enters-clause-serves : goal.returns-else-not-enters-clause-serves
 returns-else-not-enters-clause-serves g c =
     let first = c.reap_all.ensures in
-    let on = advance_goes (seen c.reap_all.new.self) (seen c.advance.new.self) c.args.now c.advance.ensures c.sound.ensures.tick c.sound.ensures.reach c.sound.ensures.sound (first.done.due c.requires.told) in
+    let on = advance_goes (seen c.reap_all.new.self) (seen c.advance.new.self) c.args.now c.advance.ensures.advanced c.sound.ensures.tick c.sound.ensures.reach c.sound.ensures.sound (first.done.due c.requires.told) in
     let before = serves_both _ _ _ _ _ _ (serves_both _ _ _ _ _ _ (serves_both _ _ _ _ _ _ first.serves (serves_untold _ _ c.reap_all.new.deferred on)) c.expire_all.ensures.serves) (serves_both _ _ _ _ _ _ c.enrol_all.ensures.serves c.grant_all.ensures.serves) in
     let all = serves_both _ _ _ _ _ _ before (serves_untold _ _ c.grant_all.new.deferred (goes_both _ _ _ c.stage_all.ensures.going c.enter_if.ensures.going)) in
     serves_both _ _ _ _ _ _ all c.reap_all-2.ensures.serves

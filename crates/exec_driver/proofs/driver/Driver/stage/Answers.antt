@@ -1,7 +1,10 @@
-use Rattle.std.proofs.Common.{◌≡◌, Some, true, sym, ap, ◌∙◌, refl}
-use Rattle.exec_driver.proofs.Words.{is_durable, Asked, waiter_at, needs_permit, file_of, file_in, account_in, request_at, is_queued, first_of}
+use Rattle.std.proofs.Common.{◌≡◌, Some, sym, ap, ◌∙◌, refl}
+use Rattle.exec_driver.proofs.Words.{waiter_at, file_of, file_in, account_in, request_at, is_queued, first_of}
 use Rattle.exec_driver.proofs.Stepping.{first_there, held_staged, place_for_request, permit_same, relanded}
 use Rattle.exec_driver.proofs.Windows.{is_no_poll, asked_same}
+use Rattle.exec_driver.specs.Driving.{seen}
+use Rattle.exec_driver.proofs.Serving.{keeps_punctual}
+use Rattle.exec_driver.proofs.Turns.{stage_serves}
 use Rattle.exec_driver.proofs.driver.Driver.stage.Goals as goal
 
 pub stage-requires-clause-place : goal.stage-requires-clause-place
@@ -40,3 +43,11 @@ returns-clause-staged g c = λ w is.
       goes_on = staged.goes_on;
       kept = staged.kept;
     }
+
+pub returns-clause-punctual : goal.returns-clause-punctual
+returns-clause-punctual g c =
+    let first = sym c.next_queued.ensures.first ∙ c.in_ok-id.was in
+    let there = first_there is_queued refl c.self.inside.waiters c.self.inside.lists.queued c.in_ok-id.id first c.self.invariant.sound.queued in
+    let at : request_at (seen c.args.self.now) c.in_ok-id.id ≡ Some there.0 = rw (← c.self.view_is) there.1 in
+    let queued : first_of (seen c.args.self.now).lists.queued ≡ Some c.in_ok-id.id = rw (← c.self.view_is) first in
+    keeps_punctual _ _ (stage_serves (seen c.args.self.now) _ c.in_ok-id.id there.0 _ at queued (returns-clause-staged g c there.0 at)).0.eases.keeps

@@ -1,15 +1,17 @@
-use Rattle.std.proofs.Common.{◌≡◌, ℕ, ◌+◌, ◌*◌, ◌^◌, ◌<◌, true, false, Option, None, refl, sym, ap, ◌∙◌, arith}
+use Rattle.std.proofs.Common.{◌≡◌, ℕ, ◌+◌, ◌*◌, ◌^◌, ◌<◌, true, false, Option, Some, None, refl, sym, ap, ◌∙◌, inl, inr, arith}
 use Rattle.std.specs.Prelude.{is_some}
 use Rattle.exec_base.specs.Slab.{live_count}
 use Rattle.exec_request.specs.Requests.{deadline_of, gate_of}
 use Rattle.exec_time.specs.WheelView.{wheel_of, room_of}
 use Rattle.exec_waiters.specs.States.{deadline_in, gate_in}
 use Rattle.exec_waiters.specs.Told.{nothing_told}
-use Rattle.exec_driver.specs.Driving.{Driving, seen, is_queued, is_gated, is_unenrolled}
+use Rattle.exec_driver.specs.Driving.{Driving, seen, request_at, is_queued, is_gated, is_unenrolled}
 use Rattle.exec_driver.specs.Steps.{newcomer, is_late, timed_out}
 use Rattle.exec_driver.proofs.Admitting.{on_ok}
 use Rattle.exec_driver.proofs.Arriving.{Arrives, ready_of, one_arrived, live_arrived, live_finished, takes_over, takes_finished, joins_none, joins_put, durable_gated, put_few, put_room, is_placed, is_refused, placed_over, room_to_join, held_arrived}
 use Rattle.exec_driver.proofs.Telling.{tells_both, room_left, room_within, few_finished}
+use Rattle.exec_driver.proofs.Endings.{one_finished}
+use Rattle.exec_driver.proofs.Keeping.{rooms_punctual, punctual_one, ended_punctual}
 use Rattle.exec_driver.proofs.driver.Driver.take_in.Goals as goal
 
 pub invariant_of-self-then-is_late : goal.invariant_of-self-then-is_late
@@ -134,3 +136,41 @@ returns-clause-never_again g c =
 
 pub returns-clause-spots : goal.returns-clause-spots
 returns-clause-spots g c = rw (← c.self.view_is) at c.make_places.ensures.ring
+
+pub returns-then-is_late-clause-gate : goal.returns-then-is_late-clause-gate
+returns-then-is_late-clause-gate g c =
+    let same = rw (← c.self.view_is) at c.make_places.ensures.same in
+    let arrives : Arrives c.self.inside.waiters c.insert.new.self c.in_ok-id.id.0 (newcomer c.args.request c.args.observer) = record { slab = c.in_ok-id.ensures.inserted; next = c.in_ok-id.ensures.id; unnamed = c.in_ok-id.ensures.never_before; map = c.in_ok-id.ensures.map } in
+    let one = one_arrived _ _ _ _ arrives in
+    let is = c.refuse.ensures.ended (newcomer c.args.request c.args.observer) one.is_at in
+    let gone = one_finished c.insert.new.self c.in_ok-id.id.0 (newcomer c.args.request c.args.observer) timed_out None one.is_at in
+    inr (ap (λ (m : Driving g.row.S.Denot g.row.F.Denot). gate_in (request_at m c.in_ok-id.id)) is ∙ ap gate_in gone.is_at)
+
+pub returns-then-is_late-clause-punctual : goal.returns-then-is_late-clause-punctual
+returns-then-is_late-clause-punctual g c = λ p.
+    let same = rw (← c.self.view_is) at c.make_places.ensures.same in
+    let arrives : Arrives c.self.inside.waiters c.insert.new.self c.in_ok-id.id.0 (newcomer c.args.request c.args.observer) = record { slab = c.in_ok-id.ensures.inserted; next = c.in_ok-id.ensures.id; unnamed = c.in_ok-id.ensures.never_before; map = c.in_ok-id.ensures.map } in
+    let one = one_arrived _ _ _ _ arrives in
+    let is = c.refuse.ensures.ended (newcomer c.args.request c.args.observer) one.is_at in
+    rw is (ended_punctual _ c.in_ok-id.id (newcomer c.args.request c.args.observer) timed_out None one.is_at (punctual_one _ _ c.in_ok-id.id None (Some (newcomer c.args.request c.args.observer)) one (λ t is. absurd (cc)) c.reserve.ensures.same refl (rooms_punctual (seen c.args.self.now) _ same p)))
+
+pub returns-clause-gate : goal.returns-clause-gate
+returns-clause-gate g c =
+    let same = rw (← c.self.view_is) at c.make_places.ensures.same in
+    let arrives : Arrives c.self.inside.waiters c.insert.new.self c.in_ok-id.id.0 (newcomer c.args.request c.args.observer) = record { slab = c.in_ok-id.ensures.inserted; next = c.in_ok-id.ensures.id; unnamed = c.in_ok-id.ensures.never_before; map = c.in_ok-id.ensures.map } in
+    let one = one_arrived _ _ _ _ arrives in
+    inl (ap gate_in one.is_at)
+
+pub returns-clause-punctual : goal.returns-clause-punctual
+returns-clause-punctual g c = λ p.
+    let same = rw (← c.self.view_is) at c.make_places.ensures.same in
+    let arrives : Arrives c.self.inside.waiters c.insert.new.self c.in_ok-id.id.0 (newcomer c.args.request c.args.observer) = record { slab = c.in_ok-id.ensures.inserted; next = c.in_ok-id.ensures.id; unnamed = c.in_ok-id.ensures.never_before; map = c.in_ok-id.ensures.map } in
+    let one = one_arrived _ _ _ _ arrives in
+    let has : is_some (deadline_of c.args.request) ≡ c.is_some.result = ap is_some (sym (c.deadline-deadline.ensures ∙ ap deadline_in one.is_at)) ∙ sym c.is_some.ensures in
+    let gate : is_some (gate_of c.args.request) ≡ c.is_some-is_gated.result = ap is_some (sym (c.durability.ensures ∙ ap gate_in one.is_at)) ∙ sym c.is_some-is_gated.ensures in
+    rw c.place.ensures (punctual_one _ _ c.in_ok-id.id None (Some (newcomer c.args.request c.args.observer)) one (λ t is. absurd (cc)) c.reserve.ensures.same (joins_put c.in_ok-id.id c.args.request c.args.observer c.self.inside.lists c.is_some.result c.is_some-is_gated.result has (durable_gated c.args.request ∙ gate)).due (rooms_punctual (seen c.args.self.now) _ same p))
+
+pub returns-in_err-id-clause-punctual : goal.returns-in_err-id-clause-punctual
+returns-in_err-id-clause-punctual g c = λ p.
+    let same = rw (← c.self.view_is) at c.make_places.ensures.same in
+    rw (c.in_err-id.ensures.kept, c.reserve.ensures.same) (rooms_punctual (seen c.args.self.now) _ same p)
