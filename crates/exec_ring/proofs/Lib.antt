@@ -2,3 +2,4 @@ pub mod Fillings
 pub mod Flights
 pub mod Pages
 pub mod Values
+mod SameWindows

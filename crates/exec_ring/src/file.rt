@@ -3,7 +3,7 @@
 //! The bytes lie in pages of 4,096, by their number. A page that is not there has zeros alone, so making one changes
 //! no byte. A landing writes into pages that were made before, and reads also where there are none.
 
-ghost use Rattle.std.specs.Prelude.{◌≡◌, ◌+◌, ◌-◌, ◌/◌, ◌%◌, ◌^◌, ◌<◌, ◌≤◌, ℕ, min, length, take, drop, true, OnOk};
+ghost use Rattle.std.specs.Prelude.{◌≡◌, ◌+◌, ◌-◌, ◌/◌, ◌%◌, ◌^◌, ◌<◌, ◌≤◌, ◌↔◌, IsTrue, ℕ, min, length, take, drop, true, OnOk};
 ghost use Rattle.exec_bufs.specs.Buffers.{resized};
 ghost use Rattle.exec_request.specs.Windows.{moves_out, moves_in};
 ghost use Rattle.exec_request.specs.Requests.{window_by};
@@ -60,6 +60,24 @@ impl File {
             self.add_page(alloc, number)?;
         }
         Ok(())
+    }
+
+    /// Whether there is room for so many bytes from this offset on.
+    pub(crate) fn covers(&self, offset: u64, length: u64) -> bool
+        requires { offset + length < 2 ^ 64 }
+        ensures { IsTrue result ↔ Covers self.now offset length }
+    {
+        if length == 0 {
+            return true;
+        }
+        let first = offset / PAGE;
+        let end = (offset + length).div_ceil(PAGE);
+        'pages: for number in first..end {
+            if !self.pages.contains_key(&number) {
+                return false;
+            }
+        }
+        true
     }
 
     /// Makes a page, unless it is there.

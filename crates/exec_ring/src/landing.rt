@@ -6,7 +6,7 @@
 //! bytes; a write stores them in its file. A result that is an error number moves none, nor does a sync, a connect or
 //! a poll. Nothing here takes memory: `reserve` made the room.
 
-ghost use Rattle.std.specs.Prelude.{◌≡◌, ◌≤◌, IsTrue, OnOk, OnErr, Ok, Err, if◌then◌else◌};
+ghost use Rattle.std.specs.Prelude.{◌≡◌, ◌≤◌, ◌↔◌, IsTrue, OnOk, OnErr, Ok, Err, if◌then◌else◌};
 ghost use Rattle.exec_outcomes.specs.Lawful.{is_lawful};
 ghost use Rattle.exec_request.specs.Windows.{most_of};
 ghost use Rattle.exec_ring.specs.Kernels.{may_land, landed, flight_of};
@@ -16,6 +16,7 @@ use crate::completion::UserData;
 use crate::sim_ring::SimRing;
 use crate::store::Store;
 use exec_outcomes::outcome::OpResult;
+use exec_request::open_record::OpenRecord;
 use exec_request::request::Request;
 use exec_request::window::{Opcode, Window};
 
@@ -25,11 +26,28 @@ use exec_request::window::{Opcode, Window};
 pub struct Unlawful(pub UserData, pub OpResult);
 
 impl SimRing {
+    /// Whether `land` may be called so: where it would end an operation, that is the request's, and there is room in
+    /// the store for its bytes.
+    pub fn may_land(
+        &self,
+        user_data: UserData,
+        given: OpResult,
+        store: &Store,
+        request: &Request,
+    ) -> bool
+        ensures { IsTrue result ↔ (IsTrue (may_land self.now user_data given) → IsReady (flight_of self.now user_data) given request.now store.now) }
+    {
+        match self.allowed(user_data, given) {
+            Some(window) => is_ready(window, given, store, request),
+            None => true,
+        }
+    }
+
     /// Ends the operation with this user data, and moves its bytes between the store and the request whose operation
     /// it is. `Unlawful` where the kernel has no such operation, or where its window doesn't allow the result; then
     /// nothing changes.
     ///
-    /// The caller must lend that request, and have made room in the store for the bytes.
+    /// The caller must lend that request, and have made room in the store for the bytes (`may_land`).
     pub fn land(
         &mut self,
         user_data: UserData,
@@ -50,6 +68,25 @@ impl SimRing {
         move_counted(window, given, store, request);
         self.end(user_data, given);
         Ok(())
+    }
+}
+
+/// Whether a window is the request's and ends within 64 bits, and there is room for the bytes that this result counts.
+fn is_ready(window: Window, given: OpResult, store: &Store, request: &Request) -> bool
+    requires lawful { IsTrue (is_lawful (most_of window) given) }
+    ensures { IsTrue result ↔ IsReadyFor window given request.now store.now }
+{
+    match given {
+        OpResult::Count(count) => {
+            if request.window(&Some(OpenRecord::new())) != window {
+                return false;
+            }
+            if window.offset.checked_add(window.length as u64).is_none() {
+                return false;
+            }
+            store.has_room(window, count as usize)
+        }
+        OpResult::Errno(_) => true,
     }
 }
 

@@ -84,6 +84,20 @@ impl Socket {
         self.received.as_slice()
     }
 
+    /// For how many more bytes there is room in what it sent.
+    pub(crate) fn sent_room(&self) -> usize
+        ensures { result ≡ self.now.sent_room }
+    {
+        self.sent_room
+    }
+
+    /// For how many more bytes there is room in what it received.
+    pub(crate) fn received_room(&self) -> usize
+        ensures { result ≡ self.now.received_room }
+    {
+        self.received_room
+    }
+
     /// Makes room for so many more bytes to be sent. An `Err` comes only for want of memory.
     pub(crate) fn reserve_sent(&mut self, count: usize) -> Result<(), AllocError>
         ensures ok { OnOk result (self.new ≡ record self.old { sent_room = self.old.sent_room + count }) }

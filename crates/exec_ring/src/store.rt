@@ -5,7 +5,7 @@
 //! landing uses it up, and `release` gives up what a request leaves. Room for those of a write is a stretch of its
 //! file, which stays.
 
-ghost use Rattle.std.specs.Prelude.{◌≡◌, ◌+◌, ◌-◌, ◌^◌, ◌<◌, ◌≤◌, ◌++◌, ℕ, take, true, OnOk, OnErr, IfSome, IfNone};
+ghost use Rattle.std.specs.Prelude.{◌≡◌, ◌+◌, ◌-◌, ◌^◌, ◌<◌, ◌≤◌, ◌++◌, ◌↔◌, ℕ, take, true, IsTrue, OnOk, OnErr, IfSome, IfNone};
 ghost use Rattle.exec_bufs.specs.Buffers.{resized};
 ghost use Rattle.exec_request.specs.Windows.{moves_out, moves_in};
 ghost use Rattle.exec_request.specs.Requests.{window_by};
@@ -13,6 +13,7 @@ ghost use Rattle.exec_request.specs.Bytes.{window_bytes};
 ghost use Rattle.exec_ring.specs.Fillings.{Fills};
 ghost use Rattle.exec_ring.specs.Sockets.{nothing_moved, after_send, after_receive};
 ghost use Rattle.exec_ring.specs.Files.{byte_at, values_from};
+ghost use Rattle.exec_ring.specs.Landings.{HasRoomBy};
 ghost use Rattle.exec_ring.specs.Stores.{socket_of, store_byte, HasSocket, HasFile, HasStretch, Same, SocketBecomes, WritesOver, Reserves, Releases};
 
 use crate::file::File;
@@ -124,6 +125,51 @@ impl Store {
                 window.length as u64,
             ),
             _ => Ok(()),
+        }
+    }
+
+    /// Whether there is the room that so many bytes of a window need. The caller must have a window of which so many
+    /// bytes end within 64 bits.
+    pub fn has_room(&self, window: Window, count: usize) -> bool
+        requires { window.offset + count < 2 ^ 64 }
+        ensures { IsTrue result ↔ HasRoomBy window.kind window count self.now }
+    {
+        match window.kind {
+            Opcode::Send => count <= self.sent_room(window.target),
+            Opcode::Recv => count <= self.received_room(window.target),
+            Opcode::Write => self.covers(window.target, window.offset, count as u64),
+            _ => true,
+        }
+    }
+
+    /// For how many more bytes that this socket sends there is room.
+    fn sent_room(&self, socket: u32) -> usize
+        ensures { result ≡ (socket_of self.now socket).sent_room }
+    {
+        match self.sockets.get(&socket) {
+            Some(there) => there.sent_room(),
+            None => 0,
+        }
+    }
+
+    /// For how many more bytes that this socket receives there is room.
+    fn received_room(&self, socket: u32) -> usize
+        ensures { result ≡ (socket_of self.now socket).received_room }
+    {
+        match self.sockets.get(&socket) {
+            Some(there) => there.received_room(),
+            None => 0,
+        }
+    }
+
+    /// Whether there is room for so many bytes of this file from an offset on.
+    fn covers(&self, number: u32, offset: u64, count: u64) -> bool
+        requires { offset + count < 2 ^ 64 }
+        ensures { IsTrue result ↔ HasStretch self.now number offset count }
+    {
+        match self.files.get(&number) {
+            Some(there) => there.covers(offset, count),
+            None => count == 0,
         }
     }
 

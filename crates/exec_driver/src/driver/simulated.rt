@@ -1,6 +1,6 @@
 //! A driver over the ring in memory, whose kernel does what it is told.
 
-ghost use Rattle.std.specs.Prelude.{◌≡◌, [], Ok, Err, Some, true, false, IsTrue, OnOk, OnErr, ◌&&◌, if◌then◌else◌};
+ghost use Rattle.std.specs.Prelude.{◌≡◌, ◌↔◌, [], Ok, Err, Some, true, false, IsTrue, OnOk, OnErr, ◌&&◌, if◌then◌else◌};
 ghost use Rattle.exec_ring.specs.Kernels.{may_land, landed, flight_of};
 ghost use Rattle.exec_ring.specs.Landings.{IsReady};
 ghost use Rattle.exec_waiters.specs.Events.{Lands};
@@ -20,9 +20,17 @@ use exec_waiters::waiter_id::WaiterId;
 impl<S: Drop, F: Drop> Driver<SimRing, S, F> {
     ghost use Rattle.exec_waiters.specs.declared.waiter.Waiter.{Waiter as Asking};
 
+    /// Whether `land` has what it needs: where it would end an operation, the request has its window, and there is room
+    /// in the store for its bytes. So it is in the store that its admission was lent.
+    pub fn may_land(&self, id: WaiterId, given: OpResult, store: &Store) -> bool
+        ensures { IsTrue result ↔ ((w : Asking S F) → request_at (seen self.now) id ≡ Some w → IsTrue (may_land (seen self.now).ring (user_data_of id.0) given) → IsReady (flight_of (seen self.now).ring (user_data_of id.0)) given w.request store.now) }
+    {
+        self.waiters.may_land(id, given, &self.ring, store)
+    }
+
     /// Ends the operation of a request with this result, and moves its bytes. `Unlawful` where the kernel has no
     /// operation of it, or its window doesn't allow the result; then nothing changes. The caller must lend the store
-    /// in which the request's admission made room.
+    /// in which the request's admission made room (`may_land`).
     pub fn land(&mut self, id: WaiterId, given: OpResult, store: &mut Store) -> Result<(), Unlawful>
         requires ready { (w : Asking S F) → request_at (seen self.old) id ≡ Some w → IsTrue (may_land (seen self.old).ring (user_data_of id.0) given) → IsReady (flight_of (seen self.old).ring (user_data_of id.0)) given w.request store.old }
         ensures answer { result ≡ (if is_flying (request_at (seen self.old) id) && may_land (seen self.old).ring (user_data_of id.0) given then Ok tt else Err (record { 0 = user_data_of id.0; 1 = given })) }

@@ -1,6 +1,6 @@
 //! Landings in a ring in memory: an operation of a request ends there, and its bytes move.
 
-ghost use Rattle.std.specs.Prelude.{◌≡◌, Some, Ok, Err, IsTrue, OnOk, OnErr, true, if◌then◌else◌};
+ghost use Rattle.std.specs.Prelude.{◌≡◌, ◌↔◌, Some, Ok, Err, IsTrue, OnOk, OnErr, true, if◌then◌else◌};
 ghost use Rattle.exec_ring.specs.Kernels.{may_land, landed, flight_of};
 ghost use Rattle.exec_ring.specs.Landings.{IsReady};
 ghost use Rattle.exec_waiters.specs.Ids.{user_data_of};
@@ -17,6 +17,17 @@ use exec_ring::store::Store;
 
 impl<S: Drop, F: Drop> Waiters<S, F> {
     ghost use Rattle.exec_waiters.specs.declared.waiter.Waiter.{Waiter as Asking};
+
+    /// Whether `land` has what it needs: where it would end an operation, the request has its window, and there is room
+    /// in the store for its bytes.
+    pub fn may_land(&self, id: WaiterId, given: OpResult, ring: &SimRing, store: &Store) -> bool
+        ensures { IsTrue result ↔ ((waiter : Asking S F) → waiter_at self.now id.0 ≡ Some waiter → IsTrue (may_land ring.now (user_data_of id.0) given) → IsReady (flight_of ring.now (user_data_of id.0)) given waiter.request store.now) }
+    {
+        match self.get(id) {
+            Some(waiter) => ring.may_land(id.user_data(), given, store, &waiter.request),
+            None => true,
+        }
+    }
 
     /// Ends the operation of the request in the ring, and moves its bytes between the store and what the request owns.
     /// `Unlawful` where the ring has no such operation, or where its window doesn't allow the result; then nothing
