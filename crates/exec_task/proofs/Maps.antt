@@ -1,9 +1,7 @@
 -- A task set by the numbers of its tasks.
 use Rattle.std.proofs.Common.{◌≡◌, ℕ, zero, suc, ◌<◌, ◌⊎◌, ◌++◌, ◌∷◌, replicate, ◌%◌, List, [], length, set, get_or, get_or-set_same, get_or-set_other, Option, Some, None, refl, sym, ◌∙◌, arith}
-use Rattle.std.proofs.lemmas.List.{length-set}
-use Rattle.std.proofs.lemmas.Bool.Decides.{nat_tests}
-use Rattle.std.specs.Ordering.{nat_cmp}
-use Rattle.std.specs.BTreeMap.{BTreeMap, UpdatesBy}
+use Rattle.std.proofs.lemmas.{List.length-set, Bool.Decides.nat_tests}
+use Rattle.std.specs.{Ordering.nat_cmp, BTreeMap.BTreeMap, BTreeMap.UpdatesBy}
 use Rattle.exec_base.specs.declared.task_no.TaskNo.{TaskNo}
 use Rattle.exec_task.specs.TaskSet.{Set, at_number, shard_at, shard_of, AreAtHome, ShardChanges, Changes, TakesNewest}
 

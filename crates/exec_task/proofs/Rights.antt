@@ -1,14 +1,8 @@
 -- What calls on a task keep, and what comes of a poll that others wake and clear.
 use Rattle.std.proofs.Common.{◌≡◌, ℕ, ◌+◌, ◌≤◌, ◌||◌, Bool, true, false, List, [], ◌∷◌, if◌then◌else◌, refl, arith}
 use Rattle.exec_base.specs.declared.task_no.TaskNo.{TaskNo}
-use Rattle.exec_task.specs.declared.task.Phase.{Phase}
-use Rattle.exec_task.specs.declared.task.Phase.TheVariants.{Idle, Running, Notified}
-use Rattle.exec_task.specs.declared.body.Ended.TheVariants.{Closed}
-use Rattle.exec_task.specs.declared.runnable.AfterPoll.TheVariants.{Done as Nothing, Requeue, Retire}
-use Rattle.exec_task.specs.Phases.{Task, pend_answer}
+use Rattle.exec_task.specs.{declared.task.Phase.Phase, declared.body.Ended.Ended, declared.runnable.AfterPoll.AfterPoll, Phases.Task, Phases.pend_answer}
 use Rattle.exec_task.specs.TaskRuns.{Call, Ledger, MayCall, AreCalls, IsOneRight, after, after_all, Meanwhile, after_meanwhile, some_wake, some_clear, just_begun, after_pending_poll, new_task}
-use Rattle.exec_task.specs.TaskRuns.Call.{Wake, Begin, Pend, Done, Clear}
-use Rattle.exec_task.specs.TaskRuns.Meanwhile.{Wakes, Clears}
 
 module _ {B : Type 0} where
   -- the parts of a ledger
@@ -23,12 +17,12 @@ module _ {B : Type 0} where
   kept_by :
       (call : Call B) (c : Bool) (phase : Phase B) (n : TaskNo) (o r p : ℕ) → IsOneRight phase r p → MayCall (ledger n o phase c r p) call
       → Keeps (after (ledger n o phase c r p) call)
-  kept_by Wake _ (Idle _) n o r p right may = (omega (arith, right), omega (arith, right))
-  kept_by Begin _ (Idle _) n o r p right may = (omega (arith, right), omega (arith, right))
-  kept_by (Pend _) true (Idle _) n o r p right may = (omega (arith, right), omega (arith, right))
-  kept_by (Pend _) false (Idle _) n o r p right may = (omega (arith, right), omega (arith, right))
-  kept_by Done _ (Idle _) n o r p right may = (omega (arith, right), omega (arith, right))
-  kept_by Clear _ (Idle _) n o r p right may = (omega (arith, right), omega (arith, right))
+  kept_by Call.Wake _ (Phase.Idle _) n o r p right may = (omega (arith, right), omega (arith, right))
+  kept_by Call.Begin _ (Phase.Idle _) n o r p right may = (omega (arith, right), omega (arith, right))
+  kept_by (Call.Pend _) true (Phase.Idle _) n o r p right may = (omega (arith, right), omega (arith, right))
+  kept_by (Call.Pend _) false (Phase.Idle _) n o r p right may = (omega (arith, right), omega (arith, right))
+  kept_by Call.Done _ (Phase.Idle _) n o r p right may = (omega (arith, right), omega (arith, right))
+  kept_by Call.Clear _ (Phase.Idle _) n o r p right may = (omega (arith, right), omega (arith, right))
   kept_by _ _ _ n o r p right may = (omega (arith, right), omega (arith, right))
 
   -- the right is one after whatever calls
@@ -40,7 +34,7 @@ module _ {B : Type 0} where
 
   -- so there is at most one
   at_most_one_by : (phase : Phase B) (runnables polls : ℕ) → IsOneRight phase runnables polls → runnables + polls ≤ 1
-  at_most_one_by (Idle _) runnables polls right = omega (arith, right)
+  at_most_one_by (Phase.Idle _) runnables polls right = omega (arith, right)
   at_most_one_by _ runnables polls right = omega (arith, right)
 
   pub exactly_one :
@@ -60,15 +54,15 @@ module _ {B : Type 0} where
 module _ (B : Type 0) (number : TaskNo) (owner : ℕ) where
   -- the task in a poll, whether it was woken, and whether it was cleared
   abbrev polled : Bool → Bool → Task B
-  polled woken cancelled = record { number = number; owner = owner; phase = if woken then Notified else Running; cancelled = cancelled }
+  polled woken cancelled = record { number = number; owner = owner; phase = if woken then Phase.Notified else Phase.Running; cancelled = cancelled }
 
   answer_is :
       (woken cancelled : Bool) (m : List Meanwhile)
       → pend_answer (after_meanwhile (polled woken cancelled) m)
-      ≡ (if cancelled || some_clear m then Retire number Closed else (if woken || some_wake m then Requeue (record { task = number; owner = owner }) else Nothing))
+      ≡ (if cancelled || some_clear m then AfterPoll.Retire number Ended.Closed else (if woken || some_wake m then AfterPoll.Requeue (record { task = number; owner = owner }) else AfterPoll.Done))
   answer_is woken cancelled [] = grind arith
-  answer_is woken cancelled (Wakes ∷ rest) = grind (arith, answer_is true cancelled rest)
-  answer_is woken cancelled (Clears ∷ rest) = grind (arith, answer_is woken true rest)
+  answer_is woken cancelled (Meanwhile.Wakes ∷ rest) = grind (arith, answer_is true cancelled rest)
+  answer_is woken cancelled (Meanwhile.Clears ∷ rest) = grind (arith, answer_is woken true rest)
 
   pub one_requeue : (meanwhile : List Meanwhile) → pend_answer (after_meanwhile (just_begun {B = B} number owner) meanwhile) ≡ after_pending_poll (just_begun {B = B} number owner) meanwhile
   one_requeue meanwhile = answer_is false false meanwhile

@@ -1,10 +1,7 @@
 -- Tasks and sets to look at.
 use Rattle.std.specs.Prelude.{ℕ, true, false, List, [], ◌∷◌, ◌*◌}
 use Rattle.exec_base.specs.declared.task_no.TaskNo.{TaskNo}
-use Rattle.exec_task.specs.declared.task.Phase.{Phase}
-use Rattle.exec_task.specs.Phases.{Task}
-use Rattle.exec_task.specs.TaskRuns.{Ledger, new_task}
-use Rattle.exec_task.specs.TaskSet.{Set, inserted, removed}
+use Rattle.exec_task.specs.{declared.task.Phase.Phase, Phases.Task, TaskRuns.Ledger, TaskRuns.new_task, TaskSet.Set, TaskSet.inserted, TaskSet.removed}
 
 abbrev pub no : ℕ → TaskNo
 no number = record { 0 = number }

@@ -1,26 +1,12 @@
 -- What one poll of a task does, from what its body is told first to its last section.
 use Rattle.std.specs.Prelude.{◌≡◌, ℕ, ◌+◌, ◌-◌, ◌^◌, ◌<◌, ◌⊎◌, Option, Some, None}
-use Rattle.exec_base.specs.declared.error.Error.TheVariants.{NoMemory}
-use Rattle.exec_task.specs.declared.body.Act.{Act}
-use Rattle.exec_task.specs.declared.body.Act.TheVariants as act_of
-use Rattle.exec_task.specs.declared.body.Said.{Said}
-use Rattle.exec_task.specs.declared.body.Said.TheVariants.{Refused}
-use Rattle.exec_task.specs.declared.body.Ended.{Ended}
-use Rattle.exec_task.specs.declared.body.Ended.TheVariants as ended
-use Rattle.exec_task.specs.declared.body.Ended.TheVariants.{Closed}
-use Rattle.exec_task.specs.declared.poll.Asked.{Asked}
-use Rattle.exec_task.specs.declared.poll.Asked.TheVariants.{Resume, CarryOut}
-use Rattle.exec_task.specs.declared.poll.Turn.{Turn}
-use Rattle.exec_task.specs.declared.poll.Turn.TheVariants.{Through, Waits, Told}
-use Rattle.exec_task.specs.declared.runnable.AfterPoll.{AfterPoll}
-use Rattle.exec_task.specs.declared.runnable.AfterPoll.TheVariants as after
-use Rattle.exec_task.specs.declared.runnable.Runnable.{Runnable}
-use Rattle.exec_task.specs.Sight.{Sight, WouldGrow}
+use Rattle.exec_base.specs.declared.error.Error.{Error}
+use Rattle.exec_task.specs.{declared.body.Act.Act, declared.body.Said.Said, declared.body.Ended.Ended, declared.poll.Asked.Asked, declared.poll.Turn.Turn, declared.runnable.AfterPoll.AfterPoll, declared.runnable.Runnable.Runnable, Sight.Sight, Sight.WouldGrow}
 
 -- how the task ends, where the act says that its body is through
 abbrev pub ended_by : {B : Type 0} → Act B → Option Ended
-ended_by (act_of.Done result) = Some (ended.Done result)
-ended_by (act_of.Fault code) = Some (ended.Fault code)
+ended_by (Act.Done result) = Some (Ended.Done result)
+ended_by (Act.Fault code) = Some (Ended.Fault code)
 ended_by _ = None
 
 -- who polls, the task's cell, and the body
@@ -43,27 +29,27 @@ module _ {W C B : Type 0} (steps : W → B → Said → Option (Act B) → W →
     pub between : W
     pub stepped : steps p.worker p.body said (Some act) between q.body
     pub goes_on : ended_by act ≡ None
-    pub carried : carries between p.cell (CarryOut act) told q.worker q.cell
+    pub carried : carries between p.cell (Asked.CarryOut act) told q.worker q.cell
 
   -- One turn of a poll: the body is told this, and is through; or its act leaves it waiting; or it is to be told
   -- what came of its act, also that there was no memory for it.
   abbrev pub Turns : Polled W C B → Said → Turn → Polled W C B → Type 0
-  Turns p said (Through how) q = (act : Act B) × steps p.worker p.body said (Some act) q.worker q.body × (ended_by act ≡ Some how) × (q.cell ≡ p.cell)
-  Turns p said Waits q = CarriedOut p said None q
-  Turns p said (Told told) q = CarriedOut p said (Some told) q ⊎ (steps p.worker p.body said None q.worker q.body × (told ≡ Refused NoMemory) × (q.cell ≡ p.cell))
+  Turns p said (Turn.Through how) q = (act : Act B) × steps p.worker p.body said (Some act) q.worker q.body × (ended_by act ≡ Some how) × (q.cell ≡ p.cell)
+  Turns p said Turn.Waits q = CarriedOut p said None q
+  Turns p said (Turn.Told told) q = CarriedOut p said (Some told) q ⊎ (steps p.worker p.body said None q.worker q.body × (told ≡ Said.Refused Error.NoMemory) × (q.cell ≡ p.cell))
 
   module _ (pends : C → B → AfterPoll → C → Type 0) (ends : C → Ended → AfterPoll → C → Type 0) where
     -- From here, with the body told this, the poll comes to that answer within so many turns, and leaves these. A
     -- poll that has made them all is given up, as if the task had been cleared.
     pub data Polls : ℕ → Polled W C B → Said → AfterPoll → W → C → Type 0 where
-      Ends : (left : ℕ) (p q : Polled W C B) (said : Said) (how : Ended) (answer : AfterPoll) (c : C) → 0 < left → Turns p said (Through how) q → ends q.cell how answer c → Polls left p said answer q.worker c
-      Pends : (left : ℕ) (p q : Polled W C B) (said : Said) (answer : AfterPoll) (c : C) → 0 < left → Turns p said Waits q → pends q.cell q.body answer c → Polls left p said answer q.worker c
-      GoesOn : (left rest : ℕ) (p q : Polled W C B) (said told : Said) (answer : AfterPoll) (w : W) (c : C) → left ≡ rest + 1 → Turns p said (Told told) q → Polls rest q told answer w c → Polls left p said answer w c
-      Tires : (left : ℕ) (p : Polled W C B) (said : Said) (answer : AfterPoll) (c : C) → left ≡ 0 → ends p.cell Closed answer c → Polls left p said answer p.worker c
+      Ends : (left : ℕ) (p q : Polled W C B) (said : Said) (how : Ended) (answer : AfterPoll) (c : C) → 0 < left → Turns p said (Turn.Through how) q → ends q.cell how answer c → Polls left p said answer q.worker c
+      Pends : (left : ℕ) (p q : Polled W C B) (said : Said) (answer : AfterPoll) (c : C) → 0 < left → Turns p said Turn.Waits q → pends q.cell q.body answer c → Polls left p said answer q.worker c
+      GoesOn : (left rest : ℕ) (p q : Polled W C B) (said told : Said) (answer : AfterPoll) (w : W) (c : C) → left ≡ rest + 1 → Turns p said (Turn.Told told) q → Polls rest q told answer w c → Polls left p said answer w c
+      Tires : (left : ℕ) (p : Polled W C B) (said : Said) (answer : AfterPoll) (c : C) → left ≡ 0 → ends p.cell Ended.Closed answer c → Polls left p said answer p.worker c
 
     -- A whole poll with a runnable: it is stale, and nothing happens; or the body still waits; or it is told what
     -- came of that, and the poll runs.
     pub data PollsTask (begins : C → Runnable → Option B → C → Type 0) (runnable : Runnable) (c : C) (w : W) : AfterPoll → W → C → Type 0 where
-      Stale : (c' : C) → begins c runnable None c' → PollsTask begins runnable c w after.Done w c'
-      StillWaits : (b : B) (d e c' : C) (w' : W) (answer : AfterPoll) → begins c runnable (Some b) d → carries w d Resume None w' e → pends e b answer c' → PollsTask begins runnable c w answer w' c'
-      Runs : (b : B) (d e c' : C) (v w' : W) (told : Said) (answer : AfterPoll) → begins c runnable (Some b) d → carries w d Resume (Some told) v e → Polls (2 ^ 64 - 1) (record { worker = v; cell = e; body = b }) told answer w' c' → PollsTask begins runnable c w answer w' c'
+      Stale : (c' : C) → begins c runnable None c' → PollsTask begins runnable c w AfterPoll.Done w c'
+      StillWaits : (b : B) (d e c' : C) (w' : W) (answer : AfterPoll) → begins c runnable (Some b) d → carries w d Asked.Resume None w' e → pends e b answer c' → PollsTask begins runnable c w answer w' c'
+      Runs : (b : B) (d e c' : C) (v w' : W) (told : Said) (answer : AfterPoll) → begins c runnable (Some b) d → carries w d Asked.Resume (Some told) v e → Polls (2 ^ 64 - 1) (record { worker = v; cell = e; body = b }) told answer w' c' → PollsTask begins runnable c w answer w' c'

@@ -1,11 +1,8 @@
 -- What a body can see of its worker, and which of its acts take memory.
 use Rattle.std.specs.Prelude.{ℕ, List, [], Bool, true, false, IsTrue, drop, slice_set, slice_index_or, Option, Result, Ok, Err, if◌then◌else◌}
 use Rattle.exec_base.specs.declared.error.Error.{Error}
-use Rattle.exec_base.specs.declared.error.Error.TheVariants.{BindFailed}
 use Rattle.exec_outcomes.specs.Accounts.{Account, fresh_account}
-use Rattle.exec_task.specs.declared.body.Act.{Act}
-use Rattle.exec_task.specs.declared.body.Act.TheVariants.{Register, Spawn, Dedicated}
-use Rattle.exec_task.specs.declared.body.Said.{Said}
+use Rattle.exec_task.specs.declared.body.{Act.Act, Said.Said}
 
 -- a listener: whether it is bound, and the sockets of the peers that wait, the longest first
 pub record Listener : Type 0 where
@@ -34,16 +31,16 @@ peer_taken s number =
     record s { listeners = slice_set s.listeners number (record (listener_at s number) { peers = drop 1 (peers_at s number) }) }
 
 abbrev pub bind_answer : Sight → ℕ → Result (Unit {0}) Error
-bind_answer s number = if (listener_at s number).is_bound then Err BindFailed else Ok tt
+bind_answer s number = if (listener_at s number).is_bound then Err Error.BindFailed else Ok tt
 
 abbrev pub bound : Sight → ℕ → Sight
 bound s number = record s { listeners = slice_set s.listeners number (record (listener_at s number) { is_bound = true }) }
 
 -- the act makes a request or a task
 abbrev pub grows : {B : Type 0} → Act B → Bool
-grows (Register _) = true
-grows (Spawn _) = true
-grows (Dedicated _) = true
+grows (Act.Register _) = true
+grows (Act.Spawn _) = true
+grows (Act.Dedicated _) = true
 grows _ = false
 
 -- what is left to do, what is seen and what is told would give such an act

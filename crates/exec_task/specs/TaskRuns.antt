@@ -1,11 +1,7 @@
 -- Calls on a task, one after another, and the runnables that are about.
 use Rattle.std.specs.Prelude.{◌≡◌, ℕ, ◌+◌, ◌-◌, ◌<◌, ◌≤◌, Bool, true, false, List, [], ◌∷◌, if◌then◌else◌, is_some}
 use Rattle.exec_base.specs.declared.task_no.TaskNo.{TaskNo}
-use Rattle.exec_task.specs.declared.body.Ended.TheVariants.{Closed}
-use Rattle.exec_task.specs.declared.task.Phase.{Phase}
-use Rattle.exec_task.specs.declared.task.Phase.TheVariants.{Idle, Queued, Running, Notified, Complete}
-use Rattle.exec_task.specs.declared.runnable.AfterPoll.{AfterPoll}
-use Rattle.exec_task.specs.declared.runnable.AfterPoll.TheVariants as after_poll
+use Rattle.exec_task.specs.declared.{body.Ended.Ended, task.Phase.Phase, runnable.AfterPoll.AfterPoll}
 use Rattle.exec_task.specs.Phases.{Task, is_idle, queued_body, woken, begun, pended, pend_answer, over, cleared, runnable_of}
 
 -- a call on a task
@@ -24,7 +20,7 @@ pub record Ledger (B : Type 0) : Type 0 where
 
 -- the runnables that a poll gives back
 abbrev pub requeued : AfterPoll → ℕ
-requeued (after_poll.Requeue _) = 1
+requeued (AfterPoll.Requeue _) = 1
 requeued _ = 0
 
 module _ {B : Type 0} where
@@ -62,15 +58,15 @@ module _ {B : Type 0} where
   -- a new task, with its first runnable
   abbrev pub new_task : TaskNo → ℕ → B → Ledger B
   new_task number owner body =
-      record { task = record { number = number; owner = owner; phase = Queued body; cancelled = false }; runnables = 1; polls = 0 }
+      record { task = record { number = number; owner = owner; phase = Phase.Queued body; cancelled = false }; runnables = 1; polls = 0 }
 
   -- how many runnables and polls there must be: one where the task is queued or polled, none where it is idle
   abbrev pub IsOneRight : Phase B → ℕ → ℕ → Type 0
-  IsOneRight (Idle _) runnables polls = (runnables ≡ 0) × (polls ≡ 0)
-  IsOneRight (Queued _) runnables polls = (runnables ≡ 1) × (polls ≡ 0)
-  IsOneRight Running runnables polls = (runnables ≡ 0) × (polls ≡ 1)
-  IsOneRight Notified runnables polls = (runnables ≡ 0) × (polls ≡ 1)
-  IsOneRight Complete runnables polls = (runnables ≤ 1) × (polls ≡ 0)
+  IsOneRight (Phase.Idle _) runnables polls = (runnables ≡ 0) × (polls ≡ 0)
+  IsOneRight (Phase.Queued _) runnables polls = (runnables ≡ 1) × (polls ≡ 0)
+  IsOneRight Phase.Running runnables polls = (runnables ≡ 0) × (polls ≡ 1)
+  IsOneRight Phase.Notified runnables polls = (runnables ≡ 0) × (polls ≡ 1)
+  IsOneRight Phase.Complete runnables polls = (runnables ≤ 1) × (polls ≡ 0)
 
 -- what others do to a task while it is polled
 pub data Meanwhile : Type 0 where
@@ -95,10 +91,10 @@ module _ {B : Type 0} where
 
   -- a task whose poll has just begun
   abbrev pub just_begun : TaskNo → ℕ → Task B
-  just_begun number owner = record { number = number; owner = owner; phase = Running; cancelled = false }
+  just_begun number owner = record { number = number; owner = owner; phase = Phase.Running; cancelled = false }
 
   -- a pending poll gives its one runnable back where a wake came, however many did, and none where it was cleared
   abbrev pub after_pending_poll : Task B → List Meanwhile → AfterPoll
   after_pending_poll t meanwhile =
-      if some_clear meanwhile then after_poll.Retire t.number Closed
-      else (if some_wake meanwhile then after_poll.Requeue (runnable_of t) else after_poll.Done)
+      if some_clear meanwhile then AfterPoll.Retire t.number Ended.Closed
+      else (if some_wake meanwhile then AfterPoll.Requeue (runnable_of t) else AfterPoll.Done)

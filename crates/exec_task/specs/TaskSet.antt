@@ -1,13 +1,8 @@
 -- What a contract sees of a task set and of a drain.
 use Rattle.std.specs.Prelude.{◌≡◌, ◌≢◌, ℕ, ◌+◌, ◌-◌, ◌*◌, ◌/◌, ◌%◌, ◌<◌, ◌≤◌, ◌==◌, Bool, true, false, List, [], ◌∷◌, ◌++◌, length, reverse, take, drop, flat_map, slice_set, slice_index_or, Option, Some, None, if◌then◌else◌}
-use Rattle.std.specs.Ordering.{nat_cmp}
-use Rattle.std.specs.Int.{IsPowerOfTwo}
-use Rattle.std.specs.Map.{lookup, remove_entry}
-use Rattle.std.specs.BTreeMap.{insert_entry, is_at}
+use Rattle.std.specs.{Ordering.nat_cmp, Int.IsPowerOfTwo, Map.lookup, Map.remove_entry, BTreeMap.insert_entry, BTreeMap.is_at}
 use Rattle.exec_base.specs.declared.task_no.TaskNo.{TaskNo}
-use Rattle.exec_task.specs.declared.drain.Drain.{Drain}
-use Rattle.exec_task.specs.declared.tasks.Refusal.{Refusal}
-use Rattle.exec_task.specs.declared.tasks.Refusal.TheVariants.{Closed, NoMemory}
+use Rattle.exec_task.specs.declared.{drain.Drain.Drain, tasks.Refusal.Refusal}
 
 module _ {T : Type 0} where
   -- the tasks of a shard under their numbers, the oldest first
@@ -69,8 +64,8 @@ module _ {T : Type 0} where
 
   -- the set refuses for this reason, and hands this back
   abbrev pub IsRefused : Set T → T → Refusal T → Type 0
-  IsRefused s back (Closed task) = (task ≡ back) × (s.closed ≡ true)
-  IsRefused s back (NoMemory task) = (task ≡ back) × (s.closed ≡ false)
+  IsRefused s back (Refusal.Closed task) = (task ≡ back) × (s.closed ≡ true)
+  IsRefused s back (Refusal.NoMemory task) = (task ≡ back) × (s.closed ≡ false)
 
 -- the shard after this one, round all of them
 abbrev pub next_shard : ℕ → ℕ → ℕ

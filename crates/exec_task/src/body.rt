@@ -1,18 +1,16 @@
 //! What a task runs.
 //!
-//! A body is a state that a poll of its task steps: it is told what came of its last act (`Said`),
-//! and answers its next one (`Act`). Who polls carries the act out, and steps it again, until the
-//! body is through, or the act leaves it waiting; then the next poll goes on from there. A body
-//! sees of its worker what `Around` shows, and nothing else: it makes no request, spawns nothing
-//! and wakes nobody by itself.
+//! A body is a state that a poll of its task steps: it is told what came of its last act (`Said`), and answers its next
+//! one (`Act`). Who polls carries the act out, and steps it again, until the body is through, or the act leaves it
+//! waiting; then the next poll goes on from there. A body sees of its worker what `Around` shows, and nothing else: it
+//! makes no request, spawns nothing and wakes nobody by itself.
 //!
-//! What a body means is a relation (`gives`) between what it is left to do, what it is told and
-//! what it sees, and the act that it makes and what is left then. Code over any body is proved by
-//! that relation alone.
+//! What a body means is a relation (`gives`) between what it is left to do, what it is told and what it sees, and the
+//! act that it makes and what is left then. Code over any body is proved by that relation alone.
 
 ghost use Rattle.std.specs.Prelude.{◌≡◌, ℕ, Option, IfSome, IfOk, IfErr, OnErr, option_map, slice_get};
 ghost use Rattle.exec_outcomes.specs.Accounts.{is_dirty};
-ghost use Rattle.exec_task.specs.Sight.{Sight, open_at, peers_at, peer_taken, bind_answer, bound};
+ghost use Rattle.exec_task.specs.{declared.body.Act.Act, declared.body.Said.Said, Sight.Sight, Sight.WouldGrow, Sight.open_at, Sight.peers_at, Sight.peer_taken, Sight.bind_answer, Sight.bound};
 
 use exec_base::error::Error;
 use exec_base::task_no::TaskNo;
@@ -45,8 +43,7 @@ pub enum Said {
 pub enum Act<B> {
     /// Makes a request. Told by `Admitted`, or `Refused`.
     Register(Request),
-    /// Waits for the request of this number, told by `Output`; with no number for a wake alone,
-    /// told by `Pass`.
+    /// Waits for the request of this number, told by `Output`; with no number for a wake alone, told by `Pass`.
     Await(Option<u32>),
     /// Lets go of the request of this number. Told by `Pass`.
     Drop(u32),
@@ -112,10 +109,6 @@ pub trait Around {
 
 /// What a task runs: a state that is stepped by hand.
 pub trait Body {
-    ghost use Rattle.exec_task.specs.declared.body.Said.{Said};
-    ghost use Rattle.exec_task.specs.declared.body.Act.{Act};
-    ghost use Rattle.exec_task.specs.Sight.{WouldGrow};
-
     /// What is left to do, for proofs alone.
     type Left;
 
@@ -132,9 +125,8 @@ pub trait Body {
     fn name(&self) -> u32
         ensures { result ≡ name_of (left self.now) };
 
-    /// The next act, once the body is told what came of the last. It takes memory only where the
-    /// act is a `Register`, `Spawn` or `Dedicated`. Where there is none it gives back what it was
-    /// told, and body and worker are as before.
+    /// The next act, once the body is told what came of the last. It takes memory only where the act is a `Register`,
+    /// `Spawn` or `Dedicated`. Where there is none it gives back what it was told, and body and worker are as before.
     fn step<A: Around>(
         &mut self,
         alloc: Global,

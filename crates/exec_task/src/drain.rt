@@ -1,10 +1,9 @@
 //! The draining of a closed task set.
 //!
-//! A drain goes round the shards once, from the shard at four times the worker's number on, so that
-//! workers that drain at once begin at different shards. At each it takes the newest task again and
-//! again until the shard is empty; who drains clears each task before the next is taken. A closed
-//! set takes no task, so none is left behind, and each is handed out once (`to_come` is the list of
-//! what is still to come).
+//! A drain goes round the shards once, from the shard at four times the worker's number on, so that workers that drain
+//! at once begin at different shards. At each it takes the newest task again and again until the shard is empty; who
+//! drains clears each task before the next is taken. A closed set takes no task, so none is left behind, and each is
+//! handed out once (`to_come` is the list of what is still to come).
 //!
 //! A drain keeps its place alone and is lent the set by each call, so that the set may stand under
 //! locks, and a step may be a single visit of a shard.
@@ -18,7 +17,6 @@ use exec_base::task_no::TaskNo;
 /// Where a drain stands. Ports `Drain`.
 #[derive(Clone, Copy, Debug, PartialEq, Eq)]
 pub struct Drain {
-    // The shard at which it stands.
     at: usize,
     // How many shards it hasn't found empty yet.
     left: usize,
@@ -71,13 +69,11 @@ impl Drain {
         ensures its_still { IsFor self.new tasks.new }
     {
         let count = tasks.shard_count();
-        match tasks.take_newest(self.at) {
-            Some(task) => Some(task),
-            None => {
-                self.pass(count);
-                None
-            }
+        let found = tasks.take_newest(self.at);
+        if found.is_none() {
+            self.pass(count);
         }
+        found
     }
 
     /// The next task, with its number. None where none is left. The drain must be one of this set.

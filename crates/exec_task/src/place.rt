@@ -6,16 +6,13 @@ ghost use Rattle.std.specs.Prelude.{◌≡◌, ℕ, Bool, IfErr, MatchBool};
 use crate::runnable::Runnable;
 use std::alloc::{AllocError, Global};
 
-/// Where runnables go: the run queue of the worker at hand, if there is one, and the global queue
-/// of its pool.
+/// Where runnables go: the run queue of the worker at hand, if there is one, and the global queue of its pool.
 pub trait Place {
     ghost use Rattle.exec_task.specs.declared.runnable.Runnable.{Runnable};
 
-    // Whether a worker is at hand that belongs to this task set and isn't closing.
     ghost serving: { Self → ℕ → Bool };
 
-    // What the run queue may answer when it is asked whether it is empty. Others may steal from a
-    // live one.
+    // What the run queue may answer when it is asked whether it is empty. Others may steal from a live one.
     ghost shows_empty: { Self → Bool → Type 0 };
 
     ghost workers_of: { Self → ℕ };
@@ -29,8 +26,7 @@ pub trait Place {
     // What a reservation leaves, also a refused one.
     ghost reserves: { Self → Self → Type 0 };
 
-    /// Whether a worker is at hand that belongs to the task set of this identity, and isn't
-    /// closing.
+    /// Whether a worker is at hand that belongs to the task set of this identity, and isn't closing.
     fn serves(&self, owner: u64) -> bool
         ensures { result ≡ serving self.now owner };
 
@@ -42,9 +38,8 @@ pub trait Place {
     fn workers(&self) -> usize
         ensures { result ≡ workers_of self.now };
 
-    /// Puts the runnable into the run queue of the worker at hand, or, where that is full, into the
-    /// global queue. The caller must know that a worker is at hand. It takes no memory of a
-    /// registered task.
+    /// Puts the runnable into the run queue of the worker at hand, or, where that is full, into the global queue. The
+    /// caller must know that a worker is at hand. It takes no memory of a registered task.
     fn enqueue(&mut self, runnable: Runnable)
         ensures { enqueues self.old runnable self.new };
 
@@ -61,7 +56,6 @@ pub trait Place {
 
 /// How the roots of workers are reached from the worker at hand.
 pub trait Roots {
-    // Whether that worker is at hand.
     ghost is_near: { Self → ℕ → Bool };
 
     ghost closing: { Self → Bool };
@@ -84,8 +78,7 @@ pub trait Roots {
     fn set_root_ready(&mut self)
         ensures { flags self.old self.new };
 
-    /// Sends the worker the message that wakes its root. A closed inbox drops it. It takes no
-    /// memory.
+    /// Sends the worker the message that wakes its root. A closed inbox drops it. It takes no memory.
     fn send_root(&mut self, worker: u32)
         ensures { sends self.old worker self.new };
 }

@@ -1,16 +1,15 @@
 //! One poll of a task.
 //!
-//! A poll is made of sections on the task and of steps of its body. `begin` takes the body out of
-//! the task; then who polls says what the body is told first, steps it, and carries out its act,
-//! again and again. The poll ends with `pend`, where an act leaves the body waiting, or with
-//! `done`, where it is through. In between others may wake the task, or clear it. `Polls`
-//! (`specs/Polls.antt`) says what a poll may do.
+//! A poll is made of sections on the task and of steps of its body. `begin` takes the body out of the task; then who
+//! polls says what the body is told first, steps it, and carries out its act, again and again. The poll ends with
+//! `pend`, where an act leaves the body waiting, or with `done`, where it is through. In between others may wake the
+//! task, or clear it. `Polls` (`specs/Polls.antt`) says what a poll may do.
 //!
 //! `TaskCell` is the task as its poller reaches it: the task itself, or a shared one behind a lock.
 //! `Carrier` is who polls: what a body sees of it (`Around`), and how it carries out acts.
 
 ghost use Rattle.std.specs.Prelude.{◌≡◌, ◌-◌, ◌^◌, Bool, IsTrue, OnSome, Option};
-ghost use Rattle.exec_task.specs.Polls.{StepsTo, Turns, Polls, PollsTask};
+ghost use Rattle.exec_task.specs.{declared.body.Ended.Ended, declared.body.Said.Said, declared.poll.Asked.Asked, declared.runnable.AfterPoll.AfterPoll, declared.runnable.Runnable.Runnable, Polls.StepsTo, Polls.Turns, Polls.Polls, Polls.PollsTask};
 
 use crate::body::{Act, Around, Body, Ended, Said};
 use crate::runnable::{AfterPoll, Runnable};
@@ -31,10 +30,6 @@ pub enum Asked<B> {
 
 /// A task as its poller reaches it. Each call is one section on it.
 pub trait TaskCell<B> {
-    ghost use Rattle.exec_task.specs.declared.body.Ended.{Ended};
-    ghost use Rattle.exec_task.specs.declared.runnable.Runnable.{Runnable};
-    ghost use Rattle.exec_task.specs.declared.runnable.AfterPoll.{AfterPoll};
-
     // Whether this is its runnable.
     ghost is_its: { Self → Runnable → Type 0 };
 
@@ -67,8 +62,7 @@ pub trait TaskCell<B> {
 
 impl<B: Drop> TaskCell<B> for Task<B> {
     ghost use Rattle.std.specs.Prelude.{◌≡◌};
-    ghost use Rattle.exec_task.specs.Phases.{is_polled as is_polled_phase, queued_body, begun, runnable_of, pended, pend_answer, over};
-    ghost use Rattle.exec_task.specs.declared.runnable.AfterPoll.TheVariants as after;
+    ghost use Rattle.exec_task.specs.{declared.runnable.AfterPoll.AfterPoll, Phases.is_polled as is_polled_phase, Phases.queued_body, Phases.begun, Phases.runnable_of, Phases.pended, Phases.pend_answer, Phases.over};
 
     ghost is_its = { λ t r. r ≡ runnable_of t };
 
@@ -78,7 +72,7 @@ impl<B: Drop> TaskCell<B> for Task<B> {
 
     ghost pends = { λ t body a t'. (a ≡ pend_answer t) × (t' ≡ pended t body) };
 
-    ghost ends = { λ t how a t'. (a ≡ after.Retire t.number how) × (t' ≡ over t) };
+    ghost ends = { λ t how a t'. (a ≡ AfterPoll.Retire t.number how) × (t' ≡ over t) };
 
     fn begin(&mut self, runnable: Runnable) -> Option<B> {
         Task::begin(self, runnable)
@@ -95,9 +89,6 @@ impl<B: Drop> TaskCell<B> for Task<B> {
 
 /// Who polls tasks: what their bodies see, and how their acts are carried out.
 pub trait Carrier<B, C: TaskCell<B>>: Around {
-    ghost use Rattle.exec_task.specs.declared.body.Said.{Said};
-    ghost use Rattle.exec_task.specs.declared.poll.Asked.{Asked};
-
     // What carrying out finds, answers and leaves.
     ghost carries: { Self → C → Asked B → Option Said → Self → C → Type 0 };
 
@@ -132,9 +123,8 @@ fn take_turn<B: Body + Drop, C: TaskCell<B>, W: Carrier<B, C>>(
     ensures turns { Turns (StepsTo B.left B.gives W.sees) W.carries (record { worker = worker.old; cell = cell.old; body = body.old }) said result (record { worker = worker.new; cell = cell.new; body = body.new }) }
     ensures polled { IsTrue (C.is_polled cell.new) }
 {
-    let act = match body.step(alloc, worker, said) {
-        Ok(act) => act,
-        Err(_) => return Turn::Told(Said::Refused(Error::NoMemory)),
+    let Ok(act) = body.step(alloc, worker, said) else {
+        return Turn::Told(Said::Refused(Error::NoMemory));
     };
     match act {
         Act::Done(outcome) => return Turn::Through(Ended::Done(outcome)),
@@ -169,13 +159,12 @@ fn run<B: Body + Drop, C: TaskCell<B>, W: Carrier<B, C>>(
 }
 
 impl Runnable {
-    /// Polls its task once: begins the poll, steps the body and carries out its acts until the poll
-    /// ends, and ends it. `owner` is the identity of the task set (`Tasks::id`), `cell` the task,
-    /// and `worker` is who polls: what the body sees, and how its acts are carried out. The
-    /// runnable must be that of this task, which must belong to this set. A stale one is discarded.
-    /// It takes no memory but for the body's acts; a body that gets none for an act is told so by
-    /// `Refused(NoMemory)`. A poll ends after at most 2^64 - 1 steps of its body; the task is then
-    /// ended as if it had been cleared.
+    /// Polls its task once: begins the poll, steps the body and carries out its acts until the poll ends, and ends it.
+    /// `owner` is the identity of the task set (`Tasks::id`), `cell` the task, and `worker` is who polls: what the body
+    /// sees, and how its acts are carried out. The runnable must be that of this task, which must belong to this set. A
+    /// stale one is discarded. It takes no memory but for the body's acts; a body that gets none for an act is told so
+    /// by `Refused(NoMemory)`. A poll ends after at most 2^64 - 1 steps of its body; the task is then ended as if it
+    /// had been cleared.
     pub fn poll<B: Body + Drop, C: TaskCell<B>, W: Carrier<B, C>>(
         self,
         alloc: Global,

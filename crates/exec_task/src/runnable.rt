@@ -1,11 +1,10 @@
 //! The right to poll a task once.
 //!
-//! A runnable comes from the making of its task, or from a wake that finds the task idle; a poll
-//! that ends pending after a wake gives its own back. It can't be copied, so a task has at most
-//! one, in a queue, in a hand or in a running poll. Who has it hands it to a queue (`schedule`,
-//! `spawn`), polls its task with it, or discards it. That of a task that was cleared meanwhile is
-//! stale: its poll does nothing. It may be dropped, so that queues which hold it may be; a lost one
-//! leaves its task queued for good.
+//! A runnable comes from the making of its task, or from a wake that finds the task idle; a poll that ends pending
+//! after a wake gives its own back. It can't be copied, so a task has at most one, in a queue, in a hand or in a
+//! running poll. Who has it hands it to a queue (`schedule`, `spawn`), polls its task with it, or discards it. That of
+//! a task that was cleared meanwhile is stale: its poll does nothing. It may be dropped, so that queues which hold it
+//! may be; a lost one leaves its task queued for good.
 
 ghost use Rattle.std.specs.Prelude.{◌≡◌, MatchBool};
 ghost use Rattle.exec_task.specs.Phases.{Spawns};

@@ -20,8 +20,7 @@
 
 ghost use Rattle.std.specs.Prelude.{◌≡◌, IsTrue, if◌then◌else◌, Some, None, false};
 ghost use Rattle.exec_task.specs.Phases.{Task, is_polled, is_idle, body_of, queued_body, begun, runnable_of, woken, pended, pend_answer, over, cleared};
-ghost use Rattle.exec_task.specs.declared.task.Phase.TheVariants as phase;
-ghost use Rattle.exec_task.specs.declared.runnable.AfterPoll.TheVariants as after;
+ghost use Rattle.exec_task.specs.declared.{task.Phase.Phase, runnable.AfterPoll.AfterPoll};
 
 use crate::body::Ended;
 use crate::runnable::{AfterPoll, Runnable};
@@ -44,8 +43,7 @@ pub enum Phase<B> {
     Complete,
 }
 
-/// A task: its number, the identity of the set that it belongs to, and where it stands. Ports the
-/// cell behind `Task`.
+/// A task: its number, the identity of the set that it belongs to, and where it stands. Ports the cell behind `Task`.
 #[derive(Drop)]
 pub struct Task<B> {
     number: TaskNo,
@@ -107,7 +105,7 @@ impl<B: Drop> Phase<B> {
 impl<B: Drop> Task<B> {
     /// A new task of this number and task set, with its first poll queued, and its first runnable.
     pub fn new(number: TaskNo, owner: u64, body: B) -> (Self, Runnable)
-        ensures task { result.0 ≡ record { number = number; owner = owner; phase = phase.Queued body; cancelled = false } }
+        ensures task { result.0 ≡ record { number = number; owner = owner; phase = Phase.Queued body; cancelled = false } }
         ensures runnable { result.1 ≡ runnable_of result.0 }
     {
         let task = Task {
@@ -147,8 +145,7 @@ impl<B: Drop> Task<B> {
         self.cancelled
     }
 
-    /// A wake. Answers the runnable of a task that was idle; a task that is polled remembers the
-    /// wake.
+    /// A wake. Answers the runnable of a task that was idle; a task that is polled remembers the wake.
     pub fn wake(&mut self) -> Option<Runnable>
         ensures runnable { result ≡ (if is_idle self.old.phase then Some (runnable_of self.old) else None) }
         ensures woken { self.new ≡ record self.old { phase = woken self.old.phase } }
@@ -160,9 +157,8 @@ impl<B: Drop> Task<B> {
         }
     }
 
-    /// Begins a poll with the task's runnable, and hands the body out. None where the runnable is
-    /// stale: the task was cleared; it is discarded then, and nothing changes. The caller must have
-    /// taken the runnable of this very task.
+    /// Begins a poll with the task's runnable, and hands the body out. None where the runnable is stale: the task was
+    /// cleared; it is discarded then, and nothing changes. The caller must have taken the runnable of this very task.
     pub fn begin(&mut self, runnable: Runnable) -> Option<B>
         requires { runnable ≡ runnable_of self.old }
         ensures body { result ≡ queued_body self.old.phase }
@@ -172,9 +168,8 @@ impl<B: Drop> Task<B> {
         self.phase.begin()
     }
 
-    /// Ends a poll that is pending, and takes the body back. A task that was woken meanwhile is
-    /// queued again, and its runnable comes back. One that was cleared meanwhile is over. The
-    /// caller must be who polls the task.
+    /// Ends a poll that is pending, and takes the body back. A task that was woken meanwhile is queued again, and its
+    /// runnable comes back. One that was cleared meanwhile is over. The caller must be who polls the task.
     pub fn pend(&mut self, body: B) -> AfterPoll
         requires { IsTrue (is_polled self.old.phase) }
         ensures answer { result ≡ pend_answer self.old }
@@ -195,7 +190,7 @@ impl<B: Drop> Task<B> {
     /// set. The caller must be who polls the task.
     pub fn done(&mut self, how: Ended) -> AfterPoll
         requires { IsTrue (is_polled self.old.phase) }
-        ensures answer { result ≡ after.Retire self.old.number how }
+        ensures answer { result ≡ AfterPoll.Retire self.old.number how }
         ensures over { self.new ≡ over self.old }
     {
         self.phase = Phase::Complete;

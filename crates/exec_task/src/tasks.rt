@@ -1,14 +1,12 @@
 //! The live ordinary tasks of a runner, kept so that its end can clear each of them. Roots belong
 //! to their workers instead.
 //!
-//! The set has shards, so that workers that insert and remove at the same time seldom meet; a live
-//! worker puts each shard under a lock of its own. A task's shard is its number modulo the shards.
-//! What the set holds of a task is its user's: nothing, where the tasks stand elsewhere by their
-//! numbers, or a shared cell.
+//! The set has shards, so that workers that insert and remove at the same time seldom meet; a live worker puts each
+//! shard under a lock of its own. A task's shard is its number modulo the shards. What the set holds of a task is its
+//! user's: nothing, where the tasks stand elsewhere by their numbers, or a shared cell.
 //!
-//! An open set takes tasks, and holds each until it is removed. A closed one takes none, and is
-//! drained: each task that it still holds is handed out once, to be cleared. Only then may a
-//! removal find nothing.
+//! An open set takes tasks, and holds each until it is removed. A closed one takes none, and is drained: each task that
+//! it still holds is handed out once, to be cleared. Only then may a removal find nothing.
 
 ghost use Rattle.std.specs.Prelude.{◌≡◌, ◌<◌, ◌≤◌, ◌^◌, ◌⊎◌, ◌++◌, ◌∷◌, [], ℕ, true, false, length, replicate, IfOk, IfErr, IfNone, IfSome, OnOk, OnErr, IsSome, option_copied, None, Some};
 ghost use Rattle.exec_task.specs.TaskSet.{IsShardCount, IsRefused, shard_of, shard_at, at_number, with_task, without_task, ShardChanges, Changes, held, inserted, removed, IsFor, TakesNewest, drain_of};
@@ -34,8 +32,7 @@ pub enum Refusal<T> {
     NoMemory(T),
 }
 
-/// One shard of a task set: tasks under their numbers, the newest of which is the one of the
-/// highest number.
+/// One shard of a task set: tasks under their numbers, the newest of which is the one of the highest number.
 #[derive(Drop)]
 pub struct Shard<T> {
     tasks: BTreeMap<u32, T>,
@@ -102,8 +99,7 @@ impl<T> Shard<T> {
         self.tasks.get(&number.0)
     }
 
-    /// Takes out what is held of the task of this number. None where nothing is, and then nothing
-    /// changes.
+    /// Takes out what is held of the task of this number. None where nothing is, and then nothing changes.
     pub fn take(&mut self, number: TaskNo) -> Option<T>
         ensures task { result ≡ at_number self.old number.0 }
         ensures taken { self.new ≡ without_task self.old number.0 }
@@ -121,10 +117,8 @@ impl<T> Shard<T> {
         ensures empty { IfNone result (self.old ≡ []) }
         ensures kept { IfNone result (self.new ≡ self.old) }
     {
-        match self.tasks.pop_last() {
-            Some((number, task)) => Some((TaskNo(number), task)),
-            None => None,
-        }
+        let (number, task) = self.tasks.pop_last()?;
+        Some((TaskNo(number), task))
     }
 }
 
@@ -188,11 +182,10 @@ impl<T> Tasks<T> {
         self.shards[self.index(number)].get(number)
     }
 
-    /// Makes a task one of the set, and hands its first runnable to a queue: the second half of a
-    /// spawn. Gives back what was to be held of it where the set is closed, or where there is no
-    /// memory for it or for its place in the global queue; its runnable is discarded then, and who
-    /// gets the task back clears it. The caller must have made the task and the runnable for this
-    /// set, under a number that it doesn't hold.
+    /// Makes a task one of the set, and hands its first runnable to a queue: the second half of a spawn. Gives back
+    /// what was to be held of it where the set is closed, or where there is no memory for it or for its place in the
+    /// global queue; its runnable is discarded then, and who gets the task back clears it. The caller must have made
+    /// the task and the runnable for this set, under a number that it doesn't hold.
     pub fn register<P: Place>(
         &mut self,
         alloc: Global,
@@ -245,10 +238,9 @@ impl<T> Tasks<T> {
             return Err(Refusal::Closed(task));
         }
         let index = self.index(number);
-        match self.shards[index].put(alloc, number, task) {
-            Ok(()) => Ok(()),
-            Err(back) => Err(Refusal::NoMemory(back)),
-        }
+        self.shards[index]
+            .put(alloc, number, task)
+            .map_err(Refusal::NoMemory)
     }
 
     /// Takes out what is held of the task of this number. None only where the set is closed and

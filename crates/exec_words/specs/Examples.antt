@@ -1,14 +1,6 @@
 -- Queues, words and inboxes to look at.
-use Rattle.std.specs.Prelude.{ℕ, zero, suc, ◌+◌, Bool, false, List, [], ◌∷◌}
-use Rattle.exec_words.specs.declared.head.Head.{Head}
-use Rattle.exec_words.specs.declared.inbox.Message.TheVariants.{WakeRoot, Cancel}
-use Rattle.exec_words.specs.declared.word.WaitTarget.{WaitTarget}
-use Rattle.exec_words.specs.declared.word.PureWord.{PureWord}
-use Rattle.exec_words.specs.IdleRuns.{Tally, Add, Subtract, Exchange, nothing}
-use Rattle.exec_words.specs.IdleRuns as idle
-use Rattle.exec_words.specs.Inbox.{Inbox, without_mail, sent}
-use Rattle.exec_words.specs.Queue.{Queue, claimed, popped}
-use Rattle.exec_words.specs.QueueRuns.{Push, Pop, Claim, Release, History, begun, after_all}
+use Rattle.std.specs.Prelude.{ℕ, zero, suc, ◌+◌, Bool, List, [], ◌∷◌}
+use Rattle.exec_words.specs.{declared.head.Head.Head, declared.inbox.Message.Message, declared.word.WaitTarget.WaitTarget, declared.word.PureWord.PureWord, IdleRuns.Tally, IdleRuns.Add, IdleRuns.Subtract, IdleRuns.Exchange, IdleRuns.nothing, IdleRuns.after_all as after_moves, Inbox.Inbox, Inbox.without_mail, Inbox.sent, Queue.Queue, Queue.claimed, Queue.popped, QueueRuns.Push, QueueRuns.Pop, QueueRuns.Claim, QueueRuns.Release, QueueRuns.History, QueueRuns.begun, QueueRuns.after_all}
 
 -- so many numbers from this one on
 abbrev pub numbers : ℕ → ℕ → List ℕ
@@ -43,7 +35,7 @@ no_mail = without_mail 2
 
 -- a wake of the root, and a cancel
 abbrev pub two_letters : Inbox ℕ ℕ
-two_letters = sent (sent no_mail WakeRoot) (Cancel 7)
+two_letters = sent (sent no_mail Message.WakeRoot) (Message.Cancel 7)
 
 -- three values go in, one is claimed, and one is popped beside the claim
 abbrev pub a_run : History ℕ
@@ -51,4 +43,4 @@ a_run = after_all (begun 0) (Push 1 ∷ Push 2 ∷ Push 3 ∷ Claim 3 ∷ Pop �
 
 -- a search begins and ends; the second exchange finds a count
 abbrev pub searches : Tally
-searches = idle.after_all nothing (Add ∷ Subtract ∷ Exchange ∷ Exchange ∷ [])
+searches = after_moves nothing (Add ∷ Subtract ∷ Exchange ∷ Exchange ∷ [])

@@ -1,8 +1,6 @@
 -- What is read off the head and the tail of a run queue.
 use Rattle.std.specs.Prelude.{ℕ, ◌+◌, ◌-◌, ◌/◌, ◌^◌, ◌==◌, nat_lt, nat_le, Bool, ◌&&◌, if◌then◌else◌}
-use Rattle.exec_words.specs.declared.head.Head.{Head}
-use Rattle.exec_words.specs.declared.head.Fit.{Fit}
-use Rattle.exec_words.specs.declared.head.Fit.TheVariants.{Room, Overflow, Claimed, Spent}
+use Rattle.exec_words.specs.declared.head.{Head.Head, Fit.Fit}
 
 -- from this count of its tail on a queue takes no more values
 abbrev pub is_spent : ℕ → Bool
@@ -39,5 +37,6 @@ claim_at h tail = (tail - h.real) / 2
 -- what a push does
 abbrev pub fit_at : Head → ℕ → Fit
 fit_at h tail =
-    if is_spent tail then Spent
-    else (if nat_lt (tail - h.real + h.gap) 256 then Room (tail - h.real + 1) else (if h.gap == 0 then Overflow else Claimed))
+    if is_spent tail then Fit.Spent
+    else (if nat_lt (tail - h.real + h.gap) 256 then Fit.Room (tail - h.real + 1)
+    else (if h.gap == 0 then Fit.Overflow else Fit.Claimed))

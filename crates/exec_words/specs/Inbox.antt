@@ -1,11 +1,7 @@
 -- What a contract sees of an inbox, and what its calls do to it and to the wake word of its worker.
 use Rattle.std.specs.Prelude.{◌≡◌, ℕ, ◌-◌, ◌^◌, ◌<◌, Bool, true, false, not, ◌&&◌, List, [], ◌∷◌, ◌++◌, length, if◌then◌else◌}
 use Rattle.std.specs.List.{list_any}
-use Rattle.exec_words.specs.declared.inbox.Message.{Message}
-use Rattle.exec_words.specs.declared.inbox.Message.TheVariants.{WakeRoot}
-use Rattle.exec_words.specs.declared.word.PureWord.{PureWord}
-use Rattle.exec_words.specs.Reserved.{Reserved}
-use Rattle.exec_words.specs.Word.{asks_signal, next_batch}
+use Rattle.exec_words.specs.{declared.inbox.Message.Message, declared.word.PureWord.PureWord, Reserved.Reserved, Word.asks_signal, Word.next_batch}
 
 -- the messages that aren't taken, the oldest first; for how many there are places; whether it takes no more; and how
 -- many batches were published and taken, modulo 2^29
@@ -39,7 +35,7 @@ module _ {F C : Type 0} where
     pub empty : i.closed ≡ true → has_mail i ≡ false
 
   abbrev pub is_wake_root : Message F C → Bool
-  is_wake_root WakeRoot = true
+  is_wake_root Message.WakeRoot = true
   is_wake_root _ = false
 
   -- a second wake of the root, beside one that isn't taken

@@ -1,12 +1,6 @@
 -- What a contract sees of a run queue, and its transitions.
 use Rattle.std.specs.Prelude.{◌≡◌, ℕ, ◌+◌, ◌-◌, ◌^◌, ◌≤◌, List, [], ◌∷◌, ◌++◌, length, take, drop}
-use Rattle.exec_words.specs.declared.head.Head.{Head}
-use Rattle.exec_words.specs.declared.head.Fit.{Fit}
-use Rattle.exec_words.specs.declared.head.Fit.TheVariants as fit
-use Rattle.exec_words.specs.declared.queue.PushAnswer.{PushAnswer}
-use Rattle.exec_words.specs.declared.queue.PushAnswer.TheVariants as answer
-use Rattle.exec_words.specs.Reserved.{Reserved}
-use Rattle.exec_words.specs.Head.{popped_head, claimed_head, released_head, overflowed_head, room_at, fit_at}
+use Rattle.exec_words.specs.{declared.head.Head.Head, declared.head.Fit.Fit, declared.queue.PushAnswer.PushAnswer, Reserved.Reserved, Head.popped_head, Head.claimed_head, Head.released_head, Head.overflowed_head, Head.room_at, Head.fit_at}
 
 -- the count of the front value, the places before it that are not free yet, the values, and those that the owner
 -- keeps in the middle of an overflow
@@ -66,20 +60,20 @@ module _ {T : Type 0} where
 
   -- what a push answers, where nobody acts in between: a value that doesn't fit comes back
   abbrev pub push_answer : Fit → T → PushAnswer T
-  push_answer (fit.Room len) value = answer.Pushed len
-  push_answer fit.Overflow value = answer.Overflow value
-  push_answer fit.Claimed value = answer.Claimed value
-  push_answer fit.Spent value = answer.Spent value
+  push_answer (Fit.Room len) value = PushAnswer.Pushed len
+  push_answer Fit.Overflow value = PushAnswer.Overflow value
+  push_answer Fit.Claimed value = PushAnswer.Claimed value
+  push_answer Fit.Spent value = PushAnswer.Spent value
 
   -- the queue after it: one more value, or the oldest half, or as it was
   abbrev pub after_push : Fit → Queue T → T → Queue T
-  after_push (fit.Room len) q value = published q (value ∷ [])
-  after_push fit.Overflow q value = restored (overflowed q)
+  after_push (Fit.Room len) q value = published q (value ∷ [])
+  after_push Fit.Overflow q value = restored (overflowed q)
   after_push _ q value = q
 
   -- what goes into the owner's hand
   abbrev pub handed_out : Fit → Queue T → List T
-  handed_out fit.Overflow q = newest q
+  handed_out Fit.Overflow q = newest q
   handed_out _ q = []
 
   -- What the fields of a run queue keep, which no public clause cites: each list has its places, values and gap fill

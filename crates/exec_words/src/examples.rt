@@ -1,17 +1,8 @@
 //! Worked examples of the definitions, proved by computation: what holds, and what doesn't.
 
 ghost use Rattle.std.specs.Prelude.{◌≡◌, ◌≢◌, ◌-◌, ◌^◌, true, false, [], ◌∷◌, Some, None};
-ghost use Rattle.exec_words.specs.declared.head.Fit.TheVariants as fit;
-ghost use Rattle.exec_words.specs.declared.inbox.Message.TheVariants as mail;
-ghost use Rattle.exec_words.specs.declared.word.WaitTarget.TheVariants as wait;
+ghost use Rattle.exec_words.specs.{declared.head.Fit.Fit, declared.inbox.Message.Message, declared.word.WaitTarget.WaitTarget, Global.share_of, Head.fit_at, Head.room_at, Head.is_stealable_at, Idle.lowest_of, Inbox.sent, Inbox.batch_taken, Inbox.has_mail, Queue.claimed, Queue.popped, Queue.released, Queue.overflowed, Queue.newest, Queue.restored, QueueRuns.IsWithin, Word.asks_signal, Word.is_idle_at, Word.next_batch};
 ghost use Rattle.exec_words.specs.Examples.{numbers, head, queue_at, five, popped_past, full, word, no_mail, two_letters, a_run, searches};
-ghost use Rattle.exec_words.specs.Global.{share_of};
-ghost use Rattle.exec_words.specs.Head.{fit_at, room_at, is_stealable_at};
-ghost use Rattle.exec_words.specs.Idle.{lowest_of};
-ghost use Rattle.exec_words.specs.Inbox.{sent, batch_taken, has_mail};
-ghost use Rattle.exec_words.specs.Queue.{claimed, popped, released, overflowed, newest, restored};
-ghost use Rattle.exec_words.specs.QueueRuns.{IsWithin};
-ghost use Rattle.exec_words.specs.Word.{asks_signal, is_idle_at, next_batch};
 
 /// Five values, of which a thief claims two. The owner pops two past the claim, and the release
 /// frees all four places. A full queue flows over: the oldest half stays, under new counts.
@@ -26,14 +17,13 @@ pub fn transitions()
     ensures not_the_oldest { newest full ≢ numbers 0 128 }
 {}
 
-/// What fits, by head and tail, up to the count from which on a queue takes no more; and whether a
-/// thief may claim.
+/// What fits, by head and tail, up to the count from which on a queue takes no more; and whether a thief may claim.
 pub fn fits()
-    ensures last { fit_at (head 0 0) 255 ≡ fit.Room 256 }
-    ensures overflow { fit_at (head 0 0) 256 ≡ fit.Overflow }
-    ensures beside_pops { fit_at (head 4 4) 255 ≡ fit.Room 252 }
-    ensures full { fit_at (head 4 4) 256 ≡ fit.Claimed }
-    ensures spent { fit_at (head (2 ^ 55 - 513) 0) (2 ^ 55 - 512) ≡ fit.Spent }
+    ensures last { fit_at (head 0 0) 255 ≡ Fit.Room 256 }
+    ensures overflow { fit_at (head 0 0) 256 ≡ Fit.Overflow }
+    ensures beside_pops { fit_at (head 4 4) 255 ≡ Fit.Room 252 }
+    ensures full { fit_at (head 4 4) 256 ≡ Fit.Claimed }
+    ensures spent { fit_at (head (2 ^ 55 - 513) 0) (2 ^ 55 - 512) ≡ Fit.Spent }
     ensures two { is_stealable_at (head 7 0) 9 ≡ true }
     ensures lone { is_stealable_at (head 7 0) 8 ≡ false }
     ensures beside_a_claim { is_stealable_at (head 7 1) 20 ≡ false }
@@ -54,23 +44,20 @@ pub fn shares()
 
 /// Whether a publication asks for a signal, and whether a wait may begin.
 pub fn signals()
-    ensures armed { asks_signal (word wait.Ring false) ≡ true }
-    ensures signalled { asks_signal (word wait.Ring true) ≡ false }
-    ensures unarmed { asks_signal (word wait.None false) ≡ false }
-    ensures idle { is_idle_at (word wait.Sleeping false) 0 ≡ true }
-    ensures latched { is_idle_at (word wait.Sleeping true) 0 ≡ false }
-    ensures behind { is_idle_at (word wait.Sleeping false) 1 ≡ false }
+    ensures armed { asks_signal (word WaitTarget.Ring false) ≡ true }
+    ensures signalled { asks_signal (word WaitTarget.Ring true) ≡ false }
+    ensures unarmed { asks_signal (word WaitTarget.None false) ≡ false }
+    ensures idle { is_idle_at (word WaitTarget.Sleeping false) 0 ≡ true }
+    ensures latched { is_idle_at (word WaitTarget.Sleeping true) 0 ≡ false }
+    ensures behind { is_idle_at (word WaitTarget.Sleeping false) 1 ≡ false }
     ensures round { next_batch 536870911 ≡ 0 }
 {}
 
 /// Two messages are one batch; a second wake of the root is dropped until the first is taken.
 pub fn batches()
-    ensures two { two_letters ≡ record no_mail {
-      messages = mail.WakeRoot ∷ mail.Cancel 7 ∷ [];
-      published = 1;
-    } }
-    ensures dropped { sent two_letters mail.WakeRoot ≡ two_letters }
-    ensures not_the_cancel { sent two_letters (mail.Cancel 7) ≢ two_letters }
+    ensures two { two_letters ≡ record no_mail { messages = Message.WakeRoot ∷ Message.Cancel 7 ∷ []; published = 1 } }
+    ensures dropped { sent two_letters Message.WakeRoot ≡ two_letters }
+    ensures not_the_cancel { sent two_letters (Message.Cancel 7) ≢ two_letters }
     ensures taken { batch_taken two_letters (record { values = []; places = 2 })
         ≡ record no_mail { published = 1; taken = 1 } }
     ensures nothing { has_mail no_mail ≡ false }

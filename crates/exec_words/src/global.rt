@@ -7,7 +7,7 @@
 //! queue takes nothing more. Ports the global queue of `commonware_runtime`'s `iouring::pool`.
 
 ghost use Rattle.std.specs.Prelude.{◌≡◌, ◌+◌, ◌-◌, ◌<◌, ◌≤◌, ◌==◌, ◌↔◌, [], ◌∷◌, ◌++◌, length, take, drop, max, slice_get, false, true, IsTrue, IsOk, OnOk, IfErr, OnErr, not, Some, None};
-ghost use Rattle.exec_words.specs.Global.{share_of};
+ghost use Rattle.exec_words.specs.{Global.appended, Global.share_of, Global.share_queued, Global.share_taken, Global.spare_places, Queue.published, Queue.room_of};
 
 use super::HALF;
 use super::queue::PureQueue;
@@ -40,9 +40,6 @@ impl<T> Model for GlobalQueue<T> {
 }
 
 impl<T> GlobalQueue<T> {
-    ghost use Rattle.exec_words.specs.Global.{appended, share_queued, share_taken, spare_places};
-    ghost use Rattle.exec_words.specs.Queue.{room_of, published};
-
     /// An open queue without values and places.
     pub fn new(alloc: Global) -> Self
         ensures { result ≡ record { values = []; places = 0; closed = false } }
@@ -57,8 +54,7 @@ impl<T> GlobalQueue<T> {
     /// Makes places for `n` values in all, those that are there already among them. Where there is
     /// no memory the queue stays as it is.
     pub fn reserve(&mut self, alloc: Global, n: usize) -> Result<(), AllocError>
-        ensures places { OnOk result (self.new
-            ≡ record self.old { places = max self.old.places n }) }
+        ensures places { OnOk result (self.new ≡ record self.old { places = max self.old.places n }) }
         ensures kept { OnErr result (self.new ≡ self.old) }
     {
         self.values.reserve(alloc, n)
@@ -120,11 +116,10 @@ impl<T> GlobalQueue<T> {
         true
     }
 
-    /// Takes a share for a worker of a pool with so many workers: answers the oldest value, and
-    /// publishes the others in the worker's run queue. None exactly where there is no value. `room`
-    /// and `held` are the free places and the values of that run queue, by the head that its owner
-    /// loaded; its room doesn't shrink while the owner waits. The caller must have a worker, and be
-    /// in the middle of no overflow.
+    /// Takes a share for a worker of a pool with so many workers: answers the oldest value, and publishes the others in
+    /// the worker's run queue. None exactly where there is no value. `room` and `held` are the free places and the
+    /// values of that run queue, by the head that its owner loaded; its room doesn't shrink while the owner waits. The
+    /// caller must have a worker, and be in the middle of no overflow.
     pub fn take(
         &mut self,
         workers: usize,

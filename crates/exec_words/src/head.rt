@@ -1,10 +1,9 @@
 //! The head of a run queue, and what a worker reads off it.
 //!
-//! A queue's values have counts, one after another. Its head is the count `real` of its front value
-//! and the gap: 0, or the places of the one claim and of what its owner popped past it since. Its
-//! tail is the count one past its last value. Who has loaded both knows how many values there were,
-//! whether they may be claimed, and what a push does: by rules (`specs/Head.antt`) that every form
-//! of the queue has.
+//! A queue's values have counts, one after another. Its head is the count `real` of its front value and the gap: 0, or
+//! the places of the one claim and of what its owner popped past it since. Its tail is the count one past its last
+//! value. Who has loaded both knows how many values there were, whether they may be claimed, and what a push does: by
+//! rules (`specs/Head.antt`) that every form of the queue has.
 
 ghost use Rattle.std.specs.Prelude.{◌≡◌, ◌-◌, ◌+◌, ◌==◌, ◌^◌, ◌<◌};
 ghost use Rattle.exec_words.specs.Head.{room_at, is_stealable_at, fit_at};
@@ -16,8 +15,7 @@ use super::{CAPACITY, SPENT, STEALABLE};
 pub struct Head {
     /// The count of the front value.
     pub real: u64,
-    /// How many places before the front are not free yet: 0, or those of a claim and of the pops
-    /// past it.
+    /// How many places before the front are not free yet: 0, or those of a claim and of the pops past it.
     pub gap: usize,
 }
 

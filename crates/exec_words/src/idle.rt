@@ -1,9 +1,8 @@
 //! Which workers of a pool are about to sleep, and how many search for work.
 //!
-//! A worker that finds nothing to do publishes itself: its number goes into the set. Whoever has
-//! work for it claims it then, by an exchange of the set for one without its lowest number, and
-//! hands it a search count. A worker that runs again withdraws: where its number is gone, it was
-//! claimed, and holds the claimer's count.
+//! A worker that finds nothing to do publishes itself: its number goes into the set. Whoever has work for it claims it
+//! then, by an exchange of the set for one without its lowest number, and hands it a search count. A worker that runs
+//! again withdraws: where its number is gone, it was claimed, and holds the claimer's count.
 //!
 //! A search count is the duty to look for work, or to hand that duty on. A worker that begins a
 //! search adds one, a wake reserves one before its claim, and who is done subtracts one and is told
@@ -76,8 +75,7 @@ impl PureIdle {
     /// Publishes a worker: the or of its bit into the set. The caller must name a number below 64.
     pub fn publish(&mut self, worker: usize)
         requires { worker < 64 }
-        ensures { self.new
-            ≡ record self.old { published = slice_set self.old.published worker true } }
+        ensures { self.new ≡ record self.old { published = slice_set self.old.published worker true } }
     {
         self.set.has[worker] = true;
     }
@@ -87,8 +85,7 @@ impl PureIdle {
     pub fn withdraw(&mut self, worker: usize) -> bool
         requires { worker < 64 }
         ensures found { result ≡ is_in self.old.published worker }
-        ensures withdrawn { self.new
-            ≡ record self.old { published = slice_set self.old.published worker false } }
+        ensures withdrawn { self.new ≡ record self.old { published = slice_set self.old.published worker false } }
     {
         let found = self.set.has[worker];
         self.set.has[worker] = false;

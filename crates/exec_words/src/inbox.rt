@@ -1,14 +1,13 @@
 //! The messages that wait for one worker, in batches.
 //!
-//! Anyone sends, under a lock; the worker takes all that is there at once, as one batch, and
-//! applies it in order. The first message of a batch publishes it in the worker's wake word, so
-//! batches published less batches taken is 1 where an open inbox holds a message, and else 0. That
-//! the worker's root is to be woken stands at most once in a batch. A closed inbox gives each
-//! message back, and what stood in it when it closed counts as taken. Ports the `Inbox` and
+//! Anyone sends, under a lock; the worker takes all that is there at once, as one batch, and applies it in order. The
+//! first message of a batch publishes it in the worker's wake word, so batches published less batches taken is 1 where
+//! an open inbox holds a message, and else 0. That the worker's root is to be woken stands at most once in a batch. A
+//! closed inbox gives each message back, and what stood in it when it closed counts as taken. Ports the `Inbox` and
 //! `Message` of `commonware_runtime`'s `iouring::mailbox`.
 
 ghost use Rattle.std.specs.Prelude.{◌≡◌, ◌<◌, ◌^◌, [], length, max, false, true, not, ◌&&◌, IsOk, IfOk, OnOk, IfErr, OnErr, ◌↔◌};
-ghost use Rattle.exec_words.specs.declared.inbox.Message.{Message as Mail};
+ghost use Rattle.exec_words.specs.Word.{asks_signal};
 
 use super::reserved::Reserved;
 use super::word::{PureWord, next_batch};
@@ -55,7 +54,6 @@ impl<F, C> Model for Inbox<F, C> {
 
 impl<F, C> Inbox<F, C> {
     ghost use Rattle.exec_words.specs.Inbox.{without_mail, sent, is_dropped, opens_batch, word_after, batch_taken, batch_handed, has_mail, shut, IsCounted, spare_places};
-    ghost use Rattle.exec_words.specs.Word.{asks_signal};
 
     /// An open inbox without messages and places.
     pub fn new(alloc: Global) -> Self
@@ -73,8 +71,7 @@ impl<F, C> Inbox<F, C> {
     /// Makes places for `n` messages in all, those that are there already among them. Where there
     /// is no memory the inbox stays as it is.
     pub fn reserve(&mut self, alloc: Global, n: usize) -> Result<(), AllocError>
-        ensures places { OnOk result (self.new
-            ≡ record self.old { places = max self.old.places n }) }
+        ensures places { OnOk result (self.new ≡ record self.old { places = max self.old.places n }) }
         ensures kept { OnErr result (self.new ≡ self.old) }
     {
         self.messages.reserve(alloc, n)
@@ -88,10 +85,9 @@ impl<F, C> Inbox<F, C> {
         self.closed
     }
 
-    /// Appends a message, and publishes the batch that it begins in the worker's wake word. Answers
-    /// whether a signal must follow. A second wake of the root beside one that isn't taken is
-    /// dropped. Gives the message back exactly where the inbox is closed, and nothing changes then.
-    /// The caller must have reserved the message's place.
+    /// Appends a message, and publishes the batch that it begins in the worker's wake word. Answers whether a signal
+    /// must follow. A second wake of the root beside one that isn't taken is dropped. Gives the message back exactly
+    /// where the inbox is closed, and nothing changes then. The caller must have reserved the message's place.
     pub fn send(
         &mut self,
         word: &mut PureWord,
@@ -100,11 +96,9 @@ impl<F, C> Inbox<F, C> {
     where
         F: Drop,
         C: Drop,
-        requires { self.old.closed ≡ false → is_dropped self.old message ≡ false
-            → 0 < spare_places self.old }
+        requires { self.old.closed ≡ false → is_dropped self.old message ≡ false → 0 < spare_places self.old }
         ensures closed { IsOk result ↔ (self.old.closed ≡ false) }
-        ensures asks { IfOk result (λ asks. asks ≡ (opens_batch self.old message
-            && asks_signal word.old)) }
+        ensures asks { IfOk result (λ asks. asks ≡ (opens_batch self.old message && asks_signal word.old)) }
         ensures sent { OnOk result (self.new ≡ sent self.old message) }
         ensures word { OnOk result (word.new ≡ word_after self.old message word.old) }
         ensures back { IfErr result (λ m. m ≡ message) }
@@ -128,9 +122,8 @@ impl<F, C> Inbox<F, C> {
         Ok(word.publish())
     }
 
-    /// Takes all messages as one batch into `batch`, whose places stay here in exchange. False
-    /// exactly where there is none, and nothing changes then. The caller must have applied the
-    /// batch before: `batch` is empty.
+    /// Takes all messages as one batch into `batch`, whose places stay here in exchange. False exactly where there is
+    /// none, and nothing changes then. The caller must have applied the batch before: `batch` is empty.
     pub fn take(&mut self, batch: &mut Reserved<Message<F, C>>) -> bool
         requires { batch.old.values ≡ [] }
         ensures answer { result ≡ has_mail self.old }
@@ -146,9 +139,8 @@ impl<F, C> Inbox<F, C> {
         true
     }
 
-    /// Closes the inbox. What stood in it counts as a batch that was taken, and goes into `batch`,
-    /// for the worker to let go; the answer is whether there was one. The caller must have let go of
-    /// the batch before: `batch` is empty.
+    /// Closes the inbox. What stood in it counts as a batch that was taken, and goes into `batch`, for the worker to
+    /// let go; the answer is whether there was one. The caller must have let go of the batch before: `batch` is empty.
     pub fn close(&mut self, batch: &mut Reserved<Message<F, C>>) -> bool
         requires { batch.old.values ≡ [] }
         ensures answer { result ≡ has_mail self.old }

@@ -1,8 +1,7 @@
 //! Laws of run queues and of the search count, over whatever calls come in whatever order.
 
 ghost use Rattle.std.specs.Prelude.{◌≡◌, ◌+◌, ◌++◌, ℕ, Bool, List, count_by};
-ghost use Rattle.exec_words.specs.IdleRuns.{Change as Move, after_all as after_moves, nothing};
-ghost use Rattle.exec_words.specs.QueueRuns.{Change, IsWithin, begun, after_all};
+ghost use Rattle.exec_words.specs.{IdleRuns.Change as Move, IdleRuns.after_all as after_moves, IdleRuns.nothing, QueueRuns.Change, QueueRuns.IsWithin, QueueRuns.begun, QueueRuns.after_all};
 
 /// Each value that was put in is in one place, of those that left at the front, those that
 /// overflows handed out, and those that are left. So none is handed out twice, and none is lost.
@@ -27,7 +26,5 @@ pub fn values_leave_in_order()
 /// The search count is what was added and exchanged in, less what was subtracted.
 #[tactic(auto, using(crate::proofs::Counts::stays_a_sum))]
 pub fn the_count_is_a_sum()
-    ensures { (moves : List Move)
-        → let t = after_moves nothing moves in
-        t.count + t.went_out ≡ t.came_in }
+    ensures { (moves : List Move) → let t = after_moves nothing moves in t.count + t.went_out ≡ t.came_in }
 {}

@@ -1,11 +1,10 @@
 //! What the workers of a pool share, as plain data: each call is one atomic step.
 //!
-//! Each operation that an executor makes on a shared thing in one step is one call here: a load, a
-//! store, an exchange that may fail and then tells what it found, or what is done under one lock.
-//! Nothing waits, and no call but a maker or a `reserve` takes memory. So an executor in one thread
-//! makes its steps of these calls in any order, and what runs in threads is proved to make the same
-//! transitions. The things are a worker's run queue (`queue`), the queue of all workers (`global`),
-//! the set of idle ones with its search count (`idle`), the wake word (`word`), and messages for
+//! Each operation that an executor makes on a shared thing in one step is one call here: a load, a store, an exchange
+//! that may fail and then tells what it found, or what is done under one lock. Nothing waits, and no call but a maker
+//! or a `reserve` takes memory. So an executor in one thread makes its steps of these calls in any order, and what runs
+//! in threads is proved to make the same transitions. The things are a worker's run queue (`queue`), the queue of all
+//! workers (`global`), the set of idle ones with its search count (`idle`), the wake word (`word`), and messages for
 //! one worker in batches (`inbox`, `mailbox`).
 #![tactic(auto)]
 

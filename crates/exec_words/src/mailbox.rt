@@ -1,13 +1,12 @@
 //! The way to a worker for everyone else: its inbox and its wake word, over plain values.
 //!
-//! `send` is a whole sending, where nobody acts in between: the section that appends and publishes,
-//! and then the signal where one is asked for. An executor that makes these one by one calls
-//! `Inbox::send` and `PureWord::wake`. What concerns the inbox alone, as reserving, taking and
-//! closing, leaves the wake word as it is. Ports the `Mailbox` of `commonware_runtime`'s
-//! `iouring::mailbox`.
+//! `send` is a whole sending, where nobody acts in between: the section that appends and publishes, and then the signal
+//! where one is asked for. An executor that makes these one by one calls `Inbox::send` and `PureWord::wake`. What
+//! concerns the inbox alone, as reserving, taking and closing, leaves the wake word as it is. Ports the `Mailbox` of
+//! `commonware_runtime`'s `iouring::mailbox`.
 
 ghost use Rattle.std.specs.Prelude.{◌≡◌, ◌<◌, [], false, true, max, IsOk, IfOk, OnOk, IfErr, OnErr, ◌↔◌};
-ghost use Rattle.exec_words.specs.declared.word.WaitTarget.TheVariants as wait;
+ghost use Rattle.exec_words.specs.declared.word.WaitTarget.{WaitTarget};
 
 use super::inbox::{Inbox, Message};
 use super::reserved::Reserved;
@@ -32,8 +31,7 @@ impl<F, C> Mailbox<F, C> {
         F: Drop,
         C: Drop,
         ensures inbox { IfOk result (λ m. m.inbox ≡ without_mail 1) }
-        ensures waker { IfOk result (λ m. m.waker
-            ≡ record { target = wait.None; latch = false; batch = 0 }) }
+        ensures waker { IfOk result (λ m. m.waker ≡ record { target = WaitTarget.None; latch = false; batch = 0 }) }
     {
         let mut inbox = Inbox::new(alloc);
         inbox.reserve(alloc, 1)?;
@@ -43,10 +41,9 @@ impl<F, C> Mailbox<F, C> {
         })
     }
 
-    /// Sends a message, and signals the worker where the batch that it begins asks for it. A second
-    /// wake of the root beside one that isn't taken is dropped. Gives the message back exactly
-    /// where the mailbox is closed, and nothing changes then. The caller must have reserved the
-    /// message's place.
+    /// Sends a message, and signals the worker where the batch that it begins asks for it. A second wake of the root
+    /// beside one that isn't taken is dropped. Gives the message back exactly where the mailbox is closed, and nothing
+    /// changes then. The caller must have reserved the message's place.
     pub fn send(&mut self, message: Message<F, C>) -> Result<(), Message<F, C>>
     where
         F: Drop,
@@ -55,8 +52,7 @@ impl<F, C> Mailbox<F, C> {
             → 0 < spare_places self.old.inbox }
         ensures closed { IsOk result ↔ (self.old.inbox.closed ≡ false) }
         ensures sent { OnOk result (self.new.inbox ≡ sent self.old.inbox message) }
-        ensures waker { OnOk result (self.new.waker
-            ≡ word_signalled self.old.inbox message self.old.waker) }
+        ensures waker { OnOk result (self.new.waker ≡ word_signalled self.old.inbox message self.old.waker) }
         ensures back { IfErr result (λ m. m ≡ message) }
         ensures kept { OnErr result (self.new ≡ self.old) }
     {

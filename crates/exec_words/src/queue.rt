@@ -1,10 +1,9 @@
 //! The run queue of a worker, as transitions.
 //!
-//! A run queue holds up to 256 values, the oldest first. One worker owns it: only the owner pushes
-//! and pops. Others are thieves, each of which claims the oldest half, moves it away, and releases
-//! the claim. What happens between two steps of one party is seen by the next one: each exchange
-//! names the head that its party saw; where the head has changed since, it changes nothing, and
-//! answers the head that it found.
+//! A run queue holds up to 256 values, the oldest first. One worker owns it: only the owner pushes and pops. Others are
+//! thieves, each of which claims the oldest half, moves it away, and releases the claim. What happens between two steps
+//! of one party is seen by the next one: each exchange names the head that its party saw; where the head has changed
+//! since, it changes nothing, and answers the head that it found.
 //!
 //! - The owner pops by an exchange (`pop_exchange`). A lone value without a claim it takes by a
 //!   store of the head (`pop_last`), since no thief can. Without thieves a pop is one act (`pop`).
@@ -12,15 +11,13 @@
 //! - A thief that loaded head and tail claims half of what is between them (`claim_exchange`).
 //!   While it moves them their places aren't free: the gap counts them, and those of the owner's
 //!   pops past them. The release (`release_exchange`) frees both.
-//! - A push into a full queue without a claim flows over (`overflow_exchange`): the newest half
-//!   goes to the owner's hand, and the oldest half is kept aside until the owner's next store of
-//!   the tail (`restore`). In between the queue is empty to thieves. Each position is counted once
-//!   more, so no head comes again.
+//! - A push into a full queue without a claim flows over (`overflow_exchange`): the newest half goes to the owner's
+//!   hand, and the oldest half is kept aside until the owner's next store of the tail (`restore`). In between the queue
+//!   is empty to thieves. Each position is counted once more, so no head comes again.
 //!
-//! Where nobody acts in between, `push` is a whole push of these steps. A queue counts its values:
-//! from 2^55 - 512 on it takes no more, and is spent. What a contract sees is in
-//! `specs/Queue.antt`. Ports the `Queue` and `Owner` of `commonware_runtime`'s `iouring::queue`,
-//! each of whose loops makes these steps.
+//! Where nobody acts in between, `push` is a whole push of these steps. A queue counts its values: from 2^55 - 512 on
+//! it takes no more, and is spent. What a contract sees is in `specs/Queue.antt`. Ports the `Queue` and `Owner` of
+//! `commonware_runtime`'s `iouring::queue`, each of whose loops makes these steps.
 
 ghost use Rattle.std.specs.Prelude.{◌≡◌, ◌+◌, ◌-◌, ◌^◌, ◌<◌, ◌≤◌, ◌↔◌, ◌==◌, [], ◌∷◌, ◌++◌, length, take, drop, slice_get, IsOk, IfOk, OnOk, IfErr, OnErr, IfNone, OnSome, Some, false, IsTrue, if◌then◌else◌};
 
@@ -48,8 +45,7 @@ pub enum PushAnswer<T> {
 pub enum Steal {
     /// So many values moved into the thief's queue.
     Moved(usize),
-    /// There was nothing to take, a claim was held, or the thief's queue had fewer than 128 places
-    /// free.
+    /// There was nothing to take, a claim was held, or the thief's queue had fewer than 128 places free.
     Nothing,
     /// The head has changed since it was loaded: this one was found.
     Again(Head),
@@ -81,9 +77,8 @@ impl<T> Model for PureQueue<T> {
 }
 
 impl<T> PureQueue<T> {
-    ghost use Rattle.exec_words.specs.Head.{claim_at, is_spent};
+    ghost use Rattle.exec_words.specs.{Head.claim_at, Head.is_spent, Reserved.extended, Reserved.spare};
     ghost use Rattle.exec_words.specs.Queue.{head_of, tail_of, room_of, fit_of, push_answer, after_push, handed_out, popped, claimed, released, published, overflowed, newest, restored};
-    ghost use Rattle.exec_words.specs.Reserved.{extended, spare};
 
     /// An empty queue whose first value gets the count `real`. The caller must take one, mostly 0,
     /// that isn't past the count at which a queue is spent.
@@ -207,9 +202,8 @@ impl<T> PureQueue<T> {
         self.values.push(value);
     }
 
-    /// Publishes the first `count` values of a list behind the other values, by one store of the
-    /// tail. The caller must have so many there, and room for them, and be in the middle of no
-    /// overflow.
+    /// Publishes the first `count` values of a list behind the other values, by one store of the tail. The caller must
+    /// have so many there, and room for them, and be in the middle of no overflow.
     pub fn publish(&mut self, count: usize, from: &mut Reserved<T>)
         requires has { count ≤ length from.old.values }
         requires room { count ≤ room_of self.old }
@@ -237,8 +231,7 @@ impl<T> PureQueue<T> {
         ensures same { IsOk result ↔ (head_of self.old ≡ seen) }
         ensures half { IfOk result (λ count. count ≡ claim_at seen tail) }
         ensures claimed { OnOk result (self.new ≡ claimed self.old (claim_at seen tail)) }
-        ensures moved { OnOk result (hand.new
-            ≡ extended hand.old (take (claim_at seen tail) self.old.values)) }
+        ensures moved { OnOk result (hand.new ≡ extended hand.old (take (claim_at seen tail) self.old.values)) }
         ensures found { IfErr result (λ head. head ≡ head_of self.old) }
         ensures kept { OnErr result (self.new ≡ self.old) }
         ensures hand_kept { OnErr result (hand.new ≡ hand.old) }
@@ -268,11 +261,10 @@ impl<T> PureQueue<T> {
         Ok(())
     }
 
-    /// The beginning of an overflow by an exchange of the head: the newest half goes into the
-    /// owner's hand, the oldest first, and the oldest half is kept aside until `restore`. Err with
-    /// the head that was found where it isn't `seen`. The caller must have seen a full queue
-    /// without a claim that isn't spent, be in the middle of no other overflow, and have 128 places
-    /// in its hand.
+    /// The beginning of an overflow by an exchange of the head: the newest half goes into the owner's hand, the oldest
+    /// first, and the oldest half is kept aside until `restore`. Err with the head that was found where it isn't
+    /// `seen`. The caller must have seen a full queue without a claim that isn't spent, be in the middle of no other
+    /// overflow, and have 128 places in its hand.
     pub fn overflow_exchange(&mut self, seen: Head, hand: &mut Reserved<T>) -> Result<(), Head>
         requires full { seen.real + 256 ≡ tail_of self.old }
         requires unspent { is_spent (tail_of self.old) ≡ false }
@@ -318,9 +310,8 @@ impl<T> PureQueue<T> {
         self.values.swap(&mut self.held);
     }
 
-    /// The owner's push in one action, where nobody acts in between. What an overflow hands out
-    /// goes into the owner's hand, the oldest first. The caller must have 128 places there, and be
-    /// in the middle of no overflow.
+    /// The owner's push in one action, where nobody acts in between. What an overflow hands out goes into the owner's
+    /// hand, the oldest first. The caller must have 128 places there, and be in the middle of no overflow.
     pub fn push(&mut self, value: T, hand: &mut Reserved<T>) -> PushAnswer<T>
         requires whole { self.old.held ≡ [] }
         requires places { 128 ≤ spare hand.old }

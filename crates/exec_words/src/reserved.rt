@@ -1,9 +1,8 @@
 //! A list with places that were reserved before.
 //!
-//! A push takes no memory, since it goes into a place that is there: who may push has reserved the
-//! place. So what is sent or woken is never lost for want of memory. What a contract sees is in
-//! `specs/Reserved.antt`: the values, the oldest first, and how many places there are for values in
-//! all.
+//! A push takes no memory, since it goes into a place that is there: who may push has reserved the place. So what is
+//! sent or woken is never lost for want of memory. What a contract sees is in `specs/Reserved.antt`: the values, the
+//! oldest first, and how many places there are for values in all.
 
 ghost use Rattle.std.specs.Prelude.{◌≡◌, ◌+◌, ◌-◌, ◌<◌, ◌≤◌, ◌==◌, [], ◌∷◌, ◌++◌, length, take, drop, max, slice_get, IfOk, OnOk, OnErr};
 ghost use Rattle.std.specs.VecDeque.{deque_capacity};
@@ -13,8 +12,7 @@ use std::collections::VecDeque;
 use std::marker::Model;
 use std::mem;
 
-/// Values in order, in places that were reserved before. Only `with_places` and `reserve` take
-/// memory.
+/// Values in order, in places that were reserved before. Only `with_places` and `reserve` take memory.
 #[derive(Drop)]
 pub struct Reserved<T> {
     values: VecDeque<T>,
@@ -59,8 +57,7 @@ impl<T> Reserved<T> {
     /// Makes places for `n` values in all, those that are there already among them. Where there is
     /// no memory the list stays as it is.
     pub fn reserve(&mut self, _alloc: Global, n: usize) -> Result<(), AllocError>
-        ensures places { OnOk result (self.new
-            ≡ record self.old { places = max self.old.places n }) }
+        ensures places { OnOk result (self.new ≡ record self.old { places = max self.old.places n }) }
         ensures kept { OnErr result (self.new ≡ self.old) }
     {
         self.values.reserve(n.saturating_sub(self.values.len()))?;

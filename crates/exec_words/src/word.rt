@@ -1,21 +1,18 @@
-//! The wake word of a worker: how it waits, whether it is to wake, and how many batches of mail
-//! were published.
+//! The wake word of a worker: how it waits, whether it is to wake, and how many batches of mail were published.
 //!
 //! A worker that is about to wait arms its word, and waits only where it finds no latch and no
 //! batch that it hasn't taken. Whoever has something for the worker sets the latch: the first one
 //! to do so while a wait is armed rouses the worker, and a latch that comes earlier keeps the next
 //! wait from beginning. The end of a wait takes wait and latch out.
 //!
-//! Mail is published before it is signalled: the first message of a batch raises the batch number,
-//! and a signal must follow exactly where a wait is armed and no latch stands. Where none is armed,
-//! the worker sees the number.
+//! Mail is published before it is signalled: the first message of a batch raises the batch number, and a signal must
+//! follow exactly where a wait is armed and no latch stands. Where none is armed, the worker sees the number.
 //!
 //! Each call that changes the word is one operation on it, and answers what it found where that
 //! decides. Ports the state of `commonware_runtime`'s `iouring::waker`.
 
 ghost use Rattle.std.specs.Prelude.{◌≡◌, ◌≢◌, ◌<◌, ◌^◌, ◌&&◌, ◌||◌, ◌==◌, not, true, false};
-ghost use Rattle.exec_words.specs.declared.word.WaitTarget.TheVariants as wait;
-ghost use Rattle.exec_words.specs.Word.{next_batch};
+ghost use Rattle.exec_words.specs.{declared.word.WaitTarget.WaitTarget, Word.asks_signal, Word.is_idle_at, Word.next_batch};
 
 use super::BATCHES;
 
@@ -42,13 +39,10 @@ pub struct PureWord {
 }
 
 impl PureWord {
-    ghost use Rattle.exec_words.specs.Word.{asks_signal, is_idle_at};
-
-    /// Nobody waits, no latch stands, and so many batches were published: at most
-    /// `SUBMISSION_SEQ_MASK`.
+    /// Nobody waits, no latch stands, and so many batches were published: at most `SUBMISSION_SEQ_MASK`.
     pub fn at(batch: u32) -> Self
         requires { batch < 2 ^ 29 }
-        ensures { result ≡ record { target = wait.None; latch = false; batch = batch } }
+        ensures { result ≡ record { target = WaitTarget.None; latch = false; batch = batch } }
     {
         PureWord {
             target: WaitTarget::None,
@@ -57,10 +51,9 @@ impl PureWord {
         }
     }
 
-    /// Arms a wait: the or of its bit into the word. Answers the word that it found. The caller
-    /// must not wait already.
+    /// Arms a wait: the or of its bit into the word. Answers the word that it found. The caller must not wait already.
     pub fn arm(&mut self, target: WaitTarget) -> PureWord
-        requires { self.old.target ≡ wait.None }
+        requires { self.old.target ≡ WaitTarget.None }
         ensures found { result ≡ self.old }
         ensures armed { self.new ≡ record self.old { target = target } }
     {
@@ -80,8 +73,7 @@ impl PureWord {
         found
     }
 
-    /// Publishes a batch. Answers whether a signal must follow: exactly where a wait is armed and
-    /// no latch stands.
+    /// Publishes a batch. Answers whether a signal must follow: exactly where a wait is armed and no latch stands.
     pub fn publish(&mut self) -> bool
         ensures asks { result ≡ asks_signal self.old }
         ensures published { self.new ≡ record self.old { batch = next_batch self.old.batch } }
@@ -94,7 +86,7 @@ impl PureWord {
     /// Ends a wait: the and of wait bits and latch out of the word. Answers the word that it found.
     pub fn disarm(&mut self) -> PureWord
         ensures found { result ≡ self.old }
-        ensures disarmed { self.new ≡ record self.old { target = wait.None; latch = false } }
+        ensures disarmed { self.new ≡ record self.old { target = WaitTarget.None; latch = false } }
     {
         let found = *self;
         self.target = WaitTarget::None;
@@ -112,8 +104,7 @@ impl PureWord {
         found
     }
 
-    /// Whether a batch was published that isn't among the processed ones, a number of at most
-    /// `SUBMISSION_SEQ_MASK`.
+    /// Whether a batch was published that isn't among the processed ones, a number of at most `SUBMISSION_SEQ_MASK`.
     pub fn pending(&self, processed: u32) -> bool
         requires { processed < 2 ^ 29 }
         ensures { result ≡ not (self.now.batch == processed) }

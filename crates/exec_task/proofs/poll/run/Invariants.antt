@@ -1,6 +1,5 @@
 use Rattle.std.proofs.Common.{◌-◌, ◌^◌, IsTrue}
-use Rattle.exec_task.specs.declared.runnable.AfterPoll.{AfterPoll}
-use Rattle.exec_task.specs.Polls.{StepsTo, Polls}
+use Rattle.exec_task.specs.{declared.runnable.AfterPoll.AfterPoll, Polls.StepsTo, Polls.Polls}
 use Rattle.exec_task.proofs.poll.run.Given as goal
 
 abbrev pub invariant-loop : goal.invariant-loop
