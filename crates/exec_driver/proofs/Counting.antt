@@ -1,10 +1,10 @@
 -- What stands under each name, and how many are in a place, once one entry changed.
-use Rattle.std.proofs.Common.{◌≡◌, ◌≢◌, ℕ, ◌+◌, ◌^◌, ltb, ◌<◌, ◌≤◌, Bool, true, false, not, ◌&&◌, cond, List, [], ◌∷◌, ◌++◌, length, set, get_or, Option, Some, None, IsSome, refl, sym, ap, ◌∙◌, arith}
+use Rattle.std.proofs.Common.{◌≡◌, ◌≢◌, ℕ, ◌+◌, ◌^◌, ltb, ◌≤◌, Bool, true, false, cond, List, set, Option, Some, None, refl, ap, arith}
 use Rattle.std.specs.Prelude.{count_by}
 use Rattle.std.proofs.lemmas.List.{set-get_or}
 use Rattle.std.proofs.lemmas.List.Sums.{sum_by-set, sum_by-le-sum_by}
-use Rattle.exec_driver.proofs.Words.{is_some, false≢true, Slab, value_at, written, Id, waiter_at, waiter_in, waiter_of, is_flying, pending_count, flying_count, Waiter, Entry, Pending, Ready, one_if, count_of}
-use Rattle.exec_base.specs.Slab.{slot_at, removed, freed, Updates}
+use Rattle.exec_driver.proofs.Words.{is_some, Slab, value_at, written, Id, waiter_at, waiter_in, waiter_of, is_flying, pending_count, flying_count, Waiter, Entry, Pending, Ready, one_if, count_of}
+use Rattle.exec_base.specs.Slab.{removed, freed}
 use Rattle.exec_base.specs.declared.slab.Slot.{Slot}
 use Rattle.exec_base.specs.declared.slab.Slot.TheVariants.{Live, Vacant, Retired}
 use Rattle.exec_base.proofs.Slots.{Changed-set, Updates-write, Updates-free}

@@ -1,9 +1,9 @@
 -- How many entries a ring has once it was entered, or a completion was taken out.
-use Rattle.std.proofs.Common.{◌≡◌, ◌⊎◌, ℕ, ◌+◌, ◌-◌, ◌<◌, ◌≤◌, ltb, eqb, Bool, true, false, not, ◌&&◌, ◌||◌, cond, List, [], ◌∷◌, ◌++◌, length, Option, Some, None, refl, sym, ap, ◌∙◌, inl, inr, arith, length-append}
+use Rattle.std.proofs.Common.{◌≡◌, ℕ, ◌+◌, ◌≤◌, ltb, true, false, List, [], ◌∷◌, ◌++◌, length, Option, Some, None, refl, sym, ◌∙◌, inl, inr, arith, length-append}
 use Rattle.std.specs.Prelude.{fold}
 use Rattle.std.proofs.lemmas.List.Edits.{length-remove}
 use Rattle.std.proofs.lemmas.Option.{slice_get_within}
-use Rattle.exec_driver.proofs.Words.{cond_both, false≢true, eqb_tells, OpResult, wake_completion, Landing, landed, may_land, reaped, next_completion, next_in, posted_left, flight_of, RingState, taken_places, Completion, Posted, Submission, is_control, under_way_after, armed_after, cases_Bool}
+use Rattle.exec_driver.proofs.Words.{cond_both, false≢true, OpResult, wake_completion, Landing, landed, may_land, reaped, next_completion, next_in, flight_of, RingState, taken_places, Completion, Posted, Submission, is_control, cases_Bool}
 use Rattle.exec_request.specs.declared.window.Opcode.{Opcode}
 use Rattle.exec_request.specs.declared.window.Opcode.TheVariants.{Send, Recv, Read, Write, Sync, Connect, Poll, Cancel, Wake}
 use Rattle.exec_ring.specs.Completions.{acknowledged, completed}

@@ -28,5 +28,6 @@ pub mod Punctual
 pub mod Promises
 pub mod Keeping
 pub mod Standing
+pub mod Calling
 pub mod Sharing
 pub mod Workers

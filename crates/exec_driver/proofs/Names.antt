@@ -1,5 +1,5 @@
 -- Lists of names: one more, one less, and what is said of each.
-use Rattle.std.proofs.Common.{◌≡◌, ◌≢◌, ◌⊎◌, ℕ, ◌+◌, ◌≤◌, Bool, true, false, not, ◌&&◌, ◌||◌, cond, List, [], ◌∷◌, ◌++◌, length, refl, sym, ap, ◌∙◌, inl, inr, arith}
+use Rattle.std.proofs.Common.{◌≡◌, ◌≢◌, ◌⊎◌, ◌≤◌, true, false, not, List, [], ◌∷◌, ◌++◌, length, refl, sym, ap, ◌∙◌, inl, inr, arith}
 use Rattle.std.proofs.lemmas.List.Sums.{length-filter, count_by-le-length}
 use Rattle.exec_driver.proofs.Words.{false≢true, eqb_tells, Id, WaiterId, is_same, without, is_among, is_once, and_parts, not-true, or_parts}
 use Rattle.exec_base.proofs.Slots.{same_id}

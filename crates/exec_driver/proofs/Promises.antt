@@ -1,5 +1,5 @@
 -- Why the laws hold.
-use Rattle.std.proofs.Common.{◌≡◌, ◌≢◌, ℕ, Bool, true, false, not, ◌&&◌, ◌||◌, cond, List, [], ◌∷◌, Option, Some, None, Ok, Err, refl, sym, ap, subst, ◌∙◌}
+use Rattle.std.proofs.Common.{◌≡◌, ℕ, Bool, true, false, not, ◌&&◌, cond, List, Option, Some, None, Ok, Err, refl, sym, ap, subst}
 use Rattle.std.proofs.lemmas.Bool.{false≢true}
 use Rattle.exec_base.specs.declared.error.Error.{Error}
 use Rattle.exec_base.specs.declared.slab.Id.{Id}
@@ -9,7 +9,7 @@ use Rattle.exec_outcomes.specs.declared.outcome.Kind.TheVariants as kind
 use Rattle.exec_outcomes.specs.declared.outcome.OpResult.{OpResult}
 use Rattle.exec_outcomes.specs.declared.outcome.Outcome.TheVariants.{Failure}
 use Rattle.exec_request.specs.Requests.{asked_of, deadline_of, goes_on_alone, output_of}
-use Rattle.exec_request.specs.States.{Ended, asks_cancel}
+use Rattle.exec_request.specs.States.{asks_cancel}
 use Rattle.exec_request.specs.Ways.{asked_by}
 use Rattle.exec_request.specs.declared.way.Way.{Way}
 use Rattle.exec_request.specs.declared.way.Way.TheVariants.{Buffered, Hinted, Direct, Switched}

@@ -80,8 +80,8 @@ name_none None is = refl
 name_none (Some id) is = absurd (cc)
 
 -- what is told of its end
-pub told_over : (a b : WaiterId) (given : OpResult) (how : Ended) (p q : Option ℕ) → a ≡ b → p ≡ q → let t : Reaped = record { id = b; given = given; ended = Some how; permit = p } in let t' : Reaped = record { id = a; given = given; ended = Some how; permit = q } in Some t ≡ Some t'
-told_over a b given how p q same permit = rw (same, permit) refl
+pub told_over : (a b : WaiterId) (given : OpResult) (how how' : Ended) (p q : Option ℕ) → a ≡ b → how ≡ how' → p ≡ q → let t : Reaped = record { id = b; given = given; ended = Some how; permit = p } in let t' : Reaped = record { id = a; given = given; ended = Some how'; permit = q } in Some t ≡ Some t'
+told_over a b given how how' p q same ended permit = rw (same, ended, permit) refl
 
 -- what was written is there
 set_there : {A : Type 0} (xs : List A) (i : ℕ) (x y : A) → slice_get xs i ≡ Some x → slice_get (slice_set xs i y) i ≡ Some y

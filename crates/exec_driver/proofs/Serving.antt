@@ -1,35 +1,29 @@
 -- What each step of a service keeps.
-use Rattle.std.proofs.Common.{◌≡◌, ◌≢◌, ◌⊎◌, ℕ, ◌+◌, ◌-◌, ◌<◌, ◌≤◌, eqb, ltb, Bool, true, false, not, ◌&&◌, ◌||◌, cond, List, [], ◌∷◌, ◌++◌, length, vec_len, Option, Some, None, refl, sym, ap, subst, ◌∙◌, inl, inr, arith, length-append}
+use Rattle.std.proofs.Common.{◌≡◌, ◌≢◌, ◌⊎◌, ℕ, ◌+◌, ◌≤◌, Bool, true, false, List, [], ◌∷◌, ◌++◌, length, Option, Some, None, refl, sym, ap, subst, ◌∙◌, inl, inr, arith, length-append}
 use Rattle.exec_driver.proofs.Words.{cases_Bool}
-use Rattle.std.specs.Prelude.{is_some, fold}
-use Rattle.std.specs.Vec.{vec_capacity}
+use Rattle.std.specs.Prelude.{is_some}
 use Rattle.std.proofs.lemmas.Bool.{false≢true}
-use Rattle.exec_base.specs.Slab.{Slab, written}
-use Rattle.exec_base.specs.declared.slab.Id.{Id}
+use Rattle.exec_base.specs.Slab.{written}
 use Rattle.exec_outcomes.specs.Accounts.{Account}
 use Rattle.exec_outcomes.specs.declared.outcome.OpResult.{OpResult}
-use Rattle.exec_request.specs.States.{Ended, asks_cancel}
-use Rattle.exec_ring.specs.Completions.{result_in}
-use Rattle.exec_ring.specs.Kernels.{Landing, is_quiet, has_none, next_completion, next_in, posted_left, wakes_left, reaped}
-use Rattle.exec_ring.specs.Rings.{RingState}
-use Rattle.exec_ring.specs.declared.completion.Completion.{Completion}
+use Rattle.exec_request.specs.States.{Ended}
+use Rattle.exec_ring.specs.Kernels.{reaped}
 use Rattle.exec_ring.specs.declared.completion.Posted.{Posted}
-use Rattle.exec_time.specs.Wheel.{Wheel, removed, slot_of}
+use Rattle.exec_time.specs.Wheel.{Wheel, removed}
 use Rattle.exec_waiters.specs.Events.{told_by_finish}
-use Rattle.exec_waiters.specs.States.{waiter_at, pending_count, tick_in, tick_of, file_of}
-use Rattle.exec_waiters.specs.Told.{Told, HasPlaces, Tells, nothing_told}
+use Rattle.exec_waiters.specs.States.{pending_count, tick_in, tick_of, file_of}
+use Rattle.exec_waiters.specs.Told.{HasPlaces, Tells, nothing_told}
 use Rattle.exec_waiters.specs.declared.deferred.Deferred.{Deferred}
 use Rattle.exec_waiters.specs.declared.waiter.Waiter.{Waiter}
-use Rattle.exec_waiters.specs.declared.waiter.Entry.{Entry}
 use Rattle.exec_waiters.specs.declared.waiter.Entry.TheVariants.{Pending}
 use Rattle.exec_waiters.specs.declared.waiter_id.WaiterId.{WaiterId}
 use Rattle.exec_waiters.proofs.Changes.{one_if}
 use Rattle.exec_driver.specs.Driving.{Driving, request_at}
-use Rattle.exec_driver.specs.Lists.{Lists, has_first, rest_of, is_among, is_same, without, withdrawn, with_queued}
+use Rattle.exec_driver.specs.Lists.{Lists, has_first, rest_of, is_among, is_same, without}
 use Rattle.exec_driver.specs.Opens.{OpenState, account_in}
-use Rattle.exec_driver.specs.Steps.{open_after, is_control, unscheduled, ended, cancelling, noted, swept, swept_from, taken_out, landed_at, judged_as_over, told_by_end, Reaps, ReapsFrom, ReapsNext, completed_in, lawful_of, if_lawful}
+use Rattle.exec_driver.specs.Steps.{open_after, is_control, unscheduled, ended, noted, swept_from, taken_out, landed_at, judged_as_over, told_by_end, Reaps}
 use Rattle.exec_driver.specs.Punctual.{IsPunctual}
-use Rattle.exec_driver.specs.Turns.{CanTell, GoesOn, Serves, StaysDone, unreaped}
+use Rattle.exec_driver.specs.Turns.{CanTell, GoesOn, Serves, StaysDone}
 use Rattle.exec_driver.specs.declared.driver.reaping.Reaped.{Reaped}
 use Rattle.exec_driver.proofs.Names.{same_tells}
 use Rattle.exec_driver.proofs.Counting.{OneChanged, pending_is}

@@ -1,19 +1,21 @@
 -- Drivers that share gates go on sharing them: what each call keeps of where requests stand.
-use Rattle.std.proofs.Common.{◌≡◌, ◌≢◌, ◌⊎◌, ℕ, zero, suc, eqb, Bool, true, false, cond, List, [], ◌∷◌, get_or, Option, Some, None, Result, Ok, Err, refl, sym, ap, subst, ◌∙◌, inl, inr}
-use Rattle.exec_base.specs.Slab.{next_id}
+use Rattle.std.proofs.Common.{◌≡◌, ◌≢◌, ◌⊎◌, ℕ, zero, suc, ◌<◌, ◌^◌, eqb, true, false, cond, List, get_or, Option, Some, None, refl, sym, ap, subst, ◌∙◌, inl, inr, arith}
+use Rattle.std.specs.Prelude.{replicate}
+use Rattle.exec_base.specs.Slab.{next_id, IsPast}
 use Rattle.exec_base.specs.declared.slab.Slot.{Slot}
 use Rattle.exec_base.specs.declared.slab.Slot.TheVariants.{Vacant}
 use Rattle.exec_request.specs.Requests.{gate_of, output_of, record_after}
-use Rattle.exec_waiters.specs.Events.{taken_from, forwarded_from, orphaned_from, changed_from, with_observer, with_waker}
+use Rattle.exec_waiters.proofs.Changes.{at_by, named_flies}
+use Rattle.exec_waiters.proofs.Over.{over}
 use Rattle.exec_driver.specs.Opens.{holder_in, holder_at, open_at, with_open, with_named, joined, passed, placed, writing, keeping}
-use Rattle.exec_driver.specs.Sharing.{StandsIn, StandsAt, key_of, LineUp, FliesPermitted, Call, Admit, Join, Observe, SetWaker, Forward, Orphan, Expire, Enrol, Grant, Stage, Land, Reap, Leave, Other, CallsOne, IsRun}
+use Rattle.exec_driver.specs.Sharing.{Gates, IsGiven, StandsIn, StandsAt, key_of, at_gate, with_leaving, leaving_by, permit_by, with_lines, passed_on, LineUp, FliesPermitted, Call, Admit, Join, Observe, SetWaker, Forward, Orphan, Expire, Enrol, Grant, Stage, Land, Reap, Leave, Other, CallsOne, AreFresh, IsRun}
 use Rattle.exec_driver.specs.declared.opens.WaiterKey.{WaiterKey}
-use Rattle.exec_driver.proofs.Words.{is_some, IsSound, is_unpermitted, false≢true, TaskNo, Ended, Account, Posted, asks_cancel, cancelled, with_tick, with_permit, file_of, deadline_of, account_in, next_completion, result_in, Completion, Deferred, asks_cancel_by_orphan, eqb_tells, Slab, value_at, Id, asked_of, Request, is_durable, OpResult, waiter_of, Waiter, Entry, Pending, Ready, WaiterId, Driving, request_at, OpenState, Observer, Forwarded, Orphaned}
-use Rattle.exec_base.specs.declared.error.Error.{Error}
-use Rattle.exec_waiters.specs.States.{is_local, is_held_by, gate_in, named}
-use Rattle.exec_driver.specs.Steps.{cancelled_at, cancelled_from, cancelling, let_go, without_observer, enrolled_by, granted_as, permitted, placed_at, taken_in, newcomer, timed_out, is_late, swept_from, opens_after_end, ended, Grants, Reaps, ReapsNext, completed_in, is_control, noted, plainly_written, taken_out, tick_for, landed_at, open_after}
-use Rattle.exec_driver.proofs.Arriving.{durable_gated, placed_is}
-use Rattle.exec_driver.proofs.Turns.{completed_there}
+use Rattle.exec_driver.proofs.Words.{is_some, IsSound, is_unpermitted, false≢true, Ended, Account, with_permit, file_of, account_in, next_completion, result_in, Completion, Deferred, eqb_tells, Slab, value_at, waiter_at, Id, asked_of, Request, is_durable, OpResult, Waiter, Entry, Pending, WaiterId, Driving, request_at, OpenState, fresh_open, Observer, entry_of}
+use Rattle.exec_waiters.specs.States.{gate_in, named}
+use Rattle.exec_driver.specs.Steps.{granted_as, permitted, taken_in, newcomer, opens_after_end, Grants, Reaps, ReapsNext, completed_in, plainly_written, taken_out, tick_for, landed_at, lawful_of, open_after, permit_after}
+use Rattle.exec_driver.proofs.Arriving.{durable_gated}
+use Rattle.exec_driver.proofs.Turns.{completed_there, if_tells}
+use Rattle.exec_driver.proofs.Endings.{one_changed}
 use Rattle.exec_driver.proofs.Granting.{same_some}
 use Rattle.exec_driver.proofs.Promises.{at_most_one}
 use Rattle.exec_driver.specs.Laws.{IsDurableFlight}
@@ -21,251 +23,347 @@ use Rattle.exec_driver.specs.Admission.{Admits}
 use Rattle.exec_driver.specs.Lists.{after_due, after_enrolment}
 use Rattle.exec_driver.specs.declared.driver.reaping.Reaped.{Reaped}
 use Rattle.exec_driver.specs.declared.driver.staging.Granted.{Granted}
-use Rattle.exec_driver.proofs.Standing.{gate_kept, gate_moved, open_tells, SameLines, named_lines, unmoved, then_lines, joined_holds, joined_stands, left_stands, holder_stands, granted_by, Fits, AllFit, same_fits, reads, none_past, written_fits, removed_fits, filled_fits, becomes, finished_fits}
+use Rattle.exec_driver.proofs.Calling.{taken_fits, waked_fits, forwarded_fits, cancelled_fits, let_go_fits, enrolled_fits, granted_fits, placed_fits, swept_requests}
+use Rattle.exec_driver.proofs.Standing.{gate_kept, gate_moved, open_tells, SameLines, named_lines, unmoved, then_lines, joined_holds, joined_stands, left_stands, holder_stands, granted_by, Fits, AllFit, asking_last, all_over, reads, none_past, written_fits, filled_fits, filled_last, becomes}
+
+-- who is to leave a gate, where one was named
+leaving_tells : (gate : ℕ) (who : Option WaiterKey) (leaving : ℕ → Option WaiterKey) (file : ℕ) (key : WaiterKey) → at_gate gate who leaving file ≡ Some key → ((file ≡ gate) × (who ≡ Some key)) ⊎ ((file ≢ gate) × (leaving file ≡ Some key))
+leaving_tells gate who leaving file key is =
+    elim (eqb_tells file gate) [
+      | inl same ↦ inl (same.1, rw same.0 at is)
+      | inr other ↦ inr (other.1, rw other.0 at is)
+    ]
+
+same_gates : (g : Gates) (opens : List OpenState) (leaving : ℕ → Option WaiterKey) → g.opens ≡ opens → g.leaving ≡ leaving → g ≡ record { opens = opens; leaving = leaving }
+same_gates g opens leaving o l i = record { opens = o i; leaving = l i }
+
+-- who is to leave a gate holds it
+abbrev Hold : Gates → Type 0
+Hold g = (key : WaiterKey) (file : ℕ) → g.leaving file ≡ Some key → holder_at g.opens file ≡ Some key
+
+permit_is : (how : Option Ended) (file other : ℕ) → cond (is_some how) (Some file) None ≡ Some other → file ≡ other
+permit_is None file other is = absurd (cc)
+permit_is (Some how) file other is = cc
+
+nobody_stands : (count file : ℕ) (key : WaiterKey) → StandsAt (replicate count fresh_open) file key → ⊥
+nobody_stands zero file key stands = stands
+nobody_stands (suc count) zero key (inl holds) = cc
+nobody_stands (suc count) zero key (inr waits) = let within = waits.1 in omega (arith, within)
+nobody_stands (suc count) (suc file) key stands = nobody_stands count file key stands
 
 module _ {S F : Type 0} where
-  -- WHAT A CALL DOES TO THE REQUESTS
+  end_lines : (g : Gates) (w : Waiter S F) (how : Option Ended) → SameLines g (with_lines g (opens_after_end g.opens w how))
+  end_lines g w None = unmoved g g refl
+  end_lines g w (Some how) = named_lines g (file_of w.request) (keeping (record_after w.request how (account_in g.opens (file_of w.request)))) (λ o. (refl, refl))
 
-  either_fits : (opens : List OpenState) (worker : ℕ) (b : Bool) (s s' : Slab (Entry S F)) → AllFit opens worker s → AllFit opens worker s' → AllFit opens worker (cond b s s')
-  either_fits opens worker true s s' one other = one
-  either_fits opens worker false s s' one other = other
-
-  either_way : (opens : List OpenState) (worker : ℕ) (b : Bool) (d d' : Driving S F) → AllFit opens worker d.requests → AllFit opens worker d'.requests → AllFit opens worker (cond b d d').requests
-  either_way opens worker true d d' one other = one
-  either_way opens worker false d d' one other = other
-
-  taken_fits : (opens : List OpenState) (worker : ℕ) (s : Slab (Entry S F)) (id : WaiterId) (o : Option (Entry S F)) → AllFit opens worker s → AllFit opens worker (taken_from s id.0 o)
-  taken_fits opens worker s id None all = all
-  taken_fits opens worker s id (Some (Pending w)) all = all
-  taken_fits opens worker s id (Some (Ready told)) all = removed_fits opens worker s id all
-
-  waked_fits : (opens : List OpenState) (worker : ℕ) (s : Slab (Entry S F)) (id : WaiterId) (task : TaskNo) (o : Option (Entry S F)) → value_at s id.0 ≡ o → AllFit opens worker s → AllFit opens worker (changed_from s id.0 (with_waker task) o)
-  waked_fits opens worker s id task None at all = all
-  waked_fits opens worker s id task (Some (Pending w)) at all = becomes opens worker s id w (with_waker task w) (ap waiter_of at) refl (λ has. has) all
-  waked_fits opens worker s id task (Some (Ready told)) at all = all
-
-  forwarded_fits : (opens : List OpenState) (worker : ℕ) (s : Slab (Entry S F)) (id : WaiterId) (sender : F) (o : Option (Entry S F)) → value_at s id.0 ≡ o → AllFit opens worker s → AllFit opens worker (forwarded_from s id.0 sender o)
-  forwarded_fits opens worker s id sender None at all = all
-  forwarded_fits opens worker s id sender (Some (Pending w)) at all =
-      either_fits opens worker (is_local w.observer) _ _ (becomes opens worker s id w (with_observer (Forwarded sender) w) (ap waiter_of at) refl (λ has. has) all) all
-  forwarded_fits opens worker s id sender (Some (Ready told)) at all = removed_fits opens worker s id all
-
-  orphaned_fits : (opens : List OpenState) (worker : ℕ) (s : Slab (Entry S F)) (id : WaiterId) (o : Option (Entry S F)) → value_at s id.0 ≡ o → AllFit opens worker s → AllFit opens worker (orphaned_from s id.0 o)
-  orphaned_fits opens worker s id None at all = all
-  orphaned_fits opens worker s id (Some (Pending w)) at all =
-      either_fits opens worker (is_held_by w.observer) _ _ (becomes opens worker s id w (with_observer Orphaned w) (ap waiter_of at) refl (λ has. has) all) all
-  orphaned_fits opens worker s id (Some (Ready told)) at all = removed_fits opens worker s id all
-
-  ended_fits : (opens : List OpenState) (worker : ℕ) (d : Driving S F) (id : WaiterId) (w : Waiter S F) (how : Ended) (account : Option Account) → AllFit opens worker d.requests → AllFit opens worker (ended d id w how account).requests
-  ended_fits opens worker d id w how account all = finished_fits opens worker d.requests id (output_of w.request how account) w.observer all
-
-  cancelled_fits : (opens : List OpenState) (worker : ℕ) (d : Driving S F) (id : WaiterId) → AllFit opens worker d.requests → AllFit opens worker (cancelled_at d id).requests
-  cancelled_fits opens worker d id all = by (request_at d id) refl
+  flying_there : (s : Slab (Entry S F)) (given : OpResult) (user_data : ℕ) (id : Id) (w : Waiter S F) → lawful_of s given (named s user_data) ≡ Some id → waiter_at s id ≡ Some w → w.in_flight ≡ true
+  flying_there s given user_data id w is at = by (named s user_data) refl is
     where
-      by : (o : Option (Waiter S F)) → request_at d id ≡ o → AllFit opens worker (cancelled_from d id o).requests
-      by None at = all
-      by (Some w) at =
-          either_way opens worker w.in_flight _ _
-          (either_way opens worker (asks_cancel w.state) d (cancelling d id w) all (becomes opens worker d.requests id w (cancelled w) at refl (λ has. has) all))
-          (ended_fits opens worker d id w timed_out None all)
+      by : (o : Option Id) → named s user_data ≡ o → lawful_of s given o ≡ Some id → w.in_flight ≡ true
+      by None names none = absurd (cc)
+      by (Some other) names some = let t = if_tells other id (waiter_at s other) given some in named_flies s user_data id w (names ∙ ap Some t.2) at
 
-  let_go_fits : (opens : List OpenState) (worker : ℕ) (d : Driving S F) (id : WaiterId) → AllFit opens worker d.requests → AllFit opens worker (let_go d id).requests
-  let_go_fits opens worker d id all =
-      let without = orphaned_fits opens worker d.requests id (value_at d.requests id.0) refl all in
-      either_way opens worker (asks_cancel_by_orphan (value_at d.requests id.0)) _ (without_observer d id) (cancelled_fits opens worker (without_observer d id) id without) without
+  -- WHAT A CALL KEEPS: where the worker's own requests stand, where those of the others do, and who is to leave holds
 
-  enrolled_fits : (opens : List OpenState) (worker : ℕ) (d : Driving S F) (id : WaiterId) (w : Waiter S F) (tick : Result ℕ Error) → request_at d id ≡ Some w → AllFit opens worker d.requests → AllFit opens worker (enrolled_by d id w tick).requests
-  enrolled_fits opens worker d id w (Ok tick) at all = becomes opens worker d.requests id w (with_tick tick w) at refl (λ has. has) all
-  enrolled_fits opens worker d id w (Err error) at all = ended_fits opens worker d id w (Err error) None all
+  record Stand (worker : ℕ) (d : Driving S F) (g : Gates) : Type 0 where
+    pub all : AllFit g worker d.requests
+    pub hold : Hold g
+    pub permitted : FliesPermitted d
 
-  granted_fits : (opens : List OpenState) (worker : ℕ) (d : Driving S F) (id : WaiterId) (w : Waiter S F) (how : Option Ended) (account : Option Account) → AllFit opens worker d.requests → AllFit opens worker (granted_as d id w how account).requests
-  granted_fits opens worker d id w None account all = all
-  granted_fits opens worker d id w (Some how) account all = ended_fits opens worker d id w how account all
+  record Keeps (worker : ℕ) (s : Slab (Entry S F)) (g g' : Gates) : Type 0 where
+    pub mine : AllFit g' worker s
+    pub theirs : (other : ℕ) (s' : Slab (Entry S F)) → other ≢ worker → AllFit g other s' → AllFit g' other s'
+    pub hold : Hold g'
 
-  placed_fits : (opens : List OpenState) (worker : ℕ) (d : Driving S F) (id : WaiterId) (w : Waiter S F) (now : ℕ) → AllFit opens worker d.requests → AllFit opens worker (placed_at d id w now).requests
-  placed_fits opens worker d id w now all =
-      let there = ap (λ (m : Driving S F). m.requests) (placed_is d id (deadline_of w.request) (gate_of w.request)) in
-      either_way opens worker (is_late (deadline_of w.request) now) _ _ (ended_fits opens worker d id w timed_out None all) (subst (AllFit opens worker) (sym there) all)
-
-  swept_requests : (ps : List Posted) (d : Driving S F) → (swept_from ps d).requests ≡ d.requests
-  swept_requests [] d = refl
-  swept_requests (p ∷ ps) d = by (is_control p.completion) (swept_requests ps (noted p.completion d))
-    where
-      by : (b : Bool) → (swept_from ps (noted p.completion d)).requests ≡ d.requests → (cond b (swept_from ps (noted p.completion d)) (record d { ring = record d.ring { posted = record p { wakes = 0 } ∷ ps } })).requests ≡ d.requests
-      by true rest = rest
-      by false rest = refl
-
-  end_lines : (opens : List OpenState) (w : Waiter S F) (how : Option Ended) → SameLines opens (opens_after_end opens w how)
-  end_lines opens w None = unmoved opens opens refl
-  end_lines opens w (Some how) = named_lines opens (file_of w.request) (keeping (record_after w.request how (account_in opens (file_of w.request)))) (λ o. (refl, refl))
-
-  -- WHAT A CALL KEEPS: where the worker's own requests stand, and where those of the others do
-  record Keeps (worker : ℕ) (old new : Driving S F) (opens opens' : List OpenState) : Type 0 where
-    pub mine : AllFit opens worker old.requests → AllFit opens' worker new.requests
-    pub theirs : (key : WaiterKey) (w : Waiter S F) → key.worker ≢ worker → Fits opens key w → Fits opens' key w
-
-  all_over : (opens opens' : List OpenState) (worker : ℕ) (s : Slab (Entry S F)) → SameLines opens opens' → AllFit opens worker s → AllFit opens' worker s
-  all_over opens opens' worker s same all = record { fits = λ id w at. same_fits opens opens' (key_of worker id) w same (all.fits id w at) }
-
-  by_requests : (worker : ℕ) (old new : Driving S F) (opens opens' : List OpenState) (s : Slab (Entry S F)) → SameLines opens opens' → new.requests ≡ s → (AllFit opens worker old.requests → AllFit opens worker s) → Keeps worker old new opens opens'
-  by_requests worker old new opens opens' s same is step =
+  by_lines : (worker : ℕ) (s : Slab (Entry S F)) (g g' : Gates) → SameLines g g' → Hold g → AllFit g worker s → Keeps worker s g g'
+  by_lines worker s g g' same hold all =
       record {
-        mine = λ all. subst (AllFit opens' worker) (sym is) (all_over opens opens' worker s same (step all));
-        theirs = λ key w apart fits. same_fits opens opens' key w same fits;
+        mine = all_over g g' worker s same all;
+        theirs = λ other s' apart. all_over g g' other s' same;
+        hold = λ key file leaves. same.holder file ∙ hold key file (sym (same.leaving file) ∙ leaves);
       }
 
-  by_driver : (worker : ℕ) (old new : Driving S F) (opens opens' : List OpenState) (d : Driving S F) → opens' ≡ opens → new ≡ d → (AllFit opens worker old.requests → AllFit opens worker d.requests) → Keeps worker old new opens opens'
-  by_driver worker old new opens opens' d same is step =
-      by_requests worker old new opens opens' d.requests (unmoved opens opens' same) (ap (λ (m : Driving S F). m.requests) is) step
+  by_driver : (worker : ℕ) (new d : Driving S F) (g g' : Gates) → g' ≡ g → new ≡ d → Hold g → AllFit g worker d.requests → Keeps worker new.requests g g'
+  by_driver worker new d g g' same is hold all =
+      subst (λ (m : Driving S F). Keeps worker m.requests g g') (sym is) (by_lines worker d.requests g g' (unmoved g g' same) hold all)
 
-  room_fits : (opens : List OpenState) (worker : ℕ) (s : Slab (Entry S F)) (room : ℕ) → AllFit opens worker s → AllFit opens worker (record s { room = room })
-  room_fits opens worker s room all = record { fits = λ id w at. all.fits id w at }
+  room_fits : (g : Gates) (worker : ℕ) (s : Slab (Entry S F)) (room : ℕ) → AllFit g worker s → AllFit g worker (record s { room = room })
+  room_fits g worker s room all =
+      record { fits = λ id w at. all.fits id w at; given = λ id file stands. let was = all.given id file stands in record { fits = was.fits; past = was.past } }
 
-  admitted_keeps : (worker : ℕ) (old new : Driving S F) (opens opens' : List OpenState) (id : WaiterId) (request : Request) (observer : Observer S F) (now : ℕ) → next_id old.requests ≡ Some id.0 → ((file : ℕ) → StandsAt opens file (key_of worker id) → ⊥) → Admits old new opens opens' id request observer now → Keeps worker old new opens opens'
-  admitted_keeps worker old new opens opens' id request observer now next nowhere admits =
-      let lines = then_lines opens _ _ (named_lines opens (gate_of request) placed (λ o. (refl, refl))) (named_lines _ (plainly_written request) writing (λ o. (refl, refl))) in
-      let fresh : Fits opens (key_of worker id) (newcomer request observer) = record { holds = λ file has is. absurd (false≢true has); lines = λ file stands. absurd (nowhere file stands) } in
-      by_requests worker old new opens opens' _ (subst (SameLines opens) (sym admits.opens_after) lines) (ap (λ (m : Driving S F). m.requests) admits.driver)
-      (λ all. room_fits opens worker _ new.requests.room (placed_fits opens worker (taken_in old request observer) id (newcomer request observer) now (filled_fits opens worker old.requests old.requests.vacant id (newcomer request observer) next fresh all)))
-
-  -- the open of a line changed, and its holder stays or gives its permit up
-  joined_fits : (opens : List OpenState) (file : ℕ) (who key : WaiterKey) (w : Waiter S F) → (who ≡ key → gate_of w.request ≡ Some file) → Fits opens key w → Fits (with_open opens file (joined who)) key w
-  joined_fits opens file who key w own fits =
+  admitted_keeps : (worker : ℕ) (old new : Driving S F) (g g' : Gates) (id : WaiterId) (request : Request) (observer : Observer S F) (now : ℕ) → next_id old.requests ≡ Some id.0 → (IsPast old.requests id.0 → ⊥) → Admits old new g.opens g'.opens id request observer now → g'.leaving ≡ g.leaving → Stand worker old g → Keeps worker new.requests g g'
+  admitted_keeps worker old new g g' id request observer now next never admits leaving stand =
+      let opens = with_named (with_named g.opens (gate_of request) placed) (plainly_written request) writing in
+      let lines = then_lines g (with_lines g (with_named g.opens (gate_of request) placed)) (with_lines g opens) (named_lines g (gate_of request) placed (λ o. (refl, refl))) (named_lines (with_lines g (with_named g.opens (gate_of request) placed)) (plainly_written request) writing (λ o. (refl, refl))) in
+      let nowhere : (file : ℕ) → StandsAt g.opens file (key_of worker id) → ⊥ = λ file stands. never (stand.all.given id file stands).past in
+      let fresh : Fits g (key_of worker id) (newcomer request observer) =
       record {
-        holds = λ other has is.
-            let holds = fits.holds other has is in
-            elim (open_tells opens file (joined who) other) [
+        holds = λ file has is. absurd (false≢true has);
+        lines = λ file stands. absurd (nowhere file stands);
+        stays = λ file leaves. nowhere file (holder_stands (open_at g.opens file) (key_of worker id) (stand.hold (key_of worker id) file leaves));
+      } in
+      let filled = filled_fits g worker old.requests old.requests.vacant id (newcomer request observer) next fresh stand.all in
+      let all = placed_fits g worker (taken_in old request observer) id (newcomer request observer) now (filled_last old.requests old.requests.vacant id (newcomer request observer) next) filled in
+      let there = by_lines worker _ g (with_lines g opens) lines stand.hold (room_fits g worker _ new.requests.room all) in
+      subst (λ (h : Gates). Keeps worker new.requests g h) (sym (same_gates g' opens g.leaving admits.opens_after leaving)) (subst (λ (s : Slab (Entry S F)). Keeps worker s g (with_lines g opens)) (sym (ap (λ (m : Driving S F). m.requests) admits.driver)) there)
+
+  -- somebody joins the line of an open
+  joined_all : (g : Gates) (file : ℕ) (who : WaiterKey) (worker : ℕ) (s : Slab (Entry S F)) → ((id : WaiterId) (w : Waiter S F) → who ≡ key_of worker id → waiter_at s id.0 ≡ Some w → gate_of w.request ≡ Some file) → ((id : WaiterId) → who ≡ key_of worker id → IsGiven s id) → AllFit g worker s → AllFit (with_lines g (with_open g.opens file (joined who))) worker s
+  joined_all g file who worker s own given all =
+      record {
+        fits = λ id w at.
+            let fits = all.fits id w at in
+            record {
+              holds = λ other has is.
+                  let holds = fits.holds other has is in
+                  elim (open_tells g.opens file (joined who) other) [
+                    | inl same ↦ ap holder_in same ∙ holds
+                    | inr here ↦ ap holder_in here.3 ∙ joined_holds who here.0 (key_of worker id) (sym (ap (holder_at g.opens) here.1 ∙ ap holder_in here.2) ∙ holds)
+                  ];
+              lines = λ other stands. elim (stood id other stands) [ inl before ↦ fits.lines other before | inr same ↦ own id w same.1 at ∙ ap Some (sym same.0) ];
+              stays = fits.stays;
+            };
+        given = λ id other stands. elim (stood id other stands) [ inl before ↦ all.given id other before | inr same ↦ given id same.1 ];
+      }
+    where
+      stood : (id : WaiterId) (other : ℕ) → StandsAt (with_open g.opens file (joined who)) other (key_of worker id) → StandsAt g.opens other (key_of worker id) ⊎ ((other ≡ file) × (who ≡ key_of worker id))
+      stood id other stands =
+          elim (open_tells g.opens file (joined who) other) [
+            | inl same ↦ inl (subst (StandsIn (key_of worker id)) same stands)
+            | inr here ↦
+                elim (joined_stands who here.0 (key_of worker id) (subst (StandsIn (key_of worker id)) here.3 stands)) [
+                  | inl before ↦ inl (subst (StandsIn (key_of worker id)) (sym (ap (open_at g.opens) here.1 ∙ here.2)) before)
+                  | inr same ↦ inr (here.1, same)
+                ]
+          ]
+
+  -- the holder leaves that is to
+  left_all : (g : Gates) (file : ℕ) (who : WaiterKey) (worker : ℕ) (s : Slab (Entry S F)) → g.leaving file ≡ Some who → Hold g → AllFit g worker s → AllFit (passed_on g file) worker s
+  left_all g file who worker s leaves hold all =
+      record {
+        fits = λ id w at.
+            let fits = all.fits id w at in
+            record {
+              holds = λ other has is.
+                  let holds = fits.holds other has is in
+                  elim (open_tells g.opens file passed other) [
+                    | inl same ↦ ap holder_in same ∙ holds
+                    | inr here ↦ absurd (fits.stays file (leaves ∙ sym (hold who file leaves) ∙ sym (ap (holder_at g.opens) here.1) ∙ holds))
+                  ];
+              lines = λ other stands. fits.lines other (stood id other stands);
+              stays = λ other is. elim (leaving_tells file None g.leaving other (key_of worker id) is) [ inl none ↦ cc | inr before ↦ fits.stays other before.1 ];
+            };
+        given = λ id other stands. all.given id other (stood id other stands);
+      }
+    where
+      stood : (id : WaiterId) (other : ℕ) → StandsAt (with_open g.opens file passed) other (key_of worker id) → StandsAt g.opens other (key_of worker id)
+      stood id other stands =
+          elim (open_tells g.opens file passed other) [
+            | inl same ↦ subst (StandsIn (key_of worker id)) same stands
+            | inr here ↦ subst (StandsIn (key_of worker id)) (sym (ap (open_at g.opens) here.1 ∙ here.2)) (inr (left_stands here.0.waiting (key_of worker id) (subst (StandsIn (key_of worker id)) here.3 stands)))
+          ]
+
+  -- a request that is over is to leave the gate that it holds
+  said_all : (g : Gates) (gate : ℕ) (who : WaiterKey) (worker : ℕ) (s : Slab (Entry S F)) → ((id : WaiterId) (w : Waiter S F) → who ≡ key_of worker id → waiter_at s id.0 ≡ Some w → ⊥) → AllFit g worker s → AllFit (record g { leaving = at_gate gate (Some who) g.leaving }) worker s
+  said_all g gate who worker s ends all =
+      record {
+        fits = λ id w at.
+            let fits = all.fits id w at in
+            record {
+              holds = fits.holds;
+              lines = fits.lines;
+              stays = λ file is. elim (leaving_tells gate (Some who) g.leaving file (key_of worker id) is) [ inl same ↦ ends id w (cc) at | inr before ↦ fits.stays file before.1 ];
+            };
+        given = all.given;
+      }
+
+  said_keeps : (worker : ℕ) (s : Slab (Entry S F)) (g g' : Gates) (gate : Option ℕ) (id : WaiterId) → ((file : ℕ) → gate ≡ Some file → (holder_at g'.opens file ≡ Some (key_of worker id)) × (waiter_at s id.0 ≡ None)) → Keeps worker s g g' → Keeps worker s g (record g' { leaving = with_leaving gate (key_of worker id) g'.leaving })
+  said_keeps worker s g g' None id ends keeps = keeps
+  said_keeps worker s g g' (Some gate) id ends keeps =
+      let at = ends gate refl in
+      record {
+        mine = said_all g' gate (key_of worker id) worker s (λ other w same there. let none : None ≡ Some w = sym at.1 ∙ ap (λ (k : WaiterKey). waiter_at s k.id.0) same ∙ there in cc) keeps.mine;
+        theirs = λ other s' apart all. said_all g' gate (key_of worker id) other s' (λ id' w same there. apart (sym (ap (λ (k : WaiterKey). k.worker) same))) (keeps.theirs other s' apart all);
+        hold = λ key file is. elim (leaving_tells gate (Some (key_of worker id)) g'.leaving file key is) [ inl same ↦ ap (holder_at g'.opens) same.0 ∙ at.0 ∙ same.1 | inr before ↦ keeps.hold key file before.1 ];
+      }
+
+  joined_keeps : (worker : ℕ) (old : Driving S F) (g : Gates) (id : WaiterId) (gate : Option ℕ) → id.0.generation < 2 ^ 64 → gate_in (request_at old id) ≡ gate → Stand worker old g → Keeps worker old.requests g (with_lines g (with_named g.opens gate (joined (key_of worker id))))
+  joined_keeps worker old g id None fits at stand = by_lines worker old.requests g g (unmoved g g refl) stand.hold stand.all
+  joined_keeps worker old g id (Some file) fits at stand =
+      record {
+        mine = joined_all g file (key_of worker id) worker old.requests (λ id' w same there. ap gate_in (sym there ∙ ap (λ (k : WaiterKey). request_at old k.id) (sym same)) ∙ at) (λ id' same. subst (λ (k : WaiterKey). IsGiven old.requests k.id) same (given (request_at old id) refl at)) stand.all;
+        theirs = λ other s' apart. joined_all g file (key_of worker id) other s' (λ id' w same there. absurd (apart (sym (ap (λ (k : WaiterKey). k.worker) same)))) (λ id' same. absurd (apart (sym (ap (λ (k : WaiterKey). k.worker) same))));
+        hold = λ key other leaves.
+            let holds = stand.hold key other leaves in
+            elim (open_tells g.opens file (joined (key_of worker id)) other) [
               | inl same ↦ ap holder_in same ∙ holds
-              | inr here ↦ ap holder_in here.3 ∙ joined_holds who here.0 key (sym (ap (holder_at opens) here.1 ∙ ap holder_in here.2) ∙ holds)
+              | inr here ↦ ap holder_in here.3 ∙ joined_holds (key_of worker id) here.0 key (sym (ap (holder_at g.opens) here.1 ∙ ap holder_in here.2) ∙ holds)
             ];
-        lines = λ other stands.
-            elim (open_tells opens file (joined who) other) [
-              | inl same ↦ fits.lines other (subst (StandsIn key) same stands)
-              | inr here ↦
-                  elim (joined_stands who here.0 key (subst (StandsIn key) here.3 stands)) [
-                    | inl before ↦ fits.lines other (subst (StandsIn key) (sym (ap (open_at opens) here.1 ∙ here.2)) before)
-                    | inr same ↦ own same ∙ ap Some (sym here.1)
+      }
+    where
+      given : (o : Option (Waiter S F)) → request_at old id ≡ o → gate_in o ≡ Some file → IsGiven old.requests id
+      given None at none = absurd (cc)
+      given (Some w) at is = let there = at_by old.requests id.0 (Pending w) (entry_of _ w at) in record { fits = fits; past = rw there.slot (omega arith) }
+
+  left_keeps : (worker : ℕ) (old : Driving S F) (g : Gates) (who : WaiterKey) (file : ℕ) → g.leaving file ≡ Some who → Stand worker old g → Keeps worker old.requests g (passed_on g file)
+  left_keeps worker old g who file leaves stand =
+      record {
+        mine = left_all g file who worker old.requests leaves stand.hold stand.all;
+        theirs = λ other s' apart. left_all g file who other s' leaves stand.hold;
+        hold = λ key other is.
+            elim (leaving_tells file None g.leaving other key is) [
+              | inl none ↦ absurd (cc)
+              | inr before ↦
+                  elim (open_tells g.opens file passed other) [
+                    | inl same ↦ ap holder_in same ∙ stand.hold key other before.1
+                    | inr here ↦ absurd (before.0 here.1)
                   ]
             ];
       }
 
-  left_fits : (opens : List OpenState) (file : ℕ) (who key : WaiterKey) (w : Waiter S F) → holder_at opens file ≡ Some who → (who ≡ key → w.permit ≡ false) → Fits opens key w → Fits (with_open opens file passed) key w
-  left_fits opens file who key w holder own fits =
-      record {
-        holds = λ other has is.
-            let holds = fits.holds other has is in
-            elim (open_tells opens file passed other) [
-              | inl same ↦ ap holder_in same ∙ holds
-              | inr here ↦ absurd (false≢true (sym (own (same_some (holder_at opens file) who key holder (sym (ap (holder_at opens) here.1) ∙ holds))) ∙ has))
-            ];
-        lines = λ other stands.
-            elim (open_tells opens file passed other) [
-              | inl same ↦ fits.lines other (subst (StandsIn key) same stands)
-              | inr here ↦ fits.lines other (subst (StandsIn key) (sym (ap (open_at opens) here.1 ∙ here.2)) (inr (left_stands here.0.waiting key (subst (StandsIn key) here.3 stands))))
-            ];
-      }
+  granted_over : (d : Driving S F) (id : WaiterId) (w : Waiter S F) (how : Option Ended) (account : Option Account) (file : ℕ) → request_at d id ≡ Some w → cond (is_some how) (Some file) None ≡ Some file → request_at (granted_as d id w how account) id ≡ None
+  granted_over d id w None account file at is = absurd (cc)
+  granted_over d id w (Some how) account file at is = over d.requests id.0 w (output_of w.request how account) w.observer at
 
-  joined_keeps : (worker : ℕ) (old new : Driving S F) (opens opens' : List OpenState) (id : WaiterId) (gate : Option ℕ) → gate_in (request_at old id) ≡ gate → new ≡ old → opens' ≡ with_named opens gate (joined (key_of worker id)) → Keeps worker old new opens opens'
-  joined_keeps worker old new opens opens' id None at same lines = by_driver worker old new opens opens' old lines same (λ all. all)
-  joined_keeps worker old new opens opens' id (Some file) at same lines =
-      record {
-        mine = λ all. record {
-          fits = λ id' w at'.
-              let there : request_at old id' ≡ Some w = ap (λ (m : Driving S F). request_at m id') (sym same) ∙ at' in
-              subst (λ (o : List OpenState). Fits o (key_of worker id') w) (sym lines) (joined_fits opens file (key_of worker id) (key_of worker id') w (λ is. ap gate_in (sym there ∙ ap (λ (k : WaiterKey). request_at old k.id) (sym is)) ∙ at) (all.fits id' w there));
-        };
-        theirs = λ key w apart fits. subst (λ (o : List OpenState). Fits o key w) (sym lines) (joined_fits opens file (key_of worker id) key w (λ is. absurd (apart (sym (ap (λ (k : WaiterKey). k.worker) is)))) fits);
-      }
-
-  left_keeps : (worker : ℕ) (old new : Driving S F) (opens opens' : List OpenState) (id : WaiterId) (file : ℕ) → holder_at opens file ≡ Some (key_of worker id) → ((w : Waiter S F) → request_at old id ≡ Some w → w.permit ≡ false) → new ≡ old → opens' ≡ with_open opens file passed → Keeps worker old new opens opens'
-  left_keeps worker old new opens opens' id file holder over same lines =
-      record {
-        mine = λ all. record {
-          fits = λ id' w at'.
-              let there : request_at old id' ≡ Some w = ap (λ (m : Driving S F). request_at m id') (sym same) ∙ at' in
-              subst (λ (o : List OpenState). Fits o (key_of worker id') w) (sym lines) (left_fits opens file (key_of worker id) (key_of worker id') w holder (λ is. over w (ap (λ (k : WaiterKey). request_at old k.id) is ∙ there)) (all.fits id' w there));
-        };
-        theirs = λ key w apart fits. subst (λ (o : List OpenState). Fits o key w) (sym lines) (left_fits opens file (key_of worker id) key w holder (λ is. absurd (apart (sym (ap (λ (k : WaiterKey). k.worker) is)))) fits);
-      }
-
-  granted_keeps : (worker : ℕ) (old new : Driving S F) (opens opens' : List OpenState) (before after : Deferred S F) (file : ℕ) (g : Granted) (w : Waiter S F) → request_at old g.id ≡ Some w → Grants old new opens opens' before after worker file g → Keeps worker old new opens opens'
-  granted_keeps worker old new opens opens' before after file g w at grants =
+  granted_keeps : (worker : ℕ) (old new : Driving S F) (g g' : Gates) (before after : Deferred S F) (file : ℕ) (granted : Granted) (w : Waiter S F) → request_at old granted.id ≡ Some w → Grants old new g.opens g'.opens before after worker file granted → g'.leaving ≡ with_leaving (permit_by file granted) (key_of worker granted.id) g.leaving → Stand worker old g → Keeps worker new.requests g g'
+  granted_keeps worker old new g g' before after file granted w at grants leaving stand =
+      let id = granted.id in
       let gives = grants.grants w at in
-      by_requests worker old new opens opens' _ (subst (SameLines opens) (sym gives.opens_after) (end_lines opens (with_permit w) g.ended)) (ap (λ (m : Driving S F). m.requests) gives.driver)
-      (λ all.
-      let fits = all.fits g.id w at in
-      let gate = fits.lines file (holder_stands (open_at opens file) (key_of worker g.id) grants.holder) in
-      let now : Fits opens (key_of worker g.id) (with_permit w) = record { holds = λ other has is. ap (holder_at opens) (same_some (gate_of w.request) other file is gate) ∙ grants.holder; lines = fits.lines } in
-      granted_fits opens worker (permitted old g.id w) g.id (with_permit w) g.ended _ (written_fits opens worker old.requests g.id (Pending (with_permit w)) (λ v same. subst (Fits opens (key_of worker g.id)) (cc) now) all))
+      let w' = with_permit w in
+      let opens = opens_after_end g.opens w' granted.ended in
+      let account = account_in g.opens (file_of w.request) in
+      let fits = stand.all.fits id w at in
+      let gate = fits.lines file (holder_stands (open_at g.opens file) (key_of worker id) grants.holder) in
+      let now : Fits g (key_of worker id) w' = record { holds = λ other has is. ap (holder_at g.opens) (same_some (gate_of w.request) other file is gate) ∙ grants.holder; lines = fits.lines; stays = fits.stays } in
+      let there = (one_changed old.requests id.0 w w' at).is_at in
+      let permits = written_fits g worker old.requests id (Pending w') (asking_last old.requests id.0 w at) (λ v same. subst (Fits g (key_of worker id)) (cc) now) stand.all in
+      let all = granted_fits g worker (permitted old id w) id w' granted.ended account (asking_last (permitted old id w).requests id.0 w' there) permits in
+      let lines = end_lines g w' granted.ended in
+      let kept = by_lines worker (granted_as (permitted old id w) id w' granted.ended account).requests g (with_lines g opens) lines stand.hold all in
+      let said = said_keeps worker _ g (with_lines g opens) (permit_by file granted) id (λ other is. let same = permit_is granted.ended file other is in (lines.holder other ∙ ap (holder_at g.opens) (sym same) ∙ grants.holder, granted_over (permitted old id w) id w' granted.ended account file there (is ∙ ap Some (sym same)))) kept in
+      subst (λ (h : Gates). Keeps worker new.requests g h) (sym (same_gates g' opens _ gives.opens_after leaving)) (subst (λ (m : Driving S F). Keeps worker m.requests g (record { opens = opens; leaving = with_leaving (permit_by file granted) (key_of worker id) g.leaving })) (sym gives.driver) said)
 
-  reaped_keeps : (worker : ℕ) (first second old new : Driving S F) (opens opens' : List OpenState) (before after : Deferred S F) (id : WaiterId) (w : Waiter S F) (given : OpResult) (told : Option Reaped) → first.requests ≡ old.requests → new.requests ≡ second.requests → request_at first id ≡ Some w → Reaps first second opens opens' before after id w given told → Keeps worker old new opens opens'
-  reaped_keeps worker first second old new opens opens' before after id w given told start end at reaps =
+  reaped_over : (d : Driving S F) (id : WaiterId) (w : Waiter S F) (how : Option Ended) (account : Option Account) (file : ℕ) → request_at d id ≡ Some w → permit_after w how ≡ Some file → (request_at (granted_as d id w how account) id ≡ None) × (gate_of w.request ≡ Some file)
+  reaped_over d id w None account file at is = absurd (cc)
+  reaped_over d id w (Some how) account file at is = (over d.requests id.0 w (output_of w.request how account) w.observer at, is)
+
+  reaped_keeps : (worker : ℕ) (first second new : Driving S F) (g g' : Gates) (before after : Deferred S F) (id : WaiterId) (w : Waiter S F) (given : OpResult) (told : Option Reaped) → new.requests ≡ second.requests → request_at first id ≡ Some w → w.in_flight ≡ true → Reaps first second g.opens g'.opens before after id w given told → g'.leaving ≡ leaving_by worker told g.leaving → Stand worker first g → Keeps worker new.requests g g'
+  reaped_keeps worker first second new g g' before after id w given told end at flies reaps leaving stand =
       let w' : Waiter S F = record w { in_flight = false; request = reaps.request } in
-      let account = open_after w given (account_in opens (file_of w.request)) in
-      let lines = then_lines opens _ _ (named_lines opens (file_of w.request) (keeping account) (λ o. (refl, refl))) (end_lines _ w' reaps.answer) in
-      by_requests worker old new opens opens' _ (subst (SameLines opens) (sym reaps.opens_after) lines) (end ∙ ap (λ (m : Driving S F). m.requests) reaps.driver)
-      (λ all. granted_fits opens worker (landed_at (taken_out first) id w') id w' reaps.answer account (becomes opens worker first.requests id w w' at (gate_kept w.request reaps.request reaps.kept) (λ has. has) (subst (AllFit opens worker) (sym start) all)))
+      let permit = permit_after w' reaps.answer in
+      let account = open_after w given (account_in g.opens (file_of w.request)) in
+      let g1 = with_lines g (with_named g.opens (file_of w.request) (keeping account)) in
+      let opens = opens_after_end g1.opens w' reaps.answer in
+      let lines = then_lines g g1 (with_lines g opens) (named_lines g (file_of w.request) (keeping account) (λ o. (refl, refl))) (end_lines g1 w' reaps.answer) in
+      let gate = gate_kept w.request reaps.request reaps.kept in
+      let there = (one_changed first.requests id.0 w w' at).is_at in
+      let d = landed_at (taken_out first) id w' in
+      let all = granted_fits g worker d id w' reaps.answer account (asking_last d.requests id.0 w' there) (becomes g worker first.requests id w w' at gate (λ has. has) stand.all) in
+      let kept = by_lines worker (granted_as d id w' reaps.answer account).requests g (with_lines g opens) lines stand.hold all in
+      let said =
+      said_keeps worker _ g (with_lines g opens) permit id
+      (λ file is.
+      let gone = reaped_over d id w' reaps.answer account file there is in
+      let own : gate_of w.request ≡ Some file = sym gate ∙ gone.1 in
+      (lines.holder file ∙ (stand.all.fits id w at).holds file (stand.permitted.flies id w file at flies own) own, gone.0))
+      kept in
+      let moved : new.requests ≡ (granted_as d id w' reaps.answer account).requests = end ∙ ap (λ (m : Driving S F). m.requests) reaps.driver in
+      let leaves = leaving ∙ ap (λ (r : Option Reaped). leaving_by worker r g.leaving) reaps.told_is in
+      subst (λ (h : Gates). Keeps worker new.requests g h) (sym (same_gates g' opens _ reaps.opens_after leaves)) (subst (λ (s : Slab (Entry S F)). Keeps worker s g (record { opens = opens; leaving = with_leaving permit (key_of worker id) g.leaving })) (sym moved) said)
 
-  reap_keeps : (worker : ℕ) (old new : Driving S F) (opens opens' : List OpenState) (before after : Deferred S F) (told : Option Reaped) → ReapsNext old new opens opens' before after told → Keeps worker old new opens opens'
-  reap_keeps worker old new opens opens' before after told reap = by (next_completion reap.first.ring) refl
+  reap_keeps : (worker : ℕ) (old new : Driving S F) (g g' : Gates) (before after : Deferred S F) (told : Option Reaped) → ReapsNext old new g.opens g'.opens before after told → g'.leaving ≡ leaving_by worker told g.leaving → Stand worker old g → Keeps worker new.requests g g'
+  reap_keeps worker old new g g' before after told reap leaving stand = by (next_completion reap.first.ring) refl
     where
       start : reap.first.requests ≡ old.requests
       start = ap (λ (m : Driving S F). m.requests) reap.swept_first ∙ swept_requests old.ring.posted old
 
-      by_id : (c : Completion) → next_completion reap.first.ring ≡ Some c → (o : Option Id) → completed_in reap.first c ≡ o → Keeps worker old new opens opens'
+      standing : Stand worker reap.first g
+      standing =
+          record {
+            all = subst (AllFit g worker) (sym start) stand.all;
+            hold = stand.hold;
+            permitted = record { flies = λ id w file at. stand.permitted.flies id w file (ap (λ (s : Slab (Entry S F)). waiter_at s id.0) (sym start) ∙ at) };
+          }
+
+      unsaid : new.requests ≡ old.requests → told ≡ None → g'.opens ≡ g.opens → Keeps worker new.requests g g'
+      unsaid same none opens =
+          let gates = same_gates g' g.opens g.leaving opens (leaving ∙ ap (λ (r : Option Reaped). leaving_by worker r g.leaving) none) in
+          subst (λ (s : Slab (Entry S F)). Keeps worker s g g') (sym same) (by_lines worker old.requests g g' (unmoved g g' gates) stand.hold stand.all)
+
+      by_id : (c : Completion) → next_completion reap.first.ring ≡ Some c → (o : Option Id) → completed_in reap.first c ≡ o → Keeps worker new.requests g g'
       by_id c next None none =
           let stale = reap.stale c next none in
-          by_requests worker old new opens opens' old.requests (unmoved opens opens' stale.2) (ap (λ (m : Driving S F). m.requests) stale.0 ∙ swept_requests (taken_out reap.first).ring.posted (taken_out reap.first) ∙ start) (λ all. all)
+          unsaid (ap (λ (m : Driving S F). m.requests) stale.0 ∙ swept_requests (taken_out reap.first).ring.posted (taken_out reap.first) ∙ start) stale.1 stale.2
       by_id c next (Some id) some =
           let there = completed_there reap.first.requests (result_in c.result) (named reap.first.requests c.user_data) id some in
           let from = reap.some c id there.0 next some there.1 in
-          reaped_keeps worker reap.first from.second old new opens opens' before after (record { 0 = id }) there.0 (result_in c.result) told start (ap (λ (m : Driving S F). m.requests) from.swept_last ∙ swept_requests from.second.ring.posted from.second) there.1 from.reaps
+          reaped_keeps worker reap.first from.second new g g' before after (record { 0 = id }) there.0 (result_in c.result) told (ap (λ (m : Driving S F). m.requests) from.swept_last ∙ swept_requests from.second.ring.posted from.second) there.1 (flying_there reap.first.requests (result_in c.result) c.user_data id there.0 some there.1) from.reaps leaving standing
 
-      by : (o : Option Completion) → next_completion reap.first.ring ≡ o → Keeps worker old new opens opens'
+      by : (o : Option Completion) → next_completion reap.first.ring ≡ o → Keeps worker new.requests g g'
       by None none =
           let same = reap.none none in
-          by_requests worker old new opens opens' old.requests (unmoved opens opens' same.2) (ap (λ (m : Driving S F). m.requests) same.0 ∙ start) (λ all. all)
+          unsaid (ap (λ (m : Driving S F). m.requests) same.0 ∙ start) same.1 same.2
       by (Some c) next = by_id c next (completed_in reap.first c) refl
 
-  call_keeps : (worker : ℕ) (old new : Driving S F) (opens opens' : List OpenState) → Call worker old new opens opens' → Keeps worker old new opens opens'
-  call_keeps worker old new opens opens' (Admit id request observer now next nowhere admits) = admitted_keeps worker old new opens opens' id request observer now next nowhere admits
-  call_keeps worker old new opens opens' (Join id same lines) = joined_keeps worker old new opens opens' id (gate_in (request_at old id)) refl same lines
-  call_keeps worker old new opens opens' (Observe id is same) = by_driver worker old new opens opens' _ same is (taken_fits opens worker old.requests id (value_at old.requests id.0))
-  call_keeps worker old new opens opens' (SetWaker id task is same) = by_driver worker old new opens opens' _ same is (waked_fits opens worker old.requests id task (value_at old.requests id.0) refl)
-  call_keeps worker old new opens opens' (Forward id sender is same) = by_driver worker old new opens opens' _ same is (forwarded_fits opens worker old.requests id sender (value_at old.requests id.0) refl)
-  call_keeps worker old new opens opens' (Orphan id is same) = by_driver worker old new opens opens' _ same is (let_go_fits opens worker old id)
-  call_keeps worker old new opens opens' (Expire id is same) = by_driver worker old new opens opens' _ same is (cancelled_fits opens worker (record old { lists = after_due old.lists }) id)
-  call_keeps worker old new opens opens' (Enrol before after id w deadline now told at enrols same) =
-      by_driver worker old new opens opens' _ same enrols.driver (enrolled_fits opens worker (record old { lists = after_enrolment old.lists }) id w (tick_for old.wheel deadline now) at)
-  call_keeps worker old new opens opens' (Grant before after file g w at grants) = granted_keeps worker old new opens opens' before after file g w at grants
-  call_keeps worker old new opens opens' (Stage id w account at stages same) =
-      by_driver worker old new opens opens' _ same stages.driver (becomes opens worker old.requests id w _ at (gate_kept w.request stages.request stages.kept) (λ has. has))
-  call_keeps worker old new opens opens' (Land id w given store store' at lands same) =
-      by_requests worker old new opens opens' _ (unmoved opens opens' same) lands.lands.slab (becomes opens worker old.requests id w _ at (gate_moved _ given w.request lands.lands.request store store' lands.lands.moved) (λ has. has))
-  call_keeps worker old new opens opens' (Reap before after told reap) = reap_keeps worker old new opens opens' before after told reap
-  call_keeps worker old new opens opens' (Leave id file holder over same lines) = left_keeps worker old new opens opens' id file holder over same lines
-  call_keeps worker old new opens opens' (Other is same) = by_requests worker old new opens opens' _ (unmoved opens opens' same) is (room_fits opens worker old.requests new.requests.room)
+  call_keeps : (worker : ℕ) (old new : Driving S F) (g g' : Gates) → Stand worker old g → Call worker old new g g' → Keeps worker new.requests g g'
+  call_keeps worker old new g g' stand (Admit id request observer now next never admits leaving) = admitted_keeps worker old new g g' id request observer now next never admits leaving stand
+  call_keeps worker old new g g' stand (Join id fits same is) =
+      subst (λ (h : Gates). Keeps worker new.requests g h) (sym is) (subst (λ (m : Driving S F). Keeps worker m.requests g (with_lines g (with_named g.opens (gate_in (request_at old id)) (joined (key_of worker id))))) (sym same) (joined_keeps worker old g id (gate_in (request_at old id)) fits refl stand))
+  call_keeps worker old new g g' stand (Observe id is same) = by_driver worker new _ g g' same is stand.hold (taken_fits g worker old.requests id (value_at old.requests id.0) refl stand.all)
+  call_keeps worker old new g g' stand (SetWaker id task is same) = by_driver worker new _ g g' same is stand.hold (waked_fits g worker old.requests id task (value_at old.requests id.0) refl stand.all)
+  call_keeps worker old new g g' stand (Forward id sender is same) = by_driver worker new _ g g' same is stand.hold (forwarded_fits g worker old.requests id sender (value_at old.requests id.0) refl stand.all)
+  call_keeps worker old new g g' stand (Orphan id is same) = by_driver worker new _ g g' same is stand.hold (let_go_fits g worker old id stand.all)
+  call_keeps worker old new g g' stand (Expire id is same) = by_driver worker new _ g g' same is stand.hold (cancelled_fits g worker (record old { lists = after_due old.lists }) id stand.all)
+  call_keeps worker old new g g' stand (Enrol before after id w deadline now told at enrols same) =
+      by_driver worker new _ g g' same enrols.driver stand.hold (enrolled_fits g worker (record old { lists = after_enrolment old.lists }) id w (tick_for old.wheel deadline now) at stand.all)
+  call_keeps worker old new g g' stand (Grant before after file granted w at grants leaving) = granted_keeps worker old new g g' before after file granted w at grants leaving stand
+  call_keeps worker old new g g' stand (Stage id w account at stages same) =
+      by_driver worker new _ g g' same stages.driver stand.hold (becomes g worker old.requests id w _ at (gate_kept w.request stages.request stages.kept) (λ has. has) stand.all)
+  call_keeps worker old new g g' stand (Land id w given store store' at lands same) =
+      let all = becomes g worker old.requests id w _ at (gate_moved _ given w.request lands.lands.request store store' lands.lands.moved) (λ has. has) stand.all in
+      subst (λ (s : Slab (Entry S F)). Keeps worker s g g') (sym lands.lands.slab) (by_lines worker _ g g' (unmoved g g' same) stand.hold all)
+  call_keeps worker old new g g' stand (Reap before after told reap leaving) = reap_keeps worker old new g g' before after told reap leaving stand
+  call_keeps worker old new g g' stand (Leave id file leaves same is) =
+      subst (λ (h : Gates). Keeps worker new.requests g h) (sym is) (subst (λ (m : Driving S F). Keeps worker m.requests g (passed_on g file)) (sym same) (left_keeps worker old g (key_of worker id) file leaves stand))
+  call_keeps worker old new g g' stand (Other is same) =
+      subst (λ (s : Slab (Entry S F)). Keeps worker s g g') (sym is) (by_lines worker _ g g' (unmoved g g' same) stand.hold (room_fits g worker old.requests new.requests.room stand.all))
 
   -- ALL DRIVERS
 
-  pub line_up_kept : (drivers drivers' : ℕ → Driving S F) (opens opens' : List OpenState) → CallsOne drivers drivers' opens opens' → LineUp drivers opens → LineUp drivers' opens'
-  line_up_kept drivers drivers' opens opens' calls up =
+  none_there : (o : Option (Waiter S F)) → ((w : Waiter S F) → o ≡ Some w → ⊥) → o ≡ None
+  none_there None never = refl
+  none_there (Some w) never = absurd (never w refl)
+
+  pub line_up_kept : (drivers drivers' : ℕ → Driving S F) (g g' : Gates) → CallsOne drivers drivers' g g' → LineUp drivers g → LineUp drivers' g'
+  line_up_kept drivers drivers' g g' calls up =
       record {
-        share = record { holds = λ key w file at. (now key w at).holds file; flies = λ key w file at. by_worker key (eqb_tells key.worker calls.worker) w file at };
-        lines = λ key w file at. (now key w at).lines file;
+        share = record { holds = λ key w file at. ((now key.worker).fits key.id w at).holds file; flies = λ key w file at. by_worker key (eqb_tells key.worker calls.worker) w file at };
+        lines = λ key w file at. ((now key.worker).fits key.id w at).lines file;
+        given = λ key file. (now key.worker).given key.id file;
+        holds = keeps.hold;
+        over = λ key file leaves. none_there _ (λ w at. ((now key.worker).fits key.id w at).stays file leaves);
       }
     where
-      before : (key : WaiterKey) (w : Waiter S F) → request_at (drivers key.worker) key.id ≡ Some w → Fits opens key w
-      before key w at = record { holds = λ file. up.share.holds key w file at; lines = λ file. up.lines key w file at }
+      before : (worker : ℕ) → AllFit g worker (drivers worker).requests
+      before worker =
+          record {
+            fits = λ id w at.
+                record {
+                  holds = λ file. up.share.holds (key_of worker id) w file at;
+                  lines = λ file. up.lines (key_of worker id) w file at;
+                  stays = λ file leaves. let none : None ≡ Some w = sym (up.over (key_of worker id) file leaves) ∙ at in cc;
+                };
+            given = λ id file. up.given (key_of worker id) file;
+          }
 
-      now : (key : WaiterKey) (w : Waiter S F) → request_at (drivers' key.worker) key.id ≡ Some w → Fits opens' key w
-      now key w at =
-          let keeps = call_keeps calls.worker _ _ opens opens' calls.call in
-          elim (eqb_tells key.worker calls.worker) [
-            | inl same ↦
-                let mine = (keeps.mine (record { fits = λ id v. before (key_of calls.worker id) v })).fits key.id w (ap (λ (n : ℕ). request_at (drivers' n) key.id) (sym same.1) ∙ at) in
-                subst (λ (n : ℕ). Fits opens' (key_of n key.id) w) (sym same.1) mine
-            | inr apart ↦ keeps.theirs key w apart.1 (before key w (ap (λ (d : Driving S F). request_at d key.id) (sym (calls.others key.worker apart.1)) ∙ at))
+      keeps : Keeps calls.worker (drivers' calls.worker).requests g g'
+      keeps = call_keeps calls.worker _ _ g g' (record { all = before calls.worker; hold = up.holds; permitted = record { flies = λ id w file. up.share.flies (key_of calls.worker id) w file } }) calls.call
+
+      now : (worker : ℕ) → AllFit g' worker (drivers' worker).requests
+      now worker =
+          elim (eqb_tells worker calls.worker) [
+            | inl same ↦ subst (λ (n : ℕ). AllFit g' n (drivers' n).requests) (sym same.1) keeps.mine
+            | inr apart ↦ subst (λ (d : Driving S F). AllFit g' worker d.requests) (sym (calls.others worker apart.1)) (keeps.theirs worker (drivers worker).requests apart.1 (before worker))
           ]
 
       by_worker : (key : WaiterKey) → ((eqb key.worker calls.worker ≡ true) × (key.worker ≡ calls.worker)) ⊎ ((eqb key.worker calls.worker ≡ false) × (key.worker ≢ calls.worker)) → (w : Waiter S F) (file : ℕ) → request_at (drivers' key.worker) key.id ≡ Some w → w.in_flight ≡ true → gate_of w.request ≡ Some file → w.permit ≡ true
@@ -273,22 +371,25 @@ module _ {S F : Type 0} where
       by_worker key (inr apart) w file at = up.share.flies key w file (ap (λ (d : Driving S F). request_at d key.id) (sym (calls.others key.worker apart.1)) ∙ at)
 
   -- a driver without requests has none by any name
-  pub line_up_first : (drivers : ℕ → Driving S F) (opens : List OpenState) → ((worker : ℕ) → (drivers worker).requests.slots ≡ []) → LineUp drivers opens
-  line_up_first drivers opens empty =
+  pub line_up_first : (drivers : ℕ → Driving S F) (g : Gates) → AreFresh drivers g → LineUp drivers g
+  line_up_first drivers g fresh =
       record {
         share = record { holds = λ key w file at. absurd (none key w at); flies = λ key w file at. absurd (none key w at) };
         lines = λ key w file at. absurd (none key w at);
+        given = λ key file stands. absurd (nobody_stands fresh.count file key (subst (λ (o : List OpenState). StandsAt o file key) fresh.opens stands));
+        holds = λ key file leaves. let no : None ≡ Some key = sym (fresh.leaving file) ∙ leaves in absurd (cc);
+        over = λ key file leaves. let no : None ≡ Some key = sym (fresh.leaving file) ∙ leaves in absurd (cc);
       }
     where
       none : (key : WaiterKey) (w : Waiter S F) → request_at (drivers key.worker) key.id ≡ Some w → ⊥
-      none key w at = none_past (drivers key.worker).requests.first key.id.0.generation w (reads _ (Vacant (drivers key.worker).requests.first) key.id.0.generation w (ap (λ (l : List (Slot (Entry S F))). get_or l key.id.0.index (Vacant (drivers key.worker).requests.first)) (empty key.worker)) at)
+      none key w at = none_past (drivers key.worker).requests.first key.id.0.generation w (reads _ (Vacant (drivers key.worker).requests.first) key.id.0.generation w (ap (λ (l : List (Slot (Entry S F))). get_or l key.id.0.index (Vacant (drivers key.worker).requests.first)) (fresh.requests key.worker)) at)
 
-  pub line_up_always : (drivers : ℕ → ℕ → Driving S F) (opens : ℕ → List OpenState) → IsRun drivers opens → (n : ℕ) → LineUp (drivers n) (opens n)
-  line_up_always drivers opens run zero = line_up_first (drivers 0) (opens 0) run.first
-  line_up_always drivers opens run (suc n) = line_up_kept (drivers n) (drivers (suc n)) (opens n) (opens (suc n)) (run.next n) (line_up_always drivers opens run n)
+  pub line_up_always : (drivers : ℕ → ℕ → Driving S F) (gates : ℕ → Gates) → IsRun drivers gates → (n : ℕ) → LineUp (drivers n) (gates n)
+  line_up_always drivers gates run zero = line_up_first (drivers 0) (gates 0) run.first
+  line_up_always drivers gates run (suc n) = line_up_kept (drivers n) (drivers (suc n)) (gates n) (gates (suc n)) (run.next n) (line_up_always drivers gates run n)
 
-  pub one_always : (drivers : ℕ → ℕ → Driving S F) (opens : ℕ → List OpenState) → IsRun drivers opens → (n : ℕ) (a b : WaiterKey) (file : ℕ) → IsDurableFlight (drivers n a.worker) a.id file → IsDurableFlight (drivers n b.worker) b.id file → a ≡ b
-  one_always drivers opens run n a b file one other = at_most_one (drivers n) (opens n) a b file (line_up_always drivers opens run n).share one other
+  pub one_always : (drivers : ℕ → ℕ → Driving S F) (gates : ℕ → Gates) → IsRun drivers gates → (n : ℕ) (a b : WaiterKey) (file : ℕ) → IsDurableFlight (drivers n a.worker) a.id file → IsDurableFlight (drivers n b.worker) b.id file → a ≡ b
+  one_always drivers gates run n a b file one other = at_most_one (drivers n) (gates n).opens a b file (line_up_always drivers gates run n).share one other
 
   pub flies_permitted : (d : Driving S F) → IsSound d → FliesPermitted d
   flies_permitted d sound =

@@ -1,12 +1,12 @@
 -- Where a request stands: its gate, the line of an open, and one slot that changed.
-use Rattle.std.proofs.Common.{◌≡◌, ◌≢◌, ◌⊎◌, ℕ, zero, suc, ◌+◌, ◌-◌, ◌≤◌, ◌^◌, ltb, Bool, true, false, not, ◌&&◌, cond, List, [], ◌∷◌, ◌++◌, length, set, get_or, slice_get, drop, Option, Some, None, refl, sym, ap, subst, ◌∙◌, inl, inr, arith, length-append, length-set}
+use Rattle.std.proofs.Common.{◌≡◌, ◌≢◌, ◌⊎◌, ℕ, zero, suc, ◌+◌, ◌-◌, ◌<◌, ◌≤◌, ◌^◌, ltb, Bool, true, false, not, ◌&&◌, cond, List, [], ◌∷◌, ◌++◌, length, set, get_or, slice_get, drop, Option, Some, None, refl, sym, ap, subst, ◌∙◌, inl, inr, arith, length-append, length-set}
 use Rattle.std.specs.List.{Contains}
 use Rattle.std.specs.Prelude.{is_none}
 use Rattle.std.proofs.lemmas.Bool.{cases_lt}
 use Rattle.std.proofs.lemmas.Grind.{get_or-set_at}
 use Rattle.std.proofs.lemmas.List.{get_or_past, get_or_push, get_or_append_left, get_or-set_other}
 use Rattle.std.proofs.lemmas.List.Elements.{Contains-push_cases}
-use Rattle.exec_base.specs.Slab.{slot_at, value_in, removed, freed, filled, next_id, generation_of}
+use Rattle.exec_base.specs.Slab.{slot_at, value_at, value_in, removed, freed, filled, next_id, generation_of, next_generation}
 use Rattle.exec_base.specs.declared.slab.Slot.{Slot}
 use Rattle.exec_base.specs.declared.slab.Slot.TheVariants.{Live, Vacant, Retired}
 use Rattle.exec_base.proofs.Slots.{same_id, some_of_if}
@@ -23,9 +23,10 @@ use Rattle.exec_request.specs.declared.write_at.WriteAtState.{WriteAtState}
 use Rattle.exec_request.specs.declared.write_at.WriteAtState.TheVariants.{Writing, WritingSync, WritingBeforeSync, Syncing}
 use Rattle.exec_ring.specs.Landings.{MovesBy, Moves}
 use Rattle.exec_ring.specs.declared.store.Store.{Store}
+use Rattle.exec_waiters.proofs.Changes.{at_by, entry_of}
 use Rattle.exec_waiters.specs.Events.{finished_for}
 use Rattle.exec_driver.specs.Opens.{holder_in, holder_at, open_at, with_open, with_open_in, with_named, joined}
-use Rattle.exec_driver.specs.Sharing.{StandsIn, StandsAt, key_of}
+use Rattle.exec_driver.specs.Sharing.{Gates, IsGiven, StandsIn, StandsAt, key_of, with_lines}
 use Rattle.exec_driver.specs.declared.opens.WaiterKey.{WaiterKey}
 use Rattle.exec_driver.proofs.Words.{false≢true, eqb_tells, Slab, written, Id, asked_of, Request, is_durable, OpResult, Submission, waiter_at, waiter_in, waiter_of, Waiter, Entry, Pending, Ready, WaiterId, OpenState, Observer, Local, Forwarded, DetachedSync, Orphaned}
 use Rattle.exec_driver.proofs.Arriving.{durable_gated}
@@ -89,38 +90,44 @@ open_tells opens file change other = by (open_at opens file) refl
           | inr apart ↦ inl (set_elsewhere opens file other (change o) apart.1)
         ]
 
--- nobody else holds a gate, and nobody more stands in a line
-pub record SameLines (opens opens' : List OpenState) : Type 0 where
-  pub holder : (file : ℕ) → holder_at opens' file ≡ holder_at opens file
-  pub stands : (file : ℕ) (key : WaiterKey) → StandsAt opens' file key → StandsAt opens file key
+-- nobody else holds a gate, nobody more stands in a line, and the same are to leave
+pub record SameLines (g g' : Gates) : Type 0 where
+  pub holder : (file : ℕ) → holder_at g'.opens file ≡ holder_at g.opens file
+  pub stands : (file : ℕ) (key : WaiterKey) → StandsAt g'.opens file key → StandsAt g.opens file key
+  pub leaving : (file : ℕ) → g'.leaving file ≡ g.leaving file
 
-pub named_lines : (opens : List OpenState) (file : Option ℕ) (change : OpenState → OpenState) → ((o : OpenState) → ((change o).holder ≡ o.holder) × ((change o).waiting ≡ o.waiting)) → SameLines opens (with_named opens file change)
-named_lines opens None change keeps = record { holder = λ file. refl; stands = λ file key is. is }
-named_lines opens (Some file) change keeps =
+pub named_lines : (g : Gates) (file : Option ℕ) (change : OpenState → OpenState) → ((o : OpenState) → ((change o).holder ≡ o.holder) × ((change o).waiting ≡ o.waiting)) → SameLines g (with_lines g (with_named g.opens file change))
+named_lines g None change keeps = record { holder = λ file. refl; stands = λ file key is. is; leaving = λ file. refl }
+named_lines g (Some file) change keeps =
     record {
       holder = λ other.
-          elim (open_tells opens file change other) [
+          elim (open_tells g.opens file change other) [
             | inl same ↦ ap holder_in same
-            | inr here ↦ ap holder_in here.3 ∙ (keeps here.0).0 ∙ sym (ap (holder_at opens) here.1 ∙ ap holder_in here.2)
+            | inr here ↦ ap holder_in here.3 ∙ (keeps here.0).0 ∙ sym (ap (holder_at g.opens) here.1 ∙ ap holder_in here.2)
           ];
       stands = λ other key is.
-          elim (open_tells opens file change other) [
+          elim (open_tells g.opens file change other) [
             | inl same ↦ subst (StandsIn key) same is
             | inr here ↦
                 let now = subst (StandsIn key) here.3 is in
                 let was : StandsIn key (Some here.0) = elim now [ inl holds ↦ inl (sym (keeps here.0).0 ∙ holds) | inr waits ↦ inr (subst (λ (l : List WaiterKey). Contains l key) (keeps here.0).1 waits) ] in
-                subst (StandsIn key) (sym (ap (open_at opens) here.1 ∙ here.2)) was
+                subst (StandsIn key) (sym (ap (open_at g.opens) here.1 ∙ here.2)) was
           ];
+      leaving = λ file. refl;
     }
 
-pub unmoved : (opens opens' : List OpenState) → opens' ≡ opens → SameLines opens opens'
-unmoved opens opens' is =
-    let none : SameLines opens opens = record { holder = λ file. refl; stands = λ file key stands. stands } in
-    subst (SameLines opens) (sym is) none
+pub unmoved : (g g' : Gates) → g' ≡ g → SameLines g g'
+unmoved g g' is =
+    let none : SameLines g g = record { holder = λ file. refl; stands = λ file key stands. stands; leaving = λ file. refl } in
+    subst (SameLines g) (sym is) none
 
-pub then_lines : (a b c : List OpenState) → SameLines a b → SameLines b c → SameLines a c
+pub then_lines : (a b c : Gates) → SameLines a b → SameLines b c → SameLines a c
 then_lines a b c one other =
-    record { holder = λ file. other.holder file ∙ one.holder file; stands = λ file key stands. one.stands file key (other.stands file key stands) }
+    record {
+      holder = λ file. other.holder file ∙ one.holder file;
+      stands = λ file key stands. one.stands file key (other.stands file key stands);
+      leaving = λ file. other.leaving file ∙ one.leaving file;
+    }
 
 -- who joins stands behind all others, or holds a gate that nobody held
 pub joined_holds : (key : WaiterKey) (o : OpenState) (k : WaiterKey) → o.holder ≡ Some k → (joined key o).holder ≡ Some k
@@ -156,23 +163,54 @@ none_freed : {S F : Type 0} (b : Bool) (h n : ℕ) (w : Waiter S F) → waiter_o
 none_freed true h n w is = cc
 none_freed false h n w is = cc
 
-module _ {S F : Type 0} where
-  -- Who was granted a permit has it, and it stands in the line of its own open alone.
-  pub record Fits (opens : List OpenState) (key : WaiterKey) (w : Waiter S F) : Type 0 where
-    pub holds : (file : ℕ) → w.permit ≡ true → gate_of w.request ≡ Some file → holder_at opens file ≡ Some key
-    pub lines : (file : ℕ) → StandsAt opens file key → gate_of w.request ≡ Some file
+-- a slot that a removal left has given as many ids
+past_freed : (T : Type 0) (b : Bool) (g n : ℕ) → ltb (g + 1) (2 ^ 64) ≡ b → n < 2 ^ 64 → n < g + 1 → let slot : Slot T = cond b (Vacant (g + 1)) Retired in n < next_generation slot
+past_freed T true g n is fits past = past
+past_freed T false g n is fits past = fits
 
-  pub record AllFit (opens : List OpenState) (worker : ℕ) (s : Slab (Entry S F)) : Type 0 where
-    pub fits : (id : WaiterId) (w : Waiter S F) → waiter_at s id.0 ≡ Some w → Fits opens (key_of worker id) w
+past_filled : {T : Type 0} (slot : Slot T) (n : ℕ) → n < next_generation slot → n < generation_of slot + 1
+past_filled (Live g value) n past = past
+past_filled (Vacant g) n past = omega (arith, past)
+past_filled Retired n past = omega (arith, past)
+
+module _ {S F : Type 0} where
+  -- Who was granted a permit has it, it stands in the line of its own open alone, and isn't to leave it yet.
+  pub record Fits (g : Gates) (key : WaiterKey) (w : Waiter S F) : Type 0 where
+    pub holds : (file : ℕ) → w.permit ≡ true → gate_of w.request ≡ Some file → holder_at g.opens file ≡ Some key
+    pub lines : (file : ℕ) → StandsAt g.opens file key → gate_of w.request ≡ Some file
+    pub stays : (file : ℕ) → g.leaving file ≡ Some key → ⊥
+
+  pub record AllFit (g : Gates) (worker : ℕ) (s : Slab (Entry S F)) : Type 0 where
+    pub fits : (id : WaiterId) (w : Waiter S F) → waiter_at s id.0 ≡ Some w → Fits g (key_of worker id) w
+    pub given : (id : WaiterId) (file : ℕ) → StandsAt g.opens file (key_of worker id) → IsGiven s id
 
   -- whoever has the permit afterwards had it before, with the same gate
-  alike : (opens : List OpenState) (key : WaiterKey) (w w' : Waiter S F) → gate_of w'.request ≡ gate_of w.request → (w'.permit ≡ true → w.permit ≡ true) → Fits opens key w → Fits opens key w'
-  alike opens key w w' gate permit fits =
-      record { holds = λ file has is. fits.holds file (permit has) (sym gate ∙ is); lines = λ file stands. gate ∙ fits.lines file stands }
+  alike : (g : Gates) (key : WaiterKey) (w w' : Waiter S F) → gate_of w'.request ≡ gate_of w.request → (w'.permit ≡ true → w.permit ≡ true) → Fits g key w → Fits g key w'
+  alike g key w w' gate permit fits =
+      record { holds = λ file has is. fits.holds file (permit has) (sym gate ∙ is); lines = λ file stands. gate ∙ fits.lines file stands; stays = fits.stays }
 
-  pub same_fits : (opens opens' : List OpenState) (key : WaiterKey) (w : Waiter S F) → SameLines opens opens' → Fits opens key w → Fits opens' key w
-  same_fits opens opens' key w same fits =
-      record { holds = λ file has is. same.holder file ∙ fits.holds file has is; lines = λ file stands. fits.lines file (same.stands file key stands) }
+  pub all_over : (g g' : Gates) (worker : ℕ) (s : Slab (Entry S F)) → SameLines g g' → AllFit g worker s → AllFit g' worker s
+  all_over g g' worker s same all =
+      record {
+        fits = λ id w at.
+            let fits = all.fits id w at in
+            record {
+              holds = λ file has is. same.holder file ∙ fits.holds file has is;
+              lines = λ file stands. fits.lines file (same.stands file (key_of worker id) stands);
+              stays = λ file leaves. fits.stays file (sym (same.leaving file) ∙ leaves);
+            };
+        given = λ id file stands. all.given id file (same.stands file (key_of worker id) stands);
+      }
+
+  -- its slot has given no later id
+  abbrev pub IsLast : Slab (Entry S F) → Id → Type 0
+  IsLast s id = (n : ℕ) → n < next_generation (slot_at s id.index) → n < id.generation + 1
+
+  pub there_last : (s : Slab (Entry S F)) (id : Id) (e : Entry S F) → value_at s id ≡ Some e → IsLast s id
+  there_last s id e at n past = subst (λ (o : Slot (Entry S F)). n < next_generation o) (at_by s id e at).slot past
+
+  pub asking_last : (s : Slab (Entry S F)) (id : Id) (w : Waiter S F) → waiter_at s id ≡ Some w → IsLast s id
+  asking_last s id w at = there_last s id (Pending w) (entry_of _ w at)
 
   -- ONE SLOT
 
@@ -189,73 +227,132 @@ module _ {S F : Type 0} where
         | inr other ↦ let none : None ≡ Some w = rw other.0 at is in absurd (cc)
       ]
 
-  slot_fits : (opens : List OpenState) (worker : ℕ) (s s' : Slab (Entry S F)) (i : ℕ) (slot : Slot (Entry S F)) → s'.slots ≡ set s.slots i slot → s'.first ≡ s.first → ((id : WaiterId) (w : Waiter S F) → id.0.index ≡ i → waiter_of (value_in slot id.0.generation) ≡ Some w → Fits opens (key_of worker id) w) → AllFit opens worker s → AllFit opens worker s'
-  slot_fits opens worker s s' i slot slots first new all =
+  past_reads : (o o' : Slot (Entry S F)) (n : ℕ) → o ≡ o' → n < next_generation o → n < next_generation o'
+  past_reads o o' n same past = subst (λ (x : Slot (Entry S F)). n < next_generation x) same past
+
+  slot_past : (s : Slab (Entry S F)) (i j n : ℕ) (slot : Slot (Entry S F)) → (n < next_generation (slot_at s i) → n < next_generation slot) → n < next_generation (slot_at s j) → n < next_generation (get_or (set s.slots i slot) j (Vacant s.first))
+  slot_past s i j n slot grows past =
+      elim (eqb_tells j i) [
+        | inr other ↦ past_reads _ _ n (sym (get_or-set_other s.slots i j slot (Vacant s.first) other.1)) past
+        | inl same ↦
+            elim (cases_lt i (length s.slots)) [
+              | inl within ↦
+                  past_reads _ _ n (sym (get_or-set_at s.slots i j slot (Vacant s.first) same.1 within)) (grows (past_reads _ _ n (ap (slot_at s) same.1) past))
+              | inr beyond ↦
+                  let after : length (set s.slots i slot) ≤ j = rw length-set (omega (arith, beyond, same.1)) in
+                  past_reads _ _ n (get_or_past s.slots j (Vacant s.first) (omega (arith, beyond, same.1)) ∙ sym (get_or_past (set s.slots i slot) j (Vacant s.first) after)) past
+            ]
+      ]
+
+  slot_fits : (g : Gates) (worker : ℕ) (s s' : Slab (Entry S F)) (i : ℕ) (slot : Slot (Entry S F)) → s'.slots ≡ set s.slots i slot → s'.first ≡ s.first → ((id : WaiterId) (w : Waiter S F) → id.0.index ≡ i → waiter_of (value_in slot id.0.generation) ≡ Some w → Fits g (key_of worker id) w) → ((n : ℕ) → n < 2 ^ 64 → n < next_generation (slot_at s i) → n < next_generation slot) → AllFit g worker s → AllFit g worker s'
+  slot_fits g worker s s' i slot slots first new grows all =
       record {
         fits = λ id w at.
-            let g = id.0.generation in
-            let now = reads _ (get_or (set s.slots i slot) id.0.index (Vacant s.first)) g w (λ k. get_or (slots k) id.0.index (Vacant (first k))) at in
+            let n = id.0.generation in
+            let now = reads _ (get_or (set s.slots i slot) id.0.index (Vacant s.first)) n w (λ k. get_or (slots k) id.0.index (Vacant (first k))) at in
             elim (eqb_tells id.0.index i) [
-              | inr other ↦ all.fits id w (reads _ _ g w (get_or-set_other s.slots i id.0.index slot (Vacant s.first) other.1) now)
+              | inr other ↦ all.fits id w (reads _ _ n w (get_or-set_other s.slots i id.0.index slot (Vacant s.first) other.1) now)
               | inl same ↦
                   elim (cases_lt i (length s.slots)) [
-                    | inl within ↦ new id w same.1 (reads _ _ g w (get_or-set_at s.slots i id.0.index slot (Vacant s.first) same.1 within) now)
+                    | inl within ↦ new id w same.1 (reads _ _ n w (get_or-set_at s.slots i id.0.index slot (Vacant s.first) same.1 within) now)
                     | inr past ↦
                         let beyond : length (set s.slots i slot) ≤ id.0.index = rw length-set (omega (arith, past, same.1)) in
-                        absurd (none_past s.first g w (reads _ _ g w (get_or_past (set s.slots i slot) id.0.index (Vacant s.first) beyond) now))
+                        absurd (none_past s.first n w (reads _ _ n w (get_or_past (set s.slots i slot) id.0.index (Vacant s.first) beyond) now))
                   ]
             ];
+        given = λ id file stands.
+            let was = all.given id file stands in
+            record { fits = was.fits; past = past_reads _ _ id.0.generation (λ k. get_or (sym slots k) id.0.index (Vacant (sym first k))) (slot_past s i id.0.index id.0.generation slot (grows id.0.generation was.fits) was.past) };
       }
 
-  pushed_fits : (opens : List OpenState) (worker : ℕ) (s s' : Slab (Entry S F)) (slot : Slot (Entry S F)) → s'.slots ≡ s.slots ++ slot ∷ [] → s'.first ≡ s.first → ((id : WaiterId) (w : Waiter S F) → id.0.index ≡ length s.slots → waiter_of (value_in slot id.0.generation) ≡ Some w → Fits opens (key_of worker id) w) → AllFit opens worker s → AllFit opens worker s'
-  pushed_fits opens worker s s' slot slots first new all =
+  pushed_fits : (g : Gates) (worker : ℕ) (s s' : Slab (Entry S F)) (slot : Slot (Entry S F)) → s'.slots ≡ s.slots ++ slot ∷ [] → s'.first ≡ s.first → ((id : WaiterId) (w : Waiter S F) → id.0.index ≡ length s.slots → waiter_of (value_in slot id.0.generation) ≡ Some w → Fits g (key_of worker id) w) → ((n : ℕ) → n < s.first → n < next_generation slot) → AllFit g worker s → AllFit g worker s'
+  pushed_fits g worker s s' slot slots first new grows all =
       record {
         fits = λ id w at.
-            let g = id.0.generation in
-            let now = reads _ (get_or (s.slots ++ slot ∷ []) id.0.index (Vacant s.first)) g w (λ k. get_or (slots k) id.0.index (Vacant (first k))) at in
-            elim (cases_lt id.0.index (length s.slots)) [
-              | inl within ↦ all.fits id w (reads _ _ g w (get_or_append_left s.slots (slot ∷ []) (Vacant s.first) id.0.index within) now)
-              | inr past ↦
-                  elim (eqb_tells id.0.index (length s.slots)) [
-                    | inl same ↦ new id w same.1 (reads _ _ g w (get_or_push s.slots slot (Vacant s.first) id.0.index (sym same.1)) now)
-                    | inr other ↦
-                        let apart : id.0.index ≢ length s.slots = other.1 in
-                        let beyond : length (s.slots ++ slot ∷ []) ≤ id.0.index = omega (arith, past, apart, length-append s.slots (slot ∷ [])) in
-                        absurd (none_past s.first g w (reads _ _ g w (get_or_past (s.slots ++ slot ∷ []) id.0.index (Vacant s.first) beyond) now))
-                  ]
+            let n = id.0.generation in
+            let now = reads _ (get_or (s.slots ++ slot ∷ []) id.0.index (Vacant s.first)) n w (λ k. get_or (slots k) id.0.index (Vacant (first k))) at in
+            elim (places id.0.index) [
+              | inl same ↦ all.fits id w (reads _ _ n w same now)
+              | inr last ↦ new id w last.0 (reads _ _ n w last.1 now)
             ];
+        given = λ id file stands.
+            let was = all.given id file stands in
+            let now : id.0.generation < next_generation (get_or (s.slots ++ slot ∷ []) id.0.index (Vacant s.first)) =
+            elim (places id.0.index) [
+              | inl same ↦ past_reads _ _ id.0.generation (sym same) was.past
+              | inr last ↦ past_reads _ _ id.0.generation (sym last.1) (grows id.0.generation (past_reads _ _ id.0.generation (get_or_past s.slots id.0.index (Vacant s.first) (omega (arith, last.0))) was.past))
+            ] in
+            record { fits = was.fits; past = past_reads _ _ id.0.generation (λ k. get_or (sym slots k) id.0.index (Vacant (sym first k))) now };
       }
+    where
+      -- a slot is as it was, or the new one
+      places : (j : ℕ) → (get_or (s.slots ++ slot ∷ []) j (Vacant s.first) ≡ get_or s.slots j (Vacant s.first)) ⊎ ((j ≡ length s.slots) × (get_or (s.slots ++ slot ∷ []) j (Vacant s.first) ≡ slot))
+      places j =
+          elim (cases_lt j (length s.slots)) [
+            | inl within ↦ inl (get_or_append_left s.slots (slot ∷ []) (Vacant s.first) j within)
+            | inr past ↦
+                elim (eqb_tells j (length s.slots)) [
+                  | inl same ↦ inr (same.1, get_or_push s.slots slot (Vacant s.first) j (sym same.1))
+                  | inr other ↦
+                      let apart : j ≢ length s.slots = other.1 in
+                      let beyond : length (s.slots ++ slot ∷ []) ≤ j = omega (arith, past, apart, length-append s.slots (slot ∷ [])) in
+                      inl (get_or_past (s.slots ++ slot ∷ []) j (Vacant s.first) beyond ∙ sym (get_or_past s.slots j (Vacant s.first) (omega (arith, past))))
+                ]
+          ]
 
   -- the slot of a request
-  live_fits : (opens : List OpenState) (worker : ℕ) (id : WaiterId) (i g : ℕ) (e : Entry S F) → record { index = i; generation = g } ≡ id.0 → ((w : Waiter S F) → waiter_in e ≡ Some w → Fits opens (key_of worker id) w) → (other : WaiterId) (w : Waiter S F) → other.0.index ≡ i → waiter_of (value_in (Live g e) other.0.generation) ≡ Some w → Fits opens (key_of worker other) w
-  live_fits opens worker id i g e is fits other w index at =
-      let live = live_tells g e other.0.generation w at in
-      let same : id.0 ≡ other.0 = sym is ∙ same_id (record { index = i; generation = g }) other.0 (sym index) live.0 in
-      subst (λ (n : Id). Fits opens (key_of worker (record { 0 = n })) w) same (fits w live.1)
+  live_fits : (g : Gates) (worker : ℕ) (id : WaiterId) (i n : ℕ) (e : Entry S F) → record { index = i; generation = n } ≡ id.0 → ((w : Waiter S F) → waiter_in e ≡ Some w → Fits g (key_of worker id) w) → (other : WaiterId) (w : Waiter S F) → other.0.index ≡ i → waiter_of (value_in (Live n e) other.0.generation) ≡ Some w → Fits g (key_of worker other) w
+  live_fits g worker id i n e is fits other w index at =
+      let live = live_tells n e other.0.generation w at in
+      let same : id.0 ≡ other.0 = sym is ∙ same_id (record { index = i; generation = n }) other.0 (sym index) live.0 in
+      subst (λ (m : Id). Fits g (key_of worker (record { 0 = m })) w) same (fits w live.1)
 
-  pub written_fits : (opens : List OpenState) (worker : ℕ) (s : Slab (Entry S F)) (id : WaiterId) (e : Entry S F) → ((w : Waiter S F) → waiter_in e ≡ Some w → Fits opens (key_of worker id) w) → AllFit opens worker s → AllFit opens worker (written s id.0 e)
-  written_fits opens worker s id e fits all =
-      slot_fits opens worker s (written s id.0 e) id.0.index (Live id.0.generation e) refl refl (live_fits opens worker id id.0.index id.0.generation e refl fits) all
+  pub written_fits : (g : Gates) (worker : ℕ) (s : Slab (Entry S F)) (id : WaiterId) (e : Entry S F) → IsLast s id.0 → ((w : Waiter S F) → waiter_in e ≡ Some w → Fits g (key_of worker id) w) → AllFit g worker s → AllFit g worker (written s id.0 e)
+  written_fits g worker s id e last fits all =
+      slot_fits g worker s (written s id.0 e) id.0.index (Live id.0.generation e) refl refl (live_fits g worker id id.0.index id.0.generation e refl fits) (λ n within past. last n past) all
 
-  pub removed_fits : (opens : List OpenState) (worker : ℕ) (s : Slab (Entry S F)) (id : WaiterId) → AllFit opens worker s → AllFit opens worker (removed s id.0)
-  removed_fits opens worker s id all =
-      slot_fits opens worker s (removed s id.0) id.0.index (freed id.0.generation) refl refl (λ other w index at. absurd (none_freed (ltb (id.0.generation + 1) (2 ^ 64)) (id.0.generation + 1) other.0.generation w at)) all
+  pub removed_fits : (g : Gates) (worker : ℕ) (s : Slab (Entry S F)) (id : WaiterId) → IsLast s id.0 → AllFit g worker s → AllFit g worker (removed s id.0)
+  removed_fits g worker s id last all =
+      slot_fits g worker s (removed s id.0) id.0.index (freed id.0.generation) refl refl
+      (λ other w index at. absurd (none_freed (ltb (id.0.generation + 1) (2 ^ 64)) (id.0.generation + 1) other.0.generation w at))
+      (λ n within past. past_freed (Entry S F) (ltb (id.0.generation + 1) (2 ^ 64)) id.0.generation n refl within (last n past)) all
 
-  pub filled_fits : (opens : List OpenState) (worker : ℕ) (s : Slab (Entry S F)) (vacant : List ℕ) (id : WaiterId) (w : Waiter S F) → next_id (record s { vacant = vacant }) ≡ Some id.0 → Fits opens (key_of worker id) w → AllFit opens worker s → AllFit opens worker (filled s vacant (Pending w))
-  filled_fits opens worker s [] id w next fits all =
-      let generation : generation_of (slot_at s (length s.slots)) ≡ s.first = ap generation_of (get_or_past s.slots (length s.slots) (Vacant s.first) (omega arith)) in
-      let is : record { index = length s.slots; generation = s.first } ≡ id.0 = ap (λ (g : ℕ). let n : Id = record { index = length s.slots; generation = g } in n) (sym generation) ∙ some_of_if _ _ _ next in
-      pushed_fits opens worker s _ (Live s.first (Pending w)) refl refl (live_fits opens worker id (length s.slots) s.first (Pending w) is (λ v same. subst (Fits opens (key_of worker id)) (cc) fits)) all
-  filled_fits opens worker s (i ∷ rest) id w next fits all =
-      slot_fits opens worker s _ i (Live (generation_of (slot_at s i)) (Pending w)) refl refl (live_fits opens worker id i (generation_of (slot_at s i)) (Pending w) (some_of_if _ _ _ next) (λ v same. subst (Fits opens (key_of worker id)) (cc) fits)) all
+  first_given : (s : Slab (Entry S F)) → generation_of (slot_at s (length s.slots)) ≡ s.first
+  first_given s = ap generation_of (get_or_past s.slots (length s.slots) (Vacant s.first) (omega arith))
+
+  pushed_id : (s : Slab (Entry S F)) (id : WaiterId) → next_id (record s { vacant = [] }) ≡ Some id.0 → record { index = length s.slots; generation = s.first } ≡ id.0
+  pushed_id s id next = ap (λ (g : ℕ). let n : Id = record { index = length s.slots; generation = g } in n) (sym (first_given s)) ∙ some_of_if _ _ _ next
+
+  pub filled_fits : (g : Gates) (worker : ℕ) (s : Slab (Entry S F)) (vacant : List ℕ) (id : WaiterId) (w : Waiter S F) → next_id (record s { vacant = vacant }) ≡ Some id.0 → Fits g (key_of worker id) w → AllFit g worker s → AllFit g worker (filled s vacant (Pending w))
+  filled_fits g worker s [] id w next fits all =
+      pushed_fits g worker s _ (Live s.first (Pending w)) refl refl (live_fits g worker id (length s.slots) s.first (Pending w) (pushed_id s id next) (λ v same. subst (Fits g (key_of worker id)) (cc) fits)) (λ n past. omega (arith, past)) all
+  filled_fits g worker s (i ∷ rest) id w next fits all =
+      slot_fits g worker s _ i (Live (generation_of (slot_at s i)) (Pending w)) refl refl (live_fits g worker id i (generation_of (slot_at s i)) (Pending w) (some_of_if _ _ _ next) (λ v same. subst (Fits g (key_of worker id)) (cc) fits)) (λ n within past. past_filled (slot_at s i) n past) all
+
+  filled_slot : (s : Slab (Entry S F)) (i n : ℕ) (w : Waiter S F) → n < next_generation (get_or (set s.slots i (Live (generation_of (slot_at s i)) (Pending w))) i (Vacant s.first)) → n < generation_of (slot_at s i) + 1
+  filled_slot s i n w past =
+      let slot : Slot (Entry S F) = Live (generation_of (slot_at s i)) (Pending w) in
+      elim (cases_lt i (length s.slots)) [
+        | inl within ↦ past_reads _ slot n (get_or-set_at s.slots i i slot (Vacant s.first) refl within) past
+        | inr beyond ↦
+            let after : length (set s.slots i slot) ≤ i = rw length-set (omega (arith, beyond)) in
+            past_filled (slot_at s i) n (past_reads _ _ n (get_or_past (set s.slots i slot) i (Vacant s.first) after ∙ sym (get_or_past s.slots i (Vacant s.first) (omega (arith, beyond)))) past)
+      ]
+
+  pub filled_last : (s : Slab (Entry S F)) (vacant : List ℕ) (id : WaiterId) (w : Waiter S F) → next_id (record s { vacant = vacant }) ≡ Some id.0 → IsLast (filled s vacant (Pending w)) id.0
+  filled_last s [] id w next =
+      subst (IsLast (filled s [] (Pending w))) (pushed_id s id next) (λ n past. past_reads _ (Live s.first (Pending w)) n (get_or_push s.slots (Live s.first (Pending w)) (Vacant s.first) (length s.slots) refl) past)
+  filled_last s (i ∷ rest) id w next =
+      let is : record { index = i; generation = generation_of (slot_at s i) } ≡ id.0 = some_of_if _ _ _ next in
+      subst (IsLast (filled s (i ∷ rest) (Pending w))) is (λ n past. filled_slot s i n w past)
 
   -- a request became another with the same gate, and with no permit that it hadn't
-  pub becomes : (opens : List OpenState) (worker : ℕ) (s : Slab (Entry S F)) (id : WaiterId) (w w' : Waiter S F) → waiter_at s id.0 ≡ Some w → gate_of w'.request ≡ gate_of w.request → (w'.permit ≡ true → w.permit ≡ true) → AllFit opens worker s → AllFit opens worker (written s id.0 (Pending w'))
-  becomes opens worker s id w w' at gate permit all =
-      written_fits opens worker s id (Pending w') (λ v same. subst (Fits opens (key_of worker id)) (cc) (alike opens (key_of worker id) w w' gate permit (all.fits id w at))) all
+  pub becomes : (g : Gates) (worker : ℕ) (s : Slab (Entry S F)) (id : WaiterId) (w w' : Waiter S F) → waiter_at s id.0 ≡ Some w → gate_of w'.request ≡ gate_of w.request → (w'.permit ≡ true → w.permit ≡ true) → AllFit g worker s → AllFit g worker (written s id.0 (Pending w'))
+  becomes g worker s id w w' at gate permit all =
+      written_fits g worker s id (Pending w') (asking_last s id.0 w at) (λ v same. subst (Fits g (key_of worker id)) (cc) (alike g (key_of worker id) w w' gate permit (all.fits id w at))) all
 
-  pub finished_fits : (opens : List OpenState) (worker : ℕ) (s : Slab (Entry S F)) (id : WaiterId) (told : RequestOutput) (observer : Observer S F) → AllFit opens worker s → AllFit opens worker (finished_for s id.0 told observer)
-  finished_fits opens worker s id told (Local waker) all = written_fits opens worker s id (Ready told) (λ v same. absurd (cc)) all
-  finished_fits opens worker s id told (Forwarded sender) all = removed_fits opens worker s id all
-  finished_fits opens worker s id told (DetachedSync sender) all = removed_fits opens worker s id all
-  finished_fits opens worker s id told Orphaned all = removed_fits opens worker s id all
+  pub finished_fits : (g : Gates) (worker : ℕ) (s : Slab (Entry S F)) (id : WaiterId) (told : RequestOutput) (observer : Observer S F) → IsLast s id.0 → AllFit g worker s → AllFit g worker (finished_for s id.0 told observer)
+  finished_fits g worker s id told (Local waker) last all = written_fits g worker s id (Ready told) last (λ v same. absurd (cc)) all
+  finished_fits g worker s id told (Forwarded sender) last all = removed_fits g worker s id last all
+  finished_fits g worker s id told (DetachedSync sender) last all = removed_fits g worker s id last all
+  finished_fits g worker s id told Orphaned last all = removed_fits g worker s id last all

@@ -1,11 +1,10 @@
 -- Each other step keeps a driver sound.
-use Rattle.std.proofs.Common.{◌≡◌, ◌≢◌, ◌⊎◌, ℕ, ◌+◌, ◌-◌, ◌<◌, ◌≤◌, eqb, Bool, true, false, not, ◌&&◌, ◌||◌, cond, List, [], ◌∷◌, ◌++◌, length, Option, Some, None, refl, sym, ap, ◌∙◌, inl, inr, arith, length-append}
-use Rattle.exec_driver.proofs.Words.{is_some, false≢true, eqb_tells, Slab, value_at, written, Id, is_durable, Asked, deadline_of, asked_of, asks_cancel, Request, Landing, RingState, taken_places, Submission, Wheel, scheduled, with_permit, with_tick, waiter_at, is_flying, pending_count, flying_count, tick_in, takes_tick, needs_permit, is_unset, Waiter, Entry, Pending, Ready, WaiterId, WaiterState, Active, CancelRequested, Driving, request_at, is_queued, is_gated, is_unenrolled, is_enrolled, is_cancelled, first_of, rest_of, without, after_due, after_enrolment, with_queued, IsListed, IsSound, IsHeld, is_tick, is_unpermitted, is_at_tick, is_uncancelled, count_of, are_all, cases_Bool, and_parts, not-true}
-use Rattle.exec_driver.specs.Lists.{after_queued, after_cancel, has_first}
+use Rattle.std.proofs.Common.{◌≡◌, ℕ, ◌+◌, ◌<◌, ◌≤◌, Bool, true, false, not, ◌&&◌, cond, List, [], ◌∷◌, length, Option, Some, None, refl, sym, ap, ◌∙◌, inl, inr, arith, length-append}
+use Rattle.exec_driver.proofs.Words.{is_some, false≢true, Slab, written, is_durable, Asked, asked_of, asks_cancel, Request, Landing, RingState, taken_places, Submission, waiter_at, is_flying, pending_count, flying_count, needs_permit, Waiter, Entry, Pending, WaiterId, Driving, request_at, is_queued, is_gated, is_unenrolled, is_enrolled, is_cancelled, first_of, rest_of, IsListed, IsSound, IsHeld, is_unpermitted, is_at_tick, is_uncancelled, count_of, are_all, cases_Bool, and_parts, not-true}
+use Rattle.exec_driver.specs.Lists.{after_queued, has_first}
 use Rattle.exec_driver.specs.Steps.{with_staged}
-use Rattle.exec_driver.proofs.Names.{fewer_without}
-use Rattle.exec_driver.proofs.Counting.{OneChanged, pending_is, flying_is, flying_few}
-use Rattle.exec_driver.proofs.Shifts.{Shift, Left, Kept, Joined, First, shifted, nowhere, room_for}
+use Rattle.exec_driver.proofs.Counting.{pending_is, flying_is, flying_few}
+use Rattle.exec_driver.proofs.Shifts.{Shift, Left, Kept, First, shifted, nowhere}
 use Rattle.exec_driver.proofs.Endings.{one_changed}
 use Rattle.exec_driver.proofs.Entering.{Within}
 

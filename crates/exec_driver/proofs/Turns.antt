@@ -1,11 +1,10 @@
 -- The steps of a service: completions, deadlines, permits.
-use Rattle.std.proofs.Common.{zero, suc, ◌≡◌, ◌≢◌, ◌⊎◌, ℕ, ◌+◌, ◌-◌, ◌^◌, ◌<◌, ◌≤◌, eqb, ltb, Bool, true, false, not, ◌&&◌, ◌||◌, cond, List, [], ◌∷◌, ◌++◌, length, Option, Some, None, Ok, Err, refl, sym, ap, subst, ◌∙◌, inl, inr, arith}
+use Rattle.std.proofs.Common.{zero, suc, ◌≡◌, ◌⊎◌, ℕ, ◌+◌, ◌^◌, ◌<◌, ◌≤◌, eqb, ltb, Bool, true, false, not, ◌&&◌, ◌||◌, cond, List, [], ◌∷◌, length, Option, Some, None, refl, sym, ap, subst, ◌∙◌, inl, inr, arith}
 use Rattle.exec_driver.proofs.Words.{and_from, and_parts, cases_Bool, not-false, or_parts}
 use Rattle.std.specs.Prelude.{is_some, is_none, min}
 use Rattle.std.specs.Option.{IfSome, IfNone, SomeIff}
 use Rattle.std.proofs.lemmas.Bool.{false≢true, ltb-true, ltb-false}
 use Rattle.exec_base.specs.Slab.{Slab, written}
-use Rattle.exec_base.specs.declared.error.Error.{Error}
 use Rattle.exec_base.specs.declared.slab.Id.{Id}
 use Rattle.exec_base.proofs.Slots.{ltb_tells}
 use Rattle.exec_outcomes.specs.Accounts.{Account}
@@ -15,11 +14,10 @@ use Rattle.exec_request.specs.declared.results.WaiterState.{WaiterState}
 use Rattle.exec_request.specs.declared.results.WaiterState.TheVariants.{Active, CancelRequested}
 use Rattle.exec_ring.specs.Completions.{result_in, wake_completion}
 use Rattle.exec_ring.specs.Kernels.{is_quiet, has_none, next_completion, next_in, posted_left, wakes_left, reaped}
-use Rattle.exec_ring.specs.Rings.{RingState}
 use Rattle.exec_ring.specs.declared.completion.Completion.{Completion}
 use Rattle.exec_ring.specs.declared.completion.Posted.{Posted}
 use Rattle.exec_waiters.specs.Events.{is_lawful_for, cancelled, with_permit}
-use Rattle.exec_waiters.specs.States.{waiter_at, pending_count, flying_count, tick_in, tick_of, file_of, gate_in}
+use Rattle.exec_waiters.specs.States.{waiter_at, flying_count, tick_in, file_of, gate_in}
 use Rattle.exec_waiters.specs.Told.{Tells}
 use Rattle.exec_waiters.specs.declared.deferred.Deferred.{Deferred}
 use Rattle.exec_waiters.specs.declared.waiter.Waiter.{Waiter}
@@ -30,16 +28,16 @@ use Rattle.exec_waiters.proofs.Changes.{one_if}
 use Rattle.exec_driver.specs.Driving.{Driving, request_at, is_enrolled, is_queued, is_full, may_stage_one, has_pending}
 use Rattle.exec_driver.specs.Lists.{has_first, first_of, rest_of, is_same, without, after_due, after_queued}
 use Rattle.exec_driver.specs.Opens.{OpenState, account_in}
-use Rattle.exec_driver.specs.Sound.{IsListed, IsSound}
-use Rattle.exec_driver.specs.Steps.{is_control, noted, swept, swept_from, taken_out, landed_at, judged_as_over, granted_as, granted, permitted, Reaps, ReapsFrom, ReapsNext, completed_in, lawful_of, if_lawful, expired, told_by_cancel, timed_out, cancelling, ended, Grants, told_by_end, StagesOne, with_staged, cancel_staged, poll_staged, entered, lower, lower_of, lowest_gate}
-use Rattle.exec_driver.specs.Turns.{CanTell, Serves, StaysDone, waiting, unreaped, unstaged, made_way, may_wait}
+use Rattle.exec_driver.specs.Sound.{IsSound}
+use Rattle.exec_driver.specs.Steps.{is_control, noted, swept, swept_from, taken_out, judged_as_over, granted_as, permitted, ReapsNext, completed_in, lawful_of, if_lawful, expired, told_by_cancel, timed_out, cancelling, ended, Grants, StagesOne, with_staged, cancel_staged, poll_staged, entered, lower, lower_of, lowest_gate}
+use Rattle.exec_driver.specs.Turns.{Serves, StaysDone, waiting, unreaped, unstaged, made_way, may_wait}
 use Rattle.exec_driver.specs.declared.driver.reaping.Reaped.{Reaped}
 use Rattle.exec_driver.specs.declared.driver.staging.Granted.{Granted}
 use Rattle.exec_driver.proofs.Names.{same_tells, fewer_without}
 use Rattle.exec_driver.proofs.Endings.{one_changed, one_finished}
 use Rattle.exec_driver.proofs.Granting.{gated_there}
 use Rattle.exec_driver.proofs.Queues.{IsEntered, enters}
-use Rattle.exec_driver.proofs.Serving.{Keeps, Eases, Answers, eases_itself, eases_both, eases_is, eases_ring, eases_swept, eases_written, eases_judged, after_reap, reaps_ring, room_still, room_judged, room_ended, keeps_one, like_unscheduled, serves_by, serves_itself, done_itself, none_rest, eases_queued}
+use Rattle.exec_driver.proofs.Serving.{Eases, Answers, eases_itself, eases_both, eases_is, eases_ring, eases_swept, eases_written, eases_judged, after_reap, reaps_ring, room_still, room_judged, room_ended, keeps_one, like_unscheduled, serves_by, serves_itself, done_itself, none_rest, eases_queued}
 use Rattle.exec_driver.proofs.Stepping.{first_in, first_there, first_tells}
 use Rattle.exec_driver.proofs.Telling.{room_within}
 use Rattle.exec_driver.proofs.Sweeping.{one_less, none_left, fewer_by}

@@ -1,16 +1,18 @@
 -- Why the drivers of the worked example share gates, or don't.
 use Rattle.std.proofs.Common.{◌≡◌, ℕ, zero, suc, Bool, true, false, ◌||◌, ◌==◌, eqb, [], ◌∷◌, get_or, Some, refl, sym, ap, subst, ◌∙◌, inl, inr, arith}
+use Rattle.std.proofs.lemmas.List.Elements.{Contains-push_cases}
 use Rattle.exec_base.specs.Slab.{value_in}
 use Rattle.exec_base.specs.declared.slab.Slot.TheVariants.{Live, Vacant}
 use Rattle.exec_base.proofs.Slots.{same_id}
 use Rattle.exec_request.specs.Requests.{gate_of}
 use Rattle.exec_waiters.specs.Examples.{sync, here}
-use Rattle.exec_driver.specs.Examples.{first, workers, held}
+use Rattle.exec_driver.specs.Examples.{first, workers, held, gates}
 use Rattle.exec_driver.specs.Laws.{ShareGates}
 use Rattle.exec_driver.specs.Opens.{holder_at}
-use Rattle.exec_driver.specs.Sharing.{LineUp, StandsAt, key_of}
+use Rattle.exec_driver.specs.Sharing.{LineUp, IsGiven, StandsAt, key_of}
 use Rattle.exec_driver.specs.Steps.{newcomer}
 use Rattle.exec_driver.specs.declared.opens.WaiterKey.{WaiterKey}
+use Rattle.exec_waiters.specs.declared.waiter_id.WaiterId.{WaiterId}
 use Rattle.exec_driver.proofs.Standing.{live_tells}
 use Rattle.exec_driver.proofs.Words.{eqb_tells, false≢true, waiter_of, Waiter, Pending}
 
@@ -28,10 +30,25 @@ own_gate zero key (inr waits) = let within = waits.1 in absurd (omega (arith, wi
 own_gate (suc zero) key stands = refl
 own_gate (suc (suc file)) key stands = absurd stands
 
+-- who stands there has the first name of its worker
+first_there : (file : ℕ) (key : WaiterKey) → StandsAt held file key → first ≡ key.id
+first_there zero key (inl holds) = absurd (cc)
+first_there zero key (inr waits) = let within = waits.1 in absurd (omega (arith, within))
+first_there (suc zero) key (inl holds) = let same : key_of 3 first ≡ key = cc in ap (λ (k : WaiterKey). k.id) same
+first_there (suc zero) key (inr waits) =
+    elim (Contains-push_cases [] (key_of 4 first) key waits) [
+      | inl none ↦ let within = none.1 in absurd (omega (arith, within))
+      | inr same ↦ ap (λ (k : WaiterKey). k.id) same
+    ]
+first_there (suc (suc file)) key stands = absurd stands
+
+given_first : (worker : ℕ) (id : WaiterId) → first ≡ id → IsGiven (workers false worker).requests id
+given_first worker id same = subst (IsGiven (workers false worker).requests) same (record { fits = omega arith; past = omega arith })
+
 permitted_third : (worker : ℕ) → ((worker == 3) || false) ≡ true → 3 ≡ worker
 permitted_third worker is = elim (eqb_tells worker 3) [ inl same ↦ sym same.1 | inr other ↦ absurd (false≢true (rw other.0 at is)) ]
 
-pub shared : LineUp (workers false) held
+pub shared : LineUp (workers false) gates
 shared =
     record {
       share = record {
@@ -50,6 +67,9 @@ shared =
       lines = λ key w file at stands.
           let there = one_there ((key.worker == 3) || false) key.id.0.index key.id.0.generation w at in
           sym (ap (λ (v : Waiter ℕ ℕ). gate_of v.request) there.2) ∙ own_gate file key stands;
+      given = λ key file stands. given_first key.worker key.id (first_there file key stands);
+      holds = λ key file leaves. absurd (cc);
+      over = λ key file leaves. absurd (cc);
     }
 
 pub not_shared : ShareGates (workers true) held → ⊥

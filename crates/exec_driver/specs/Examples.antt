@@ -1,5 +1,5 @@
 -- Drivers of the worked examples, over a ring of 4 and a wheel of ticks of 5 ns for 10 ns.
-use Rattle.std.specs.Prelude.{ℕ, Bool, true, false, ◌==◌, ◌||◌, List, [], ◌∷◌, Some}
+use Rattle.std.specs.Prelude.{ℕ, Bool, true, false, ◌==◌, ◌||◌, List, [], ◌∷◌, Some, None}
 use Rattle.exec_base.specs.Slab.{inserted}
 use Rattle.exec_request.specs.declared.request.Request.{Request}
 use Rattle.exec_ring.specs.Rings.{fresh as fresh_ring}
@@ -10,7 +10,7 @@ use Rattle.exec_waiters.specs.declared.waiter_id.WaiterId.{WaiterId}
 use Rattle.exec_driver.specs.Driving.{Driving}
 use Rattle.exec_driver.specs.Lists.{no_lists}
 use Rattle.exec_driver.specs.Opens.{OpenState, fresh_open}
-use Rattle.exec_driver.specs.Sharing.{key_of}
+use Rattle.exec_driver.specs.Sharing.{Gates, key_of}
 use Rattle.exec_driver.specs.Steps.{placed_at, taken_in, newcomer}
 
 abbrev pub first : WaiterId
@@ -53,3 +53,6 @@ workers others worker = syncing ((worker == 3) || others)
 -- the request of worker 3 holds the gate of open 1, and that of worker 4 waits there
 abbrev pub held : List OpenState
 held = fresh_open ∷ record fresh_open { holder = Some (key_of 3 first); waiting = key_of 4 first ∷ [] } ∷ []
+
+abbrev pub gates : Gates
+gates = record { opens = held; leaving = λ file. None }

@@ -1,5 +1,5 @@
 -- Words of the laws of drivers.
-use Rattle.std.specs.Prelude.{◌≡◌, ◌≢◌, ℕ, Bool, true, ◌||◌, List, Option, Some}
+use Rattle.std.specs.Prelude.{◌≡◌, ℕ, Bool, true, ◌||◌, List, Some}
 use Rattle.exec_request.specs.Requests.{gate_of}
 use Rattle.exec_waiters.specs.declared.waiter.Waiter.{Waiter}
 use Rattle.exec_waiters.specs.declared.waiter_id.WaiterId.{WaiterId}

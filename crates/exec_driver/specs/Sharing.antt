@@ -1,7 +1,7 @@
 -- What a worker does to its driver and the opens, one call after the other, and what drivers that share gates go on with.
-use Rattle.std.specs.Prelude.{◌≡◌, ◌≢◌, ◌⊎◌, ℕ, suc, true, false, List, [], Option, Some, None}
+use Rattle.std.specs.Prelude.{◌≡◌, ◌≢◌, ◌⊎◌, ℕ, suc, ◌^◌, ◌<◌, ◌==◌, true, List, [], replicate, Option, Some, None, is_some, if◌then◌else◌}
 use Rattle.std.specs.List.{Contains}
-use Rattle.exec_base.specs.Slab.{next_id}
+use Rattle.exec_base.specs.Slab.{Slab, next_id, IsPast}
 use Rattle.exec_base.specs.declared.error.Error.{Error}
 use Rattle.exec_base.specs.declared.task_no.TaskNo.{TaskNo}
 use Rattle.exec_outcomes.specs.Accounts.{Account}
@@ -13,12 +13,13 @@ use Rattle.exec_waiters.specs.Events.{changed, with_waker, taken, forwarded}
 use Rattle.exec_waiters.specs.States.{gate_in}
 use Rattle.exec_waiters.specs.declared.deferred.Deferred.{Deferred}
 use Rattle.exec_waiters.specs.declared.observer.Observer.{Observer}
+use Rattle.exec_waiters.specs.declared.waiter.Entry.{Entry}
 use Rattle.exec_waiters.specs.declared.waiter.Waiter.{Waiter}
 use Rattle.exec_waiters.specs.declared.waiter_id.WaiterId.{WaiterId}
 use Rattle.exec_driver.specs.Admission.{Admits}
 use Rattle.exec_driver.specs.Driving.{Driving, request_at}
 use Rattle.exec_driver.specs.Laws.{ShareGates}
-use Rattle.exec_driver.specs.Opens.{OpenState, open_at, holder_at, with_open, with_named, joined, passed}
+use Rattle.exec_driver.specs.Opens.{OpenState, fresh_open, open_at, holder_at, with_open, with_named, joined, passed}
 use Rattle.exec_driver.specs.Steps.{let_go, expired, EnrolsAs, Grants, StagesOne, LandsOne, ReapsNext}
 use Rattle.exec_driver.specs.declared.driver.reaping.Reaped.{Reaped}
 use Rattle.exec_driver.specs.declared.driver.staging.Granted.{Granted}
@@ -36,43 +37,87 @@ StandsAt opens file key = StandsIn key (open_at opens file)
 abbrev pub key_of : ℕ → WaiterId → WaiterKey
 key_of worker id = record { worker = worker; id = id }
 
+-- The opens that workers share, and for each of them the request that is to give its permit up: a reap or a grant said so.
+pub record Gates : Type 0 where
+  pub opens : List OpenState
+  pub leaving : ℕ → Option WaiterKey
+
+abbrev pub at_gate : ℕ → Option WaiterKey → (ℕ → Option WaiterKey) → ℕ → Option WaiterKey
+at_gate gate who leaving file = if file == gate then who else leaving file
+
+-- a request is to give up the permit of the open that is named
+abbrev pub with_leaving : Option ℕ → WaiterKey → (ℕ → Option WaiterKey) → ℕ → Option WaiterKey
+with_leaving None key leaving file = leaving file
+with_leaving (Some gate) key leaving file = at_gate gate (Some key) leaving file
+
+abbrev pub leaving_by : ℕ → Option Reaped → (ℕ → Option WaiterKey) → ℕ → Option WaiterKey
+leaving_by worker None leaving file = leaving file
+leaving_by worker (Some r) leaving file = with_leaving r.permit (key_of worker r.id) leaving file
+
+abbrev pub permit_by : ℕ → Granted → Option ℕ
+permit_by file g = if is_some g.ended then Some file else None
+
+-- the lines of the opens changed
+abbrev pub with_lines : Gates → List OpenState → Gates
+with_lines g opens = record g { opens = opens }
+
+-- the holder of a gate that is to leave it does so
+abbrev pub passed_on : Gates → ℕ → Gates
+passed_on g file = record { opens = with_open g.opens file passed; leaving = at_gate file None g.leaving }
+
 module _ {S F : Type 0} where
-  -- Drivers that share gates, and no request stands in the line of another open than its own.
-  pub record LineUp (drivers : ℕ → Driving S F) (opens : List OpenState) : Type 0 where
-    pub share : ShareGates drivers opens
-    pub lines : (key : WaiterKey) (w : Waiter S F) (file : ℕ) → request_at (drivers key.worker) key.id ≡ Some w → StandsAt opens file key → gate_of w.request ≡ Some file
+  -- its worker has given it to a request
+  pub record IsGiven (s : Slab (Entry S F)) (id : WaiterId) : Type 0 where
+    pub fits : id.0.generation < 2 ^ 64
+    pub past : IsPast s id.0
+
+  -- Drivers that share gates. No request stands in the line of another open than its own, and who stands in a line was
+  -- named by its worker. Who is to give a permit up holds the gate, and is over.
+  pub record LineUp (drivers : ℕ → Driving S F) (g : Gates) : Type 0 where
+    pub share : ShareGates drivers g.opens
+    pub lines : (key : WaiterKey) (w : Waiter S F) (file : ℕ) → request_at (drivers key.worker) key.id ≡ Some w → StandsAt g.opens file key → gate_of w.request ≡ Some file
+    pub given : (key : WaiterKey) (file : ℕ) → StandsAt g.opens file key → IsGiven (drivers key.worker).requests key.id
+    pub holds : (key : WaiterKey) (file : ℕ) → g.leaving file ≡ Some key → holder_at g.opens file ≡ Some key
+    pub over : (key : WaiterKey) (file : ℕ) → g.leaving file ≡ Some key → request_at (drivers key.worker) key.id ≡ None
 
   -- Who has an operation at a gate was granted its permit. Each driver says so of itself (`Driver::flies_permitted`).
   pub record FliesPermitted (d : Driving S F) : Type 0 where
     pub flies : (id : WaiterId) (w : Waiter S F) (file : ℕ) → request_at d id ≡ Some w → w.in_flight ≡ true → gate_of w.request ≡ Some file → w.permit ≡ true
 
-  -- A call that a worker makes on its driver or on the opens. A request that comes in has a name that stands in no line;
-  -- who leaves a gate held it, and is over or wasn't granted the permit. `Other` is every call that changes no request:
-  -- it moves the wheel, the ring, the lists or the rooms.
-  pub data Call (worker : ℕ) (old new : Driving S F) (opens opens' : List OpenState) : Type 0 where
-    Admit : (id : WaiterId) (request : Request) (observer : Observer S F) (now : ℕ) → next_id old.requests ≡ Some id.0 → ((file : ℕ) → StandsAt opens file (key_of worker id) → ⊥) → Admits old new opens opens' id request observer now → Call worker old new opens opens'
-    Join : (id : WaiterId) → new ≡ old → opens' ≡ with_named opens (gate_in (request_at old id)) (joined (key_of worker id)) → Call worker old new opens opens'
-    Observe : (id : WaiterId) → new ≡ record old { requests = taken old.requests id.0 } → opens' ≡ opens → Call worker old new opens opens'
-    SetWaker : (id : WaiterId) (task : TaskNo) → new ≡ record old { requests = changed old.requests id.0 (with_waker task) } → opens' ≡ opens → Call worker old new opens opens'
-    Forward : (id : WaiterId) (sender : F) → new ≡ record old { requests = forwarded old.requests id.0 sender } → opens' ≡ opens → Call worker old new opens opens'
-    Orphan : (id : WaiterId) → new ≡ let_go old id → opens' ≡ opens → Call worker old new opens opens'
-    Expire : (id : WaiterId) → new ≡ expired old id → opens' ≡ opens → Call worker old new opens opens'
-    Enrol : (before after : Deferred S F) (id : WaiterId) (w : Waiter S F) (deadline now : ℕ) (told : Option Error) → request_at old id ≡ Some w → EnrolsAs old new before after id w deadline now told → opens' ≡ opens → Call worker old new opens opens'
-    Grant : (before after : Deferred S F) (file : ℕ) (g : Granted) (w : Waiter S F) → request_at old g.id ≡ Some w → Grants old new opens opens' before after worker file g → Call worker old new opens opens'
-    Stage : (id : WaiterId) (w : Waiter S F) (account : Option Account) → request_at old id ≡ Some w → StagesOne old new id w account → opens' ≡ opens → Call worker old new opens opens'
-    Land : (id : WaiterId) (w : Waiter S F) (given : OpResult) (store store' : Store) → request_at old id ≡ Some w → LandsOne old new id w given store store' → opens' ≡ opens → Call worker old new opens opens'
-    Reap : (before after : Deferred S F) (told : Option Reaped) → ReapsNext old new opens opens' before after told → Call worker old new opens opens'
-    Leave : (id : WaiterId) (file : ℕ) → holder_at opens file ≡ Some (key_of worker id) → ((w : Waiter S F) → request_at old id ≡ Some w → w.permit ≡ false) → new ≡ old → opens' ≡ with_open opens file passed → Call worker old new opens opens'
-    Other : new.requests ≡ record old.requests { room = new.requests.room } → opens' ≡ opens → Call worker old new opens opens'
+  -- A call that a worker makes on its driver or on the opens, with what the calls of a driver answer. Who leaves a gate
+  -- was told so by a reap or a grant. `Other` is every call that changes no request: it moves the wheel, the ring, the
+  -- lists or the rooms.
+  pub data Call (worker : ℕ) (old new : Driving S F) (g g' : Gates) : Type 0 where
+    Admit : (id : WaiterId) (request : Request) (observer : Observer S F) (now : ℕ) → next_id old.requests ≡ Some id.0 → (IsPast old.requests id.0 → ⊥) → Admits old new g.opens g'.opens id request observer now → g'.leaving ≡ g.leaving → Call worker old new g g'
+    Join : (id : WaiterId) → id.0.generation < 2 ^ 64 → new ≡ old → g' ≡ with_lines g (with_named g.opens (gate_in (request_at old id)) (joined (key_of worker id))) → Call worker old new g g'
+    Observe : (id : WaiterId) → new ≡ record old { requests = taken old.requests id.0 } → g' ≡ g → Call worker old new g g'
+    SetWaker : (id : WaiterId) (task : TaskNo) → new ≡ record old { requests = changed old.requests id.0 (with_waker task) } → g' ≡ g → Call worker old new g g'
+    Forward : (id : WaiterId) (sender : F) → new ≡ record old { requests = forwarded old.requests id.0 sender } → g' ≡ g → Call worker old new g g'
+    Orphan : (id : WaiterId) → new ≡ let_go old id → g' ≡ g → Call worker old new g g'
+    Expire : (id : WaiterId) → new ≡ expired old id → g' ≡ g → Call worker old new g g'
+    Enrol : (before after : Deferred S F) (id : WaiterId) (w : Waiter S F) (deadline now : ℕ) (told : Option Error) → request_at old id ≡ Some w → EnrolsAs old new before after id w deadline now told → g' ≡ g → Call worker old new g g'
+    Grant : (before after : Deferred S F) (file : ℕ) (granted : Granted) (w : Waiter S F) → request_at old granted.id ≡ Some w → Grants old new g.opens g'.opens before after worker file granted → g'.leaving ≡ with_leaving (permit_by file granted) (key_of worker granted.id) g.leaving → Call worker old new g g'
+    Stage : (id : WaiterId) (w : Waiter S F) (account : Option Account) → request_at old id ≡ Some w → StagesOne old new id w account → g' ≡ g → Call worker old new g g'
+    Land : (id : WaiterId) (w : Waiter S F) (given : OpResult) (store store' : Store) → request_at old id ≡ Some w → LandsOne old new id w given store store' → g' ≡ g → Call worker old new g g'
+    Reap : (before after : Deferred S F) (told : Option Reaped) → ReapsNext old new g.opens g'.opens before after told → g'.leaving ≡ leaving_by worker told g.leaving → Call worker old new g g'
+    Leave : (id : WaiterId) (file : ℕ) → g.leaving file ≡ Some (key_of worker id) → new ≡ old → g' ≡ passed_on g file → Call worker old new g g'
+    Other : new.requests ≡ record old.requests { room = new.requests.room } → g' ≡ g → Call worker old new g g'
 
   -- one worker makes a call, and the drivers of the others stay as they are
-  pub record CallsOne (drivers drivers' : ℕ → Driving S F) (opens opens' : List OpenState) : Type 0 where
+  pub record CallsOne (drivers drivers' : ℕ → Driving S F) (g g' : Gates) : Type 0 where
     pub worker : ℕ
-    pub call : Call worker (drivers worker) (drivers' worker) opens opens'
+    pub call : Call worker (drivers worker) (drivers' worker) g g'
     pub permitted : FliesPermitted (drivers' worker)
     pub others : (other : ℕ) → other ≢ worker → drivers' other ≡ drivers other
 
-  -- the drivers and the opens after so many calls: at first there is no request
-  pub record IsRun (drivers : ℕ → ℕ → Driving S F) (opens : ℕ → List OpenState) : Type 0 where
-    pub first : (worker : ℕ) → (drivers 0 worker).requests.slots ≡ []
-    pub next : (n : ℕ) → CallsOne (drivers n) (drivers (suc n)) (opens n) (opens (suc n))
+  -- at first there is no request, and nobody stands at a gate
+  pub record AreFresh (drivers : ℕ → Driving S F) (g : Gates) : Type 0 where
+    pub count : ℕ
+    pub opens : g.opens ≡ replicate count fresh_open
+    pub leaving : (file : ℕ) → g.leaving file ≡ None
+    pub requests : (worker : ℕ) → (drivers worker).requests.slots ≡ []
+
+  -- the drivers and the gates after so many calls
+  pub record IsRun (drivers : ℕ → ℕ → Driving S F) (gates : ℕ → Gates) : Type 0 where
+    pub first : AreFresh (drivers 0) (gates 0)
+    pub next : (n : ℕ) → CallsOne (drivers n) (drivers (suc n)) (gates n) (gates (suc n))

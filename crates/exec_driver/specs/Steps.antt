@@ -1,5 +1,5 @@
 -- What each step of a driver does, and what it leaves to be told.
-use Rattle.std.specs.Prelude.{◌≡◌, ℕ, Bool, true, false, not, ◌+◌, ◌-◌, ◌^◌, ◌==◌, ◌&&◌, ◌||◌, List, [], ◌∷◌, ◌++◌, length, nat_lt, nat_le, min, Option, Some, None, Result, Ok, Err, is_some, IsSomeAnd, if◌then◌else◌}
+use Rattle.std.specs.Prelude.{◌≡◌, ℕ, Bool, true, false, ◌+◌, ◌-◌, ◌^◌, ◌==◌, ◌&&◌, ◌||◌, List, [], ◌∷◌, ◌++◌, nat_lt, nat_le, min, Option, Some, None, Result, Ok, Err, is_some, IsSomeAnd, if◌then◌else◌}
 use Rattle.exec_base.specs.Slab.{Slab, value_at, written, inserted}
 use Rattle.exec_base.specs.declared.error.Cause.TheVariants.{InvalidInput}
 use Rattle.exec_base.specs.declared.error.Error.{Error}
@@ -13,7 +13,7 @@ use Rattle.exec_request.specs.Hints.{has_hint, without_hint}
 use Rattle.exec_request.specs.Judging.{Judges, judged_as}
 use Rattle.exec_request.specs.Kept.{kept_of}
 use Rattle.exec_request.specs.Requests.{asked_of, cursor_of, hinted_of, deadline_of, gate_of, record_after, window_by, outcome_if_granted}
-use Rattle.exec_request.specs.States.{Ended, as_answer, asks_cancel}
+use Rattle.exec_request.specs.States.{Ended, as_answer, asks_cancel, told_by}
 use Rattle.exec_request.specs.Windows.{cancel_window, wake_window}
 use Rattle.exec_request.specs.Buffers.{length_of, moved_of}
 use Rattle.exec_request.specs.declared.buffers.WriteBuffers.{WriteBuffers}
@@ -25,7 +25,7 @@ use Rattle.exec_request.specs.declared.write_at.WriteAtState.{WriteAtState}
 use Rattle.exec_request.specs.declared.write_at.WriteAtState.TheVariants.{Writing}
 use Rattle.exec_ring.specs.Completions.{result_in}
 use Rattle.exec_ring.specs.Kernels.{with_entry, entered_with, reaped, next_completion, flight_of, landed}
-use Rattle.exec_ring.specs.Rings.{RingState, fresh as fresh_ring}
+use Rattle.exec_ring.specs.Rings.{fresh as fresh_ring}
 use Rattle.exec_ring.specs.declared.store.Store.{Store}
 use Rattle.exec_ring.specs.declared.completion.Completion.{Completion}
 use Rattle.exec_ring.specs.declared.completion.Posted.{Posted}
@@ -33,7 +33,7 @@ use Rattle.exec_ring.specs.declared.completion.Submission.{Submission}
 use Rattle.exec_time.specs.Wheel.{Wheel, fresh, target_of, moment_of, scheduled, removed}
 use Rattle.exec_time.specs.Layouts.{slots_of}
 use Rattle.exec_time.specs.Turning.{advanced}
-use Rattle.exec_waiters.specs.Events.{admitted, finished, told_by_finish, cancelled, with_permit, with_tick, orphaned, told_by_orphan, asks_cancel_by_orphan, told_by_close, is_lawful_for, Lands}
+use Rattle.exec_waiters.specs.Events.{admitted, finished, told_by_finish, cancelled, with_permit, with_tick, orphaned, asks_cancel_by_orphan, is_lawful_for, Lands}
 use Rattle.exec_waiters.specs.Ids.{user_data_of}
 use Rattle.exec_waiters.specs.States.{waiter_at, named, tick_in, file_of, gate_in}
 use Rattle.exec_waiters.specs.Told.{Told, nothing_told, Tells}
@@ -41,9 +41,9 @@ use Rattle.exec_waiters.specs.declared.deferred.Deferred.{Deferred}
 use Rattle.exec_waiters.specs.declared.observer.Observer.{Observer}
 use Rattle.exec_waiters.specs.declared.waiter.Waiter.{Waiter}
 use Rattle.exec_waiters.specs.declared.waiter.Entry.{Entry}
-use Rattle.exec_waiters.specs.declared.waiter.Entry.TheVariants.{Pending, Ready}
+use Rattle.exec_waiters.specs.declared.waiter.Entry.TheVariants.{Pending}
 use Rattle.exec_waiters.specs.declared.waiter_id.WaiterId.{WaiterId}
-use Rattle.exec_driver.specs.Opens.{OpenState, holder_at, account_in, with_account, with_named, placed, writing}
+use Rattle.exec_driver.specs.Opens.{OpenState, holder_at, account_in, with_account}
 use Rattle.exec_driver.specs.Driving.{Driving, request_at}
 use Rattle.exec_driver.specs.Lists.{Lists, is_among, no_lists, withdrawn, with_queued, with_gated, with_enrolment, with_due, with_cancel, without_gated, after_queued, after_enrolment, after_due, after_cancel}
 use Rattle.exec_driver.specs.declared.driver.reaping.Reaped.{Reaped}
@@ -385,12 +385,17 @@ module _ {S F : Type 0} where
   permit_after w None = None
   permit_after w (Some how) = gate_of w.request
 
+  -- what a reap answers of an end: what is told of it, with the record of its open
+  abbrev pub told_as : Waiter S F → Option Ended → Option Account → Option Ended
+  told_as w None account = None
+  told_as w (Some how) account = Some (told_by (asked_of w.request).kind how account)
+
   -- A completion of a request's operation was taken in. The result was judged with all before it; the request goes on
   -- or ends.
   pub record Reaps (old new : Driving S F) (opens opens' : List OpenState) (before after : Deferred S F) (id : WaiterId) (w : Waiter S F) (given : OpResult) (told : Option Reaped) : Type 0 where
     pub request : Request
     pub answer : Option Ended
-    pub told_is : told ≡ Some (record { id = id; given = given; ended = answer; permit = permit_after (record w { in_flight = false; request = request }) answer })
+    pub told_is : told ≡ Some (record { id = id; given = given; ended = told_as w answer (account_in opens (file_of w.request)); permit = permit_after (record w { in_flight = false; request = request }) answer })
     pub driver : new ≡ with_landings new (judged_as_over (landed_at (taken_out old) id (record w { in_flight = false; request = request })) id (record w { in_flight = false; request = request }) answer (open_after w given (account_in opens (file_of w.request))))
     pub judges : Judges (asked_of w.request) (cursor_of w.request) (cursor_of request) (judged_as (hinted_of w.request) w.state given) (as_answer answer)
     pub kept : kept_of request ≡ kept_of w.request

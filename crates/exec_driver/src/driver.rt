@@ -180,6 +180,13 @@ impl<R: Ring + Drop, S: Drop, F: Drop> Driver<R, S, F> {
         self.lists.has_cancels()
     }
 
+    /// How many entries the submission queue has; a service wants one at least.
+    pub fn ring_size(&self) -> usize
+        ensures { result ≡ (seen self.now).ring.size }
+    {
+        self.limit
+    }
+
     /// Whether the submission queue has no room.
     pub fn is_full(&self) -> bool
         ensures { result ≡ is_full (seen self.now) }

@@ -14,7 +14,7 @@ ghost use Rattle.exec_driver.specs.Driving.{may_stage_one, has_pending};
 ghost use Rattle.exec_driver.specs.Lists.{no_lists};
 ghost use Rattle.exec_driver.specs.Steps.{cancelled_at, told_by_cancel, let_go, expired, cancel_staged, cancel_entry, noted, completed_in, is_control, is_turn_of, tick_for, lowest_gate};
 ghost use Rattle.exec_driver.specs.Turns.{may_wait};
-ghost use Rattle.exec_driver.specs.Examples.{first, wheel, idle, with_one, flying, workers, held};
+ghost use Rattle.exec_driver.specs.Examples.{first, wheel, idle, with_one, flying, workers, held, gates};
 ghost use Rattle.exec_driver.specs.Laws.{ShareGates};
 ghost use Rattle.exec_driver.specs.Sharing.{LineUp};
 
@@ -79,6 +79,6 @@ pub fn waits()
 /// Gates: workers share one whose holder's request alone was granted the permit, and don't where two were.
 #[tactic(auto, using(crate::proofs::Workers::shared, crate::proofs::Workers::not_shared))]
 pub fn gates()
-    ensures shared { LineUp (workers false) held }
+    ensures shared { LineUp (workers false) gates }
     ensures two_granted { ShareGates (workers true) held → ⊥ }
 {}

@@ -19,7 +19,7 @@ ghost use Rattle.exec_driver.specs.Driving.{Driving, request_at};
 ghost use Rattle.exec_driver.specs.Opens.{OpenState};
 ghost use Rattle.exec_driver.specs.Steps.{let_go, without_observer, ended, cancelled_at, told_by_cancel, told_by_end, noted, completed_in};
 ghost use Rattle.exec_driver.specs.Laws.{is_listed, ShareGates, IsDurableFlight, GoesOnFlying};
-ghost use Rattle.exec_driver.specs.Sharing.{LineUp, CallsOne, IsRun};
+ghost use Rattle.exec_driver.specs.Sharing.{Gates, LineUp, CallsOne, AreFresh, IsRun};
 ghost use Rattle.exec_driver.specs.declared.opens.WaiterKey.{WaiterKey};
 
 use exec_waiters::laws::{
@@ -80,8 +80,8 @@ pub fn a_completion_is_of_its_own_request<S, F>()
 /// while there is no request, a call of one worker keeps it, and so it holds after each call of a run. At no moment of
 /// a run has an open two durable requests with an operation under way.
 pub fn drivers_go_on_sharing_gates<S, F>()
-    ensures first { (drivers : ℕ → Driving S F) (opens : List OpenState) → ((worker : ℕ) → (drivers worker).requests.slots ≡ []) → LineUp drivers opens }
-    ensures kept { (drivers drivers' : ℕ → Driving S F) (opens opens' : List OpenState) → CallsOne drivers drivers' opens opens' → LineUp drivers opens → LineUp drivers' opens' }
-    ensures always { (drivers : ℕ → ℕ → Driving S F) (opens : ℕ → List OpenState) → IsRun drivers opens → (n : ℕ) → LineUp (drivers n) (opens n) }
-    ensures one { (drivers : ℕ → ℕ → Driving S F) (opens : ℕ → List OpenState) → IsRun drivers opens → (n : ℕ) (a b : WaiterKey) (file : ℕ) → IsDurableFlight (drivers n a.worker) a.id file → IsDurableFlight (drivers n b.worker) b.id file → a ≡ b }
+    ensures first { (drivers : ℕ → Driving S F) (gates : Gates) → AreFresh drivers gates → LineUp drivers gates }
+    ensures kept { (drivers drivers' : ℕ → Driving S F) (gates gates' : Gates) → CallsOne drivers drivers' gates gates' → LineUp drivers gates → LineUp drivers' gates' }
+    ensures always { (drivers : ℕ → ℕ → Driving S F) (gates : ℕ → Gates) → IsRun drivers gates → (n : ℕ) → LineUp (drivers n) (gates n) }
+    ensures one { (drivers : ℕ → ℕ → Driving S F) (gates : ℕ → Gates) → IsRun drivers gates → (n : ℕ) (a b : WaiterKey) (file : ℕ) → IsDurableFlight (drivers n a.worker) a.id file → IsDurableFlight (drivers n b.worker) b.id file → a ≡ b }
 {}

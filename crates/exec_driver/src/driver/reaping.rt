@@ -1,7 +1,10 @@
 //! Completions: what the kernel has done with.
 
-ghost use Rattle.std.specs.Prelude.{◌≡◌, ◌-◌, ◌==◌, Some, None, IfSome, IfNone, true, false};
+ghost use Rattle.std.specs.Prelude.{◌≡◌, ◌-◌, ◌==◌, Some, None, IfSome, IfNone, true, false, is_some};
 ghost use Rattle.exec_base.specs.declared.slab.Id.{Id as Name};
+ghost use Rattle.exec_outcomes.specs.Accounts.{is_durable};
+ghost use Rattle.exec_outcomes.specs.declared.outcome.Kind.{Kind};
+ghost use Rattle.exec_request.specs.States.{told_by};
 ghost use Rattle.exec_ring.specs.Completions.{result_in};
 ghost use Rattle.exec_ring.specs.Kernels.{next_completion};
 ghost use Rattle.exec_waiters.specs.Told.{HasPlaces, Tells};
@@ -13,6 +16,7 @@ use super::Driver;
 use crate::opens::Opens;
 use exec_base::error::Error;
 use exec_outcomes::outcome::OpResult;
+use exec_request::open_record::OpenRecord;
 use exec_ring::completion::{CANCEL_USER_DATA, Completion, WAKE_USER_DATA};
 use exec_ring::ring::Ring;
 use exec_waiters::completed::CompletionOutcome;
@@ -26,7 +30,8 @@ pub struct Reaped {
     pub id: WaiterId,
     /// What its number says.
     pub given: OpResult,
-    /// How the request ended. None where it goes on with another operation.
+    /// How the request ended, as is told of it: a durable one that its open's kept failure spoils ends with that
+    /// failure. None where it goes on with another operation.
     pub ended: Option<Result<(), Error>>,
     /// The open whose permit it gives up, by `Opens::leave`. None where it had none, or goes on.
     pub permit: Option<u32>,
@@ -98,7 +103,8 @@ impl<R: Ring + Drop, S: Drop, F: Drop> Driver<R, S, F> {
             return None;
         }
         let file = self.waiters.open_of(id);
-        let mut account = opens.account(file);
+        let before = opens.account(file);
+        let mut account = before;
         let outcome = self
             .waiters
             .on_completion(completion.user_data, given, &mut account);
@@ -122,11 +128,29 @@ impl<R: Ring + Drop, S: Drop, F: Drop> Driver<R, S, F> {
                 Some(Reaped {
                     id,
                     given,
-                    ended: Some(ended),
+                    ended: Some(told(ended, permit, &before)),
                     permit,
                 })
             }
         }
+    }
+}
+
+/// What is told of a request that ends so, with the open whose permit it gives up, where it is durable, and the record of
+/// its open: the failure that this keeps takes the place of a durable one's success.
+fn told(
+    ended: Result<(), Error>,
+    permit: Option<u32>,
+    account: &Option<OpenRecord>,
+) -> Result<(), Error>
+    ensures { (kind : Kind) → is_durable kind ≡ is_some permit → result ≡ told_by kind ended account.now }
+{
+    match (ended, permit, account) {
+        (Ok(()), Some(_), Some(account)) => match account.failure() {
+            Some(error) => Err(error),
+            None => Ok(()),
+        },
+        _ => ended,
     }
 }
 

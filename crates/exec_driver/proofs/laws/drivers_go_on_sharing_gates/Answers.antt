@@ -2,13 +2,13 @@ use Rattle.exec_driver.proofs.Sharing.{line_up_first, line_up_kept, line_up_alwa
 use Rattle.exec_driver.proofs.laws.drivers_go_on_sharing_gates.Goals as goal
 
 pub returns-clause-first : goal.returns-clause-first
-returns-clause-first g c = λ drivers opens empty. line_up_first drivers opens empty
+returns-clause-first g c = λ drivers gates fresh. line_up_first drivers gates fresh
 
 pub returns-clause-kept : goal.returns-clause-kept
-returns-clause-kept g c = λ drivers drivers' opens opens' calls up. line_up_kept drivers drivers' opens opens' calls up
+returns-clause-kept g c = λ drivers drivers' gates gates' calls up. line_up_kept drivers drivers' gates gates' calls up
 
 pub returns-clause-always : goal.returns-clause-always
-returns-clause-always g c = λ drivers opens run n. line_up_always drivers opens run n
+returns-clause-always g c = λ drivers gates run n. line_up_always drivers gates run n
 
 pub returns-clause-one : goal.returns-clause-one
-returns-clause-one g c = λ drivers opens run n a b file one other. one_always drivers opens run n a b file one other
+returns-clause-one g c = λ drivers gates run n a b file one other. one_always drivers gates run n a b file one other

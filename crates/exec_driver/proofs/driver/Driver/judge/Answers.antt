@@ -1,10 +1,12 @@
 use Rattle.std.proofs.Common.{◌≡◌, Some, None, true, false, sym, ap, ◌∙◌, refl, rules}
-use Rattle.exec_driver.proofs.Words.{asked_of, hinted_of, result_in, wheel_of, may_complete, waiter_at, file_of, file_in, gate_in, account_in, with_account, open_after}
+use Rattle.exec_driver.proofs.Words.{is_some, is_durable, Asked, asked_of, hinted_of, result_in, wheel_of, may_complete, waiter_at, file_of, file_in, gate_in, account_in, with_account, open_after}
 use Rattle.exec_request.specs.Judging.{judged_as}
 use Rattle.exec_request.specs.Requests.{cursor_of}
+use Rattle.exec_request.specs.States.{told_by}
 use Rattle.exec_waiters.proofs.Changes.{name_tells}
 use Rattle.exec_driver.proofs.Endings.{one_changed}
 use Rattle.exec_driver.proofs.Reaping.{held_taken, held_landed, held_requeued, room_to_queue, permit_of, goes_on_uncancelled, named_there, landed_of, landed_permit, requeue_tells, complete_tells, outcome_same, none_named, none_given, some_given, tells_nothing, kept_of_open, told_over, ended_over, tells_over}
+use Rattle.exec_driver.proofs.Arriving.{durable_gated}
 use Rattle.exec_driver.proofs.Granting.{same_some}
 use Rattle.exec_driver.proofs.Windows.{asked_same, file_same}
 use Rattle.exec_driver.proofs.driver.Driver.judge.Goals as goal
@@ -104,7 +106,7 @@ returns-in-Requeue-clause-reaps g c =
       judges = rw tells.0 at over.judges;
       kept = over.kept;
       tells = tells_nothing _;
-      opens_after = rw (c.set_account.ensures, over.account, c.account-account.ensures, file) refl;
+      opens_after = rw (c.set_account.ensures, over.account, c.account-before.ensures, file) refl;
     }))
 
 pub returns-in-Requeue-clause-none : goal.returns-in-Requeue-clause-none
@@ -123,7 +125,10 @@ returns-in-Complete-clause-reaps g c =
     let one = one_changed c.self.inside.waiters c.in_ok-id.id.0 there.w (landed_of there.w over.request) there.at in
     let now : waiter_at c.on_completion-outcome.new.self c.in-Complete.id.0 ≡ Some (landed_of there.w over.request) = rw (← tells.1, over.slab) one.is_at in
     let file : c.open_of-file.result ≡ file_of there.w.request = c.open_of-file.ensures ∙ ap file_in there.at in
-    let opens-are : c.set_account.new.self ≡ with_account c.args.opens.now (file_of there.w.request) (open_after there.w c.given-given.result (account_in c.args.opens.now (file_of there.w.request))) = rw (c.set_account.ensures, over.account, c.account-account.ensures, file) refl in
+    let opens-are : c.set_account.new.self ≡ with_account c.args.opens.now (file_of there.w.request) (open_after there.w c.given-given.result (account_in c.args.opens.now (file_of there.w.request))) = rw (c.set_account.ensures, over.account, c.account-before.ensures, file) refl in
+    let permit = c.durability-permit.ensures ∙ ap gate_in now in
+    let kind : is_durable (asked_of there.w.request).kind ≡ is_some c.durability-permit.result = ap (λ (a : Asked). is_durable a.kind) (sym (asked_same _ _ over.kept)) ∙ durable_gated over.request ∙ ap is_some (sym permit) in
+    let told = c.told.ensures (asked_of there.w.request).kind kind ∙ ap (told_by (asked_of there.w.request).kind c.in-Complete.ended) (c.account-before.ensures ∙ ap (account_in c.args.opens.now) file) in
     let same-file = file_same there.w.request over.request over.kept in
     let account : account_in c.set_account.new.self (file_of over.request) ≡ open_after there.w c.given-given.result (account_in c.args.opens.now (file_of there.w.request)) = rw (same-file, opens-are) (kept_of_open there.w c.given-given.result c.args.opens.now (file_of there.w.request)) in
     rw (← c.self.view_is) (λ id w done at.
@@ -133,7 +138,7 @@ returns-in-Complete-clause-reaps g c =
     rw (← same-id, ← same, ← c.given-given.ensures) (record {
       request = over.request;
       answer = Some c.in-Complete.ended;
-      told_is = told_over _ _ _ _ _ _ tells.1 (c.durability-permit.ensures ∙ ap gate_in now);
+      told_is = told_over _ _ _ _ _ _ _ tells.1 told permit;
       driver = ended_over (record { requests = c.self.inside.waiters; wheel = wheel_of c.self.inside.wheel; ring = g.R.Ring.state c.self.inside.ring; landings = g.R.Ring.landings c.self.inside.ring; lists = c.self.inside.lists; cancels_under_way = c.self.inside.cancels_under_way; armed = c.self.inside.armed }) _ _ _ _ (landed_of there.w over.request) _ _ _ tells.1 (c.end.ensures.ended (landed_of there.w over.request) now) (rw (over.slab, c.reap-same.ensures.after) refl) account;
       judges = rw tells.0 at over.judges;
       kept = over.kept;
