@@ -51,7 +51,7 @@ module _ {S F : Type 0} where
   all_fall s (x ∷ ids) zero id l t at within is = rw is (all_there s ids id _ (falls id (waiter_at s id.0) l t at))
   all_fall s (x ∷ ids) (suc k) id l t at within is = all_fall s ids k id _ t at (omega arith) is
 
-  tick_there : (s : Slab (Entry S F)) (active : ℕ → ℕ) (id : Id) (o : Option (Waiter S F)) (t : ℕ) → waiter_at s id ≡ o → tick_of o ≡ Some t → ((n : ℕ) → active n ≡ count_of (is_at_tick n) s) → 0 < active t
+  pub tick_there : (s : Slab (Entry S F)) (active : ℕ → ℕ) (id : Id) (o : Option (Waiter S F)) (t : ℕ) → waiter_at s id ≡ o → tick_of o ≡ Some t → ((n : ℕ) → active n ≡ count_of (is_at_tick n) s) → 0 < active t
   tick_there s active id None t at is counts = absurd (cc)
   tick_there s active id (Some w) t at is counts = rw is at (ticked_in s active id w at counts)
 

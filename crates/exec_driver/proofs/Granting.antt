@@ -1,6 +1,7 @@
 -- A permit, a deadline that is enrolled, and one that has come, keep a driver as it should be.
 use Rattle.std.proofs.Common.{◌≡◌, ℕ, ◌+◌, ◌<◌, ◌≤◌, Bool, true, false, not, ◌&&◌, List, [], ◌∷◌, ◌++◌, length, Option, Some, None, refl, ap, ◌∙◌, inl, inr, arith}
-use Rattle.exec_driver.proofs.Words.{is_some, false≢true, eqb_tells, Slab, written, Id, deadline_of, asks_cancel, WaiterState, Active, CancelRequested, Wheel, with_permit, with_tick, waiter_at, is_flying, needs_permit, takes_tick, Waiter, Entry, Pending, WaiterId, one_if, Driving, request_at, is_queued, is_gated, is_unenrolled, is_enrolled, is_cancelled, first_of, is_among, with_queued, after_enrolment, IsSound, IsHeld, is_unpermitted, is_at_tick, is_tick, is_uncancelled, are_all, count_of, and_parts, not-true}
+use Rattle.exec_driver.proofs.Words.{is_some, false≢true, eqb_tells, Slab, written, Id, deadline_of, asks_cancel, WaiterState, Active, CancelRequested, Wheel, with_permit, with_tick, waiter_at, is_flying, needs_permit, takes_tick, Waiter, Entry, Pending, WaiterId, one_if, Driving, request_at, is_queued, is_gated, is_unenrolled, is_enrolled, is_cancelled, first_of, rest_of, is_among, with_queued, after_enrolment, IsSound, IsHeld, is_unpermitted, is_at_tick, is_tick, is_uncancelled, are_all, is_once, count_of, and_parts, not-true}
+use Rattle.exec_driver.specs.Placed.{ListsRequests}
 use Rattle.exec_time.specs.Wheel.{scheduled}
 use Rattle.exec_driver.specs.Lists.{without_gated}
 use Rattle.exec_driver.proofs.Names.{same_tells}
@@ -36,6 +37,13 @@ permit_there false = refl
 pub same_some : {A : Type 0} (o : Option A) (x y : A) → o ≡ Some x → o ≡ Some y → x ≡ y
 same_some o x y a b = cc
 
+-- the first of a list isn't there twice
+once_first : (id : WaiterId) (ids : List WaiterId) → is_once ids ≡ true → first_of ids ≡ Some id → is_among id (rest_of ids) ≡ false
+once_first id (x ∷ ids) once is =
+    let same : x ≡ id = cc in
+    not-true (is_among id ids) (and_parts (not (is_among id ids)) (is_once ids) (rw (← same) once)).0
+once_first id [] once is = refl
+
 module _ {S F : Type 0} where
   -- what is listed is in its place
   pub among_in : (p : Option (Waiter S F) → Bool) (s : Slab (Entry S F)) (id : WaiterId) (ids : List WaiterId) → are_all p s ids ≡ true → is_among id ids ≡ true → p (waiter_at s id.0) ≡ true
@@ -46,6 +54,17 @@ module _ {S F : Type 0} where
         | inl same ↦ rw (← same.1) parts.0
         | inr other ↦ among_in p s id ids parts.1 (rw other.0 at among)
       ]
+
+  pub lists_requests : (d : Driving S F) → IsSound d → ListsRequests d
+  lists_requests d sound =
+      record {
+        queued = λ id among. among_in is_queued d.requests id d.lists.queued sound.queued.all among;
+        gated = λ id among. among_in is_gated d.requests id d.lists.gated sound.gated.all among;
+        enrolments = λ id among. among_in is_unenrolled d.requests id d.lists.enrolments sound.enrolments.all among;
+        due = λ id among. among_in is_enrolled d.requests id d.lists.due sound.due.all among;
+        cancels = λ id among. among_in is_cancelled d.requests id d.lists.cancels sound.cancels.all among;
+        cancelled_once = λ id first. once_first id d.lists.cancels sound.cancels.once first;
+      }
 
   -- one that waits at a gate
   pub record IsWaiting (w : Waiter S F) : Type 0 where

@@ -25,6 +25,7 @@ pub mod Queues
 pub mod Serving
 pub mod Turns
 pub mod Punctual
+pub mod Firsts
 pub mod Promises
 pub mod Keeping
 pub mod Standing

@@ -103,7 +103,7 @@ no_first (x ∷ ids) some is = absurd (cc)
 
 module _ {S F : Type 0} where
   -- where some are counted, there is one
-  counted : (p : Slot (Entry S F) → Bool) (d : Slot (Entry S F)) (xs : List (Slot (Entry S F))) → 0 < count_by p xs → (i : ℕ) × (p (get_or xs i d) ≡ true)
+  pub counted : (p : Slot (Entry S F) → Bool) (d : Slot (Entry S F)) (xs : List (Slot (Entry S F))) → 0 < count_by p xs → (i : ℕ) × (p (get_or xs i d) ≡ true)
   counted p d [] some = absurd (omega (arith, some))
   counted p d (x ∷ xs) some =
       elim (cases_Bool (p x)) [
@@ -114,7 +114,7 @@ module _ {S F : Type 0} where
             (suc rest.0, rest.1)
       ]
 
-  named_there : (s : Slab (Entry S F)) (t i : ℕ) (o : Slot (Entry S F)) → get_or s.slots i (Vacant s.first) ≡ o → counts (is_at_tick t) o ≡ true → (id : WaiterId) × (tick_of (waiter_at s id.0) ≡ Some t)
+  pub named_there : (s : Slab (Entry S F)) (t i : ℕ) (o : Slot (Entry S F)) → get_or s.slots i (Vacant s.first) ≡ o → counts (is_at_tick t) o ≡ true → (id : WaiterId) × (tick_of (waiter_at s id.0) ≡ Some t)
   named_there s t i (Live g (Pending w)) at is =
       let self : eqb g g ≡ true = elim (eqb_tells g g) [ inl same ↦ same.0 | inr other ↦ absurd (other.1 refl) ] in
       (record { 0 = record { index = i; generation = g } }, rw (at, self) (tick_is t (tick_in w.state) is))

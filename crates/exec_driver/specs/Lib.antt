@@ -8,4 +8,5 @@ pub mod Punctual
 pub mod Turns
 pub mod Laws
 pub mod Sharing
+pub mod Placed
 pub mod Examples

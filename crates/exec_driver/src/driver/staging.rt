@@ -10,6 +10,7 @@ ghost use Rattle.exec_driver.specs.Opens.{account_in, holder_at};
 ghost use Rattle.exec_driver.specs.Driving.{seen, request_at, is_full, may_stage_one};
 ghost use Rattle.exec_driver.specs.Lists.{has_first, first_of};
 ghost use Rattle.exec_driver.specs.Punctual.{IsPunctual};
+ghost use Rattle.exec_driver.specs.Placed.{ListsRequests};
 ghost use Rattle.exec_driver.specs.Sharing.{FliesPermitted};
 ghost use Rattle.exec_driver.specs.Steps.{lowest_gate, lower, granted, is_turn_of, Grants, cancel_staged, StagesOne, poll_staged, entered, with_landings};
 
@@ -82,6 +83,14 @@ impl<R: Ring + Drop, S: Drop, F: Drop> Driver<R, S, F> {
     #[tactic(auto, using(crate::proofs::Sharing::flies_permitted))]
     pub fn flies_permitted(&self)
         ensures { FliesPermitted (seen self.now) }
+    {
+        let _lists = &self.lists;
+    }
+
+    /// Each list has requests of its place, which aren't over.
+    #[tactic(auto, using(crate::proofs::Granting::lists_requests))]
+    pub fn lists_requests(&self)
+        ensures { ListsRequests (seen self.now) }
     {
         let _lists = &self.lists;
     }

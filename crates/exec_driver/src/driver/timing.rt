@@ -8,7 +8,7 @@ ghost use Rattle.exec_driver.specs.Sound.{IsListed};
 ghost use Rattle.exec_waiters.specs.Told.{HasPlaces, Tells};
 ghost use Rattle.exec_driver.specs.Driving.{seen, request_at, is_enrolled};
 ghost use Rattle.exec_driver.specs.Lists.{first_of, after_due, after_enrolment};
-ghost use Rattle.exec_driver.specs.Punctual.{IsPunctual};
+ghost use Rattle.exec_driver.specs.Punctual.{IsPunctual, TellsDeadlines};
 ghost use Rattle.exec_driver.specs.Steps.{advanced_to, all_due, fallen_due, expired, told_by_cancel, enrolled_by, tick_for, in_time, told_by_enrolment, Enrols};
 
 use super::Driver;
@@ -84,6 +84,14 @@ impl<R: Ring + Drop, S: Drop, F: Drop> Driver<R, S, F> {
                 Some(Enrolled { id, ended })
             }
         }
+    }
+
+    /// Once all that is due was told the wheel may go on, and the first tick ahead is that of a request's deadline.
+    #[tactic(auto, using(crate::proofs::Firsts::tells_deadlines, crate::proofs::Punctual::reach_of))]
+    pub fn tells_deadlines(&self)
+        ensures { TellsDeadlines (seen self.now) }
+    {
+        let _lists = &self.lists;
     }
 }
 

@@ -1,0 +1,15 @@
+-- The requests that a driver lists.
+use Rattle.std.specs.Prelude.{◌≡◌, true, false, Some}
+use Rattle.exec_waiters.specs.declared.waiter_id.WaiterId.{WaiterId}
+use Rattle.exec_driver.specs.Driving.{Driving, request_at, is_queued, is_gated, is_unenrolled, is_enrolled, is_cancelled}
+use Rattle.exec_driver.specs.Lists.{first_of, rest_of, is_among}
+
+module _ {S F : Type 0} where
+  -- Each list has requests of its place, which aren't over. Each driver says so of itself (`Driver::lists_requests`).
+  pub record ListsRequests (d : Driving S F) : Type 0 where
+    pub queued : (id : WaiterId) → is_among id d.lists.queued ≡ true → is_queued (request_at d id) ≡ true
+    pub gated : (id : WaiterId) → is_among id d.lists.gated ≡ true → is_gated (request_at d id) ≡ true
+    pub enrolments : (id : WaiterId) → is_among id d.lists.enrolments ≡ true → is_unenrolled (request_at d id) ≡ true
+    pub due : (id : WaiterId) → is_among id d.lists.due ≡ true → is_enrolled (request_at d id) ≡ true
+    pub cancels : (id : WaiterId) → is_among id d.lists.cancels ≡ true → is_cancelled (request_at d id) ≡ true
+    pub cancelled_once : (id : WaiterId) → first_of d.lists.cancels ≡ Some id → is_among id (rest_of d.lists.cancels) ≡ false
