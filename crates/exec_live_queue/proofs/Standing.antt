@@ -2,7 +2,13 @@
 use Rattle.std.proofs.Common.{◌≡◌, ℕ, suc, ◌+◌, ◌-◌, ◌<◌, List, [], ◌∷◌, ◌++◌, length, map, replicate, sym, refl, ap, ◌∙◌, subst, arith}
 use Rattle.std.specs.Prelude.{Option, Some, None}
 use Rattle.atomic_table.specs.declared.shared.Shared.{Shared}
+use Rattle.exec_words.specs.Queue.{push_answer, handed_out}
+use Rattle.exec_words.specs.declared.head.Fit.{Fit}
+use Rattle.exec_words.specs.declared.head.Fit.TheVariants as fit
 use Rattle.exec_live_queue.specs.declared.view.View.{View}
+use Rattle.exec_live_queue.specs.declared.owner.Owner.TheVariants as owner
+use Rattle.exec_live_queue.specs.Alone.{Alone}
+use Rattle.exec_live_queue.specs.Kinds.{handed_by}
 use Rattle.exec_live_queue.specs.Plays.{hand, values_of}
 use Rattle.exec_live_queue.specs.Seats.{Place, Rests}
 use Rattle.exec_live_queue.specs.Calls.{HandsOut}
@@ -39,3 +45,10 @@ module _ {T P : Type 0} where
   -- the last one was handed out
   pub last_of : (words : Shared (Option T) (View T) ℕ P) (seat : Place T) (j left : ℕ) (xs : List T) → HandsOut words seat j xs → length xs + 1 ≡ left → left ≡ 1 → j ≡ 128 → HandsOut words seat 128 []
   last_of words seat j left xs h len one is = let dry : xs ≡ [] = nothing_left xs (omega (arith, len, one)) in subst (λ (n : ℕ). HandsOut words seat n []) is (subst (HandsOut words seat j) dry h)
+
+-- what an exclusive queue hands out, by what its push answered
+pub handed_alone : {T : Type 0} (o : Alone T) (f : Fit) (x : T) → handed_out f o.queue ≡ handed_by (owner.Exclusive o) (push_answer f x)
+handed_alone o (fit.Room len) x = refl
+handed_alone o fit.Overflow x = refl
+handed_alone o fit.Claimed x = refl
+handed_alone o fit.Spent x = refl

@@ -1,12 +1,13 @@
 -- Shared and exclusive queues: what the calls of both do.
 --
 -- An exclusive queue has no table: its first seat and then its owner hold it whole, and no thief has a seat at it.
-use Rattle.std.specs.Prelude.{◌≡◌, ◌≢◌, ℕ, ◌-◌, List, [], length, Option, Some, None}
+use Rattle.std.specs.Prelude.{◌≡◌, ◌≢◌, ℕ, ◌-◌, List, [], length, drop, Option, Some, None}
 use Rattle.atomic_table.specs.Seated.{TableId}
 use Rattle.exec_live_queue.specs.declared.view.Stage.{Stage}
-use Rattle.exec_words.specs.Queue.{Queue as Plain, room_of, fit_of, push_answer, after_push, handed_out}
+use Rattle.exec_words.specs.Queue.{Queue as Plain, room_of, fit_of, push_answer, after_push, newest}
 use Rattle.exec_words.specs.Head.{room_at}
 use Rattle.exec_words.specs.declared.queue.PushAnswer.{PushAnswer}
+use Rattle.exec_words.specs.declared.queue.PushAnswer.TheVariants as answer
 use Rattle.exec_live_queue.specs.declared.view.Own.{Own}
 use Rattle.exec_live_queue.specs.declared.owner.Owner.{Owner}
 use Rattle.exec_live_queue.specs.declared.owner.Owner.TheVariants as owner
@@ -21,7 +22,7 @@ use Rattle.exec_words.specs.declared.queue.Steal.TheVariants as steal
 use Rattle.exec_live_queue.specs.Alone.{starting}
 use Rattle.exec_live_queue.specs.Live.{opened, unread}
 use Rattle.exec_live_queue.specs.Plays.{newcomer}
-use Rattle.exec_live_queue.specs.Calls.{AfterInto, AfterPush, AfterSteal, HasLooked, handed_after}
+use Rattle.exec_live_queue.specs.Calls.{AfterInto, AfterPush, AfterSteal, HasLooked, fully}
 
 module _ {T : Type 0} where
   -- what an overflow still has to hand out
@@ -59,10 +60,16 @@ module _ {T : Type 0} where
   abbrev pub IsPushed : Owner T → T → Owner T → PushAnswer T → Type 0
   IsPushed o x o' answer = Does (λ d d'. AfterPush d x d' answer) (λ q q'. (answer ≡ push_answer (fit_of q) x) × (q' ≡ after_push (fit_of q) q x)) o o'
 
-  -- what is handed out after it
+  -- the newest half of a full queue, and what is handed out after a push
+  abbrev pub newest_of : Owner T → List T
+  newest_of (owner.Shared o) = drop 128 (fully o.own)
+  newest_of (owner.Exclusive o) = newest o.queue
+
   abbrev pub handed_by : Owner T → PushAnswer T → List T
-  handed_by (owner.Shared o) answer = handed_after o.own answer
-  handed_by (owner.Exclusive o) answer = handed_out (fit_of o.queue) o.queue
+  handed_by o (answer.Pushed len) = []
+  handed_by o (answer.Overflow x) = newest_of o
+  handed_by o (answer.Claimed x) = []
+  handed_by o (answer.Spent x) = []
 
   -- a shared queue whose first value gets this count
   abbrev pub StartsAt : ℕ → Queue T → Type 0

@@ -3,6 +3,7 @@ pub mod Calls
 pub mod Examples
 pub mod Handles
 pub mod Kinds
+pub mod Lent
 pub mod Live
 pub mod Numbers
 pub mod Plays

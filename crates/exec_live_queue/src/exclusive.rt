@@ -103,6 +103,13 @@ impl<T> ExclusiveOwner<T> {
         self.hand.pop()
     }
 
+    /// How many values an overflow still has to hand out.
+    pub fn left(&self) -> usize
+        ensures { result ≡ length self.now.handed }
+    {
+        self.hand.len()
+    }
+
     /// Publishes a batch behind the other values. The caller must have room for all of it.
     pub fn push_batch(&mut self, batch: &mut Reserved<T>)
         requires whole { self.old.handed ≡ [] }

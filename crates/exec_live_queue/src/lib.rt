@@ -13,6 +13,7 @@
 //! do what, and why no value is lost or handed out twice.
 //!
 //! - `queue` and `owner`: a queue of either kind with its seats, and its owner.
+//! - `lent`: what a push answers, and what reads an overflow.
 //! - `shared_queue`, `shared_owner` and `exclusive`: these, of one kind.
 //! - `pop`, `push`, `overflow`, `batch` and `steal`: what they do, over the words and a seat.
 //! - `steps` and `thief`: the steps of the owner and of a thief, one function each.
@@ -28,6 +29,7 @@ pub mod examples;
 pub mod exclusive;
 pub mod head;
 pub mod inner;
+pub mod lent;
 pub mod overflow;
 pub mod owner;
 pub mod plays;

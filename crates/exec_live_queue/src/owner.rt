@@ -10,13 +10,14 @@ ghost use Rattle.exec_live_queue.specs.Calls.{HasPopped, HasPublished};
 ghost use Rattle.exec_live_queue.specs.Alone.{TakesFront};
 
 use crate::exclusive::ExclusiveOwner;
+use crate::lent::{Overflow, Push, Settled};
 use crate::shared_owner::SharedOwner;
 use exec_words::queue::PushAnswer;
 use exec_words::reserved::Reserved;
 
 /// The owner of a queue: only it pushes and pops. None of its calls waits, or takes memory.
 ///
-/// It must be empty, and in the middle of no overflow, where it is let go (`leave`): no type drops
+/// It must be empty where it is let go (`leave`), with no overflow that wasn't exhausted: no type drops
 /// it by itself.
 pub enum Owner<T> {
     /// Thieves may steal from its queue.
@@ -42,6 +43,8 @@ impl<T: Drop> Owner<T> {
 }
 
 impl<T> Owner<T> {
+    ghost use Rattle.std.specs.Borrow.{sem};
+    ghost use Rattle.exec_live_queue.specs.Lent.{Lends, pushed_to};
     ghost use Rattle.exec_live_queue.specs.Kinds.{Does, Looks, IsDrained, IsPushed, count, handed, room, handed_by};
 
     /// How many values the queue has, by the head that this call loads.
@@ -96,9 +99,24 @@ impl<T> Owner<T> {
         }
     }
 
-    /// Publishes a value behind the others. After `Overflow` the caller must take the values of the
-    /// overflow, by `next_overflowed`, before any other call.
-    pub fn push(&mut self, value: T) -> PushAnswer<T>
+    /// Publishes a value behind the others. A full queue without a claim flows over: the owner is lent
+    /// to what hands its newest half out.
+    pub fn push<'a>(&'a mut self, value: T) -> Push<'a, T>
+        requires whole { handed self.old ≡ [] }
+        ensures* rests { sem 𝓛 (pushed_to T.row self.entry self.old value result) }
+        ensures lent { Lends self.entry self.old value result }
+    {
+        match self.publish(value) {
+            PushAnswer::Overflow(value) => Push::Overflow(Overflow::of(self, value)),
+            PushAnswer::Pushed(len) => Push::Settled(Settled::Pushed(len)),
+            PushAnswer::Claimed(value) => Push::Settled(Settled::Claimed(value)),
+            PushAnswer::Spent(value) => Push::Settled(Settled::Spent(value)),
+        }
+    }
+
+    // The same, with what an overflow hands out left with the owner.
+    #[tactic(auto, using(crate::proofs::Standing::handed_alone))]
+    fn publish(&mut self, value: T) -> PushAnswer<T>
         requires whole { handed self.old ≡ [] }
         ensures pushed { IsPushed self.old value self.new result }
         ensures handed { handed self.new ≡ handed_by self.old result }
@@ -111,7 +129,7 @@ impl<T> Owner<T> {
 
     /// The next value that an overflow hands out, the oldest first, or None where there is none
     /// left.
-    pub fn next_overflowed(&mut self) -> Option<T>
+    pub(crate) fn next_overflowed(&mut self) -> Option<T>
         ensures looked { Looks self.old self.new }
         ensures value { result ≡ slice_get (handed self.old) 0 }
         ensures handed { handed self.new ≡ drop 1 (handed self.old) }
@@ -119,6 +137,16 @@ impl<T> Owner<T> {
         match self {
             Owner::Shared(owner) => owner.next_overflowed(),
             Owner::Exclusive(owner) => owner.next_overflowed(),
+        }
+    }
+
+    /// How many values an overflow still has to hand out.
+    pub(crate) fn left(&self) -> usize
+        ensures { result ≡ length (handed self.now) }
+    {
+        match self {
+            Owner::Shared(owner) => owner.left(),
+            Owner::Exclusive(owner) => owner.left(),
         }
     }
 

@@ -186,6 +186,13 @@ impl<T> SharedOwner<T> {
         Some(value)
     }
 
+    /// How many values an overflow still has to hand out.
+    pub fn left(&self) -> usize
+        ensures { result ≡ length self.now.handed }
+    {
+        self.left as usize
+    }
+
     /// Publishes a batch behind the other values, by one store of the tail. The caller must have
     /// seen room for all of it, by `room`.
     pub fn push_batch(&mut self, batch: &mut Reserved<T>)

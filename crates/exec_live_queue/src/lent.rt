@@ -1,0 +1,76 @@
+//! What a push answers, and what it lends: the newest half of a queue that flows over.
+//!
+//! What flows over is read by an `Overflow`, to which the owner is lent, so that no other call of the
+//! owner comes in between. A push answers in one of two ways, since by the types of one that lends and
+//! one that doesn't a caller learns how the owner stands after either.
+
+ghost use Rattle.std.specs.Prelude.{◌≡◌, [], drop, length, slice_get};
+ghost use Rattle.exec_live_queue.specs.Kinds.{Looks, handed};
+
+use crate::owner::Owner;
+
+/// What a push answers.
+pub enum Push<'a, T> {
+    /// The queue was full without a claim: its newest half and then the new value go elsewhere.
+    Overflow(Overflow<'a, T>),
+    /// Nothing flowed over.
+    Settled(Settled<T>),
+}
+
+/// What a push answers where nothing flows over.
+#[derive(Debug, PartialEq, Eq, Drop)]
+pub enum Settled<T> {
+    /// The value was published; the queue had so many then, by the head that the push loaded.
+    Pushed(usize),
+    /// No place was free beside a claim: the value goes elsewhere.
+    Claimed(T),
+    /// The queue is spent: the value goes elsewhere.
+    Spent(T),
+}
+
+/// The newest half of a full queue, the oldest value first, and then the value that was to be pushed.
+///
+/// It must be exhausted where it is let go (`finish`): no type drops it by itself.
+pub struct Overflow<'a, T> {
+    owner: &'a mut Owner<T>,
+    value: T,
+}
+
+impl<'a, T> Overflow<'a, T> {
+    /// What this owner hands out, and this value behind it.
+    pub(crate) fn of(owner: &'a mut Owner<T>, value: T) -> Self
+        ensures same { result.owner.ghost_name ≡ owner.entry.ghost_name }
+        ensures now { result.owner.now ≡ owner.old }
+        ensures value { result.value ≡ value }
+    {
+        Overflow { owner, value }
+    }
+
+    /// The next value, or None where there is none left.
+    pub fn next(&mut self) -> Option<T>
+        ensures same { (self.new.owner.ghost_name ≡ self.old.owner.ghost_name) × (self.new.value ≡ self.old.value) }
+        ensures looked { Looks self.old.owner.now self.new.owner.now }
+        ensures value { result ≡ slice_get (handed self.old.owner.now) 0 }
+        ensures handed { handed self.new.owner.now ≡ drop 1 (handed self.old.owner.now) }
+    {
+        self.owner.next_overflowed()
+    }
+
+    /// How many values are left.
+    pub fn len(&self) -> usize
+        ensures { result ≡ length (handed self.now.owner.now) }
+    {
+        self.owner.left()
+    }
+
+    /// Gives the owner back, and the value that comes behind those that were handed out. The caller
+    /// must have taken all of these.
+    pub fn finish(self) -> T
+        requires { handed self.owner.now ≡ [] }
+        ensures value { result ≡ self.entry.value }
+        ensures rests { self.exit.0.now ≡ self.entry.owner.now }
+    {
+        let Overflow { owner: _, value } = self;
+        value
+    }
+}
