@@ -8,9 +8,9 @@ ghost use Rattle.exec_live_queue.specs.Kinds.{first_of, handed};
 use crate::BACKLOG;
 use exec_live_idle::notify::Rouse;
 use exec_live_idle::seat::{Idle, IdleSeat};
+use exec_live_queue::lent::{Overflow, Push, Settled};
 use exec_live_queue::owner::Owner;
 use exec_live_queue::queue::{Queue, QueueSeat};
-use exec_words::queue::PushAnswer;
 use std::sync::Wait;
 
 /// The owner of a run queue.
@@ -79,9 +79,12 @@ impl Caller {
     /// Pushes a value, and answers whether others of the queue can be stolen from then.
     fn push<R: Wait>(&mut self, rt: &R, value: u64) -> bool {
         match self.owner.push(value) {
-            PushAnswer::Pushed(len) => len >= 2,
-            _ => {
-                drain(rt, &mut self.owner);
+            Push::Settled(answer) => match answer {
+                Settled::Pushed(len) => len >= 2,
+                Settled::Claimed(_) | Settled::Spent(_) => true,
+            },
+            Push::Overflow(overflow) => {
+                drain(overflow);
                 true
             }
         }
@@ -159,18 +162,16 @@ impl Caller {
     }
 }
 
-/// Takes what an overflow hands out.
-#[tactic(auto, using(crate::proofs::Handed::none_left))]
-pub fn drain<R: Wait>(rt: &R, owner: &mut Owner<u64>)
-    ensures { handed owner.new ≡ [] }
+/// Takes what flows over.
+pub fn drain(mut overflow: Overflow<'_, u64>)
+    ensures { handed overflow.exit.0.now ≡ [] }
 {
-    for _ in rt.forever() {
-        match owner.next_overflowed() {
-            Some(_) => {}
-            None => return,
+    'left: loop {
+        if overflow.next().is_none() {
+            overflow.finish();
+            return;
         }
     }
-    unreachable!()
 }
 
 /// Pops what is left, and lets the owner go.

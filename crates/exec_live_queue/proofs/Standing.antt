@@ -1,6 +1,6 @@
 -- How the seat of an owner stands between its calls.
 use Rattle.std.proofs.Common.{◌≡◌, ℕ, suc, ◌+◌, ◌-◌, ◌<◌, List, [], ◌∷◌, ◌++◌, length, map, replicate, sym, refl, ap, ◌∙◌, subst, arith}
-use Rattle.std.specs.Prelude.{Option, Some, None}
+use Rattle.std.specs.Prelude.{Option, Some, None, slice_get, drop}
 use Rattle.atomic_table.specs.declared.shared.Shared.{Shared}
 use Rattle.exec_words.specs.Queue.{push_answer, handed_out}
 use Rattle.exec_words.specs.declared.head.Fit.{Fit}
@@ -52,3 +52,13 @@ handed_alone o (fit.Room len) x = refl
 handed_alone o fit.Overflow x = refl
 handed_alone o fit.Claimed x = refl
 handed_alone o fit.Spent x = refl
+
+-- what an overflow still hands out grows less
+module _ {X : Type 0} where
+  pub none_left : (xs : List X) → slice_get xs 0 ≡ None → drop 1 xs ≡ []
+  none_left [] e = refl
+  none_left (x ∷ xs) e = absurd (let h : Some x ≡ None = e in cc)
+
+  pub one_fewer : (xs : List X) (x : X) → slice_get xs 0 ≡ Some x → length (drop 1 xs) < length xs
+  one_fewer [] x e = absurd (let h : None ≡ Some x = e in cc)
+  one_fewer (y ∷ xs) x e = omega arith

@@ -1,9 +1,10 @@
 -- What a push answers, and how its owner stands after it: lent to what flows over, or not lent.
-use Rattle.std.specs.Prelude.{◌≡◌, [], ⊤}
+use Rattle.std.specs.Prelude.{◌≡◌, List, [], ⊤}
 use Rattle.std.specs.Borrow.{Fml, GName, MutBor, RattleType, follows_so}
 use mathlib.Core.Option as maybe
 use Rattle.exec_words.specs.declared.queue.PushAnswer.{PushAnswer}
 use Rattle.exec_words.specs.declared.queue.PushAnswer.TheVariants as answer
+use Rattle.exec_live_queue.specs.declared.lent.Overflow.{Overflow}
 use Rattle.exec_live_queue.specs.declared.lent.Push.{Push}
 use Rattle.exec_live_queue.specs.declared.lent.Push.TheVariants as push
 use Rattle.exec_live_queue.specs.declared.lent.Settled.{Settled}
@@ -19,9 +20,15 @@ module _ {T : Type 0} where
   answer_of (settled.Claimed x) = answer.Claimed x
   answer_of (settled.Spent x) = answer.Spent x
 
-  -- under which name the owner is lent
+  -- what is left to hand out, and under which name the owner is lent
+  abbrev pub left_of : Overflow T → List T
+  left_of f = handed f.owner.now
+
+  abbrev pub lender : Overflow T → GName
+  lender f = f.owner.ghost_name
+
   abbrev pub lent_as : Push T → maybe.Option GName
-  lent_as (push.Overflow f) = maybe.some f.owner.ghost_name
+  lent_as (push.Overflow f) = maybe.some (lender f)
   lent_as (push.Settled a) = maybe.none
 
   abbrev pub IsLent : Push T → Type 0
@@ -30,7 +37,7 @@ module _ {T : Type 0} where
 
   -- what a push of x to the owner b made of it where it is lent: o' has the newest half to hand out
   abbrev pub Lends : MutBor (Owner T) → Owner T → T → Push T → Type 0
-  Lends b o x (push.Overflow f) = (f.owner.ghost_name ≡ b.ghost_name) × IsPushed o x f.owner.now (answer.Overflow f.value) × (handed f.owner.now ≡ handed_by o (answer.Overflow f.value))
+  Lends b o x (push.Overflow f) = (lender f ≡ b.ghost_name) × IsPushed o x f.owner.now (answer.Overflow f.value) × (left_of f ≡ handed_by o (answer.Overflow f.value))
   Lends b o x (push.Settled a) = ⊤
 
   -- and where it isn't: nothing is left to hand out

@@ -4,8 +4,9 @@
 //! owner comes in between. A push answers in one of two ways, since by the types of one that lends and
 //! one that doesn't a caller learns how the owner stands after either.
 
-ghost use Rattle.std.specs.Prelude.{◌≡◌, [], drop, length, slice_get};
-ghost use Rattle.exec_live_queue.specs.Kinds.{Looks, handed};
+ghost use Rattle.std.specs.Prelude.{◌≡◌, ◌<◌, [], drop, length, slice_get, IfNone, IfSome};
+ghost use Rattle.exec_live_queue.specs.Kinds.{Looks};
+ghost use Rattle.exec_live_queue.specs.Lent.{left_of, lender};
 
 use crate::owner::Owner;
 
@@ -39,7 +40,7 @@ pub struct Overflow<'a, T> {
 impl<'a, T> Overflow<'a, T> {
     /// What this owner hands out, and this value behind it.
     pub(crate) fn of(owner: &'a mut Owner<T>, value: T) -> Self
-        ensures same { result.owner.ghost_name ≡ owner.entry.ghost_name }
+        ensures same { lender result ≡ owner.entry.ghost_name }
         ensures now { result.owner.now ≡ owner.old }
         ensures value { result.value ≡ value }
     {
@@ -47,18 +48,21 @@ impl<'a, T> Overflow<'a, T> {
     }
 
     /// The next value, or None where there is none left.
+    #[tactic(auto, using(crate::proofs::Standing::none_left, crate::proofs::Standing::one_fewer))]
     pub fn next(&mut self) -> Option<T>
-        ensures same { (self.new.owner.ghost_name ≡ self.old.owner.ghost_name) × (self.new.value ≡ self.old.value) }
+        ensures same { (lender self.new ≡ lender self.old) × (self.new.value ≡ self.old.value) }
         ensures looked { Looks self.old.owner.now self.new.owner.now }
-        ensures value { result ≡ slice_get (handed self.old.owner.now) 0 }
-        ensures handed { handed self.new.owner.now ≡ drop 1 (handed self.old.owner.now) }
+        ensures value { result ≡ slice_get (left_of self.old) 0 }
+        ensures handed { left_of self.new ≡ drop 1 (left_of self.old) }
+        ensures done { IfNone result (left_of self.new ≡ []) }
+        ensures fewer { IfSome result (λ _. length (left_of self.new) < length (left_of self.old)) }
     {
         self.owner.next_overflowed()
     }
 
     /// How many values are left.
     pub fn len(&self) -> usize
-        ensures { result ≡ length (handed self.now.owner.now) }
+        ensures { result ≡ length (left_of self.now) }
     {
         self.owner.left()
     }
@@ -66,7 +70,7 @@ impl<'a, T> Overflow<'a, T> {
     /// Gives the owner back, and the value that comes behind those that were handed out. The caller
     /// must have taken all of these.
     pub fn finish(self) -> T
-        requires { handed self.owner.now ≡ [] }
+        requires { left_of self ≡ [] }
         ensures value { result ≡ self.entry.value }
         ensures rests { self.exit.0.now ≡ self.entry.owner.now }
     {

@@ -4,9 +4,10 @@ ghost use Rattle.std.specs.Prelude.{◌≡◌, ◌+◌, ◌^◌, ◌≤◌, [], 
 ghost use Rattle.exec_live_queue.specs.Kinds.{IsThief, handed};
 
 use exec_live_queue::head::{gap_of, head_of, real_of};
+use exec_live_queue::lent::{Overflow, Push, Settled};
 use exec_live_queue::owner::Owner;
 use exec_live_queue::queue::{Queue, QueueSeat};
-use exec_words::queue::{PushAnswer, Steal};
+use exec_words::queue::Steal;
 use exec_words::reserved::Reserved;
 use std::alloc::{AllocError, Global};
 use std::process::Abort;
@@ -41,28 +42,41 @@ pub fn push_all(owner: &mut Owner<u64>, from: u64, count: u64) -> u64
 {
     let mut pushed = 0;
     for i in 0..count {
-        match owner.push(from + i) {
-            PushAnswer::Pushed(_) => pushed += 1,
-            PushAnswer::Overflow(_) | PushAnswer::Claimed(_) | PushAnswer::Spent(_) => {}
+        if let Some(Settled::Pushed(_)) = push(owner, from + i) {
+            pushed += 1;
         }
-        drain(owner);
     }
     pushed
 }
 
-/// Takes what an overflow hands out, and answers how many values that were, and the last.
-pub fn drain(owner: &mut Owner<u64>) -> (u64, Option<u64>)
+/// Pushes a value, and takes what flows over. None where something did.
+pub fn push(owner: &mut Owner<u64>, value: u64) -> Option<Settled<u64>>
+    requires { handed owner.old ≡ [] }
     ensures { handed owner.new ≡ [] }
+{
+    match owner.push(value) {
+        Push::Settled(answer) => Some(answer),
+        Push::Overflow(overflow) => {
+            drain(overflow);
+            None
+        }
+    }
+}
+
+/// Takes what flows over, and answers how many values that were, the last of them, and the value
+/// that comes behind them.
+fn drain(mut overflow: Overflow<'_, u64>) -> (u64, Option<u64>, u64)
+    ensures { handed overflow.exit.0.now ≡ [] }
 {
     let mut count: u64 = 0;
     let mut last = None;
     'left: loop {
-        match owner.next_overflowed() {
+        match overflow.next() {
             Some(value) => {
                 count = count.wrapping_add(1);
                 last = Some(value);
             }
-            None => return (count, last),
+            None => return (count, last, overflow.finish()),
         }
     }
 }
@@ -115,9 +129,16 @@ fn half_of_257_stay(rt: &impl Abort, mut owner: Owner<u64>)
 {
     assert_eq!(rt; push_all(&mut owner, 0, 256), 256);
     assert_eq!(rt; (owner.len(), owner.room()), (256, 0));
-    assert_eq!(rt; owner.push(256), PushAnswer::Overflow(256));
-    assert_eq!(rt; owner.next_overflowed(), Some(128));
-    assert_eq!(rt; drain(&mut owner), (127, Some(255)));
+    match owner.push(256) {
+        Push::Overflow(mut overflow) => {
+            assert_eq!(rt;
+                (overflow.len(), overflow.next(), overflow.len()),
+                (128, Some(128), 127)
+            );
+            assert_eq!(rt; drain(overflow), (127, Some(255), 256));
+        }
+        Push::Settled(_) => panic!(rt; "the queue isn't full"),
+    }
     assert_eq!(rt; (owner.len(), owner.room()), (128, 128));
     assert_eq!(rt;
         (owner.pop(), pop_all(&mut owner, 127)),
@@ -182,8 +203,7 @@ fn a_batch_comes_out_in_order(rt: HostRuntime) -> Result<(), Fail> {
 #[test]
 fn a_spent_queue_takes_no_more(rt: HostRuntime) -> Result<(), Fail> {
     let (_queue, mut owner, _thief) = made(rt.alloc(), (1 << 55) - 512)?;
-    assert_eq!(rt; owner.push(7), PushAnswer::Spent(7));
-    assert_eq!(rt; drain(&mut owner), (0, None));
+    assert_eq!(rt; push(&mut owner, 7), Some(Settled::Spent(7)));
     assert_eq!(rt; (owner.room(), owner.len()), (0, 0));
     let_go(&rt, owner);
     Ok(())

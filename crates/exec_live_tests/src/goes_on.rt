@@ -3,18 +3,19 @@
 ghost use Rattle.std.specs.Prelude.{◌≡◌, []};
 ghost use Rattle.exec_live_queue.specs.Kinds.{handed};
 
-use crate::calls::{drain, let_go, made, pop_all, push_all};
+use crate::calls::{let_go, made, pop_all, push, push_all};
+use exec_live_queue::lent::Settled;
 use exec_live_queue::owner::Owner;
 use exec_live_queue::steal::{Pause, Spot};
-use exec_words::queue::{PushAnswer, Steal};
+use exec_words::queue::Steal;
 use std::test::Fail;
 
 /// What the owner got while the thief stood still.
 #[derive(Debug, PartialEq, Eq, Drop)]
 struct Got {
     popped: Option<u64>,
-    first: PushAnswer<u64>,
-    second: PushAnswer<u64>,
+    first: Option<Settled<u64>>,
+    second: Option<Settled<u64>>,
     len: usize,
     room: usize,
 }
@@ -61,16 +62,6 @@ impl Pause for GoesOn {
     }
 }
 
-/// Pushes a value, and takes what flows over.
-fn push(owner: &mut Owner<u64>, value: u64) -> PushAnswer<u64>
-    requires { handed owner.old ≡ [] }
-    ensures { handed owner.new ≡ [] }
-{
-    let answer = owner.push(value);
-    drain(owner);
-    answer
-}
-
 #[test]
 fn the_owner_pops_and_pushes_beside_a_claim(rt: HostRuntime) -> Result<(), Fail> {
     let (queue, mut owner, mut thief) = made(rt.alloc(), 0)?;
@@ -92,8 +83,8 @@ fn the_owner_pops_and_pushes_beside_a_claim(rt: HostRuntime) -> Result<(), Fail>
         got,
         Some(Got {
             popped: Some(6),
-            first: PushAnswer::Pushed(5),
-            second: PushAnswer::Pushed(3),
+            first: Some(Settled::Pushed(5)),
+            second: Some(Settled::Pushed(3)),
             len: 3,
             room: 246,
         })
@@ -129,8 +120,8 @@ fn a_full_queue_beside_a_claim_takes_nothing(rt: HostRuntime) -> Result<(), Fail
         got,
         Some(Got {
             popped: None,
-            first: PushAnswer::Claimed(1000),
-            second: PushAnswer::Claimed(1001),
+            first: Some(Settled::Claimed(1000)),
+            second: Some(Settled::Claimed(1001)),
             len: 128,
             room: 0,
         })

@@ -4,9 +4,10 @@
 ghost use Rattle.std.specs.Prelude.{◌≡◌, []};
 ghost use Rattle.exec_live_queue.specs.Kinds.{IsThief, first_of, handed};
 
+use exec_live_queue::lent::{Overflow, Push, Settled};
 use exec_live_queue::owner::Owner;
 use exec_live_queue::queue::{Queue, QueueSeat};
-use exec_words::queue::{PushAnswer, Steal};
+use exec_words::queue::Steal;
 use std::alloc::Global;
 use std::process::Abort;
 use std::test::Fail;
@@ -59,12 +60,12 @@ impl<'a> Owning<'a> {
         let mut tally = Tally::none();
         for value in 0..VALUES {
             match owner.push(value) {
-                PushAnswer::Pushed(_) => {}
-                PushAnswer::Overflow(value)
-                | PushAnswer::Claimed(value)
-                | PushAnswer::Spent(value) => tally.count(value),
+                Push::Overflow(overflow) => hand_out(overflow, &mut tally),
+                Push::Settled(answer) => match answer {
+                    Settled::Pushed(_) => {}
+                    Settled::Claimed(value) | Settled::Spent(value) => tally.count(value),
+                },
             }
-            hand_out(&mut owner, &mut tally);
         }
         end(rt, owner, tally)
     }
@@ -100,14 +101,17 @@ impl<'a> Stealing<'a> {
     }
 }
 
-/// Takes what an overflow hands out: half of the queue at most.
-fn hand_out(owner: &mut Owner<u64>, tally: &mut Tally)
-    ensures { handed owner.new ≡ [] }
+/// Takes what flows over: half of the queue, and the value behind it.
+fn hand_out(mut overflow: Overflow<'_, u64>, tally: &mut Tally)
+    ensures { handed overflow.exit.0.now ≡ [] }
 {
     'left: loop {
-        match owner.next_overflowed() {
+        match overflow.next() {
             Some(value) => tally.count(value),
-            None => return,
+            None => {
+                tally.count(overflow.finish());
+                return;
+            }
         }
     }
 }

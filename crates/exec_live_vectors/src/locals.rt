@@ -7,10 +7,10 @@ ghost use Rattle.exec_live_queue.specs.Kinds.{IsThief, handed};
 use crate::fault::Fault;
 use crate::words::{flag, number, text_of, text_of_list};
 use exec_live_queue::SPENT;
+use exec_live_queue::lent::{Overflow, Push, Settled};
 use exec_live_queue::owner::Owner;
 use exec_live_queue::queue::{Queue, QueueSeat};
 use exec_words::CAPACITY;
-use exec_words::queue::PushAnswer;
 use exec_words::reserved::Reserved;
 use std::alloc::Global;
 use std::mem;
@@ -140,36 +140,33 @@ fn push<R: Wait>(rt: &R, alloc: Global, owner: &mut Owner<u64>, value: u64) -> R
     requires { handed owner.old ≡ [] }
     ensures { handed owner.new ≡ [] }
 {
-    let answer = owner.push(value);
-    let mut out = Vec::new(alloc);
-    let complete = drain(rt, owner, &mut out);
-    match answer {
-        PushAnswer::Pushed(len) => Ok(format!(in alloc; "pushed {len}")?),
-        PushAnswer::Overflow(value) => {
-            out.push(value)?;
-            if !complete {
+    match owner.push(value) {
+        Push::Overflow(overflow) => {
+            let mut out = Vec::new(alloc);
+            if !drain(overflow, &mut out) {
                 return Err(Fault::Condition);
             }
             Ok(format!(in alloc; "overflow {}", text_of_list(alloc, &out)?)?)
         }
-        PushAnswer::Claimed(value) => Ok(format!(in alloc; "claimed {value}")?),
-        PushAnswer::Spent(value) => Ok(format!(in alloc; "spent {value}")?),
+        Push::Settled(answer) => match answer {
+            Settled::Pushed(len) => Ok(format!(in alloc; "pushed {len}")?),
+            Settled::Claimed(value) => Ok(format!(in alloc; "claimed {value}")?),
+            Settled::Spent(value) => Ok(format!(in alloc; "spent {value}")?),
+        },
     }
 }
 
-/// Takes all that an overflow hands out. False where there was no memory to keep it.
-#[tactic(auto, using(crate::proofs::Handed::none_left))]
-fn drain<R: Wait>(rt: &R, owner: &mut Owner<u64>, out: &mut Vec<u64>) -> bool
-    ensures { handed owner.new ≡ [] }
+/// Takes all that flows over. False where there was no memory to keep it.
+fn drain(mut overflow: Overflow<'_, u64>, out: &mut Vec<u64>) -> bool
+    ensures { handed overflow.exit.0.now ≡ [] }
 {
     let mut complete = true;
-    for _ in rt.forever() {
-        match owner.next_overflowed() {
+    'left: loop {
+        match overflow.next() {
             Some(value) => complete = out.push(value).is_ok() && complete,
-            None => return complete,
+            None => return out.push(overflow.finish()).is_ok() && complete,
         }
     }
-    unreachable!()
 }
 
 /// At most so many values, popped one by one.
