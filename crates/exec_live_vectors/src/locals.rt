@@ -77,7 +77,7 @@ impl Local {
         let Some(mut owner) = self.owner.take() else {
             return Err(Fault::Unasked);
         };
-        let given = owned(rt, alloc, &mut owner, operation, words);
+        let given = owned(alloc, &mut owner, operation, words);
         self.give_back(rt, owner);
         given
     }
@@ -114,8 +114,7 @@ pub fn let_go<R: Wait>(rt: &R, mut owner: Owner<u64>)
 }
 
 /// Makes a call of an owner.
-fn owned<R: Wait>(
-    rt: &R,
+pub fn owned(
     alloc: Global,
     owner: &mut Owner<u64>,
     operation: &str,
@@ -125,7 +124,7 @@ fn owned<R: Wait>(
     ensures { handed owner.new ≡ [] }
 {
     match operation {
-        "push" => push(rt, alloc, owner, number(words)?),
+        "push" => push(alloc, owner, number(words)?),
         "pop" => Ok(text_of(alloc, owner.pop())?),
         "pops" => pops(alloc, owner, number(words)?),
         "batch" => batch(alloc, owner, number(words)?, number(words)?),
@@ -136,7 +135,7 @@ fn owned<R: Wait>(
 }
 
 /// A push, with what it hands out.
-fn push<R: Wait>(rt: &R, alloc: Global, owner: &mut Owner<u64>, value: u64) -> Result<String, Fault>
+fn push(alloc: Global, owner: &mut Owner<u64>, value: u64) -> Result<String, Fault>
     requires { handed owner.old ≡ [] }
     ensures { handed owner.new ≡ [] }
 {

@@ -6,6 +6,7 @@
 //! and at the end how many answers there were.
 #![tactic(auto)]
 
+mod alone;
 mod fault;
 mod locals;
 mod player;
@@ -38,7 +39,12 @@ fn play<R: Wait>(
     let (_case, _number) = (words.next(), words.next());
     let mut script = Script::new(rest);
     match words.next() {
-        Some("shared" | "exclusive") => queues::play(rt, alloc, &mut words, &mut script, report),
+        Some("shared" | "exclusive") => {
+            queues::play(rt, alloc, &mut words, &mut script, report)?;
+            let mut words = head.split_whitespace();
+            let (_case, _number) = (words.next(), words.next());
+            alone::play(rt, alloc, &mut words, rest, report)
+        }
         Some("workers") => workers::play(rt, alloc, number(&mut words)?, &mut script, report),
         _ => Err(Fault::Malformed),
     }

@@ -20,7 +20,7 @@ use std::str::SplitWhitespace;
 use std::sync::{Arc, Wait};
 
 /// Plays a case, whose queues these words name: each by its kind and the count of its first value. An exclusive queue
-/// answers as a shared one without thieves.
+/// is played as a shared one here, which answers alike without thieves.
 pub fn play<R: Wait>(
     rt: &R,
     alloc: Global,
