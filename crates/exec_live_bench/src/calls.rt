@@ -4,6 +4,7 @@ ghost use Rattle.std.specs.Prelude.{◌≡◌, ◌≢◌, ◌≤◌, ◌<◌, []
 ghost use Rattle.exec_live_idle.specs.Idle.{knows, IsSeatOf};
 ghost use Rattle.exec_live_idle.specs.Live.{first_view};
 ghost use Rattle.exec_live_queue.specs.Kinds.{first_of, handed};
+ghost use Rattle.exec_live_queue.specs.Lent.{left_of, lender};
 
 use crate::BACKLOG;
 use exec_live_idle::notify::Rouse;
@@ -83,8 +84,9 @@ impl Caller {
                 Settled::Pushed(len) => len >= 2,
                 Settled::Claimed(_) | Settled::Spent(_) => true,
             },
-            Push::Overflow(overflow) => {
-                drain(overflow);
+            Push::Overflow(mut overflow) => {
+                drain(&mut overflow);
+                overflow.finish();
                 true
             }
         }
@@ -163,12 +165,12 @@ impl Caller {
 }
 
 /// Takes what flows over.
-pub fn drain(mut overflow: Overflow<'_, u64>)
-    ensures { handed overflow.exit.0.now ≡ [] }
+fn drain(overflow: &mut Overflow<'_, u64>)
+    ensures same { lender overflow.new ≡ lender overflow.old }
+    ensures dry { left_of overflow.new ≡ [] }
 {
     'left: loop {
         if overflow.next().is_none() {
-            overflow.finish();
             return;
         }
     }

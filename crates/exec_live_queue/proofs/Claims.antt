@@ -1,23 +1,7 @@
 -- A thief's claim keeps the rule.
-use Rattle.std.proofs.Common.{◌≡◌, ◌≢◌, ℕ, ◌+◌, ◌-◌, ◌/◌, ◌%◌, ◌<◌, ◌≤◌, eqb, List, [], ◌++◌, map, length, set, take, drop, sym, refl, ap, ◌∙◌, subst, inl, ⊎_elim, length-append, length-take-le, append-nil, arith}
-use mathlib.Core.Option.{none, some, some-injective}
-use lib.ListN.{get_elem?, length-map}
-use prog.Atomic.{either}
-use Rattle.std.specs.Prelude.{Option, Some}
-use Rattle.std.specs.List.{sum_by}
-use Rattle.std.proofs.lemmas.List.Sums.{sum_by-append}
-use Rattle.atomic_table.specs.Table.{State, step, homes_after, Allows}
-use Rattle.atomic_table.proofs.Lists.{set_here, at_longer}
-use Rattle.exec_words.specs.Queue.{claimed}
-use Rattle.exec_live_queue.specs.declared.view.Own.{Own}
-use Rattle.exec_live_queue.specs.declared.view.Theft.{Theft}
-use Rattle.exec_live_queue.specs.declared.view.View.{View}
-use Rattle.exec_live_queue.specs.declared.view.Stage.{Stage}
-use Rattle.exec_live_queue.specs.declared.view.Stage.TheVariants.{Owns, Idle, SawHead, SawTail, Claimed}
-use Rattle.exec_live_queue.specs.Numbers.{head_word, InOrder, words_of}
-use Rattle.exec_live_queue.specs.Pure.{queue_at}
-use Rattle.exec_live_queue.specs.Live.{labels, Homes, HomeAt, Knows, AsLogged, LiveQueue}
-use Rattle.exec_live_queue.specs.Plays.{Sat, half, hand, take_all, at_head, claimed_view, Claims, claims}
+use Rattle.exec_live_queue.proofs.Words.{◌≡◌, ◌≢◌, ℕ, ◌+◌, ◌-◌, ◌/◌, ◌%◌, ◌<◌, ◌≤◌, eqb, List, [], ◌++◌, map, length, set, take, sym, refl, ap, ◌∙◌, subst, inl, ⊎_elim, length-append, arith, none, some, some-injective, get_elem?, length-map, either, Option, Some, sum_by, sum_by-append, State, step, homes_after, Allows, set_here, at_longer, claimed, Own, Theft, View, Stage, Owns, Idle, SawHead, SawTail, Claimed, head_word, InOrder, words_of, queue_at, labels, Homes, HomeAt, Knows, AsLogged, LiveQueue, Sat, half, hand, at_head, claimed_view, Claims, claims}
+use Rattle.std.proofs.Common.{drop, length-take-le, append-nil}
+use Rattle.exec_live_queue.specs.Plays.{take_all}
 use Rattle.exec_live_queue.proofs.Hands.{AllHome, take_behind, take_valid, take_carried, take_length, all_full}
 use Rattle.exec_live_queue.proofs.Orders.{gap_fits, claimed_order}
 use Rattle.exec_live_queue.proofs.Labels.{weigh_runs, labels_at, labels_length, at_drop, at_take, at_within, at_appended, at_either, window, window_length}

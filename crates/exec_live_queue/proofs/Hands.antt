@@ -1,15 +1,6 @@
 -- The slots of a run of labels: taken out all at once, and given back all at once.
-use Rattle.std.proofs.Common.{◌≡◌, ◌≢◌, ℕ, zero, suc, ◌+◌, ◌-◌, ◌%◌, ◌<◌, ◌≤◌, List, [], ◌∷◌, ◌++◌, length, map, set, replicate, sym, refl, ap, ap₂, ◌∙◌, subst, mod-lt, length-set, append_assoc, arith}
-use Rattle.std.proofs.Math.Nat.{add-mod_right}
-use mathlib.Core.Option.{none, some}
-use mathlib.Core.Logic.{dite}
-use native.Mathlib.Decide.{ℕ_discrete}
-use lib.ListN.{get_elem?}
-use Rattle.std.specs.Prelude.{Option, Some, None}
-use Rattle.atomic_table.specs.Table.{Valid, carried_after, homes_after, rest}
-use Rattle.atomic_table.proofs.Lists.{set_here, set_else, one_turn}
-use Rattle.exec_live_queue.specs.Live.{Homes, HomeAt}
-use Rattle.exec_live_queue.specs.Plays.{hand, take_all, give_all, values_of}
+use Rattle.exec_live_queue.proofs.Words.{◌≡◌, ◌≢◌, ℕ, zero, suc, ◌+◌, ◌-◌, ◌%◌, ◌<◌, ◌≤◌, List, [], ◌∷◌, ◌++◌, length, map, set, replicate, sym, refl, ap, ap₂, ◌∙◌, subst, mod-lt, length-set, append_assoc, arith, add-mod_right, none, some, dite, ℕ_discrete, get_elem?, Option, Some, None, Valid, carried_after, homes_after, rest, set_here, set_else, one_turn, Homes, HomeAt, hand, give_all, values_of}
+use Rattle.exec_live_queue.specs.Plays.{take_all}
 
 -- two labels less than 256 apart have slots of their own
 pub apart : (a b : ℕ) → a < b → b < a + 256 → a % 256 ≢ b % 256

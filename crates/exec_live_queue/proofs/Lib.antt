@@ -15,3 +15,4 @@ pub mod Returns
 pub mod Standing
 pub mod Steals
 pub mod Thieves
+pub mod Words

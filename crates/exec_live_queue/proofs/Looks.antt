@@ -1,16 +1,8 @@
 -- The owner's loads of the head keep the rule.
-use Rattle.std.proofs.Common.{◌≡◌, ℕ, ◌+◌, ◌-◌, ◌/◌, ◌%◌, ◌<◌, ◌≤◌, List, [], ◌∷◌, ◌++◌, length, set, replicate, sym, refl, ap, ◌∙◌, subst, inl, ⊎_elim, le_refl, arith}
+use Rattle.exec_live_queue.proofs.Words.{◌≡◌, ℕ, ◌+◌, ◌-◌, ◌/◌, ◌%◌, ◌<◌, ◌≤◌, List, [], ◌∷◌, ◌++◌, length, set, replicate, sym, refl, ap, ◌∙◌, subst, inl, ⊎_elim, le_refl, arith, none, some, get_elem?, length-replicate, Option, None, State, step, Valid, homes_after, Allows, View, Owns, head_word, InOrder, words_of, Kept, LiveQueue, Sat, room, hand, saw, out, laid}
 use Rattle.std.proofs.lemmas.Nat.{div-mul-add, mod-mul-add}
-use mathlib.Core.Option.{none, some}
-use lib.ListN.{get_elem?}
-use Rattle.std.proofs.lemmas.List.{append-nil, length-replicate}
-use Rattle.std.specs.Prelude.{Option, None}
-use Rattle.atomic_table.specs.Table.{State, step, Valid, homes_after, Allows}
-use Rattle.exec_live_queue.specs.declared.view.View.{View}
-use Rattle.exec_live_queue.specs.declared.view.Stage.TheVariants.{Owns}
-use Rattle.exec_live_queue.specs.Numbers.{head_word, InOrder, words_of}
-use Rattle.exec_live_queue.specs.Live.{Kept, LiveQueue}
-use Rattle.exec_live_queue.specs.Plays.{Sat, room, hand, take_all, saw, out, laid}
+use Rattle.std.proofs.lemmas.List.{append-nil}
+use Rattle.exec_live_queue.specs.Plays.{take_all}
 use Rattle.exec_live_queue.proofs.Hands.{take_before, take_behind, take_valid, take_carried, take_length, all_free}
 use Rattle.exec_live_queue.proofs.Orders.{outside_none, gap_fits, laid_order}
 use Rattle.exec_live_queue.proofs.Rebuild.{Gives, rebuilt, owner_steps}

@@ -1,14 +1,7 @@
 -- Values that go from slot to slot: what a seat carries after each of them.
-use Rattle.std.proofs.Common.{◌≡◌, ℕ, suc, ◌+◌, ◌-◌, ◌%◌, ◌<◌, List, [], ◌∷◌, ◌++◌, length, map, replicate, sym, refl, ap, ◌∙◌, subst, length-append, append-nil, append_assoc, arith}
-use Rattle.std.proofs.lemmas.List.{replicate_more, length-replicate, map-append}
-use lib.ListN.{length-map}
-use mathlib.Core.Option.{none}
-use Rattle.std.specs.Prelude.{Option, Some, None, slice_get, drop}
-use Rattle.atomic_table.specs.Table.{step, rest, turned}
-use Rattle.exec_live_queue.specs.declared.view.View.{View}
-use Rattle.exec_live_queue.specs.Plays.{Sat, hand, returned, values_of, published_view}
-use Rattle.exec_live_queue.specs.Seats.{AtRest}
-use Rattle.exec_live_queue.specs.Calls.{HasLooked, AtHand, Fills, Empties}
+use Rattle.exec_live_queue.proofs.Words.{◌≡◌, ℕ, suc, ◌+◌, ◌-◌, ◌%◌, ◌<◌, List, [], ◌∷◌, ◌++◌, length, map, replicate, sym, refl, ap, ◌∙◌, subst, length-append, append_assoc, arith, replicate_more, length-replicate, map-append, length-map, none, Option, Some, None, slice_get, step, rest, turned, View, Sat, hand, returned, values_of, published_view, AtRest, HasLooked, AtHand, Fills, Empties}
+use Rattle.std.proofs.Common.{append-nil}
+use Rattle.std.specs.Prelude.{drop}
 use Rattle.exec_live_queue.proofs.Hands.{fronted, turned_on, values_in}
 use Rattle.exec_live_queue.proofs.Looks.{nothing_left}
 

@@ -1,14 +1,5 @@
 -- A new queue meets the rule.
-use Rattle.std.proofs.Common.{◌≡◌, ℕ, zero, suc, ◌+◌, ◌-◌, ◌%◌, ◌^◌, ◌<◌, ◌≤◌, List, [], ◌∷◌, map, length, replicate, sym, refl, ap, ◌∙◌, subst, inl, le_refl, mod-lt, arith}
-use Rattle.std.proofs.lemmas.List.{length-replicate}
-use mathlib.Core.Option.{some, some-injective, some-ne-none}
-use lib.ListN.{get_elem?, length-map}
-use Rattle.std.specs.Prelude.{Option, None}
-use Rattle.std.specs.List.{sum_by}
-use Rattle.atomic_table.specs.Table.{opening}
-use Rattle.exec_live_queue.specs.declared.view.View.{View}
-use Rattle.exec_live_queue.specs.Numbers.{head_word, words_of}
-use Rattle.exec_live_queue.specs.Live.{labels, Knows, AsLogged, LiveQueue, opened}
+use Rattle.exec_live_queue.proofs.Words.{◌≡◌, ℕ, zero, suc, ◌+◌, ◌-◌, ◌%◌, ◌^◌, ◌<◌, ◌≤◌, List, [], ◌∷◌, map, length, replicate, sym, refl, ap, ◌∙◌, subst, inl, le_refl, mod-lt, arith, length-replicate, some, some-injective, some-ne-none, get_elem?, length-map, Option, None, sum_by, opening, View, head_word, words_of, labels, Knows, AsLogged, LiveQueue, opened}
 
 no_label : (a n : ℕ) (w : ℕ → ℕ) → n ≡ 0 → sum_by w (labels a n) ≡ 0
 unfolding labels

@@ -1,11 +1,5 @@
 -- The numbers of a run queue after each step.
-use Rattle.std.proofs.Common.{◌≡◌, ℕ, ◌+◌, ◌-◌, ◌^◌, ◌<◌, ◌≤◌, ◌⊎◌, List, refl, ap, inl, inr, ⊎_elim, le_refl, arith}
-use mathlib.Core.Logic.{dite}
-use native.Mathlib.Decide.{dec_le, ℕ_discrete}
-use Rattle.std.proofs.Common.{lt_of_not-le, Bool, cond, ne_eqb}
-use Rattle.exec_live_queue.specs.declared.view.Own.{Own}
-use Rattle.exec_live_queue.specs.Numbers.{Outside, InOrder}
-use Rattle.exec_live_queue.specs.Plays.{room, after_pop}
+use Rattle.exec_live_queue.proofs.Words.{◌≡◌, ℕ, ◌+◌, ◌-◌, ◌^◌, ◌<◌, ◌≤◌, ◌⊎◌, List, refl, ap, inl, inr, ⊎_elim, le_refl, arith, dite, dec_le, ℕ_discrete, lt_of_not-le, Bool, cond, ne_eqb, Own, Outside, InOrder, room, after_pop}
 
 -- no label is out where none is
 pub outside_none : (at n l : ℕ) → n ≡ 0 → Outside at n l

@@ -1,23 +1,8 @@
 -- A full queue flows over, and shows again what it kept: both keep the rule.
-use Rattle.std.proofs.Common.{◌≡◌, ℕ, ◌+◌, ◌-◌, ◌/◌, ◌%◌, ◌^◌, ◌<◌, ◌≤◌, eqb, List, [], ◌++◌, map, length, set, take, drop, sym, refl, ap, ◌∙◌, subst, ⊎_elim, le_refl, length-append, length-drop, append-nil, arith}
-use Rattle.std.proofs.Math.Nat.{add-mod_right}
+use Rattle.exec_live_queue.proofs.Words.{◌≡◌, ℕ, ◌+◌, ◌-◌, ◌/◌, ◌%◌, ◌^◌, ◌<◌, ◌≤◌, eqb, List, [], ◌++◌, map, length, set, take, sym, refl, ap, ◌∙◌, subst, ⊎_elim, le_refl, length-append, length-drop, arith, add-mod_right, none, some, some-injective, get_elem?, length-map, either, Option, Some, sum_by, sum_by-append, State, keeps, step, homes_after, Allows, at_longer, overflowed, restored, Own, View, Owns, head_word, Outside, InOrder, words_of, queue_at, labels, HomeAt, Kept, LiveQueue, Sat, hand, whole, overflowed_view, Overflowed, flows_over, missed, restored_view, restores}
+use Rattle.std.proofs.Common.{drop, append-nil}
 use Rattle.std.proofs.lemmas.List.{length-take-le}
-use mathlib.Core.Option.{none, some, some-injective}
-use lib.ListN.{get_elem?, length-map}
-use prog.Atomic.{either}
-use Rattle.std.specs.Prelude.{Option, Some}
-use Rattle.std.specs.List.{sum_by}
-use Rattle.std.proofs.lemmas.List.Sums.{sum_by-append}
-use Rattle.atomic_table.specs.Table.{State, keeps, step, homes_after, Allows}
-use Rattle.atomic_table.proofs.Lists.{at_longer}
-use Rattle.exec_words.specs.Queue.{overflowed, restored}
-use Rattle.exec_live_queue.specs.declared.view.Own.{Own}
-use Rattle.exec_live_queue.specs.declared.view.View.{View}
-use Rattle.exec_live_queue.specs.declared.view.Stage.TheVariants.{Owns}
-use Rattle.exec_live_queue.specs.Numbers.{head_word, Outside, InOrder, words_of}
-use Rattle.exec_live_queue.specs.Pure.{queue_at}
-use Rattle.exec_live_queue.specs.Live.{labels, HomeAt, Kept, LiveQueue}
-use Rattle.exec_live_queue.specs.Plays.{Sat, hand, take_all, whole, overflowed_view, Overflowed, flows_over, missed, restored_view, restores}
+use Rattle.exec_live_queue.specs.Plays.{take_all}
 use Rattle.exec_live_queue.proofs.Hands.{AllHome, take_before, take_valid, take_carried, take_length, hand_turn, all_full}
 use Rattle.exec_live_queue.proofs.Orders.{gap_fits, overflowed_order, restored_order}
 use Rattle.exec_live_queue.proofs.Labels.{weigh_runs, at_drop, at_take, at_within, at_appended, window_of_end, window_length}

@@ -1,27 +1,11 @@
 -- What an owner's calls do to its view, step after step.
-use Rattle.std.proofs.Common.{◌≡◌, ◌≢◌, ℕ, ◌+◌, ◌-◌, ◌*◌, ◌/◌, ◌%◌, ◌^◌, ◌<◌, ◌≤◌, ◌⊎◌, min, List, [], ◌∷◌, ◌++◌, length, take, drop, map, replicate, sym, refl, ap, ◌∙◌, subst, inl, inr, ⊎_elim, arith}
-use mathlib.Core.Option.{none, some}
-use mathlib.Core.Logic.{dite}
-use native.Mathlib.Decide.{ℕ_discrete, dec_le}
-use Rattle.std.proofs.Common.{Bool, cond, lt_of_not-le, le-leb}
+use Rattle.exec_live_queue.proofs.Words.{◌≡◌, ◌≢◌, ℕ, ◌+◌, ◌-◌, ◌*◌, ◌/◌, ◌%◌, ◌^◌, ◌<◌, ◌≤◌, ◌⊎◌, List, [], ◌∷◌, ◌++◌, length, take, map, replicate, sym, refl, ap, ◌∙◌, subst, inl, inr, ⊎_elim, arith, none, some, dite, ℕ_discrete, dec_le, Bool, cond, lt_of_not-le, le-leb, get_elem?, Option, Some, None, step, Own, View, Owns, Sat, room, saw, out, hand, after_pop, laid, returned, Found, popped_view, Popped, values_of, published_view, Overflowed, overflowed_view, restored_view, whole, IsSeen, AtRest, looked, HasLooked, HasPopped, HasPublished, HasOverflowed, fully, AtHand, Fills, AfterSteal, HasKept, Theft, Steal, labels, rest, length-append, length-drop}
+use Rattle.std.proofs.Common.{min, drop}
 use Rattle.std.proofs.lemmas.Bool.{lt-leb}
 use Rattle.exec_words.specs.Head.{room_at, is_spent}
-use lib.ListN.{get_elem?}
-use Rattle.std.specs.Prelude.{Option, Some, None}
-use Rattle.atomic_table.specs.Table.{step}
-use Rattle.exec_live_queue.specs.declared.view.Own.{Own}
-use Rattle.exec_live_queue.specs.declared.view.View.{View}
-use Rattle.exec_live_queue.specs.declared.view.Stage.TheVariants.{Owns}
-use Rattle.exec_live_queue.specs.Plays.{Sat, room, saw, out, hand, after_pop, laid, returned, Found, popped_view, Popped, values_of, published_view, Overflowed, overflowed_view, restored_view, whole}
-use Rattle.exec_live_queue.specs.Seats.{IsSeen, AtRest}
-use Rattle.exec_live_queue.specs.Calls.{looked, HasLooked, HasPopped, HasPublished, HasOverflowed, fully, AtHand, Fills, AfterSteal, HasKept}
-use Rattle.exec_live_queue.specs.declared.view.Theft.{Theft}
-use Rattle.exec_words.specs.declared.queue.Steal.{Steal}
 use Rattle.exec_words.specs.declared.queue.Steal.TheVariants as steal
-use Rattle.exec_live_queue.specs.Live.{labels}
 use Rattle.exec_live_queue.proofs.Overflows.{whole_length}
-use Rattle.atomic_table.specs.Table.{rest}
-use Rattle.std.proofs.Common.{length-append, length-drop, append-nil}
+use Rattle.std.proofs.Common.{append-nil}
 use Rattle.std.proofs.lemmas.List.{length-take-le}
 
 pub room_seen : (tail left len : ℕ) → tail < 2 ^ 55 - 512 → len ≤ left → len ≤ cond (is_spent tail) 0 left

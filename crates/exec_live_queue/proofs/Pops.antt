@@ -1,20 +1,6 @@
 -- The owner's pops keep the rule: by an exchange, and of a lone value by a store.
-use Rattle.std.proofs.Common.{◌≡◌, ℕ, ◌+◌, ◌-◌, ◌/◌, ◌%◌, ◌<◌, ◌≤◌, ◌⊎◌, eqb, List, [], ◌∷◌, ◌++◌, set, sym, refl, ap, ◌∙◌, subst, inl, inr, ⊎_elim, le_refl, arith}
-use mathlib.Core.Option.{none, some}
-use lib.ListN.{get_elem?}
-use prog.Atomic.{either}
-use Rattle.std.specs.Prelude.{Option, Some}
-use Rattle.std.specs.List.{sum_by}
-use Rattle.std.proofs.lemmas.List.Sums.{sum_by_push}
-use Rattle.atomic_table.specs.Table.{State, step, carried_after, homes_after, Allows}
-use Rattle.std.proofs.Math.Nat.{add-mod_right}
-use Rattle.exec_words.specs.Queue.{popped}
-use Rattle.exec_live_queue.specs.declared.view.View.{View}
-use Rattle.exec_live_queue.specs.declared.view.Stage.TheVariants.{Owns}
-use Rattle.exec_live_queue.specs.Numbers.{head_word, Outside, BesideClaim, words_of}
-use Rattle.exec_live_queue.specs.Pure.{queue_at}
-use Rattle.exec_live_queue.specs.Live.{labels, Homes, Kept, LiveQueue}
-use Rattle.exec_live_queue.specs.Plays.{Sat, after_pop, hand, take_all, popped_view, Popped, pops, pops_last, missed}
+use Rattle.exec_live_queue.proofs.Words.{◌≡◌, ℕ, ◌+◌, ◌-◌, ◌/◌, ◌%◌, ◌<◌, ◌≤◌, ◌⊎◌, eqb, List, [], ◌∷◌, ◌++◌, set, sym, refl, ap, ◌∙◌, subst, inl, inr, ⊎_elim, le_refl, arith, none, some, get_elem?, either, Option, Some, sum_by, sum_by_push, State, step, carried_after, homes_after, Allows, add-mod_right, popped, View, Owns, head_word, Outside, BesideClaim, words_of, queue_at, labels, Homes, Kept, LiveQueue, Sat, after_pop, hand, popped_view, Popped, pops, pops_last, missed}
+use Rattle.exec_live_queue.specs.Plays.{take_all}
 use Rattle.exec_live_queue.proofs.Hands.{take_behind, take_length}
 use Rattle.exec_live_queue.proofs.Orders.{outside_none, gap_fits, pop_gap, popped_order}
 use Rattle.exec_live_queue.proofs.Labels.{weigh_runs, weigh_one, window}

@@ -1,22 +1,6 @@
 -- The owner's store of the tail, which shows what it wrote, keeps the rule.
-use Rattle.std.proofs.Common.{◌≡◌, ℕ, ◌+◌, ◌-◌, ◌^◌, ◌<◌, ◌≤◌, List, [], ◌++◌, map, length, set, sym, refl, ap, ◌∙◌, subst, inr, le_refl, lt_of_not-le, length-append, arith}
-use mathlib.Core.Option.{none, some}
-use mathlib.Core.Logic.{dite}
-use native.Mathlib.Decide.{dec_le}
-use lib.ListN.{get_elem?, length-map}
-use Rattle.std.specs.Prelude.{Option, Some, None}
-use Rattle.atomic_table.specs.Table.{State, step, homes_after, Allows}
-use Rattle.std.proofs.lemmas.List.{length-replicate}
-use Rattle.std.proofs.Common.{ap₂, replicate, take, drop}
-use Rattle.atomic_table.proofs.Lists.{at_longer}
-use Rattle.exec_live_queue.specs.declared.view.Own.{Own}
-use Rattle.exec_live_queue.specs.declared.view.View.{View}
-use Rattle.exec_live_queue.specs.declared.view.Stage.TheVariants.{Owns}
-use Rattle.exec_live_queue.specs.Numbers.{head_word, words_of}
-use Rattle.exec_live_queue.specs.Live.{Homes, Kept, LiveQueue}
-use Rattle.exec_words.specs.Queue.{published}
-use Rattle.exec_live_queue.specs.Pure.{queue_at}
-use Rattle.exec_live_queue.specs.Plays.{Sat, hand, give_all, values_of, published_view, publishes}
+use Rattle.exec_live_queue.proofs.Words.{◌≡◌, ℕ, ◌+◌, ◌-◌, ◌^◌, ◌<◌, ◌≤◌, List, [], ◌++◌, map, length, set, sym, refl, ap, ◌∙◌, subst, inr, le_refl, lt_of_not-le, length-append, arith, none, some, dite, dec_le, get_elem?, length-map, Option, Some, None, State, step, homes_after, Allows, length-replicate, ap₂, replicate, take, at_longer, Own, View, Owns, head_word, words_of, Homes, Kept, LiveQueue, published, queue_at, Sat, hand, give_all, values_of, published_view, publishes}
+use Rattle.std.proofs.Common.{drop}
 use Rattle.exec_live_queue.proofs.Hands.{AllHome, give_before, give_behind, give_here, give_length, give_valid, give_carried, home_behind, some_at, free_at, values_in}
 use Rattle.exec_live_queue.proofs.Labels.{at_appended, window_grows}
 use Rattle.exec_live_queue.proofs.Orders.{published_order}

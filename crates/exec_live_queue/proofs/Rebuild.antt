@@ -1,22 +1,5 @@
 -- The rule after a step of the owner: one lemma for all of them.
-use Rattle.std.proofs.Common.{◌≡◌, ◌≢◌, ℕ, zero, suc, ◌+◌, ◌-◌, ◌<◌, ◌≤◌, List, [], ◌∷◌, length, set, sym, ap, ◌∙◌, subst, ⊎_elim, arith}
-use mathlib.Core.Option.{some, some-injective, some-ne-none}
-use lib.ListN.{get_elem?}
-use Rattle.std.specs.Prelude.{Option, None, slice_index}
-use Rattle.std.specs.List.{sum_by}
-use Rattle.std.proofs.lemmas.List.Sums.{sum_by-cons}
-use Rattle.atomic_table.specs.Table.{State, Act, Valid, carried_after, homes_after, Allows}
-use prog.Atomic.{either}
-use Rattle.std.proofs.Common.{eqb}
-use Rattle.atomic_table.proofs.Lists.{at_set, set_here, set_else, exchanged}
-use Rattle.exec_live_queue.specs.declared.view.Own.{Own}
-use Rattle.exec_live_queue.specs.declared.view.Theft.{Theft}
-use Rattle.exec_live_queue.specs.declared.view.View.{View}
-use Rattle.exec_live_queue.specs.declared.view.Stage.{Stage}
-use Rattle.exec_live_queue.specs.declared.view.Stage.TheVariants.{Owns, Idle, SawHead, SawTail, Claimed}
-use Rattle.exec_live_queue.specs.Numbers.{head_word, filled, Outside, BesideClaim, InOrder, words_of}
-use Rattle.exec_live_queue.specs.Live.{labels, Homes, HomeAt, FullAt, weight_of, Knows, AsLogged, Kept, LiveQueue}
-use Rattle.exec_live_queue.specs.Plays.{Sat}
+use Rattle.exec_live_queue.proofs.Words.{◌≡◌, ◌≢◌, ℕ, zero, suc, ◌+◌, ◌-◌, ◌<◌, ◌≤◌, List, [], ◌∷◌, length, set, sym, ap, ◌∙◌, subst, ⊎_elim, arith, some, some-injective, some-ne-none, get_elem?, Option, None, slice_index, sum_by, sum_by-cons, State, Act, Valid, carried_after, homes_after, Allows, either, eqb, at_set, set_here, set_else, exchanged, Own, Theft, View, Stage, Owns, Idle, SawHead, SawTail, Claimed, head_word, filled, Outside, BesideClaim, InOrder, words_of, labels, Homes, HomeAt, FullAt, weight_of, Knows, AsLogged, Kept, LiveQueue, Sat}
 
 -- one item of a sum is another
 pub sum_set : {X : Type 0} (f : X → ℕ) (xs : List X) (i : ℕ) (x y : X) → get_elem? xs i ≡ some x → sum_by f (set xs i y) + f x ≡ sum_by f xs + f y

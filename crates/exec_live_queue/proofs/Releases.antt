@@ -1,24 +1,5 @@
 -- A thief's release keeps the rule.
-use Rattle.std.proofs.Common.{◌≡◌, ◌≢◌, ℕ, ◌+◌, ◌%◌, ◌<◌, ◌≤◌, eqb, List, [], length, set, replicate, sym, refl, ap, ◌∙◌, subst, inl, inr, ⊎_elim, lt_of_not-le, arith}
-use Rattle.std.proofs.lemmas.List.{length-replicate}
-use mathlib.Core.Option.{none, some}
-use mathlib.Core.Logic.{dite}
-use native.Mathlib.Decide.{dec_le}
-use lib.ListN.{get_elem?}
-use prog.Atomic.{either}
-use Rattle.std.specs.Prelude.{Option, None}
-use Rattle.atomic_table.specs.Table.{State, keeps, step, homes_after, Allows}
-use Rattle.atomic_table.proofs.Lists.{set_here}
-use Rattle.exec_live_queue.specs.declared.view.Own.{Own}
-use Rattle.exec_live_queue.specs.declared.view.Theft.{Theft}
-use Rattle.exec_live_queue.specs.declared.view.View.{View}
-use Rattle.exec_live_queue.specs.declared.view.Stage.{Stage}
-use Rattle.exec_live_queue.specs.declared.view.Stage.TheVariants.{Owns, Idle, SawHead, SawTail, Claimed}
-use Rattle.exec_live_queue.specs.Numbers.{head_word, words_of}
-use Rattle.exec_words.specs.Queue.{released}
-use Rattle.exec_live_queue.specs.Pure.{queue_at}
-use Rattle.exec_live_queue.specs.Live.{Homes, Knows, LiveQueue}
-use Rattle.exec_live_queue.specs.Plays.{Sat, hand, give_all, Widened, releases}
+use Rattle.exec_live_queue.proofs.Words.{◌≡◌, ◌≢◌, ℕ, ◌+◌, ◌%◌, ◌<◌, ◌≤◌, eqb, List, [], length, set, replicate, sym, refl, ap, ◌∙◌, subst, inl, inr, ⊎_elim, lt_of_not-le, arith, length-replicate, none, some, dite, dec_le, get_elem?, either, Option, None, State, keeps, step, homes_after, Allows, set_here, Own, Theft, View, Stage, Owns, Idle, SawHead, SawTail, Claimed, head_word, words_of, released, queue_at, Homes, Knows, LiveQueue, Sat, hand, give_all, Widened, releases}
 use Rattle.exec_live_queue.proofs.Hands.{give_before, give_behind, give_here, give_valid, give_carried, give_length, free_at, hand_turn}
 use Rattle.exec_live_queue.proofs.Orders.{gap_fits, released_order}
 use Rattle.exec_live_queue.proofs.Rebuild.{Puts, exchanges, thief_steps, there}

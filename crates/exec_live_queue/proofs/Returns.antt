@@ -1,18 +1,5 @@
 -- The owner's load of the head at which it gives its empty slots back keeps the rule.
-use Rattle.std.proofs.Common.{◌≡◌, ℕ, ◌+◌, ◌/◌, ◌%◌, ◌<◌, ◌≤◌, List, length, set, replicate, sym, refl, ◌∙◌, subst, inl, inr, ⊎_elim, le_refl, lt_of_not-le, arith}
-use Rattle.std.proofs.lemmas.List.{length-replicate}
-use mathlib.Core.Option.{none, some}
-use mathlib.Core.Logic.{dite}
-use native.Mathlib.Decide.{dec_le}
-use lib.ListN.{get_elem?}
-use Rattle.std.specs.Prelude.{Option, None}
-use Rattle.atomic_table.specs.Table.{State, step, homes_after, Allows}
-use Rattle.exec_live_queue.specs.declared.view.Own.{Own}
-use Rattle.exec_live_queue.specs.declared.view.View.{View}
-use Rattle.exec_live_queue.specs.declared.view.Stage.TheVariants.{Owns}
-use Rattle.exec_live_queue.specs.Numbers.{head_word, filled, InOrder}
-use Rattle.exec_live_queue.specs.Live.{Homes, Kept, LiveQueue}
-use Rattle.exec_live_queue.specs.Plays.{Sat, hand, give_all, saw, out, returned}
+use Rattle.exec_live_queue.proofs.Words.{◌≡◌, ℕ, ◌+◌, ◌/◌, ◌%◌, ◌<◌, ◌≤◌, List, length, set, replicate, sym, refl, ◌∙◌, subst, inl, inr, ⊎_elim, le_refl, lt_of_not-le, arith, length-replicate, none, some, dite, dec_le, get_elem?, Option, None, State, step, homes_after, Allows, Own, View, Owns, head_word, filled, InOrder, Homes, Kept, LiveQueue, Sat, hand, give_all, saw, out, returned}
 use Rattle.exec_live_queue.proofs.Hands.{give_before, give_behind, give_here, give_valid, give_carried, give_length, free_at}
 use Rattle.exec_live_queue.proofs.Orders.{gap_fits, returned_order}
 use Rattle.exec_live_queue.proofs.Rebuild.{rebuilt, owner_steps}

@@ -1,18 +1,12 @@
 -- How the seat of an owner stands between its calls.
-use Rattle.std.proofs.Common.{◌≡◌, ℕ, suc, ◌+◌, ◌-◌, ◌<◌, List, [], ◌∷◌, ◌++◌, length, map, replicate, sym, refl, ap, ◌∙◌, subst, arith}
-use Rattle.std.specs.Prelude.{Option, Some, None, slice_get, drop}
+use Rattle.exec_live_queue.proofs.Words.{◌≡◌, ℕ, suc, ◌+◌, ◌-◌, ◌<◌, List, [], ◌∷◌, ◌++◌, length, map, replicate, sym, refl, ap, ◌∙◌, subst, arith, Option, Some, None, slice_get, push_answer, handed_out, View, hand, values_of, Place, Rests, HandsOut, Stands}
+use Rattle.std.specs.Prelude.{drop}
 use Rattle.atomic_table.specs.declared.shared.Shared.{Shared}
-use Rattle.exec_words.specs.Queue.{push_answer, handed_out}
 use Rattle.exec_words.specs.declared.head.Fit.{Fit}
 use Rattle.exec_words.specs.declared.head.Fit.TheVariants as fit
-use Rattle.exec_live_queue.specs.declared.view.View.{View}
 use Rattle.exec_live_queue.specs.declared.owner.Owner.TheVariants as owner
 use Rattle.exec_live_queue.specs.Alone.{Alone}
 use Rattle.exec_live_queue.specs.Kinds.{handed_by}
-use Rattle.exec_live_queue.specs.Plays.{hand, values_of}
-use Rattle.exec_live_queue.specs.Seats.{Place, Rests}
-use Rattle.exec_live_queue.specs.Calls.{HandsOut}
-use Rattle.exec_live_queue.specs.Handles.{Stands}
 use Rattle.exec_live_queue.proofs.Hands.{no_values}
 use Rattle.exec_live_queue.proofs.Looks.{nothing_left}
 

@@ -1,15 +1,6 @@
 -- What a thief's calls do to its view, step after step.
-use Rattle.std.proofs.Common.{◌≡◌, ◌≢◌, ℕ, ◌+◌, ◌/◌, ◌%◌, ◌^◌, ◌≤◌, List, [], ◌++◌, map, sym, refl, ap, ◌∙◌, subst, append-nil, arith}
-use mathlib.Core.Option.{none}
-use Rattle.std.specs.Prelude.{Some}
-use Rattle.atomic_table.specs.Table.{step}
-use Rattle.exec_live_queue.specs.declared.view.Theft.{Theft}
-use Rattle.exec_live_queue.specs.declared.view.View.{View}
-use Rattle.exec_live_queue.specs.declared.view.Stage.TheVariants.{Owns, Idle, SawHead, SawTail, Claimed}
-use Rattle.exec_live_queue.specs.Live.{labels}
-use Rattle.exec_live_queue.specs.Plays.{Sat, hand, half, at_head, saw_tail, claimed_view, Claims}
-use Rattle.exec_live_queue.specs.Seats.{IsThief}
-use Rattle.exec_live_queue.specs.Calls.{HasKept, HasTaken, Empties}
+use Rattle.exec_live_queue.proofs.Words.{◌≡◌, ◌≢◌, ℕ, ◌+◌, ◌/◌, ◌%◌, ◌^◌, ◌≤◌, List, [], ◌++◌, map, sym, refl, ap, ◌∙◌, subst, arith, none, Some, step, Theft, View, Owns, Idle, SawHead, SawTail, Claimed, labels, Sat, hand, half, at_head, saw_tail, claimed_view, Claims, IsThief, HasKept, HasTaken, Empties}
+use Rattle.std.proofs.Common.{append-nil}
 
 saw_head_owns : SawHead ≢ Owns
 saw_head_owns e = cc

@@ -1,19 +1,5 @@
 -- The loads of a thief keep the rule, and one lemma for all steps of a thief that leave the head as it is.
-use Rattle.std.proofs.Common.{◌≡◌, ◌≢◌, ℕ, ◌+◌, ◌-◌, ◌/◌, ◌^◌, ◌<◌, ◌≤◌, List, [], ◌∷◌, length, set, sym, refl, ap, ◌∙◌, subst, ⊎_elim, le_refl, arith}
-use mathlib.Core.Option.{none, some, some-injective, some-ne-none}
-use lib.ListN.{get_elem?}
-use Rattle.std.specs.Prelude.{Option, None}
-use Rattle.std.specs.List.{sum_by}
-use Rattle.std.proofs.Common.{◌++◌}
-use Rattle.std.proofs.lemmas.List.Sums.{sum_by-append}
-use Rattle.atomic_table.specs.Table.{State, keeps, step, Allows, Splits}
-use Rattle.atomic_table.proofs.Lists.{at_set, at_snoc, at_longer, set_else, set_again}
-use Rattle.exec_live_queue.specs.declared.view.View.{View}
-use Rattle.exec_live_queue.specs.declared.view.Stage.{Stage}
-use Rattle.exec_live_queue.specs.declared.view.Stage.TheVariants.{Owns, SawHead, SawTail, Claimed}
-use Rattle.exec_live_queue.specs.Numbers.{head_word, filled, Outside, BesideClaim, InOrder, words_of}
-use Rattle.exec_live_queue.specs.Live.{labels, Homes, HomeAt, FullAt, weight_of, Knows, AsLogged, LiveQueue}
-use Rattle.exec_live_queue.specs.Plays.{Sat, at_head, saw_head, saw_tail, newcomer}
+use Rattle.exec_live_queue.proofs.Words.{◌≡◌, ◌≢◌, ℕ, ◌+◌, ◌-◌, ◌/◌, ◌^◌, ◌<◌, ◌≤◌, List, [], ◌∷◌, length, set, sym, refl, ap, ◌∙◌, subst, ⊎_elim, le_refl, arith, none, some, some-injective, some-ne-none, get_elem?, Option, None, sum_by, ◌++◌, sum_by-append, State, keeps, step, Allows, Splits, at_set, at_snoc, at_longer, set_else, set_again, View, Stage, Owns, SawHead, SawTail, Claimed, head_word, filled, Outside, BesideClaim, InOrder, words_of, labels, Homes, HomeAt, FullAt, weight_of, Knows, AsLogged, LiveQueue, Sat, at_head, saw_head, saw_tail, newcomer}
 use Rattle.exec_live_queue.proofs.Orders.{gap_fits}
 use Rattle.exec_live_queue.proofs.Looks.{count_of_word}
 use Rattle.exec_live_queue.proofs.Rebuild.{Gives, sum_set, thief_steps}

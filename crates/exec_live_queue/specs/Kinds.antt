@@ -79,7 +79,7 @@ module _ {T : Type 0} where
   -- the queue's first seat, as it was made
   abbrev pub first_of : Queue T → QueueSeat T
   first_of (queue.Shared q) = seat.Shared record { table = q.table; view = opened q.start }
-  first_of (queue.Exclusive a) = seat.Exclusive
+  first_of (queue.Exclusive a) = seat.Exclusive record { alloc = a }
 
   -- the owner of a queue into which nothing was put
   abbrev pub begun : Queue T → Owner T
@@ -89,7 +89,7 @@ module _ {T : Type 0} where
   -- a seat at this queue, which is shared
   abbrev pub IsSeat : Queue T → QueueSeat T → Type 0
   IsSeat (queue.Shared q) (seat.Shared s) = s.table ≡ q.table
-  IsSeat (queue.Shared q) seat.Exclusive = ⊥
+  IsSeat (queue.Shared q) (seat.Exclusive s) = ⊥
   IsSeat (queue.Exclusive a) s = ⊥
 
   -- the table of a shared queue, and the one at which a seat is; an exclusive queue has none
@@ -99,12 +99,12 @@ module _ {T : Type 0} where
 
   abbrev pub seated_at : QueueSeat T → Option TableId
   seated_at (seat.Shared s) = Some s.table
-  seated_at seat.Exclusive = None
+  seated_at (seat.Exclusive s) = None
 
   -- where a seat stands; that of an exclusive queue is the owner's
   abbrev pub stage_of : QueueSeat T → Stage
   stage_of (seat.Shared s) = s.view.stage
-  stage_of seat.Exclusive = Owns
+  stage_of (seat.Exclusive s) = Owns
 
   -- a thief's seat at this queue, which is shared then
   abbrev pub IsThief : Queue T → QueueSeat T → Type 0
@@ -118,7 +118,7 @@ module _ {T : Type 0} where
   -- what a thief keeps
   abbrev pub theft : QueueSeat T → Theft T
   theft (seat.Shared s) = s.view.theft
-  theft seat.Exclusive = unread
+  theft (seat.Exclusive s) = unread
 
   -- what one try of a steal does to the thief's own queue: an exclusive one takes nothing
   abbrev pub IsStolen : Owner T → Theft T → Owner T → Theft T → Steal → Type 0

@@ -94,7 +94,7 @@ impl<T> Owner<T> {
         ensures empty { IsTrue result ↔ IsDrained self.new }
     {
         match self {
-            Owner::Shared(owner) => owner.is_empty(),
+            Owner::Shared(owner) => owner.len() == 0,
             Owner::Exclusive(owner) => owner.len() == 0,
         }
     }

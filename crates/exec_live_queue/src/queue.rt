@@ -33,7 +33,13 @@ pub enum QueueSeat<T> {
     /// The first seat, or a thief's, at a shared queue.
     Shared(SharedSeat<T>),
     /// The one seat at an exclusive queue.
-    Exclusive,
+    Exclusive(LoneSeat),
+}
+
+/// The seat at an exclusive queue: only the call that makes the queue makes it.
+#[derive(Drop)]
+pub struct LoneSeat {
+    alloc: Global,
 }
 
 impl<T> Queue<T> {
@@ -66,7 +72,8 @@ impl<T> Queue<T> {
     pub fn exclusive(alloc: Global) -> (Self, QueueSeat<T>)
         ensures { result.1 ≡ first_of result.0 }
     {
-        (Queue::Exclusive(alloc), QueueSeat::Exclusive)
+        let seat = LoneSeat { alloc };
+        (Queue::Exclusive(alloc), QueueSeat::Exclusive(seat))
     }
 
     /// One more seat, a thief's, split off any seat at this queue. The queue must be shared.
@@ -81,7 +88,7 @@ impl<T> Queue<T> {
         };
         match from {
             QueueSeat::Shared(from) => QueueSeat::Shared(queue.seat(from)),
-            QueueSeat::Exclusive => unreachable!(),
+            QueueSeat::Exclusive(_) => unreachable!(),
         }
     }
 
@@ -97,7 +104,7 @@ impl<T> Queue<T> {
         match self {
             Queue::Shared(queue) => match first {
                 QueueSeat::Shared(first) => Ok(Owner::Shared(queue.owner(first)?)),
-                QueueSeat::Exclusive => unreachable!(),
+                QueueSeat::Exclusive(_) => unreachable!(),
             },
             Queue::Exclusive(alloc) => Ok(Owner::Exclusive(ExclusiveOwner::at(*alloc, 0)?)),
         }
@@ -117,7 +124,7 @@ impl<T> Queue<T> {
         };
         match seat {
             QueueSeat::Shared(seat) => queue.is_stealable(seat),
-            QueueSeat::Exclusive => unreachable!(),
+            QueueSeat::Exclusive(_) => unreachable!(),
         }
     }
 
@@ -133,7 +140,7 @@ impl<T> Queue<T> {
         };
         match seat {
             QueueSeat::Shared(seat) => queue.head(seat),
-            QueueSeat::Exclusive => unreachable!(),
+            QueueSeat::Exclusive(_) => unreachable!(),
         }
     }
 
@@ -169,7 +176,7 @@ impl<T> Queue<T> {
                 Owner::Shared(into) => queue.steal_paused(seat, into, pause),
                 Owner::Exclusive(_) => Steal::Nothing,
             },
-            QueueSeat::Exclusive => unreachable!(),
+            QueueSeat::Exclusive(_) => unreachable!(),
         }
     }
 
@@ -189,7 +196,7 @@ impl<T> Queue<T> {
                 Owner::Shared(into) => queue.steal_into(rt, seat, into),
                 Owner::Exclusive(_) => 0,
             },
-            QueueSeat::Exclusive => unreachable!(),
+            QueueSeat::Exclusive(_) => unreachable!(),
         }
     }
 }

@@ -134,16 +134,6 @@ impl<T> SharedOwner<T> {
         (SLOTS - (self.tail - real_of(seen)) - gap_of(seen)) as usize
     }
 
-    /// Whether the queue has no value, by the head that this call loads.
-    pub fn is_empty(&mut self) -> bool
-        requires whole { self.old.handed ≡ [] }
-        ensures same { (self.new.table ≡ self.old.table) × (self.new.handed ≡ []) }
-        ensures looked { HasLooked self.old.own self.new.own }
-        ensures empty { IsTrue result ↔ (self.new.own.saw_real ≡ self.new.own.tail) }
-    {
-        self.len() == 0
-    }
-
     /// Publishes a value behind the others. After `Overflow` the caller must take the values of the
     /// overflow, by `next_overflowed`, before any other call.
     pub fn push(&mut self, value: T) -> PushAnswer<T>

@@ -64,15 +64,6 @@ impl<T> Model for SharedSeat<T> {
 }
 
 impl<T> SharedQueue<T> {
-    /// An empty queue whose first value gets the count 0, and its first seat.
-    pub fn shared(alloc: Global) -> Result<(Self, SharedSeat<T>), AllocError>
-    where
-        T: Drop,
-        ensures { IfOk result (λ r. (r.0.start ≡ 0) × (r.1.table ≡ r.0.table) × (r.1.view ≡ opened 0)) }
-    {
-        SharedQueue::at(alloc, 0)
-    }
-
     /// An empty queue whose first value gets the count `start`, and its first seat. The caller must
     /// take a count that isn't past that at which a queue is spent.
     pub fn at(alloc: Global, start: u64) -> Result<(Self, SharedSeat<T>), AllocError>
@@ -137,17 +128,8 @@ impl<T> SharedQueue<T> {
     }
 
     /// One try of a steal: half of the values of this queue, rounded down, move to the end of the
-    /// thief's own queue, in order. The seat must be a thief's at this queue.
-    pub fn steal_once(&self, seat: &mut SharedSeat<T>, into: &mut SharedOwner<T>) -> Steal
-        requires seat { (seat.old.table ≡ self.now.table) × (seat.old.view.stage ≢ Owns) }
-        requires whole { into.old.handed ≡ [] }
-        ensures same { (seat.new.table ≡ seat.old.table) × (seat.new.view.stage ≢ Owns) × (into.new.table ≡ into.old.table) × (into.new.handed ≡ []) }
-        ensures stolen { AfterSteal into.old.own seat.old.view.theft into.new.own seat.new.view.theft result }
-    {
-        self.steal_paused(seat, into, &mut NoPause)
-    }
-
-    /// The same, and the thief is held up between its claim and its release.
+    /// thief's own queue, in order. The thief is held up between its claim and its release. The seat
+    /// must be a thief's at this queue.
     pub fn steal_paused<P: Pause>(
         &self,
         seat: &mut SharedSeat<T>,
@@ -176,7 +158,7 @@ impl<T> SharedQueue<T> {
         ensures stolen { AfterInto into.old.own seat.old.view.theft into.new.own seat.new.view.theft result }
     {
         'tries: for _ in rt.forever() {
-            match self.steal_once(seat, into) {
+            match self.steal_paused(seat, into, &mut NoPause) {
                 Steal::Moved(count) => return count,
                 Steal::Nothing => return 0,
                 Steal::Again(_) => {}

@@ -2,6 +2,7 @@
 
 ghost use Rattle.std.specs.Prelude.{◌≡◌, ◌+◌, ◌^◌, ◌≤◌, [], IfOk};
 ghost use Rattle.exec_live_queue.specs.Kinds.{IsThief, handed};
+ghost use Rattle.exec_live_queue.specs.Lent.{left_of, lender};
 
 use exec_live_queue::head::{gap_of, head_of, real_of};
 use exec_live_queue::lent::{Overflow, Push, Settled};
@@ -56,17 +57,18 @@ pub fn push(owner: &mut Owner<u64>, value: u64) -> Option<Settled<u64>>
 {
     match owner.push(value) {
         Push::Settled(answer) => Some(answer),
-        Push::Overflow(overflow) => {
-            drain(overflow);
+        Push::Overflow(mut overflow) => {
+            drain(&mut overflow);
+            overflow.finish();
             None
         }
     }
 }
 
-/// Takes what flows over, and answers how many values that were, the last of them, and the value
-/// that comes behind them.
-fn drain(mut overflow: Overflow<'_, u64>) -> (u64, Option<u64>, u64)
-    ensures { handed overflow.exit.0.now ≡ [] }
+/// Takes what flows over, and answers how many values that were, and the last of them.
+fn drain(overflow: &mut Overflow<'_, u64>) -> (u64, Option<u64>)
+    ensures same { lender overflow.new ≡ lender overflow.old }
+    ensures dry { left_of overflow.new ≡ [] }
 {
     let mut count: u64 = 0;
     let mut last = None;
@@ -76,7 +78,7 @@ fn drain(mut overflow: Overflow<'_, u64>) -> (u64, Option<u64>, u64)
                 count = count.wrapping_add(1);
                 last = Some(value);
             }
-            None => return (count, last, overflow.finish()),
+            None => return (count, last),
         }
     }
 }
@@ -135,7 +137,8 @@ fn half_of_257_stay(rt: &impl Abort, mut owner: Owner<u64>)
                 (overflow.len(), overflow.next(), overflow.len()),
                 (128, Some(128), 127)
             );
-            assert_eq!(rt; drain(overflow), (127, Some(255), 256));
+            assert_eq!(rt; drain(&mut overflow), (127, Some(255)));
+            assert_eq!(rt; overflow.finish(), 256);
         }
         Push::Settled(_) => panic!(rt; "the queue isn't full"),
     }

@@ -3,6 +3,7 @@
 
 ghost use Rattle.std.specs.Prelude.{◌≡◌, []};
 ghost use Rattle.exec_live_queue.specs.Kinds.{IsThief, first_of, handed};
+ghost use Rattle.exec_live_queue.specs.Lent.{left_of, lender};
 
 use exec_live_queue::lent::{Overflow, Push, Settled};
 use exec_live_queue::owner::Owner;
@@ -60,7 +61,10 @@ impl<'a> Owning<'a> {
         let mut tally = Tally::none();
         for value in 0..VALUES {
             match owner.push(value) {
-                Push::Overflow(overflow) => hand_out(overflow, &mut tally),
+                Push::Overflow(mut overflow) => {
+                    hand_out(&mut overflow, &mut tally);
+                    tally.count(overflow.finish());
+                }
                 Push::Settled(answer) => match answer {
                     Settled::Pushed(_) => {}
                     Settled::Claimed(value) | Settled::Spent(value) => tally.count(value),
@@ -101,17 +105,15 @@ impl<'a> Stealing<'a> {
     }
 }
 
-/// Takes what flows over: half of the queue, and the value behind it.
-fn hand_out(mut overflow: Overflow<'_, u64>, tally: &mut Tally)
-    ensures { handed overflow.exit.0.now ≡ [] }
+/// Takes what flows over: half of the queue.
+fn hand_out(overflow: &mut Overflow<'_, u64>, tally: &mut Tally)
+    ensures same { lender overflow.new ≡ lender overflow.old }
+    ensures dry { left_of overflow.new ≡ [] }
 {
     'left: loop {
         match overflow.next() {
             Some(value) => tally.count(value),
-            None => {
-                tally.count(overflow.finish());
-                return;
-            }
+            None => return,
         }
     }
 }

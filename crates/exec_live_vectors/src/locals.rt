@@ -3,6 +3,7 @@
 ghost use Rattle.std.specs.Prelude.{◌≡◌, ◌+◌, ◌^◌, ◌≤◌, []};
 ghost use Rattle.std.specs.Option.{ForSome};
 ghost use Rattle.exec_live_queue.specs.Kinds.{IsThief, handed};
+ghost use Rattle.exec_live_queue.specs.Lent.{left_of, lender};
 
 use crate::fault::Fault;
 use crate::words::{flag, number, text_of, text_of_list};
@@ -140,9 +141,11 @@ fn push(alloc: Global, owner: &mut Owner<u64>, value: u64) -> Result<String, Fau
     ensures { handed owner.new ≡ [] }
 {
     match owner.push(value) {
-        Push::Overflow(overflow) => {
+        Push::Overflow(mut overflow) => {
             let mut out = Vec::new(alloc);
-            if !drain(overflow, &mut out) {
+            let complete = drain(&mut overflow, &mut out);
+            out.push(overflow.finish())?;
+            if !complete {
                 return Err(Fault::Condition);
             }
             Ok(format!(in alloc; "overflow {}", text_of_list(alloc, &out)?)?)
@@ -156,14 +159,15 @@ fn push(alloc: Global, owner: &mut Owner<u64>, value: u64) -> Result<String, Fau
 }
 
 /// Takes all that flows over. False where there was no memory to keep it.
-fn drain(mut overflow: Overflow<'_, u64>, out: &mut Vec<u64>) -> bool
-    ensures { handed overflow.exit.0.now ≡ [] }
+fn drain(overflow: &mut Overflow<'_, u64>, out: &mut Vec<u64>) -> bool
+    ensures same { lender overflow.new ≡ lender overflow.old }
+    ensures dry { left_of overflow.new ≡ [] }
 {
     let mut complete = true;
     'left: loop {
         match overflow.next() {
             Some(value) => complete = out.push(value).is_ok() && complete,
-            None => return out.push(overflow.finish()).is_ok() && complete,
+            None => return complete,
         }
     }
 }

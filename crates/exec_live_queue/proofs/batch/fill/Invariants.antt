@@ -1,6 +1,4 @@
-use Rattle.std.proofs.Common.{◌≡◌, ℕ, ◌+◌, [], length}
-use Rattle.exec_live_queue.specs.Seats.{SameSeat}
-use Rattle.exec_live_queue.specs.Calls.{Fills}
+use Rattle.exec_live_queue.proofs.Words.{◌≡◌, ℕ, ◌+◌, [], length, SameSeat, Fills}
 use Rattle.exec_live_queue.proofs.Moves.{Filling}
 use Rattle.exec_live_queue.proofs.batch.fill.Given as goal
 

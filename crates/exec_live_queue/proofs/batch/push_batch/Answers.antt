@@ -1,7 +1,4 @@
-use Rattle.std.proofs.Common.{◌≡◌, ℕ, ◌-◌, ◌/◌, ◌%◌, [], length, sym, ap, subst, ◌∙◌, arith}
-use Rattle.exec_live_queue.specs.declared.view.View.{View}
-use Rattle.exec_live_queue.specs.Plays.{room, published_view}
-use Rattle.exec_live_queue.specs.Calls.{Fills}
+use Rattle.exec_live_queue.proofs.Words.{◌≡◌, ℕ, ◌-◌, ◌/◌, ◌%◌, [], length, sym, ap, subst, ◌∙◌, arith, View, room, published_view, Fills}
 use Rattle.exec_live_queue.proofs.Owners.{laid_looked, room_stays, took_room, free_slots, published_after}
 use Rattle.exec_live_queue.proofs.batch.push_batch.Goals as goal
 

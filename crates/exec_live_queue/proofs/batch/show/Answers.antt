@@ -1,6 +1,4 @@
-use Rattle.std.proofs.Common.{ℕ, ◌+◌, ◌++◌, [], map, replicate, sym, ap, ◌∙◌}
-use Rattle.std.specs.Prelude.{Some, None}
-use Rattle.exec_live_queue.specs.Plays.{hand, published_view, values_of}
+use Rattle.exec_live_queue.proofs.Words.{ℕ, ◌+◌, ◌++◌, [], map, replicate, sym, ap, ◌∙◌, Some, None, hand, published_view, values_of}
 use Rattle.exec_live_queue.proofs.Moves.{laden, laden_values}
 use Rattle.exec_live_queue.proofs.batch.show.Goals as goal
 

@@ -1,4 +1,4 @@
-use Rattle.std.proofs.Common.{refl, ap, ◌∙◌, arith}
+use Rattle.exec_live_queue.proofs.Words.{refl, ap, ◌∙◌, arith}
 use Rattle.exec_live_queue.proofs.Moves.{skip_first, skip_more, skip_last}
 use Rattle.exec_live_queue.proofs.batch.skip.Goals as goal
 

@@ -1,7 +1,4 @@
-use Rattle.std.proofs.Common.{◌≡◌, ℕ, ◌+◌, ◌-◌, List, ◌++◌, length, replicate}
-use Rattle.std.specs.Prelude.{Option, None}
-use Rattle.exec_live_queue.specs.Plays.{hand}
-use Rattle.exec_live_queue.specs.Seats.{SameSeat}
+use Rattle.exec_live_queue.proofs.Words.{◌≡◌, ℕ, ◌+◌, ◌-◌, List, ◌++◌, length, replicate, Option, None, hand, SameSeat}
 use Rattle.exec_live_queue.proofs.batch.skip.Given as goal
 
 abbrev pub invariant-loop-i : goal.invariant-loop-i

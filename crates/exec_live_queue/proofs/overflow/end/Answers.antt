@@ -1,4 +1,4 @@
-use Rattle.std.proofs.Common.{◌∙◌}
+use Rattle.exec_live_queue.proofs.Words.{◌∙◌}
 use Rattle.exec_live_queue.proofs.Moves.{handed_all, handed_back}
 use Rattle.exec_live_queue.proofs.overflow.end.Goals as goal
 

@@ -1,4 +1,4 @@
-use Rattle.std.proofs.Common.{◌≡◌, ◌+◌, ◌∙◌, sym, ap, arith}
+use Rattle.exec_live_queue.proofs.Words.{◌≡◌, ◌+◌, ◌∙◌, sym, ap, arith}
 use Rattle.exec_live_queue.proofs.Owners.{looks, looks_on, own_tail, laid_seen, pops_on, pops_out, pops_back, fewer}
 use Rattle.exec_live_queue.proofs.pop.pop.Goals as goal
 

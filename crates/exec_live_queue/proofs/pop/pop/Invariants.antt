@@ -1,6 +1,5 @@
-use Rattle.std.proofs.Common.{◌+◌, ◌-◌, ◌*◌, ◌/◌, ◌%◌, min}
-use Rattle.exec_live_queue.specs.Seats.{Rests, IsSeen, SameSeat}
-use Rattle.exec_live_queue.specs.Calls.{HasLooked}
+use Rattle.exec_live_queue.proofs.Words.{◌+◌, ◌-◌, ◌*◌, ◌/◌, ◌%◌, Rests, IsSeen, SameSeat, HasLooked}
+use Rattle.std.proofs.Common.{min}
 use Rattle.exec_live_queue.proofs.pop.pop.Given as goal
 
 abbrev pub invariant-tries : goal.invariant-tries

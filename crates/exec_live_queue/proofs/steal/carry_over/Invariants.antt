@@ -1,6 +1,4 @@
-use Rattle.std.proofs.Common.{◌≡◌, ℕ, ◌+◌, List, [], length}
-use Rattle.exec_live_queue.specs.Seats.{SameSeat}
-use Rattle.exec_live_queue.specs.Calls.{Fills, Empties}
+use Rattle.exec_live_queue.proofs.Words.{◌≡◌, ℕ, ◌+◌, List, [], length, SameSeat, Fills, Empties}
 use Rattle.exec_live_queue.proofs.Moves.{Carrying}
 use Rattle.exec_live_queue.proofs.steal.carry_over.Given as goal
 

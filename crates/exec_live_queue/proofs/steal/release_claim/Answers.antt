@@ -1,8 +1,4 @@
-use Rattle.std.proofs.Common.{◌≡◌, ℕ, ◌+◌, ◌%◌, refl, sym, ap, ◌∙◌, arith}
-use Rattle.std.proofs.Common.{replicate}
-use Rattle.std.specs.Prelude.{None}
-use Rattle.exec_live_queue.specs.Plays.{hand}
-use Rattle.exec_live_queue.specs.Numbers.{head_word}
+use Rattle.exec_live_queue.proofs.Words.{◌≡◌, ℕ, ◌+◌, ◌%◌, refl, sym, ap, ◌∙◌, arith, replicate, None, hand, head_word}
 use Rattle.exec_live_queue.proofs.Looks.{gap_of_word}
 use Rattle.exec_live_queue.proofs.steal.release_claim.Goals as goal
 

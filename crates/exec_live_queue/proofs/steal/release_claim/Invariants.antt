@@ -1,7 +1,4 @@
-use Rattle.std.proofs.Common.{◌≡◌, ◌+◌, ◌-◌, ◌%◌, ◌≤◌}
-use Rattle.exec_live_queue.specs.Numbers.{head_word}
-use Rattle.exec_live_queue.specs.Seats.{SameSeat, MayRelease}
-use Rattle.exec_live_queue.specs.Calls.{HasKept}
+use Rattle.exec_live_queue.proofs.Words.{◌≡◌, ◌+◌, ◌-◌, ◌%◌, ◌≤◌, head_word, SameSeat, MayRelease, HasKept}
 use Rattle.exec_live_queue.proofs.steal.release_claim.Given as goal
 
 abbrev pub invariant-tries : goal.invariant-tries

@@ -1,10 +1,4 @@
-use Rattle.std.proofs.Common.{◌≡◌, ◌≢◌, ℕ, ◌+◌, ◌-◌, ◌/◌, ◌%◌, ◌<◌, ◌≤◌, ◌⊎◌, [], length, replicate, inl, inr, refl, sym, ap, subst, ◌∙◌, le_refl, arith}
-use mathlib.Core.Logic.{dite}
-use native.Mathlib.Decide.{ℕ_discrete}
-use Rattle.std.specs.Prelude.{None}
-use Rattle.exec_live_queue.specs.declared.view.View.{View}
-use Rattle.exec_live_queue.specs.Plays.{hand, room, claimed_view, published_view}
-use Rattle.exec_live_queue.specs.Calls.{Fills, Empties}
+use Rattle.exec_live_queue.proofs.Words.{◌≡◌, ◌≢◌, ℕ, ◌+◌, ◌-◌, ◌/◌, ◌%◌, ◌<◌, ◌≤◌, ◌⊎◌, [], length, replicate, inl, inr, refl, sym, ap, subst, ◌∙◌, le_refl, arith, dite, ℕ_discrete, None, View, hand, room, claimed_view, published_view, Fills, Empties}
 use Rattle.exec_live_queue.proofs.Owners.{laid_looked, room_stays, took_room, free_slots, published_after}
 use Rattle.exec_live_queue.proofs.Steals.{heads, claimed_slots, taken_after, idle_thief}
 use Rattle.exec_live_queue.proofs.steal.steal_from.Goals as goal

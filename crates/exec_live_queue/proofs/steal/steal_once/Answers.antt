@@ -1,4 +1,4 @@
-use Rattle.std.proofs.Common.{◌-◌, sym, ◌∙◌, arith}
+use Rattle.exec_live_queue.proofs.Words.{◌-◌, sym, ◌∙◌, arith}
 use Rattle.exec_live_queue.proofs.Owners.{looks, own_tail, room_seen, steals_on}
 use Rattle.exec_live_queue.proofs.steal.steal_once.Goals as goal
 

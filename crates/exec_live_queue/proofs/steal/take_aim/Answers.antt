@@ -1,4 +1,4 @@
-use Rattle.std.proofs.Common.{◌≡◌, ◌-◌, ◌/◌, inl, sym, ◌∙◌, arith}
+use Rattle.exec_live_queue.proofs.Words.{◌≡◌, ◌-◌, ◌/◌, inl, sym, ◌∙◌, arith}
 use Rattle.exec_live_queue.proofs.Steals.{heads, tails}
 use Rattle.exec_live_queue.proofs.steal.take_aim.Goals as goal
 

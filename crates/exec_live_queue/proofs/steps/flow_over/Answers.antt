@@ -1,10 +1,4 @@
-use Rattle.std.proofs.Common.{◌≡◌, sym, subst, ap, ◌∙◌, ℕ, ◌+◌, ◌<◌, eqb, arith}
-use mathlib.Core.Option.{none}
-use prog.Atomic.{either}
-use Rattle.atomic_table.specs.Table.{step, Allows}
-use Rattle.exec_live_queue.specs.Live.{LiveQueue}
-use Rattle.exec_live_queue.specs.Numbers.{head_word}
-use Rattle.exec_live_queue.specs.Plays.{flows_over}
+use Rattle.exec_live_queue.proofs.Words.{◌≡◌, sym, subst, ap, ◌∙◌, ℕ, ◌+◌, ◌<◌, eqb, arith, none, either, step, Allows, LiveQueue, head_word, flows_over}
 use Rattle.exec_live_queue.proofs.Overflows.{flows_over_rule}
 use Rattle.exec_live_queue.proofs.steps.flow_over.Goals as goal
 

@@ -1,8 +1,4 @@
-use Rattle.std.proofs.Common.{sym, refl, subst, ℕ, ◌<◌, arith}
-use mathlib.Core.Option.{none}
-use Rattle.atomic_table.specs.Table.{step, Allows}
-use Rattle.exec_live_queue.specs.Live.{LiveQueue}
-use Rattle.exec_live_queue.specs.Plays.{returned}
+use Rattle.exec_live_queue.proofs.Words.{sym, refl, subst, ℕ, ◌<◌, arith, none, step, Allows, LiveQueue, returned}
 use Rattle.exec_live_queue.proofs.Returns.{returns}
 use Rattle.exec_live_queue.proofs.steps.give_back.Goals as goal
 

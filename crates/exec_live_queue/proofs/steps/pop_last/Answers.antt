@@ -1,9 +1,4 @@
-use Rattle.std.proofs.Common.{◌≡◌, sym, subst, ap, ◌∙◌, ℕ, ◌+◌, ◌<◌, arith}
-use mathlib.Core.Option.{none}
-use Rattle.atomic_table.specs.Table.{step, Allows}
-use Rattle.exec_live_queue.specs.Live.{LiveQueue}
-use Rattle.exec_live_queue.specs.Numbers.{head_word}
-use Rattle.exec_live_queue.specs.Plays.{pops_last}
+use Rattle.exec_live_queue.proofs.Words.{◌≡◌, sym, subst, ap, ◌∙◌, ℕ, ◌+◌, ◌<◌, arith, none, step, Allows, LiveQueue, head_word, pops_last}
 use Rattle.exec_live_queue.proofs.Pops.{pops_last_rule}
 use Rattle.exec_live_queue.proofs.steps.pop_last.Goals as goal
 

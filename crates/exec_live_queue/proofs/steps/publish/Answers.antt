@@ -1,8 +1,4 @@
-use Rattle.std.proofs.Common.{sym, subst, ℕ, ◌<◌, arith}
-use mathlib.Core.Option.{none}
-use Rattle.atomic_table.specs.Table.{step, Allows}
-use Rattle.exec_live_queue.specs.Live.{LiveQueue}
-use Rattle.exec_live_queue.specs.Plays.{publishes}
+use Rattle.exec_live_queue.proofs.Words.{sym, subst, ℕ, ◌<◌, arith, none, step, Allows, LiveQueue, publishes}
 use Rattle.exec_live_queue.proofs.Publishes.{publish_rule}
 use Rattle.exec_live_queue.proofs.steps.publish.Goals as goal
 

@@ -1,8 +1,4 @@
-use Rattle.std.proofs.Common.{sym, subst, ap, ◌∙◌, ℕ, ◌+◌, ◌<◌, arith}
-use mathlib.Core.Option.{none}
-use Rattle.atomic_table.specs.Table.{step, Allows}
-use Rattle.exec_live_queue.specs.Live.{LiveQueue}
-use Rattle.exec_live_queue.specs.Plays.{restores}
+use Rattle.exec_live_queue.proofs.Words.{sym, subst, ap, ◌∙◌, ℕ, ◌+◌, ◌<◌, arith, none, step, Allows, LiveQueue, restores}
 use Rattle.exec_live_queue.proofs.Overflows.{restore_rule}
 use Rattle.exec_live_queue.proofs.steps.restore.Goals as goal
 

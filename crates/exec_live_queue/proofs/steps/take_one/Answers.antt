@@ -1,9 +1,5 @@
-use Rattle.std.proofs.Common.{rules, sym, subst, ℕ, ◌<◌, arith}
-use mathlib.Core.Option.{none}
+use Rattle.exec_live_queue.proofs.Words.{rules, sym, subst, ℕ, ◌<◌, arith, none, step, Allows, LiveQueue, laid}
 use Rattle.std.specs.Prelude.{min}
-use Rattle.atomic_table.specs.Table.{step, Allows}
-use Rattle.exec_live_queue.specs.Live.{LiveQueue}
-use Rattle.exec_live_queue.specs.Plays.{laid}
 use Rattle.exec_live_queue.proofs.Looks.{lays}
 use Rattle.exec_live_queue.proofs.steps.take_one.Goals as goal
 

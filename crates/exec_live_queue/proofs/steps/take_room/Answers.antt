@@ -1,8 +1,4 @@
-use Rattle.std.proofs.Common.{sym, subst, ℕ, ◌<◌, le_refl, arith}
-use mathlib.Core.Option.{none}
-use Rattle.atomic_table.specs.Table.{step, Allows}
-use Rattle.exec_live_queue.specs.Live.{LiveQueue}
-use Rattle.exec_live_queue.specs.Plays.{laid}
+use Rattle.exec_live_queue.proofs.Words.{sym, subst, ℕ, ◌<◌, le_refl, arith, none, step, Allows, LiveQueue, laid}
 use Rattle.exec_live_queue.proofs.Looks.{lays}
 use Rattle.exec_live_queue.proofs.steps.take_room.Goals as goal
 

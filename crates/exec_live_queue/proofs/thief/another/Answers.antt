@@ -1,4 +1,4 @@
-use Rattle.std.proofs.Common.{sym, subst, ℕ, ◌<◌, arith}
+use Rattle.exec_live_queue.proofs.Words.{sym, subst, ℕ, ◌<◌, arith}
 use Rattle.exec_live_queue.proofs.Thieves.{splits}
 use Rattle.exec_live_queue.proofs.thief.another.Goals as goal
 

@@ -1,9 +1,4 @@
-use Rattle.std.proofs.Common.{◌≡◌, sym, subst, ◌∙◌, ℕ, ◌+◌, ◌*◌, ◌<◌, eqb, arith}
-use mathlib.Core.Option.{none}
-use prog.Atomic.{either}
-use Rattle.atomic_table.specs.Table.{step, Allows}
-use Rattle.exec_live_queue.specs.Live.{LiveQueue}
-use Rattle.exec_live_queue.specs.Plays.{claims}
+use Rattle.exec_live_queue.proofs.Words.{◌≡◌, sym, subst, ◌∙◌, ℕ, ◌+◌, ◌*◌, ◌<◌, eqb, arith, none, either, step, Allows, LiveQueue, claims}
 use Rattle.exec_live_queue.proofs.Claims.{claims_rule}
 use Rattle.exec_live_queue.proofs.thief.claim.Goals as goal
 

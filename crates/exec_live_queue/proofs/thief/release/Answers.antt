@@ -1,11 +1,5 @@
-use Rattle.std.proofs.Common.{◌≡◌, sym, subst, ap, ◌∙◌, ℕ, ◌+◌, ◌-◌, ◌%◌, ◌<◌, eqb, arith}
-use mathlib.Core.Option.{none}
-use prog.Atomic.{either}
-use Rattle.atomic_table.specs.Table.{step, Allows}
-use Rattle.exec_live_queue.specs.Live.{LiveQueue}
-use Rattle.exec_live_queue.specs.Numbers.{head_word}
+use Rattle.exec_live_queue.proofs.Words.{◌≡◌, sym, subst, ap, ◌∙◌, ℕ, ◌+◌, ◌-◌, ◌%◌, ◌<◌, eqb, arith, none, either, step, Allows, LiveQueue, head_word, releases}
 use Rattle.exec_live_queue.proofs.Looks.{gap_of_word}
-use Rattle.exec_live_queue.specs.Plays.{releases}
 use Rattle.exec_live_queue.proofs.Releases.{releases_rule}
 use Rattle.exec_live_queue.proofs.thief.release.Goals as goal
 

@@ -1,8 +1,4 @@
-use Rattle.std.proofs.Common.{sym, subst, ℕ, ◌<◌, arith}
-use mathlib.Core.Option.{none}
-use Rattle.atomic_table.specs.Table.{step, Allows}
-use Rattle.exec_live_queue.specs.Live.{LiveQueue}
-use Rattle.exec_live_queue.specs.Plays.{saw_head}
+use Rattle.exec_live_queue.proofs.Words.{sym, subst, ℕ, ◌<◌, arith, none, step, Allows, LiveQueue, saw_head}
 use Rattle.exec_live_queue.proofs.Thieves.{sees_head}
 use Rattle.exec_live_queue.proofs.thief.see_head.Goals as goal
 

@@ -1,9 +1,5 @@
-use Rattle.std.proofs.Common.{◌≡◌, ◌+◌, ◌-◌, List, refl, sym, ap, subst, ◌∙◌, le_refl, arith}
-use Rattle.std.specs.Prelude.{Some, slice_get, drop}
-use Rattle.exec_live_queue.specs.declared.view.View.{View}
-use Rattle.exec_live_queue.specs.Plays.{values_of}
-use Rattle.exec_live_queue.specs.Calls.{HasLooked}
-use Rattle.exec_live_queue.specs.Handles.{Owned, Stands}
+use Rattle.exec_live_queue.proofs.Words.{◌≡◌, ◌+◌, ◌-◌, List, refl, sym, ap, subst, ◌∙◌, le_refl, arith, Some, slice_get, View, values_of, HasLooked, Owned, Stands}
+use Rattle.std.specs.Prelude.{drop}
 use Rattle.exec_live_queue.proofs.Owners.{own_tail}
 use Rattle.exec_live_queue.proofs.Standing.{handed, next_of, last_of, stands_rest, stands_hands}
 use Rattle.exec_live_queue.proofs.shared_owner.SharedOwner.next_overflowed.Goals as goal

@@ -1,7 +1,4 @@
-use Rattle.std.proofs.Common.{subst}
-use Rattle.std.specs.Prelude.{IfSome}
-use Rattle.exec_live_queue.specs.Handles.{Owned}
-use Rattle.exec_live_queue.specs.Calls.{HasPopped}
+use Rattle.exec_live_queue.proofs.Words.{subst, IfSome, Owned, HasPopped}
 use Rattle.exec_live_queue.proofs.shared_owner.SharedOwner.pop.Goals as goal
 
 pub returns-clause-popped : goal.returns-clause-popped

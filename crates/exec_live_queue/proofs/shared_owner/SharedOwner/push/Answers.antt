@@ -1,9 +1,6 @@
-use Rattle.std.proofs.Common.{◌≡◌, ℕ, ◌+◌, length, length-drop, refl, sym, ap, subst, ◌∙◌, arith}
+use Rattle.exec_live_queue.proofs.Words.{◌≡◌, ℕ, ◌+◌, length, length-drop, refl, sym, ap, subst, ◌∙◌, arith, values_of, Owned, Stands, fully, handed_after, AfterPush, PushLeaves}
 use Rattle.std.specs.Prelude.{drop}
 use Rattle.exec_words.specs.declared.queue.PushAnswer.{PushAnswer}
-use Rattle.exec_live_queue.specs.Plays.{values_of}
-use Rattle.exec_live_queue.specs.Handles.{Owned, Stands}
-use Rattle.exec_live_queue.specs.Calls.{fully, handed_after, AfterPush, PushLeaves}
 use Rattle.exec_live_queue.proofs.Standing.{handed, stands_hands}
 use Rattle.exec_live_queue.proofs.shared_owner.SharedOwner.push.Goals as goal
 

@@ -1,7 +1,4 @@
-use Rattle.std.proofs.Common.{ℕ, refl, ap}
-use Rattle.std.proofs.Common.{replicate}
-use Rattle.std.specs.Prelude.{None}
-use Rattle.exec_live_queue.specs.Numbers.{words_of}
+use Rattle.exec_live_queue.proofs.Words.{ℕ, refl, ap, replicate, None, words_of}
 use Rattle.exec_live_queue.proofs.Opened.{opens}
 use Rattle.exec_live_queue.proofs.shared_queue.SharedQueue.at.Goals as goal
 

@@ -1,6 +1,4 @@
-use Rattle.std.proofs.Common.{◌≡◌, ◌≢◌, []}
-use Rattle.exec_live_queue.specs.declared.view.Stage.TheVariants.{Owns}
-use Rattle.exec_live_queue.specs.Calls.{HasLooked, HasKept}
+use Rattle.exec_live_queue.proofs.Words.{◌≡◌, ◌≢◌, [], Owns, HasLooked, HasKept}
 use Rattle.exec_live_queue.proofs.shared_queue.SharedQueue.steal_into.Given as goal
 
 abbrev pub invariant-tries : goal.invariant-tries
