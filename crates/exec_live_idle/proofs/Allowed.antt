@@ -1,7 +1,18 @@
 -- Each step may be made: the rule of the idle set holds after it.
-use Rattle.exec_live_idle.proofs.Words.{◌≡◌, ◌≢◌, ℕ, ◌+◌, ◌-◌, ◌%◌, ◌^◌, ◌<◌, ◌≤◌, ◌==◌, eqb, Bool, true, false, List, [], ◌∷◌, ◌++◌, set, slice_index, bit_or, bit_and, sym, refl, ap, ◌∙◌, subst, eq-eqb, ne_eqb, arith, dite, none, some, ℕ_discrete, get_elem?, w64, bit_not, trailing_zeros, Me, step, opening, Allows, Splits, Joins, keeps, is_in, View, set_of, Kept, LiveIdle, next_number, own_number, with_counts, joined, first_view, published, looked, withdrawn, claimed, counted, looks, withdraws, claims, reads, adds, subtracts, begins}
+use Rattle.std.proofs.Common.{◌≡◌, ◌≢◌, ℕ, ◌+◌, ◌-◌, ◌%◌, ◌^◌, ◌<◌, ◌≤◌, ◌==◌, eqb, Bool, true, false, List, [], ◌∷◌, ◌++◌, set, slice_index, bit_or, bit_and, sym, refl, ap, ◌∙◌, subst, eq-eqb, ne_eqb, arith}
+use mathlib.Core.Logic.{dite}
+use mathlib.Core.Option.{none, some}
+use native.Mathlib.Decide.{ℕ_discrete}
 use prog.Atomic.{either}
-use Rattle.exec_live_idle.specs.Plays.{publishes}
+use lib.ListN.{get_elem?}
+use mir.Syntax.{w64}
+use Rattle.std.specs.Int.{bit_not, trailing_zeros}
+use Rattle.atomic_table.specs.Table.{Me, step, opening, Allows, Splits, Joins, keeps}
+use Rattle.exec_words.specs.Idle.{is_in}
+use Rattle.exec_live_idle.specs.declared.view.View.{View}
+use Rattle.exec_live_idle.specs.Words.{set_of}
+use Rattle.exec_live_idle.specs.Live.{Kept, LiveIdle, next_number, own_number, with_counts, joined, first_view}
+use Rattle.exec_live_idle.specs.Plays.{published, looked, withdrawn, claimed, counted, looks, publishes, withdraws, claims, reads, adds, subtracts, begins}
 use Rattle.exec_live_idle.proofs.Sets.{bit_of, in_changed, in_changed_here, set_with, set_without, lowest_in, in_lowest, none_in}
 use Rattle.exec_live_idle.proofs.Seats.{splits, joins, begins as begins_}
 use Rattle.exec_live_idle.proofs.Keeps.{bounded, counts, held_within, publishes_kept, claims_kept, withdraws_kept, withdraws_claimed}

@@ -1,6 +1,15 @@
 -- Each change of a view that a step makes keeps the rule of the idle set.
-use Rattle.exec_live_idle.proofs.Words.{◌≡◌, ◌≢◌, ℕ, ◌+◌, ◌-◌, ◌*◌, ◌^◌, ◌<◌, ◌≤◌, ◌==◌, Bool, true, false, List, set, sym, refl, ap, ◌∙◌, subst, ⊎_elim, eq-eqb, ne_eqb, arith, nat_tests, if◌then◌else◌, nat_le, nat_lt, dec_le, ℕ_discrete, dite, some, get_elem?, at_set, is_in, View, total, shares, width, has_number, IsSeat, Kept}
-use Rattle.exec_live_idle.specs.Live.{publishes}
+use Rattle.std.proofs.Common.{◌≡◌, ◌≢◌, ℕ, ◌+◌, ◌-◌, ◌*◌, ◌^◌, ◌<◌, ◌≤◌, ◌==◌, Bool, true, false, List, set, sym, refl, ap, ◌∙◌, subst, ⊎_elim, eq-eqb, ne_eqb, arith}
+use Rattle.std.proofs.lemmas.Bool.Decides.{nat_tests}
+use Rattle.std.specs.Prelude.{if◌then◌else◌, nat_le, nat_lt}
+use native.Mathlib.Decide.{dec_le, ℕ_discrete}
+use mathlib.Core.Logic.{dite}
+use mathlib.Core.Option.{some}
+use lib.ListN.{get_elem?}
+use Rattle.atomic_table.proofs.Lists.{at_set}
+use Rattle.exec_words.specs.Idle.{is_in}
+use Rattle.exec_live_idle.specs.declared.view.View.{View}
+use Rattle.exec_live_idle.specs.Live.{total, publishes, shares, width, has_number, IsSeat, Kept}
 use Rattle.exec_live_idle.proofs.Totals.{Each, total_set, total_at, total_le, total_parts, total_gap, total_thrice, total_same}
 
 -- one of two sets has the worker k besides

@@ -3,4 +3,3 @@ pub mod Sets
 pub mod Keeps
 pub mod Seats
 pub mod Allowed
-pub mod Words

@@ -1,6 +1,13 @@
 -- A seat that is made, and one that is joined to another, keep the rule of the idle set.
-use Rattle.exec_live_idle.proofs.Words.{◌≡◌, ℕ, zero, suc, ◌+◌, ◌<◌, ◌≤◌, Bool, true, false, List, [], ◌∷◌, ◌++◌, set, sym, refl, ◌∙◌, subst, ⊎_elim, arith, nat_tests, if◌then◌else◌, nat_le, nat_lt, some, some-injective, some-ne-none, get_elem?, at_snoc, is_in, View, total, shares, width, has_number, IsSeat, Kept, next_number, own_number, with_counts, joined, first_view}
-use Rattle.exec_live_idle.specs.Live.{publishes}
+use Rattle.std.proofs.Common.{◌≡◌, ℕ, zero, suc, ◌+◌, ◌<◌, ◌≤◌, Bool, true, false, List, [], ◌∷◌, ◌++◌, set, sym, refl, ◌∙◌, subst, ⊎_elim, arith}
+use Rattle.std.proofs.lemmas.Bool.Decides.{nat_tests}
+use Rattle.std.specs.Prelude.{if◌then◌else◌, nat_le, nat_lt}
+use mathlib.Core.Option.{some, some-injective, some-ne-none}
+use lib.ListN.{get_elem?}
+use Rattle.atomic_table.proofs.Lists.{at_snoc}
+use Rattle.exec_words.specs.Idle.{is_in}
+use Rattle.exec_live_idle.specs.declared.view.View.{View}
+use Rattle.exec_live_idle.specs.Live.{total, publishes, shares, width, has_number, IsSeat, Kept, next_number, own_number, with_counts, joined, first_view}
 use Rattle.exec_live_idle.proofs.Totals.{Each, total_set, total_push}
 use Rattle.exec_live_idle.proofs.Keeps.{each_after}
 

@@ -1,10 +1,18 @@
 -- The set as a word: what the or, the and and the exchange of one bit make of it.
-use Rattle.exec_live_idle.proofs.Words.{◌≡◌, ◌≢◌, ℕ, zero, suc, ◌-◌, ◌*◌, ◌/◌, ◌%◌, ◌^◌, ◌<◌, ◌≤◌, ◌==◌, Bool, true, false, List, length, get_or, set, bit_or, bit_and, sym, refl, ap, ◌∙◌, arith, dec_le, ℕ_discrete, dite, w64, Some, None, cond, bit_at, bit_not, trailing_zeros, bit_at_lowest, bit_at-zero, bit_at-suc, bit_at_set_same, bit_at_set_other, bit_at_clear_same, bit_at_clear_other, bit_at-trailing_zeros, is_in, lowest_of, bits_of, set_of, publish, withdraw, MovesSet}
+use Rattle.std.proofs.Common.{◌≡◌, ◌≢◌, ℕ, zero, suc, ◌-◌, ◌*◌, ◌/◌, ◌%◌, ◌^◌, ◌<◌, ◌≤◌, ◌==◌, Bool, true, false, List, length, get_or, set, bit_or, bit_and, sym, refl, ap, ◌∙◌, arith}
+use native.Mathlib.Decide.{dec_le, ℕ_discrete}
+use mathlib.Core.Logic.{dite}
+use mir.Syntax.{w64}
+use Rattle.std.specs.Prelude.{Some, None, cond}
 use Rattle.std.specs.List.{position_or_len}
 use Rattle.std.proofs.lemmas.List.Sums.{position_or_len_is}
 use Rattle.std.proofs.lemmas.Bool.{lt-ltb}
+use Rattle.std.specs.Int.{bit_at, bit_not, trailing_zeros}
+use Rattle.std.proofs.lemmas.Nat.Bits.{bit_at_lowest, bit_at-zero, bit_at-suc, bit_at_set_same, bit_at_set_other, bit_at_clear_same, bit_at_clear_other, bit_at-trailing_zeros}
 use Rattle.std.proofs.lemmas.List.{ext_get_or, get_or-set_same, get_or-set_other, length-set, get_or_past}
+use Rattle.exec_words.specs.Idle.{is_in, lowest_of}
 use Rattle.std.proofs.lemmas.Nat.{one_shl}
+use Rattle.exec_live_idle.specs.Words.{bits_of, set_of, publish, withdraw, MovesSet}
 
 length-bits : (n word : ℕ) → length (bits_of n word) ≡ n
 length-bits zero word = refl

@@ -1,5 +1,7 @@
 -- The rule after a step of the owner: one lemma for all of them.
-use Rattle.exec_live_queue.proofs.Words.{◌≡◌, ◌≢◌, ℕ, zero, suc, ◌+◌, ◌-◌, ◌<◌, ◌≤◌, List, [], ◌∷◌, length, set, sym, ap, ◌∙◌, subst, ⊎_elim, arith, some, some-injective, some-ne-none, get_elem?, Option, None, slice_index, sum_by, sum_by-cons, State, Act, Valid, carried_after, homes_after, Allows, either, eqb, at_set, set_here, set_else, exchanged, Own, Theft, View, Stage, Owns, Idle, SawHead, SawTail, Claimed, head_word, filled, Outside, BesideClaim, InOrder, words_of, labels, Homes, HomeAt, FullAt, weight_of, Knows, AsLogged, Kept, LiveQueue, Sat}
+use Rattle.exec_live_queue.proofs.Words.{◌≡◌, ◌≢◌, ℕ, zero, suc, ◌+◌, ◌-◌, ◌<◌, ◌≤◌, List, [], ◌∷◌, length, set, sym, ap, ◌∙◌, subst, ⊎_elim, arith, some, some-injective, some-ne-none, get_elem?, Option, None, slice_index, sum_by, sum_by-cons, State, Act, Valid, carried_after, homes_after, Allows, either, eqb, at_set, set_here, set_else, exchanged, Own, Theft, View, Stage, Owns, Idle, SawHead, SawTail, Claimed, head_word, filled, Outside, BesideClaim, InOrder, words_of, labels, Homes, HomeAt, FullAt, weight_of, Knows, AsLogged, Kept, LiveQueue, Sat, Place}
+use Rattle.atomic_table.specs.declared.shared.Shared.{Shared}
+use Rattle.exec_live_queue.specs.Seats.{IsAt}
 
 -- one item of a sum is another
 pub sum_set : {X : Type 0} (f : X → ℕ) (xs : List X) (i : ℕ) (x y : X) → get_elem? xs i ≡ some x → sum_by f (set xs i y) + f x ≡ sum_by f xs + f y
@@ -107,3 +109,9 @@ module _ {T : Type 0} where
       → Allows (LiveQueue start) 256 id me i f then
   thief_steps start id i me c f then carries step s q wide at lt =
       subst (λ (l : List ℕ). Gives start s i f then l me.1 id) (sym q.kept.words) (subst (λ (c' : List (ℕ × Option T)). Gives start s i f then (words_of (head_word q.kept.real q.kept.gap) q.view.own.tail) c' id) (sym carries) (step s q at))
+
+module _ {T P : Type 0} where
+  -- a step that the rule allows may be made at a word of the table, by a seat there
+  pub stepped : (words : Shared (Option T) (View T) ℕ P) (seat : Place T) (i : ℕ) (f : ℕ → ℕ) (then : ℕ → ℕ → Sat T → Type 0) → IsAt words seat → i < 24 → Allows (LiveQueue words.key) 256 seat.id seat.me i f (then 256)
+      → (seat.table_id ≡ words.table_id) × (i < words.table_id.words) × Allows (LiveQueue words.key) words.table_id.slots seat.id seat.me i f (then words.table_id.slots)
+  stepped words seat i f then at lt may = (at.0, subst (λ (n : ℕ). i < n) (sym at.1) lt, subst (λ (n : ℕ). Allows (LiveQueue words.key) n seat.id seat.me i f (then n)) (sym at.2) may)

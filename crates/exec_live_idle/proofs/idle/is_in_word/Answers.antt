@@ -1,4 +1,5 @@
-use Rattle.exec_live_idle.proofs.Words.{sym, ap, ◌∙◌, ℕ, ◌==◌, shr_and_one}
+use Rattle.std.proofs.Common.{sym, ap, ◌∙◌, ℕ, ◌==◌}
+use Rattle.std.proofs.lemmas.Nat.Bits.{shr_and_one}
 use Rattle.exec_live_idle.proofs.Sets.{in_set}
 use Rattle.exec_live_idle.proofs.idle.is_in_word.Goals as goal
 

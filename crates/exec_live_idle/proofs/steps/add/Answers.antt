@@ -1,4 +1,4 @@
-use Rattle.exec_live_idle.proofs.Words.{sym, subst, ℕ, ◌<◌, arith}
+use Rattle.std.proofs.Common.{sym, subst, ℕ, ◌<◌, arith}
 use Rattle.exec_live_idle.proofs.Allowed.{add_}
 use Rattle.exec_live_idle.proofs.steps.add.Goals as goal
 

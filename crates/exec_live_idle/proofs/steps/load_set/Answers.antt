@@ -1,4 +1,4 @@
-use Rattle.exec_live_idle.proofs.Words.{sym, subst, ℕ, ◌<◌, arith}
+use Rattle.std.proofs.Common.{sym, subst, ℕ, ◌<◌, arith}
 use Rattle.exec_live_idle.proofs.Allowed.{look}
 use Rattle.exec_live_idle.proofs.steps.load_set.Goals as goal
 

@@ -1,4 +1,7 @@
-use Rattle.exec_live_idle.proofs.Words.{sym, subst, ℕ, ◌<◌, bit_or, arith, none, step, Allows, LiveIdle}
+use Rattle.std.proofs.Common.{sym, subst, ℕ, ◌<◌, bit_or, arith}
+use mathlib.Core.Option.{none}
+use Rattle.atomic_table.specs.Table.{step, Allows}
+use Rattle.exec_live_idle.specs.Live.{LiveIdle}
 use Rattle.exec_live_idle.specs.Plays.{publishes}
 use Rattle.exec_live_idle.proofs.Sets.{bit_of, moves_publish}
 use Rattle.exec_live_idle.proofs.Allowed.{publish_}

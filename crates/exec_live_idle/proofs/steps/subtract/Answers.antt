@@ -1,4 +1,4 @@
-use Rattle.exec_live_idle.proofs.Words.{sym, subst, ℕ, ◌<◌, arith}
+use Rattle.std.proofs.Common.{sym, subst, ℕ, ◌<◌, arith}
 use Rattle.exec_live_idle.proofs.Allowed.{subtract_}
 use Rattle.exec_live_idle.proofs.steps.subtract.Goals as goal
 

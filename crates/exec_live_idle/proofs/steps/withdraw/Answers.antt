@@ -1,4 +1,10 @@
-use Rattle.exec_live_idle.proofs.Words.{sym, subst, ℕ, ◌<◌, bit_and, arith, none, w64, bit_not, step, Allows, LiveIdle, withdraws}
+use Rattle.std.proofs.Common.{sym, subst, ℕ, ◌<◌, bit_and, arith}
+use mathlib.Core.Option.{none}
+use mir.Syntax.{w64}
+use Rattle.std.specs.Int.{bit_not}
+use Rattle.atomic_table.specs.Table.{step, Allows}
+use Rattle.exec_live_idle.specs.Live.{LiveIdle}
+use Rattle.exec_live_idle.specs.Plays.{withdraws}
 use Rattle.exec_live_idle.proofs.Sets.{bit_of, moves_withdraw}
 use Rattle.exec_live_idle.proofs.Allowed.{withdraw_}
 use Rattle.exec_live_idle.proofs.steps.withdraw.Goals as goal

@@ -1,13 +1,11 @@
-use Rattle.exec_live_queue.proofs.Words.{◌≡◌, sym, subst, ap, ◌∙◌, ℕ, ◌+◌, ◌<◌, eqb, arith, none, either, step, Allows, LiveQueue, head_word, flows_over}
+use Rattle.exec_live_queue.proofs.Words.{◌≡◌, ap, ◌∙◌, ℕ, ◌+◌, eqb, arith, none, either, step, head_word, flows_over}
 use Rattle.exec_live_queue.proofs.Overflows.{flows_over_rule}
+use Rattle.exec_live_queue.proofs.Rebuild.{stepped}
 use Rattle.exec_live_queue.proofs.steps.flow_over.Goals as goal
 
 pub compare_exchange-requires : goal.compare_exchange-requires
-compare_exchange-requires g c = let q = c.requires.rests in let seen = c.requires.seen in let key = c.args.words.now.key in let id = c.args.seat.now.id in let me = c.args.seat.now.me in
+compare_exchange-requires g c = let q = c.requires.rests in let seen = c.requires.seen in let words = c.args.words.now in let seat = c.args.seat.now in
     let old = c.args.seen in let new = c.head_of-next.result in
-    let real : c.real_of.result ≡ me.0.own.saw_real = c.real_of.ensures ∙ seen.0 in (
-      q.0.0,
-      subst (λ (n : ℕ). 11 < n) (sym q.0.1) (omega arith),
-      subst (λ (n : ℕ). Allows (LiveQueue key) n id me 11 (λ x. either (eqb x old) new x) (flows_over (step n 11 old new none) me)) (sym q.0.2)
-          (flows_over_rule key id me old new q.1.0 q.1.2 q.1.1 q.1.3 seen.0 (seen.1 ∙ c.requires.unclaimed) c.requires.full (omega arith) (c.head_of-next.ensures ∙ ap (λ (n : ℕ). head_word (n + 256) 0) real ∙ ap (λ (n : ℕ). head_word n 0) c.requires.full)),
-    )
+    let real : c.real_of.result ≡ seat.me.0.own.saw_real = c.real_of.ensures ∙ seen.0 in
+    stepped words seat 11 (λ x. either (eqb x old) new x) (λ n. flows_over (step n 11 old new none) seat.me) q.0 (omega arith)
+    (flows_over_rule words.key seat.id seat.me old new q.1.0 q.1.2 q.1.1 q.1.3 seen.0 (seen.1 ∙ c.requires.unclaimed) c.requires.full (omega arith) (c.head_of-next.ensures ∙ ap (λ (n : ℕ). head_word (n + 256) 0) real ∙ ap (λ (n : ℕ). head_word n 0) c.requires.full))

@@ -1,4 +1,5 @@
-use Rattle.exec_live_idle.proofs.Words.{◌≡◌, ◌<◌, knows, IsSame}
+use Rattle.std.proofs.Common.{◌≡◌, ◌<◌}
+use Rattle.exec_live_idle.specs.Idle.{knows, IsSame}
 use Rattle.exec_live_idle.proofs.seat.Idle.claim_from.Given as goal
 
 -- the seat knows what it knew, but for whether it saw an empty set

@@ -1,4 +1,5 @@
-use Rattle.exec_live_idle.proofs.Words.{◌≡◌, knows, IsSame}
+use Rattle.std.proofs.Common.{◌≡◌}
+use Rattle.exec_live_idle.specs.Idle.{knows, IsSame}
 use Rattle.exec_live_idle.proofs.seat.Idle.notify_global.Given as goal
 
 -- nobody is woken yet, and the seat knows what it knew, but for what it saw

@@ -1,4 +1,5 @@
-use Rattle.exec_live_idle.proofs.Words.{◌≡◌, ◌^◌, false, knows, IsSeatOf}
+use Rattle.std.proofs.Common.{◌≡◌, ◌^◌, false}
+use Rattle.exec_live_idle.specs.Idle.{knows, IsSeatOf}
 use Rattle.exec_live_idle.proofs.tests.play.gather.Given as goal
 
 abbrev pub invariant-loop-made : goal.invariant-loop-made

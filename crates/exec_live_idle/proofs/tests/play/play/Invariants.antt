@@ -1,4 +1,4 @@
-use Rattle.exec_live_idle.proofs.Words.{length}
+use Rattle.std.proofs.Common.{length}
 use Rattle.exec_live_idle.proofs.tests.play.play.Given as goal
 
 abbrev pub decreases-loop-player : goal.decreases-loop-player

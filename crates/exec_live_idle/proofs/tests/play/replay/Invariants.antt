@@ -1,4 +1,5 @@
-use Rattle.exec_live_idle.proofs.Words.{◌≡◌, knows, IsSeatOf}
+use Rattle.std.proofs.Common.{◌≡◌}
+use Rattle.exec_live_idle.specs.Idle.{knows, IsSeatOf}
 use Rattle.exec_live_idle.proofs.tests.play.replay.Given as goal
 
 abbrev pub invariant-loop-line : goal.invariant-loop-line

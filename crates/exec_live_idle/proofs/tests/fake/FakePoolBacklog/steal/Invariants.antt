@@ -1,4 +1,4 @@
-use Rattle.exec_live_idle.proofs.Words.{◌≡◌}
+use Rattle.std.proofs.Common.{◌≡◌}
 use Rattle.exec_live_idle.proofs.tests.fake.FakePoolBacklog.steal.Given as goal
 
 abbrev pub invariant-loop-offset : goal.invariant-loop-offset
