@@ -6,13 +6,14 @@
 use Rattle.std.specs.Prelude.{ℕ, suc, Bool, true, false, not, ◌+◌, ◌*◌, ◌==◌, ◌&&◌, ◌||◌, List, [], ◌∷◌, nat_lt, nat_le, if◌then◌else◌}
 use Rattle.std.specs.List.{list_any}
 use Rattle.exec_abstract.specs.declared.config.Configuration.{Configuration}
-use Rattle.exec_abstract.specs.Ranges.{ring_size}
+use Rattle.exec_abstract.specs.Ranges.{ring_size, largest_spin}
 use Rattle.exec_abstract.specs.World.{Common, seat_of}
 use Rattle.exec_abstract.specs.World.{Own as Books}
 use Rattle.exec_abstract.specs.Tests.{is_empty, is_asleep}
 use Rattle.exec_abstract.specs.Deadlines.{is_due}
 use Rattle.exec_moves.specs.declared.place.AfterPermit.TheVariants as permit
 use Rattle.exec_moves.specs.declared.place.InService.TheVariants as step
+use Rattle.exec_moves.specs.declared.place.InWordWait.TheVariants as word
 use Rattle.exec_moves.specs.declared.place.Place.{Place}
 use Rattle.exec_moves.specs.declared.place.Place.TheVariants as at
 use Rattle.exec_moves.specs.State.{Desk, Things}
@@ -52,6 +53,14 @@ is_passing (at.Service (step.PassPermit file b) v) = true
 is_passing (at.Service (step.Signal worker b) v) = true
 is_passing _ = false
 
+-- the spin of this turn is ahead
+abbrev pub is_before_spin : Place → Bool
+is_before_spin (at.WordWait (word.SpinOnBatch left)) = false
+is_before_spin (at.WordWait (word.SpinOnLatch left)) = false
+is_before_spin (at.WordWait word.ArmWord) = false
+is_before_spin (at.WordWait word.SleepOnWord) = false
+is_before_spin _ = true
+
 -- the signs that there is something to do
 pub record Signs : Type 0 where
   pub flag : Bool
@@ -76,6 +85,9 @@ pub record Signs : Type 0 where
   -- so many gates are looked at in each staging; and so many are left in the one that has begun, or that makes up
   pub gates : ℕ
   pub begun : ℕ
+  -- so many steps has a spin at most; and so many the one that is ahead in this turn
+  pub spin : ℕ
+  pub ahead : ℕ
 
 abbrev pub signs : Configuration → ℕ → Books → Common → Desk → Things → Signs
 signs c i me s d x =
@@ -96,6 +108,8 @@ signs c i me s d x =
       outputs = d.outputs;
       gates = gates_from i 0 s;
       begun = gates_begun i s d.place;
+      spin = 2 * largest_spin c.spin;
+      ahead = if is_before_spin d.place then 2 * largest_spin c.spin else 0;
     }
 
 -- One more turn is owed to a sign at a height below k: it is not taken up any more before the next turn.
@@ -113,13 +127,17 @@ sampling = sample load_mail_word
 abbrev pub submitting : ℕ
 submitting = submit load_mail_word
 
+-- the turns that a worker may begin after a spin: there it has no requests
+abbrev pub spins_owed : ℕ → Signs → ℕ
+spins_owed h s =
+    owed apply h s.mail + (owed submitting h s.deadlines + owed_between submitting sampling h s.stale)
+    + (owed (end_service load_mail_word) h s.sleepers + owed_between (end_service load_mail_word) sampling h s.stale)
+    + one_if (s.passing || (nat_lt h sampling && s.latched))
+
 abbrev pub turns_owed : ℕ → Signs → ℕ
 turns_owed h s =
-    owed take_root_flag h s.flag + owed callback_after_mail h s.callbacks + owed apply h s.mail
-    + owed (reap_last load_mail_word) h s.completions + owed submitting h s.submissions
-    + (owed submitting h s.deadlines + owed_between submitting sampling h s.stale)
-    + (owed (end_service load_mail_word) h s.sleepers + owed_between (end_service load_mail_word) sampling h s.stale)
-    + one_if (s.passing || (nat_lt h sampling && s.latched)) + one_if s.busy + 2 * one_if s.cancels
+    spins_owed h s + owed take_root_flag h s.flag + owed callback_after_mail h s.callbacks
+    + owed (reap_last load_mail_word) h s.completions + owed submitting h s.submissions + one_if s.busy + 2 * one_if s.cancels
 
 -- where requests are staged a full submission queue is entered first
 abbrev pub flushes : ℕ → Bool → ℕ
@@ -129,10 +147,13 @@ flushes h full = one_if (((h == submitting) || (h == submit made_up)) && full)
 abbrev pub gates_left : ℕ → Signs → ℕ
 gates_left h s = s.begun + (if nat_lt submitting h then s.gates else 0)
 
--- a look of a spin is two steps; a turn has two stagings at most
-abbrev pub weigh : ℕ → ℕ → Signs → ℕ
-weigh h l s = h + flushes l s.full + s.outputs + gates_left l s + (turn + 2 * s.gates) * turns_owed l s
+-- what is left of this turn. It has two stagings at most; a look of a spin is two steps.
+abbrev pub in_turn : ℕ → ℕ → Signs → ℕ
+in_turn h l s = h + flushes l s.full + s.outputs + gates_left l s + s.ahead
 
--- More quiet steps than so many don't come on end. Each turn that is owed may spin once more.
+abbrev pub weigh : ℕ → ℕ → Signs → ℕ
+weigh h l s = in_turn h l s + (turn + 2 * s.gates) * turns_owed l s + s.spin * spins_owed l s
+
+-- More quiet steps than so many don't come on end.
 abbrev pub credit : Configuration → ℕ → Books → Common → Desk → Things → ℕ
 credit c i me s d x = weigh (height d.place) (level d.place) (signs c i me s d x)

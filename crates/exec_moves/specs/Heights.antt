@@ -288,8 +288,12 @@ height (at.WordWait x) = in_word_wait x
 height (at.Withdraw n) = withdraw
 height (at.Closing x) = 0
 
--- The height that counts for the signs: a permit is given up on the way, so that place is as low as where it leads.
+-- The height that counts for the signs: a permit is given up on the way, so that place is as low as where it leads; a poll
+-- is about to begin where its task was found; and a spin is one stop.
 abbrev pub level : Place → ℕ
 level (at.Service (step.PassPermit file b) v) = after_permit (below_service v.back) b
 level (at.Service (step.Signal worker b) v) = after_permit (below_service v.back) b
+level (at.Poll t poll.BeginPoll) = take_root_flag
+level (at.WordWait (word.SpinOnBatch left)) = arm
+level (at.WordWait (word.SpinOnLatch left)) = arm
 level p = height p

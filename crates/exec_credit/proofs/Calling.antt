@@ -1,0 +1,131 @@
+-- Callbacks.
+use Rattle.std.proofs.Common.{◌≡◌, ℕ, ◌-◌, ◌<◌, ◌≤◌, true, false, List, [], ◌∷◌, refl, sym, subst, ap, arith, inl, inr}
+use Rattle.std.proofs.lemmas.Bool.{true≢false, false≢true, cases_Bool, ltb-true, ltb-false}
+use Rattle.std.specs.Prelude.{nat_lt}
+use Rattle.exec_abstract.specs.declared.config.Configuration.{Configuration}
+use Rattle.exec_abstract.specs.declared.event.Event.TheVariants.{Turn}
+use Rattle.exec_abstract.specs.Ranges.{ring_size}
+use Rattle.exec_abstract.specs.World.{Own as Books, Common, Task, task_of}
+use Rattle.exec_moves.specs.declared.place.AfterCallbacks.{AfterCallbacks}
+use Rattle.exec_moves.specs.declared.place.AfterCallbacks.TheVariants as after
+use Rattle.exec_moves.specs.declared.place.InCallbacks.{InCallbacks}
+use Rattle.exec_moves.specs.declared.place.InCallbacks.TheVariants as callback
+use Rattle.exec_moves.specs.declared.place.Place.{Place}
+use Rattle.exec_moves.specs.declared.place.Place.TheVariants as at
+use Rattle.exec_moves.specs.Callback.{has_callbacks, after_callbacks, next_callback}
+use Rattle.exec_moves.specs.Credit.{one_if}
+use Rattle.exec_moves.specs.State.{Desk, Things, Own, turns, does}
+use Rattle.exec_moves.specs.Move.{aside, move_at}
+use Rattle.exec_credit.specs.Minds.{Falls, FallsAt, closes, seen, stands}
+use Rattle.exec_credit.proofs.Falling.{down, either, by_move}
+
+abbrev taking : AfterCallbacks → Place
+taking n = at.Callbacks callback.TakeBatch n
+
+abbrev calling : AfterCallbacks → Place
+calling n = at.Callbacks callback.CallBack n
+
+module _ (c : Configuration) (i : ℕ) (me : Books) (s : Common) (d : Desk) (x : Things) where
+  abbrev BatchTo : AfterCallbacks → Place → Type 0
+  BatchTo n q = Falls c i (seen (taking n) me) s (stands (taking n) d) x (aside x (turns {T = Own} q (stands (taking n) d) tt))
+
+  calls_back : (n : AfterCallbacks) → closes (taking n) ≡ false → BatchTo n (calling n)
+  calls_back after.Look h = down c i me s d x (taking after.Look) (aside x (turns {T = Own} (calling after.Look) (stands (taking after.Look) d) tt)) (refl, omega arith, omega arith, omega arith)
+  calls_back after.Test h = down c i me s d x (taking after.Test) (aside x (turns {T = Own} (calling after.Test) (stands (taking after.Test) d) tt)) (refl, omega arith, omega arith, omega arith)
+  calls_back after.Begin h = down c i me s d x (taking after.Begin) (aside x (turns {T = Own} (calling after.Begin) (stands (taking after.Begin) d) tt)) (refl, omega arith, omega arith, omega arith)
+  calls_back after.Drain h = absurd (true≢false h)
+  calls_back after.Finish h = absurd (true≢false h)
+
+  goes_after : (n : AfterCallbacks) → closes (taking n) ≡ false → has_callbacks me d ≡ false → BatchTo n (after_callbacks (ring_size c) i s n (stands (taking n) d))
+  goes_after after.Look h none =
+      down c i me s d x (taking after.Look) (aside x (turns {T = Own} (after_callbacks (ring_size c) i s after.Look d) (stands (taking after.Look) d) tt))
+      (refl, omega arith, omega (arith, ap one_if none), omega arith)
+  goes_after after.Test h none =
+      down c i me s d x (taking after.Test) (aside x (turns {T = Own} (after_callbacks (ring_size c) i s after.Test d) (stands (taking after.Test) d) tt))
+      (refl, omega arith, omega (arith, ap one_if none), omega arith)
+  goes_after after.Begin h none =
+      down c i me s d x (taking after.Begin) (aside x (turns {T = Own} (after_callbacks (ring_size c) i s after.Begin d) (stands (taking after.Begin) d) tt))
+      (refl, omega arith, omega (arith, ap one_if none), omega arith)
+  goes_after after.Drain h none = absurd (true≢false h)
+  goes_after after.Finish h none = absurd (true≢false h)
+
+  take_batch : (n : AfterCallbacks) → closes (taking n) ≡ false → FallsAt c i me s d x (taking n)
+  take_batch n h =
+      either c i (seen (taking n) me) s (stands (taking n) d) x (λ (q : Place). aside x (turns {T = Own} q (stands (taking n) d) tt)) (has_callbacks me d)
+      (calling n) (after_callbacks (ring_size c) i s n (stands (taking n) d)) (λ some. calls_back n h) (goes_after n h)
+
+  -- no task is to be woken, and so many outputs are left
+  abbrev with_outputs : AfterCallbacks → ℕ → Desk
+  with_outputs n k = record d { place = calling n; wakes = []; outputs = k }
+
+  abbrev ItemTo : AfterCallbacks → ℕ → Place → Type 0
+  ItemTo n k q =
+      Falls c i (seen (calling n) me) s (with_outputs n d.outputs) x
+      (aside x (does {T = Task} Turn (record (with_outputs n k) { place = q }) (task_of s 0)))
+
+  again : (n : AfterCallbacks) (k : ℕ) → k < d.outputs → closes (calling n) ≡ false → ItemTo n k (calling n)
+  again after.Look k less h =
+      down c i me s (with_outputs after.Look d.outputs) x (calling after.Look) (aside x (does {T = Task} Turn (record (with_outputs after.Look k) { place = calling after.Look }) (task_of s 0)))
+      (refl, omega (arith, less), omega arith, omega arith)
+  again after.Test k less h =
+      down c i me s (with_outputs after.Test d.outputs) x (calling after.Test) (aside x (does {T = Task} Turn (record (with_outputs after.Test k) { place = calling after.Test }) (task_of s 0)))
+      (refl, omega (arith, less), omega arith, omega arith)
+  again after.Begin k less h =
+      down c i me s (with_outputs after.Begin d.outputs) x (calling after.Begin) (aside x (does {T = Task} Turn (record (with_outputs after.Begin k) { place = calling after.Begin }) (task_of s 0)))
+      (refl, omega (arith, less), omega arith, omega arith)
+  again after.Drain k less h = absurd (true≢false h)
+  again after.Finish k less h = absurd (true≢false h)
+
+  none_left : (n : AfterCallbacks) (k : ℕ) → k ≤ d.outputs → closes (calling n) ≡ false → has_callbacks me (with_outputs n k) ≡ false
+      → ItemTo n k (after_callbacks (ring_size c) i s n (with_outputs n k))
+  none_left after.Look k fewer h none =
+      down c i me s (with_outputs after.Look d.outputs) x (calling after.Look)
+      (aside x (does {T = Task} Turn (record (with_outputs after.Look k) { place = after_callbacks (ring_size c) i s after.Look (with_outputs after.Look k) }) (task_of s 0)))
+      (refl, omega (arith, fewer), omega (arith, ap one_if none), omega arith)
+  none_left after.Test k fewer h none =
+      down c i me s (with_outputs after.Test d.outputs) x (calling after.Test)
+      (aside x (does {T = Task} Turn (record (with_outputs after.Test k) { place = after_callbacks (ring_size c) i s after.Test (with_outputs after.Test k) }) (task_of s 0)))
+      (refl, omega (arith, fewer), omega (arith, ap one_if none), omega arith)
+  none_left after.Begin k fewer h none =
+      down c i me s (with_outputs after.Begin d.outputs) x (calling after.Begin)
+      (aside x (does {T = Task} Turn (record (with_outputs after.Begin k) { place = after_callbacks (ring_size c) i s after.Begin (with_outputs after.Begin k) }) (task_of s 0)))
+      (refl, omega (arith, fewer), omega (arith, ap one_if none), omega arith)
+  none_left after.Drain k fewer h none = absurd (true≢false h)
+  none_left after.Finish k fewer h none = absurd (true≢false h)
+
+  item : (n : AfterCallbacks) (k : ℕ) → k ≤ d.outputs → (has_callbacks me (with_outputs n k) ≡ true → k < d.outputs) → closes (calling n) ≡ false
+      → ItemTo n k (next_callback (ring_size c) i me s n (with_outputs n k))
+  item n k fewer less h =
+      either c i (seen (calling n) me) s (with_outputs n d.outputs) x
+      (λ (q : Place). aside x (does {T = Task} Turn (record (with_outputs n k) { place = q }) (task_of s 0)))
+      (has_callbacks me (with_outputs n k)) (calling n) (after_callbacks (ring_size c) i s n (with_outputs n k))
+      (λ some. again n k (less some) h) (none_left n k fewer h)
+
+-- an output is let go
+lets_go : (c : Configuration) (i : ℕ) (me : Books) (s : Common) (d : Desk) (x : Things) (n : AfterCallbacks) → nat_lt 0 d.outputs ≡ true → closes (calling n) ≡ false
+    → FallsAt c i me s (record d { wakes = [] }) x (calling n)
+lets_go c i me s d x n on h =
+    let e = with_outputs c i me s d x n (d.outputs - 1) in
+    by_move c i (seen (calling n) me) s (with_outputs c i me s d x n d.outputs) x
+    (move_at c i (seen (calling n) me) s (with_outputs c i me s d x n d.outputs) x (calling n))
+    (aside x (does {T = Task} Turn (record e { place = next_callback (ring_size c) i me s n e }) (task_of s 0)))
+    (rw on refl) (item c i me s d x n (d.outputs - 1) (omega arith) (λ some. omega (arith, ltb-true 0 d.outputs on)) h)
+
+-- a request is released, or nothing is left
+releases : (c : Configuration) (i : ℕ) (me : Books) (s : Common) (d : Desk) (x : Things) (n : AfterCallbacks) (ended : List ℕ) → closes (calling n) ≡ false
+    → FallsAt c i (record me { ended = ended }) s (record d { wakes = []; outputs = 0 }) x (calling n)
+releases c i me s d x n [] h = none_left c i (record me { ended = [] }) s (record d { outputs = 0 }) x n 0 (omega arith) h refl
+releases c i me s d x n (r ∷ ended) h = λ q. absurd (false≢true q)
+
+pub calls : (c : Configuration) (i : ℕ) (me : Books) (s : Common) (d : Desk) (x : Things) (p : InCallbacks) (n : AfterCallbacks) → closes (at.Callbacks p n) ≡ false → FallsAt c i me s d x (at.Callbacks p n)
+calls c i me s d x callback.TakeBatch n h = take_batch c i me s d x n h
+calls c i me s d x callback.CallBack n h = by d.wakes
+  where
+    by : (wakes : List ℕ) → FallsAt c i me s (record d { wakes = wakes }) x (calling n)
+    by (t ∷ wakes) = λ q. absurd (false≢true q)
+    by [] = elim (cases_Bool (nat_lt 0 d.outputs)) [
+      | inl on ↦ lets_go c i me s d x n on h
+      | inr off ↦
+          let none : d.outputs ≡ 0 = omega (arith, ltb-false 0 d.outputs off) in
+          subst (λ k. FallsAt c i me s (record d { wakes = []; outputs = k }) x (calling n)) (sym none) (releases c i me s d x n me.ended h)
+    ]

@@ -1,0 +1,12 @@
+mod Sinking
+mod Falling
+mod Turning
+mod Loading
+mod Calling
+mod Testing
+mod Entering
+mod Waiting
+mod Ringing
+mod Serving
+mod Submitting
+mod Quiet
