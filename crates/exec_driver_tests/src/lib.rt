@@ -1,6 +1,13 @@
-//! Tests of the public calls of waiters, and of registrations over a driver, apart from their crates, so that these are
-//! proved once.
+//! Tests of the public calls of waiters and of drivers, apart from their crates, so that these are proved once.
 #![tactic(auto)]
 
 #[cfg(test)]
+mod calls;
+#[cfg(test)]
+mod kinds;
+#[cfg(test)]
+mod lives;
+#[cfg(test)]
 mod waiters;
+#[cfg(test)]
+mod worker;

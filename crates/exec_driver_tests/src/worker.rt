@@ -1,0 +1,321 @@
+//! A worker of a test: its driver, with what is to be told and whom it signalled last. Its calls make room to tell, and
+//! test what the driver asks for.
+
+ghost use Rattle.std.specs.Prelude.{◌≡◌, ◌-◌, ◌^◌, ◌≤◌, true, IfOk};
+ghost use Rattle.exec_request.specs.Buffers.{is_sound, length_of, moved_of};
+
+use exec_base::slab::Id;
+use exec_base::task_no::TaskNo;
+use exec_bufs::buf::IoBuf;
+use exec_bufs::bufs::IoBufs;
+use exec_driver::armed::{Armed, Signals};
+use exec_driver::driver::{Driver, Enrolled, Granted, Reaped};
+use exec_driver::opens::Opens;
+use exec_outcomes::outcome::OpResult;
+use exec_request::buffers::WriteBuffers;
+use exec_request::output::RequestOutput;
+use exec_request::request::Request;
+use exec_request::send::SendRequest;
+use exec_ring::landing::Unlawful;
+use exec_ring::ring::Entered;
+use exec_ring::sim_ring::SimRing;
+use exec_ring::store::Store;
+use exec_time::timers::Observation;
+use exec_time::wheel::TimeoutWheel;
+use exec_waiters::deferred::Deferred;
+use exec_waiters::observer::Observer;
+use exec_waiters::waiter_id::WaiterId;
+use std::alloc::{AllocError, Global};
+use std::marker::Model;
+use std::process::Abort;
+use std::test::Fail;
+
+/// Whom a worker signalled last.
+#[derive(Drop)]
+pub(super) struct Last(pub(super) Option<u32>);
+
+impl Signals for Last {
+    ghost use Rattle.std.specs.Prelude.{None};
+
+    ghost signalled = { λ _. None };
+
+    fn signal(&mut self, worker: u32) {
+        self.0 = Some(worker);
+    }
+}
+
+/// A wake word that is as its worker left it, or isn't.
+#[derive(Drop)]
+pub(super) struct Word(pub(super) bool);
+
+impl Armed for Word {
+    ghost is_calm = { λ w _. w.0 };
+
+    fn arm(&mut self, _processed: u32) -> bool {
+        self.0
+    }
+
+    fn disarm(&mut self) {}
+}
+
+pub(super) const MILLI: u64 = 1_000_000;
+
+pub(super) fn name(index: u32, generation: u64) -> WaiterId {
+    WaiterId(Id { index, generation })
+}
+
+pub(super) fn bytes(count: u64) -> OpResult {
+    OpResult::Count(count)
+}
+
+/// These bytes in one part.
+pub(super) fn buffers(alloc: Global, data: &[u8]) -> Result<WriteBuffers, AllocError>
+    ensures sound { IfOk result (λ w. is_sound w ≡ true) }
+    ensures short { IfOk result (λ w. length_of w - moved_of w ≤ 2 ^ 40) }
+{
+    let mut bufs = IoBufs::new(alloc);
+    let copy = data.to_vec(alloc)?;
+    if copy.len() <= 1 << 40 {
+        bufs.push(alloc, IoBuf::from(copy))?;
+    }
+    let write = WriteBuffers::from(bufs);
+    if write.remaining_len() > 1 << 40 {
+        return Err(AllocError);
+    }
+    Ok(write)
+}
+
+/// A send of ten bytes to socket 0 that has to end within 10 ms.
+pub(super) fn send(alloc: Global) -> Result<Request, AllocError> {
+    let write = buffers(alloc, b"0123456789")?;
+    Ok(Request::Send(SendRequest::new(0, write, Some(10 * MILLI))))
+}
+
+/// A driver with its deferred work and its signals. Its deadlines are always punctual.
+#[derive(Drop)]
+pub(super) struct Worker {
+    pub(super) driver: Driver<SimRing, u32, u32>,
+    pub(super) deferred: Deferred<u32, u32>,
+    pub(super) last: Last,
+}
+
+impl Model for Worker {
+    ghost use Rattle.exec_driver.specs.Driving.{seen};
+    ghost use Rattle.exec_driver.specs.Punctual.{IsPunctual};
+
+    ghost Value = { Unit {0} };
+
+    ghost view = { λ _. tt };
+
+    ghost invariant = { λ w. IsPunctual (seen w.driver) };
+}
+
+impl Worker {
+    /// A worker over a ring of so many entries, with a wheel of 5 ms for 10 ms.
+    pub(super) fn new(alloc: Global, size: usize, store: &mut Store) -> Option<Self> {
+        let ring = SimRing::new(alloc, size).ok()?;
+        TimeoutWheel::validate_layout(10 * MILLI, 5 * MILLI).ok()?;
+        let driver = Driver::new(alloc, ring, 10 * MILLI, 5 * MILLI, 0, store).ok()?;
+        Some(Worker {
+            driver,
+            deferred: Deferred::new(alloc),
+            last: Last(None),
+        })
+    }
+
+    /// Admits a request that a task of the worker waits for.
+    pub(super) fn admit(
+        &mut self,
+        alloc: Global,
+        request: Request,
+        opens: &mut Opens,
+        store: &mut Store,
+    ) -> Option<WaiterId> {
+        let observer = Observer::Local(None);
+        self.driver
+            .admit(
+                alloc,
+                request,
+                observer,
+                0,
+                opens,
+                &mut self.deferred,
+                store,
+            )
+            .ok()
+    }
+
+    pub(super) fn join(&self, rt: &impl Abort, worker: u32, id: WaiterId, opens: &mut Opens) {
+        let may = self.driver.may_join(id, opens);
+        assert!(rt; may);
+        self.driver.join(worker, id, opens);
+    }
+
+    pub(super) fn serve(
+        &mut self,
+        rt: &impl Abort,
+        alloc: Global,
+        (worker, now, defer): (u32, u64, bool),
+        opens: &mut Opens,
+    ) -> Result<bool, Fail> {
+        let ends = self.driver.len().checked_add(1).ok_or(AllocError)?;
+        self.deferred.reserve(alloc, ends)?;
+        assert!(rt; !self.driver.has_due());
+        assert!(rt; self.driver.ring_size() > 0);
+        let last = &mut self.last;
+        Ok(
+            self.driver
+                .service(worker, now, defer, opens, &mut self.deferred, last),
+        )
+    }
+
+    pub(super) fn land(
+        &mut self,
+        rt: &impl Abort,
+        id: WaiterId,
+        given: OpResult,
+        store: &mut Store,
+    ) -> Result<(), Unlawful> {
+        let may = self.driver.may_land(id, given, store);
+        assert!(rt; may);
+        self.driver.land(id, given, store)
+    }
+
+    pub(super) fn advance(&mut self, rt: &impl Abort, now: u64) {
+        let settled = self.driver.is_settled();
+        assert!(rt; settled);
+        self.driver.advance(now);
+    }
+
+    pub(super) fn next_deadline(&self, rt: &impl Abort) -> Option<u64> {
+        let settled = self.driver.is_settled();
+        assert!(rt; settled);
+        self.driver.next_deadline()
+    }
+
+    pub(super) fn expire(&mut self, alloc: Global) -> Result<Option<WaiterId>, Fail> {
+        self.deferred.reserve(alloc, 1)?;
+        Ok(self.driver.expire(&mut self.deferred))
+    }
+
+    pub(super) fn enrol(
+        &mut self,
+        rt: &impl Abort,
+        alloc: Global,
+        now: u64,
+    ) -> Result<Option<Enrolled>, Fail> {
+        self.deferred.reserve(alloc, 1)?;
+        let settled = self.driver.is_settled();
+        assert!(rt; settled);
+        Ok(self.driver.enrol(now, &mut self.deferred))
+    }
+
+    pub(super) fn grant(
+        &mut self,
+        alloc: Global,
+        file: u32,
+        opens: &mut Opens,
+    ) -> Result<Option<Granted>, Fail> {
+        self.deferred.reserve(alloc, 1)?;
+        Ok(self.driver.grant(0, file, opens, &mut self.deferred))
+    }
+
+    /// Stages the first request that may be, and lets the kernel take it in.
+    pub(super) fn stage(&mut self, rt: &impl Abort, opens: &Opens) -> Option<WaiterId> {
+        let may = self.driver.may_stage()
+            && !self.driver.is_full()
+            && !self.driver.has_enrolments();
+        assert!(rt; may);
+        let staged = self.driver.stage(opens);
+        let _taken = self.enter();
+        staged
+    }
+
+    pub(super) fn enter(&mut self) -> Entered {
+        self.driver.enter()
+    }
+
+    pub(super) fn stage_cancel(&mut self, rt: &impl Abort) -> Option<WaiterId> {
+        let room = !self.driver.is_full();
+        assert!(rt; room);
+        self.driver.stage_cancel()
+    }
+
+    pub(super) fn reap(
+        &mut self,
+        alloc: Global,
+        opens: &mut Opens,
+    ) -> Result<Option<Reaped>, Fail> {
+        self.deferred.reserve(alloc, 1)?;
+        Ok(self.driver.reap(opens, &mut self.deferred))
+    }
+
+    pub(super) fn observe(
+        &mut self,
+        rt: &impl Abort,
+        id: WaiterId,
+        task: u32,
+    ) -> Observation<RequestOutput> {
+        let may = self.driver.may_be_seen(id);
+        assert!(rt; may);
+        self.driver.observe(id, TaskNo(task))
+    }
+
+    pub(super) fn forward(&mut self, alloc: Global, id: WaiterId, sender: u32) -> Result<(), Fail> {
+        self.deferred.reserve(alloc, 1)?;
+        self.driver.forward(id, sender, &mut self.deferred);
+        Ok(())
+    }
+
+    pub(super) fn orphan(&mut self, alloc: Global, id: WaiterId) -> Result<(), Fail> {
+        self.deferred.reserve(alloc, 2)?;
+        self.driver.orphan(id, &mut self.deferred);
+        Ok(())
+    }
+
+    pub(super) fn close(&mut self, alloc: Global) -> Result<Option<WaiterId>, Fail> {
+        self.deferred.reserve(alloc, 2)?;
+        Ok(self.driver.close(&mut self.deferred))
+    }
+
+    pub(super) fn set_waker(&mut self, rt: &impl Abort, id: WaiterId, task: u32) -> Option<TaskNo> {
+        let here = self.driver.is_observed_here(id);
+        assert!(rt; here);
+        self.driver.set_waker(id, TaskNo(task))
+    }
+
+    pub(super) fn park(&mut self, processed: u32, word: &mut Word) -> bool {
+        self.driver.park(processed, word)
+    }
+
+    pub(super) fn stage_wake_poll(&mut self) -> bool {
+        self.driver.stage_wake_poll()
+    }
+
+    pub(super) fn must_enter(&self) -> bool {
+        self.driver.must_enter(true, &self.deferred)
+    }
+
+    /// A wake is raised, which ends the wake poll.
+    pub(super) fn wake_last(&mut self) {
+        self.driver.last();
+        self.driver.raise();
+    }
+
+    pub(super) fn enter_busy(&mut self) -> Entered {
+        self.driver.busy();
+        self.driver.enter()
+    }
+
+    /// How many of each list there are: wakes, outputs, resources, completions, results.
+    pub(super) fn counts(&self) -> (usize, usize, usize, usize, usize) {
+        let deferred = &self.deferred;
+        (
+            deferred.notes.wakes.len(),
+            deferred.outputs.len(),
+            deferred.resources.len(),
+            deferred.notes.completions.len(),
+            deferred.results.len(),
+        )
+    }
+}
