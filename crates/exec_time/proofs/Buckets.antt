@@ -1,14 +1,16 @@
 -- Buckets and active entries, as lists grow and shrink.
-use Rattle.std.proofs.Common.{◌≡◌, ℕ, ◌+◌, ◌-◌, ◌<◌, ◌≤◌, Bool, true, false, not, cond, if◌then◌else◌, ◌==◌, List, [], ◌∷◌, ◌++◌, length, take, get_or, map, filter, remove, refl, arith, inl, inr, None, Some, position}
-use Rattle.std.proofs.lemmas.Bool.{cases_lt, cases_eq, lt-ltb, le-ltb}
-use Rattle.std.specs.List.{position_or_len}
+use Rattle.std.proofs.Common.{◌≡◌, ℕ, ◌+◌, ◌-◌, ◌<◌, ◌≤◌, Bool, true, false, not, cond, if◌then◌else◌, ◌==◌, List, [], ◌∷◌, ◌++◌, length, take, get_or, map, filter, remove, refl, arith, inl, inr, zero, suc, sym, nat_lt, ◌%◌, Result, Ok, Err, IfOk, IfErr, MatchResult}
+use Rattle.std.proofs.lemmas.Bool.{cases_lt, cases_eq, lt-ltb}
+use Rattle.std.specs.Result.{is_ok}
+use Rattle.std.specs.List.{insert}
 use Rattle.std.proofs.lemmas.Grind.{common_steps}
 use Rattle.std.proofs.lemmas.List.{map-append}
 use Rattle.std.proofs.lemmas.List.Elements.{filter-append}
-use Rattle.std.proofs.lemmas.List.Sums.{sum_by_push, sum_by-remove, sum_by-le, prefix_len_stops, prefix_len_passes}
-use Rattle.std.proofs.lemmas.List.{take_more}
-use Rattle.exec_time.specs.Entries.{is_in_slot, bucket_in, active_in}
-use Rattle.exec_time.specs.declared.entries.Entry.{Entry}
+use Rattle.std.proofs.lemmas.List.Sums.{sum_by-insert, sum_by-remove, sum_by-le}
+use Rattle.std.proofs.lemmas.List.{take_more, get_or_default}
+use Rattle.std.proofs.lemmas.List.Edits.{get_or-remove_below, get_or-remove_above, length-remove}
+use Rattle.exec_time.specs.{Entries.{is_in_slot, bucket_in, active_in, IsRising, IsPlaceOf}, declared.entries.Entry.Entry}
+use Rattle.exec_time.proofs.Ranges.{active_among}
 
 -- one more entry
 pub bucket_in_push : (entries : List Entry) (slots slot : ℕ) (e : Entry) → bucket_in (entries ++ e ∷ []) slots slot ≡ bucket_in entries slots slot ++ (if is_in_slot slots slot e then e.id ∷ [] else [])
@@ -32,10 +34,40 @@ unfolding bucket_in
 length_bucket_in_discard [] slots gone = refl
 length_bucket_in_discard (e ∷ es) slots gone = grind (arith, common_steps, length_bucket_in_discard es slots gone)
 
+-- nothing is in a slot below those of all entries
+none_past : (entries : List Entry) (slots slot : ℕ) → ((k : ℕ) (d : Entry) → k < length entries → slot < ((get_or entries k d).tick % slots)) → bucket_in entries slots slot ≡ []
+unfolding bucket_in
+none_past [] slots slot past = refl
+none_past (e ∷ es) slots slot past =
+    let here : slot < (e.tick % slots) = past 0 e (omega arith) in
+    grind (arith, common_steps, here, none_past es slots slot (λ k d inside. past (suc k) d (omega arith)))
+
+-- one more entry, before those of later slots
+pub bucket_in_put : (entries : List Entry) (slots at : ℕ) (e : Entry) → ((k : ℕ) (d : Entry) → at ≤ k → k < length entries → (e.tick % slots) < ((get_or entries k d).tick % slots)) → (s : ℕ) → bucket_in (insert entries at e) slots s ≡ bucket_in entries slots s ++ (if is_in_slot slots s e then e.id ∷ [] else [])
+unfolding bucket_in
+bucket_in_put es slots zero e past s =
+    elim (cases_eq (e.tick % slots) s) [
+      | inl same ↦
+          let none : bucket_in es slots s ≡ [] = none_past es slots s (λ k d inside. rw (← same) (past k d (omega arith) inside)) in
+          grind (arith, common_steps, none, same)
+      | inr other ↦ grind (arith, common_steps, other)
+    ]
+bucket_in_put [] slots (suc at) e past s = grind (arith, common_steps)
+bucket_in_put (x ∷ xs) slots (suc at) e past s = grind (arith, common_steps, bucket_in_put xs slots at e (λ k d low inside. past (suc k) d (omega arith) (omega arith)) s)
+
+-- nothing is in a slot between those of two neighbours, or of the last one and the end
+pub none_there : (entries : List Entry) (slots slot i : ℕ) → ((k : ℕ) (d : Entry) → k < i → ((get_or entries k d).tick % slots) < slot) → ((k : ℕ) (d : Entry) → i ≤ k → k < length entries → slot < ((get_or entries k d).tick % slots)) → bucket_in entries slots slot ≡ []
+unfolding bucket_in
+none_there es slots slot zero below past = none_past es slots slot (λ k d inside. past k d (omega arith) inside)
+none_there [] slots slot (suc i) below past = refl
+none_there (e ∷ es) slots slot (suc i) below past =
+    let here : (e.tick % slots) < slot = below 0 e (omega arith) in
+    grind (arith, common_steps, here, none_there es slots slot i (λ k d less. below (suc k) d (omega arith)) (λ k d low inside. past (suc k) d (omega arith) (omega arith)))
+
 -- one more active tick
-pub active_in_push : (ticks : List ℕ) (tick t : ℕ) → active_in (ticks ++ tick ∷ []) t ≡ (if t == tick then active_in ticks t + 1 else active_in ticks t)
+pub active_in_insert : (ticks : List ℕ) (i tick t : ℕ) → active_in (insert ticks i tick) t ≡ (if t == tick then active_in ticks t + 1 else active_in ticks t)
 unfolding active_in
-active_in_push ticks tick t = grind (arith, common_steps, sum_by_push (λ x. cond (x == t) 1 0) ticks tick)
+active_in_insert ticks i tick t = grind (arith, common_steps, sum_by-insert (λ x. cond (x == t) 1 0) ticks i tick)
 
 -- one less
 pub active_in_remove : (ticks : List ℕ) (i tick t : ℕ) → i < length ticks → get_or ticks i tick ≡ tick → active_in (remove ticks i) t ≡ (if t == tick then active_in ticks t - 1 else active_in ticks t)
@@ -47,39 +79,72 @@ pub bucket_in_more : (entries : List Entry) (slots slot i : ℕ) (d : Entry) →
 bucket_in_more entries slots slot i d h = rw (take_more entries i d) (bucket_in_push (take i entries) slots slot (get_or entries i d))
 
 -- what holds of each active tick, with one more
-pub active_below_push : (ticks : List ℕ) (tick : ℕ) (f : ℕ → ℕ) (limit : ℕ) → ((t : ℕ) → 0 < active_in ticks t → f t < limit) → f tick < limit → (t : ℕ) → 0 < active_in (ticks ++ tick ∷ []) t → f t < limit
-active_below_push ticks tick f limit all new t active =
+pub active_below_more : (ticks ticks' : List ℕ) (tick : ℕ) (f : ℕ → ℕ) (limit : ℕ) → ((t : ℕ) → active_in ticks' t ≡ (if t == tick then active_in ticks t + 1 else active_in ticks t)) → ((t : ℕ) → 0 < active_in ticks t → f t < limit) → f tick < limit → (t : ℕ) → 0 < active_in ticks' t → f t < limit
+active_below_more ticks ticks' tick f limit more all new t active =
     elim (cases_eq t tick) [
       | inl same ↦ rw same new
-      | inr other ↦ all t (grind (arith, common_steps, active_in_push ticks tick t, active, other))
+      | inr other ↦ all t (grind (arith, common_steps, more t, active, other))
     ]
 
 -- with one less
-pub active_below_remove : (ticks : List ℕ) (i tick : ℕ) (f : ℕ → ℕ) (limit : ℕ) → i < length ticks → get_or ticks i tick ≡ tick → ((t : ℕ) → 0 < active_in ticks t → f t < limit) → (t : ℕ) → 0 < active_in (remove ticks i) t → f t < limit
-active_below_remove ticks i tick f limit inside at all t active = all t (grind (arith, common_steps, active_in_remove ticks i tick t inside at, active))
+pub active_below_less : (ticks ticks' : List ℕ) (tick : ℕ) (f : ℕ → ℕ) (limit : ℕ) → ((t : ℕ) → active_in ticks' t ≡ (if t == tick then active_in ticks t - 1 else active_in ticks t)) → ((t : ℕ) → 0 < active_in ticks t → f t < limit) → (t : ℕ) → 0 < active_in ticks' t → f t < limit
+active_below_less ticks ticks' tick f limit less all t active = all t (grind (arith, common_steps, less t, active))
 
--- where a tick is, and that an active one is somewhere
-pub place_found : (ticks : List ℕ) (tick i : ℕ) → position (λ t. t == tick) ticks ≡ Some i → (i < length ticks) × (get_or ticks i tick ≡ tick)
-place_found ticks tick i found =
-    elim (cases_lt (position_or_len (λ t. t == tick) ticks) (length ticks)) [
-      | inl inside ↦
-          let place : Some (position_or_len (λ t. t == tick) ticks) ≡ Some i = rw (lt-ltb _ _ inside) at found in
-          let same : position_or_len (λ t. t == tick) ticks ≡ i = cc in
-          let stops : not (get_or ticks (position_or_len (λ t. t == tick) ticks) tick == tick) ≡ false = prefix_len_stops (λ t. not (t == tick)) ticks tick inside in
-          let stops_there : not (get_or ticks i tick == tick) ≡ false = rw (← same) stops in
-          (omega arith, grind (arith, common_steps, stops_there))
-      | inr past ↦
-          let none = rw (le-ltb _ _ past) at found in
-          (absurd (cc), absurd (cc))
-    ]
-
-pub place_missed : (ticks : List ℕ) (tick : ℕ) → position (λ t. t == tick) ticks ≡ None → active_in ticks tick ≤ 0
+-- a tick between smaller and larger ones is not among them
+pub active_between : (ticks : List ℕ) (tick i : ℕ) → ((k : ℕ) → k < i → get_or ticks k 0 < tick) → ((k : ℕ) → i ≤ k → k < length ticks → tick < get_or ticks k 0) → active_in ticks tick ≤ 0
 unfolding active_in
-place_missed ticks tick missed =
-    elim (cases_lt (position_or_len (λ t. t == tick) ticks) (length ticks)) [
-      | inl inside ↦
-          let some : Some (position_or_len (λ t. t == tick) ticks) ≡ None = rw (lt-ltb _ _ inside) at missed in
-          absurd (cc)
-      | inr past ↦
-          omega (arith, sum_by-le (λ t. cond (t == tick) 1 0) 0 ticks (λ k d inside. let passes : not (get_or ticks k d == tick) ≡ true = prefix_len_passes (λ t. not (t == tick)) ticks k d (omega arith) in grind (arith, common_steps, passes)))
+active_between ticks tick i below above = omega (arith, sum_by-le (λ t. cond (t == tick) 1 0) 0 ticks (λ k d inside. other k d inside))
+  where
+    other : (k d : ℕ) → k < length ticks → cond (get_or ticks k d == tick) 1 0 ≤ 0
+    other k d inside =
+        elim (cases_lt k i) [
+          | inl low ↦ let less : get_or ticks k d < tick = rw (get_or_default ticks k d 0 inside) (below k low) in grind (arith, common_steps, less)
+          | inr high ↦ let more : tick < get_or ticks k d = rw (get_or_default ticks k d 0 inside) (above k high inside) in grind (arith, common_steps, more)
+        ]
+
+-- ticks stay ascending with one less
+pub rising_remove : (ticks : List ℕ) (i : ℕ) → i < length ticks → IsRising ticks → IsRising (remove ticks i)
+rising_remove ticks i inside rising =
+    λ a b d le within.
+    elim (cases_lt b i) [
+      | inl low ↦ rw (get_or-remove_below ticks i d a (omega arith) inside, get_or-remove_below ticks i d b low inside) (rising a b d le (omega arith))
+      | inr high ↦
+          elim (cases_lt a i) [
+            | inl before ↦ rw (get_or-remove_below ticks i d a before inside, get_or-remove_above ticks i d b high inside) (rising a (b + 1) d (omega arith) (omega (arith, length-remove ticks i inside)))
+            | inr after ↦ rw (get_or-remove_above ticks i d a after inside, get_or-remove_above ticks i d b high inside) (rising (a + 1) (b + 1) d (omega arith) (omega (arith, length-remove ticks i inside)))
+          ]
     ]
+
+-- what a search says of ascending ticks
+abbrev Searched : List ℕ → ℕ → Result ℕ ℕ → Type 0
+Searched ticks tick r = MatchResult r (λ i. (i < length ticks) × (get_or ticks i 0 ≡ tick)) (λ i. (i ≤ length ticks) × ((k : ℕ) → k < i → get_or ticks k 0 < tick) × ((k : ℕ) → i ≤ k → k < length ticks → tick < get_or ticks k 0))
+
+pub placed : (ticks : List ℕ) (tick : ℕ) (r : Result ℕ ℕ) → IsRising ticks → Searched ticks tick r → MatchResult r (IsPlaceOf tick ticks) (IsPlaceOf tick ticks)
+placed ticks tick (Ok i) rising (inside, at) =
+    record {
+      within = omega arith;
+      low = λ k d less. let lower : get_or ticks k 0 ≤ get_or ticks i 0 = rising k i 0 (omega arith) inside in rw (get_or_default ticks k d 0 (omega arith)) (omega (arith, at));
+      high = λ k d more within. let higher : get_or ticks i 0 ≤ get_or ticks k 0 = rising i k 0 more within in rw (get_or_default ticks k d 0 within) (omega (arith, at));
+    }
+placed ticks tick (Err i) rising (inside, below, above) =
+    record {
+      within = inside;
+      low = λ k d less. rw (get_or_default ticks k d 0 (omega arith)) (omega (arith, below k less));
+      high = λ k d more within. rw (get_or_default ticks k d 0 within) (omega (arith, above k more within));
+    }
+
+pub found_at : (ticks : List ℕ) (tick : ℕ) (r : Result ℕ ℕ) → Searched ticks tick r → IfOk r (λ i. (i < length ticks) × (get_or ticks i tick ≡ tick))
+found_at ticks tick (Ok i) (inside, at) = (inside, rw (get_or_default ticks i tick 0 inside) at)
+found_at ticks tick (Err i) missed = tt
+
+pub there_at : (ticks : List ℕ) (tick : ℕ) (r : Result ℕ ℕ) → Searched ticks tick r → IfOk r (λ i. nat_lt 0 (active_in ticks tick) ≡ true)
+there_at ticks tick (Ok i) (inside, at) = lt-ltb _ _ (active_among ticks tick (i, inside, rw (get_or_default ticks i tick 0 inside) at))
+there_at ticks tick (Err i) missed = tt
+
+pub told_among : (ticks : List ℕ) (tick : ℕ) (r : Result ℕ ℕ) → IfOk r (λ i. nat_lt 0 (active_in ticks tick) ≡ true) → IfErr r (λ i. active_in ticks tick ≡ 0) → is_ok r ≡ nat_lt 0 (active_in ticks tick)
+told_among ticks tick (Ok i) there missed = sym there
+told_among ticks tick (Err i) there missed = rw missed refl
+
+pub missed_at : (ticks : List ℕ) (tick : ℕ) (r : Result ℕ ℕ) → Searched ticks tick r → IfErr r (λ i. active_in ticks tick ≡ 0)
+missed_at ticks tick (Ok i) found = tt
+missed_at ticks tick (Err i) (inside, below, above) = omega (arith, active_between ticks tick i below above)

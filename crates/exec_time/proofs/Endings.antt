@@ -3,17 +3,8 @@ use Rattle.std.proofs.Common.{◌≡◌, ℕ, ◌+◌, ◌≤◌, Bool, cond, le
 use Rattle.std.proofs.lemmas.Grind.{common_steps}
 use Rattle.std.proofs.lemmas.Bool.{cases_lt, cases_eq, le-leb, lt-leb}
 use Rattle.std.proofs.lemmas.List.Sums.{sum_by-set}
-use Rattle.exec_base.specs.Slab.{Slab, value_at, value_in, slot_at, is_live, live_count, removed, freed}
-use Rattle.exec_base.specs.declared.error.Error.{Error}
-use Rattle.exec_base.specs.declared.slab.Id.{Id}
-use Rattle.exec_base.specs.declared.slab.Slot.{Slot}
-use Rattle.exec_base.specs.declared.slab.Slot.TheVariants.{Live, Vacant, Retired}
-use Rattle.exec_time.specs.declared.notes.Notes.{Notes}
-use Rattle.exec_time.specs.declared.timers.Sleeper.{Sleeper}
-use Rattle.exec_time.specs.declared.timers.Observer.{Observer}
-use Rattle.exec_time.specs.declared.timers.Observer.TheVariants.{Local, Forwarded}
-use Rattle.exec_time.specs.Notes.{HasRoom}
-use Rattle.exec_time.specs.Sleepers.{Ends, IsDue, IsFirst, left_at, wakes_of, completions_of}
+use Rattle.exec_base.specs.{Slab.{Slab, value_at, value_in, slot_at, is_live, live_count, removed, freed}, declared.{error.Error.Error, slab.{Id.Id, Slot.{Slot, TheVariants.{Live, Vacant, Retired}}}}}
+use Rattle.exec_time.specs.{declared.{notes.Notes.Notes, timers.{Sleeper.Sleeper, Observer.{Observer, TheVariants.{Local, Forwarded}}}}, Notes.HasRoom, Sleepers.{Ends, IsDue, IsFirst, left_at, wakes_of, completions_of}}
 use Rattle.exec_time.proofs.Sleepers.{none_past}
 
 abbrev one_if : Bool → ℕ

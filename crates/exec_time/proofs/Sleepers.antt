@@ -4,14 +4,8 @@ use Rattle.std.proofs.lemmas.Grind.{common_steps}
 use Rattle.std.proofs.lemmas.Bool.{cases_lt}
 use Rattle.std.proofs.lemmas.List.{get_or_past}
 use Rattle.std.specs.Option.{IfSome, IfNone, option_map}
-use Rattle.exec_base.specs.Slab.{Slab, value_at, value_in, slot_at, id_in}
-use Rattle.exec_base.specs.declared.slab.Id.{Id}
-use Rattle.exec_base.specs.declared.slab.Slot.{Slot}
-use Rattle.exec_base.specs.declared.slab.Slot.TheVariants.{Live, Vacant, Retired}
-use Rattle.exec_time.specs.declared.timers.Sleeper.{Sleeper}
-use Rattle.exec_time.specs.declared.timers.TimerId.{TimerId}
-use Rattle.exec_time.specs.Sleepers.{IsFirst, IsEmpty}
-use Rattle.exec_time.specs.Firsts.{FirstBelow, IsFirstBelow}
+use Rattle.exec_base.specs.{Slab.{Slab, value_at, value_in, slot_at, id_in}, declared.slab.{Id.Id, Slot.{Slot, TheVariants.{Live, Vacant, Retired}}}}
+use Rattle.exec_time.specs.{declared.timers.{Sleeper.Sleeper, TimerId.TimerId}, Sleepers.{IsFirst, IsEmpty}, Firsts.{FirstBelow, IsFirstBelow}}
 
 module _ {T : Type 0} where
   -- a slot has one value at most

@@ -1,18 +1,16 @@
 -- What a wheel shows, as its lists grow and shrink.
-use Rattle.std.proofs.Common.{◌≡◌, ℕ, ◌+◌, ◌<◌, ◌%◌, false, not, if◌then◌else◌, ◌==◌, List, [], ◌∷◌, ◌++◌, length, map, filter, remove, get_or, refl, sym, ◌∙◌, ap, arith}
+use Rattle.std.proofs.Common.{◌≡◌, ℕ, ◌+◌, ◌<◌, ◌%◌, false, not, if◌then◌else◌, ◌==◌, List, [], ◌∷◌, ◌++◌, map, filter, refl, sym, ◌∙◌, ap, arith, inl, inr, nat_lt, ◌-◌}
+use Rattle.std.proofs.lemmas.Bool.{cases_eq}
+use Rattle.std.proofs.lemmas.Bool.Decides.{nat_tests}
 use Rattle.std.proofs.lemmas.Grind.{common_steps}
 use Rattle.std.proofs.lemmas.Grind.{flat_map-append}
 use Rattle.std.proofs.lemmas.List.{append-nil}
 use Rattle.std.proofs.lemmas.List.FromFn.{map-range_with_len_more}
-use Rattle.exec_time.proofs.Ranges.{slot_of_next}
+use Rattle.exec_time.proofs.{Ranges.slot_of_next, Buckets.bucket_in_discard}
 use Rattle.std.proofs.lemmas.List.Folds.{list_any-append}
 use Rattle.std.specs.List.{flat_map, range_with_len, list_any}
 use Rattle.exec_base.specs.declared.slab.Id.{Id}
-use Rattle.exec_time.specs.Entries.{is_in_slot, bucket_in, active_in}
-use Rattle.exec_time.specs.Wheel.{Wheel, slot_of, scheduled, removed}
-use Rattle.exec_time.specs.Turning.{emptied}
-use Rattle.exec_time.specs.declared.entries.Entry.{Entry}
-use Rattle.exec_time.proofs.Buckets.{bucket_in_push, bucket_in_discard, active_in_push, active_in_remove}
+use Rattle.exec_time.specs.{Entries.{is_in_slot, bucket_in, active_in}, Wheel.{Wheel, slot_of, scheduled, removed}, Turning.emptied, declared.entries.Entry.Entry}
 
 -- a wheel of lists
 abbrev pub shown : ℕ → ℕ → ℕ → ℕ → ℕ → List Entry → List ℕ → List Id → Wheel
@@ -33,16 +31,30 @@ pub same_but : (w : Wheel) (b b' : ℕ → List Id) (a a' : ℕ → ℕ) (r r' :
 same_but w b b' a a' r r' buckets actives readies = λ i. record w { bucket = λ s. buckets s i; active = λ t. actives t i; ready = readies i }
 
 -- one more entry, where the stale ones of its slot were discarded
-pub scheduled_is : (start len horizon slots current : ℕ) (entries left : List Entry) (ticks : List ℕ) (ready : List Id) (tick : ℕ) (id : Id) → ((s : ℕ) → bucket_in left slots s ≡ (if active_in ticks tick == 0 then (if (tick % slots) == s then [] else bucket_in entries slots s) else bucket_in entries slots s)) → shown start len horizon slots current (left ++ record { tick = tick; id = id } ∷ []) (ticks ++ tick ∷ []) ready ≡ scheduled (shown start len horizon slots current entries ticks ready) id tick
+pub scheduled_is : (start len horizon slots current : ℕ) (entries left after : List Entry) (ticks ticks' : List ℕ) (ready : List Id) (tick : ℕ) (id : Id) → ((s : ℕ) → bucket_in left slots s ≡ (if nat_lt 0 (active_in ticks tick) then bucket_in entries slots s else (if (tick % slots) == s then [] else bucket_in entries slots s)))
+    → ((s : ℕ) → bucket_in after slots s ≡ bucket_in left slots s ++ (if (tick % slots) == s then id ∷ [] else []))
+    → ((t : ℕ) → active_in ticks' t ≡ (if t == tick then active_in ticks t + 1 else active_in ticks t))
+    → shown start len horizon slots current after ticks' ready ≡ scheduled (shown start len horizon slots current entries ticks ready) id tick
 unfolding scheduled
-scheduled_is start len horizon slots current entries left ticks ready tick id left_is =
-    same_but (shown start len horizon slots current entries ticks ready) _ _ _ _ ready ready (λ s. grind (arith, common_steps, bucket_in_push left slots s (record { tick = tick; id = id }), left_is s)) (λ t. active_in_push ticks tick t) refl
+scheduled_is start len horizon slots current entries left after ticks ticks' ready tick id left_is put_is counts =
+    same_but (shown start len horizon slots current entries ticks ready) _ _ _ _ ready ready (λ s. grind (arith, common_steps, nat_tests, put_is s, left_is s)) counts refl
 
 -- one entry less that is active
-pub removed_is : (start len horizon slots current : ℕ) (entries : List Entry) (ticks : List ℕ) (ready : List Id) (tick i : ℕ) → i < length ticks → get_or ticks i tick ≡ tick → shown start len horizon slots current entries (remove ticks i) ready ≡ removed (shown start len horizon slots current entries ticks ready) tick
+pub removed_is : (start len horizon slots current : ℕ) (entries : List Entry) (ticks ticks' : List ℕ) (ready : List Id) (tick : ℕ) → ((t : ℕ) → active_in ticks' t ≡ (if t == tick then active_in ticks t - 1 else active_in ticks t)) → shown start len horizon slots current entries ticks' ready ≡ removed (shown start len horizon slots current entries ticks ready) tick
 unfolding removed
-removed_is start len horizon slots current entries ticks ready tick i inside at =
-    same_but (shown start len horizon slots current entries ticks ready) (bucket_in entries slots) (bucket_in entries slots) _ _ ready ready (λ s. refl) (λ t. active_in_remove ticks i tick t inside at) refl
+removed_is start len horizon slots current entries ticks ticks' ready tick counts =
+    same_but (shown start len horizon slots current entries ticks ready) (bucket_in entries slots) (bucket_in entries slots) _ _ ready ready (λ s. refl) counts refl
+
+-- an empty bucket emptied
+pub emptied_same : (w : Wheel) (slot : ℕ) → w.bucket slot ≡ [] → w ≡ emptied w (slot ∷ [])
+emptied_same w slot none = same_but w _ _ w.active w.active _ _ (λ s. bucket_of s) (λ t. refl) (rw none (sym (append-nil w.ready)))
+  where
+    bucket_of : (s : ℕ) → w.bucket s ≡ (if list_any (λ x. x == s) (slot ∷ []) then [] else w.bucket s)
+    bucket_of s =
+        elim (cases_eq slot s) [
+          | inl same ↦ grind (arith, common_steps, same, none)
+          | inr other ↦ grind (arith, common_steps, other)
+        ]
 
 -- a bucket emptied
 pub emptied_is : (start len horizon slots current : ℕ) (entries : List Entry) (ticks : List ℕ) (ready : List Id) (slot : ℕ) → shown start len horizon slots current (filter (λ e. not (is_in_slot slots slot e)) entries) ticks (ready ++ bucket_in entries slots slot) ≡ emptied (shown start len horizon slots current entries ticks ready) (slot ∷ [])

@@ -1,10 +1,7 @@
 -- The first sleeper of some slots.
 use Rattle.std.specs.Prelude.{◌≡◌, ℕ, ◌<◌, ◌≤◌, Option, Some, None}
-use Rattle.exec_base.specs.Slab.{Slab, value_at}
-use Rattle.exec_base.specs.declared.slab.Id.{Id}
-use Rattle.exec_time.specs.declared.timers.Sleeper.{Sleeper}
-use Rattle.exec_time.specs.declared.timers.TimerId.{TimerId}
-use Rattle.exec_time.specs.Sleepers.{deadline_at}
+use Rattle.exec_base.specs.{Slab.{Slab, value_at}, declared.slab.Id.Id}
+use Rattle.exec_time.specs.{declared.timers.{Sleeper.Sleeper, TimerId.TimerId}, Sleepers.deadline_at}
 
 module _ {S : Type 0} where
   -- this one comes first of those in the slots below an index

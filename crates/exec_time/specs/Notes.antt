@@ -2,8 +2,7 @@
 use Rattle.std.specs.Prelude.{◌≡◌, ℕ, ◌+◌, ◌≤◌, List, ◌++◌, vec_len}
 use Rattle.std.specs.Vec.{vec_capacity}
 use Rattle.exec_base.specs.declared.task_no.TaskNo.{TaskNo}
-use Rattle.exec_time.specs.declared.notes.ForwardedResult.{ForwardedResult}
-use Rattle.exec_time.specs.declared.notes.Notes.{Notes}
+use Rattle.exec_time.specs.declared.notes.{ForwardedResult.ForwardedResult, Notes.Notes}
 
 module _ {S : Type 0} where
   -- so many wakes and so many completions can be noted without memory

@@ -1,20 +1,7 @@
 -- How a sleep stands.
 use Rattle.std.specs.Prelude.{◌≡◌, ℕ, ◌+◌, ◌-◌, ◌^◌, Bool, true, false, min, if◌then◌else◌, ◌==◌, ◌⊎◌, List, Option, Some, None, Result, Ok, Err}
-use Rattle.exec_base.specs.declared.error.Error.{Error}
-use Rattle.exec_base.specs.declared.error.Error.TheVariants.{Closed, Full, NoMemory}
-use Rattle.exec_base.specs.declared.one_shot.OneShotState.{OneShotState}
-use Rattle.exec_base.specs.OneShot.{poll_answer, polled}
-use Rattle.exec_base.specs.Post.{Takes}
-use Rattle.exec_time.specs.Layouts.{longest}
-use Rattle.exec_time.specs.declared.sleep.SleepState.{SleepState}
-use Rattle.exec_time.specs.declared.sleep.SleepState.TheVariants.{Waiting, Registered, Forwarded, Done}
-use Rattle.exec_base.specs.Slab.{Slab, next_id, IsFull, Updates}
-use Rattle.exec_time.specs.declared.sleep.TimerMessage.{TimerMessage}
-use Rattle.exec_time.specs.declared.sleep.TimerMessage.TheVariants.{Forward}
-use Rattle.exec_base.specs.declared.task_no.TaskNo.{TaskNo}
-use Rattle.exec_time.specs.declared.timers.Observer.TheVariants.{Local}
-use Rattle.exec_time.specs.declared.timers.Sleeper.{Sleeper}
-use Rattle.exec_time.specs.declared.timers.TimerId.{TimerId}
+use Rattle.exec_base.specs.{declared.{error.Error.{Error, TheVariants.{Closed, Full, NoMemory}}, one_shot.OneShotState.OneShotState, task_no.TaskNo.TaskNo}, OneShot.{poll_answer, polled}, Post.Takes, Slab.{Slab, next_id, IsFull, Updates}}
+use Rattle.exec_time.specs.{Layouts.longest, declared.{sleep.{SleepState.{SleepState, TheVariants.{Waiting, Registered, Forwarded, Done}}, TimerMessage.{TimerMessage, TheVariants.Forward}}, timers.{Observer.TheVariants.Local, Sleeper.Sleeper, TimerId.TimerId}}}
 
 -- a sleep for this long from now: over at once where that is no time, else until then, with what is too long cut
 -- to the longest. No sum is above the end of u64

@@ -1,10 +1,7 @@
 -- Sleepers of the worked examples. A sender is a number.
 use Rattle.std.specs.Prelude.{ℕ, []}
-use Rattle.exec_base.specs.Slab.{Slab, inserted}
-use Rattle.exec_base.specs.declared.slab.Id.{Id}
-use Rattle.exec_base.specs.declared.task_no.TaskNo.{TaskNo}
-use Rattle.exec_time.specs.declared.timers.Sleeper.{Sleeper}
-use Rattle.exec_time.specs.declared.timers.Observer.TheVariants.{Local, Forwarded}
+use Rattle.exec_base.specs.{Slab.{Slab, inserted}, declared.{slab.Id.Id, task_no.TaskNo.TaskNo}}
+use Rattle.exec_time.specs.declared.timers.{Sleeper.Sleeper, Observer.TheVariants.{Local, Forwarded}}
 
 abbrev pub task : ℕ → TaskNo
 task n = record { 0 = n }

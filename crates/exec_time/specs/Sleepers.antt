@@ -1,19 +1,8 @@
 -- The sleepers of a worker: a slab of deadlines with their observers.
 use Rattle.std.specs.Prelude.{◌≡◌, ℕ, ◌<◌, ◌≤◌, Bool, true, false, List, [], ◌∷◌, Option, Some, None, Result, Ok, Err, if◌then◌else◌, ◌==◌, nat_le}
 use Rattle.std.specs.Option.{option_map}
-use Rattle.exec_base.specs.Slab.{Slab, value_at, removed, Updates}
-use Rattle.exec_base.specs.declared.error.Error.{Error}
-use Rattle.exec_base.specs.declared.error.Error.TheVariants.{Closed}
-use Rattle.exec_base.specs.declared.slab.Id.{Id}
-use Rattle.exec_base.specs.declared.task_no.TaskNo.{TaskNo}
-use Rattle.exec_time.specs.declared.notes.ForwardedResult.{ForwardedResult}
-use Rattle.exec_time.specs.declared.notes.Notes.{Notes}
-use Rattle.exec_time.specs.declared.timers.Sleeper.{Sleeper}
-use Rattle.exec_time.specs.declared.timers.Observer.{Observer}
-use Rattle.exec_time.specs.declared.timers.Observer.TheVariants.{Local, Forwarded}
-use Rattle.exec_time.specs.declared.timers.Observation.{Observation}
-use Rattle.exec_time.specs.declared.timers.Observation.TheVariants.{Ready, Pending, Refresh}
-use Rattle.exec_time.specs.Notes.{Adds}
+use Rattle.exec_base.specs.{Slab.{Slab, value_at, removed, Updates}, declared.{error.Error.{Error, TheVariants.Closed}, slab.Id.Id, task_no.TaskNo.TaskNo}}
+use Rattle.exec_time.specs.{declared.{notes.{ForwardedResult.ForwardedResult, Notes.Notes}, timers.{Sleeper.Sleeper, Observer.{Observer, TheVariants.{Local, Forwarded}}, Observation.{Observation, TheVariants.{Ready, Pending, Refresh}}}}, Notes.Adds}
 
 module _ {S : Type 0} where
   -- the task that is woken, where it observes on the sleeper's worker

@@ -1,8 +1,7 @@
 -- Wheels of the worked examples, with a tick of 5 milliseconds.
 use Rattle.std.specs.Prelude.{ℕ, ◌*◌}
 use Rattle.exec_base.specs.declared.slab.Id.{Id}
-use Rattle.exec_time.specs.Wheel.{Wheel, fresh, scheduled, removed}
-use Rattle.exec_time.specs.Turning.{advanced}
+use Rattle.exec_time.specs.{Wheel.{Wheel, fresh, scheduled, removed}, Turning.advanced}
 
 -- milliseconds, in nanoseconds
 abbrev pub ms : ℕ → ℕ

@@ -1,8 +1,7 @@
 -- Calls on a wheel that change it, one after another.
 use Rattle.std.specs.Prelude.{◌≡◌, ℕ, ◌⊎◌, List, [], ◌∷◌, drop}
 use Rattle.exec_base.specs.declared.slab.Id.{Id}
-use Rattle.exec_time.specs.Wheel.{Wheel, scheduled, removed}
-use Rattle.exec_time.specs.Turning.{advanced}
+use Rattle.exec_time.specs.{Wheel.{Wheel, scheduled, removed}, Turning.advanced}
 
 -- a call that changes a wheel
 pub data Call : Type 0 where

@@ -2,9 +2,7 @@
 use Rattle.std.specs.Prelude.{ℕ, ◌-◌, min, vec_len}
 use Rattle.std.specs.Vec.{vec_capacity}
 use Rattle.std.specs.VecDeque.{deque_len, deque_capacity}
-use Rattle.exec_time.specs.Entries.{bucket_in, active_in}
-use Rattle.exec_time.specs.Wheel.{Wheel}
-use Rattle.exec_time.specs.declared.wheel.TimeoutWheel.{TimeoutWheel}
+use Rattle.exec_time.specs.{Entries.{bucket_in, active_in}, Wheel.Wheel, declared.wheel.TimeoutWheel.TimeoutWheel}
 
 -- the wheel that it stands for
 unfoldable pub wheel_of : TimeoutWheel → Wheel

@@ -1,11 +1,12 @@
-//! The entries of a wheel: what is scheduled, in order of scheduling, and the bucket of each slot.
+//! The entries of a wheel: what is scheduled, by slot, and in a slot in order of scheduling.
 //!
-//! The bucket of a slot is the entries whose tick falls into it, in their order.
+//! The bucket of a slot is the entries whose tick falls into it, in their order. Since they stand by slot, one is put in
+//! behind its bucket, and whether a slot has any is found by halving.
 
-ghost use Rattle.std.specs.Prelude.{◌≡◌, ℕ, ◌+◌, ◌<◌, ◌≤◌, [], ◌++◌, length, filter, not, vec_len, ◌==◌, if◌then◌else◌};
+ghost use Rattle.std.specs.Prelude.{◌≡◌, ℕ, ◌+◌, ◌<◌, ◌≤◌, ◌%◌, [], ◌∷◌, ◌++◌, false, length, filter, not, vec_len, slice_index_or, ◌==◌, if◌then◌else◌};
 ghost use Rattle.std.specs.Vec.{vec_capacity};
 ghost use Rattle.std.specs.VecDeque.{deque_len, deque_capacity};
-ghost use Rattle.exec_time.specs.Entries.{bucket_in, is_in_slot};
+ghost use Rattle.exec_time.specs.Entries.{bucket_in, is_in_slot, IsBySlot};
 
 use crate::wheel::Tick;
 use exec_base::slab::Id;
@@ -34,24 +35,67 @@ pub(crate) fn collect(entries: &[Entry], slots: u64, slot: u64, ready: &mut VecD
     }
 }
 
+/// Where the entries of the slots up to this one end.
+fn end_of(entries: &[Entry], slots: u64, slot: u64) -> usize
+    requires has_slots { 0 < slots }
+    requires by_slot { IsBySlot slots entries.now }
+    ensures within { result ≤ length entries.now }
+    ensures before { (k : ℕ) (d : _) → k < result → (slice_index_or entries.now k d).tick % slots ≤ slot }
+    ensures past { (k : ℕ) (d : _) → result ≤ k → k < length entries.now → slot < (slice_index_or entries.now k d).tick % slots }
+{
+    entries.partition_point(|entry| entry.tick % slots <= slot)
+}
+
+/// Whether a slot has any entry.
+pub(crate) fn has_any(entries: &[Entry], slots: u64, slot: u64) -> bool
+    requires has_slots { 0 < slots }
+    requires by_slot { IsBySlot slots entries.now }
+    ensures none { result ≡ false → bucket_in entries.now slots slot ≡ [] }
+{
+    match end_of(entries, slots, slot).checked_sub(1) {
+        Some(last) => entries[last].tick % slots == slot,
+        None => false,
+    }
+}
+
+/// Puts an entry behind those of its slot. The caller must have room for it.
+pub(crate) fn put(entries: &mut Vec<Entry>, slots: u64, entry: Entry)
+    requires has_slots { 0 < slots }
+    requires by_slot { IsBySlot slots entries.old.items }
+    requires room { vec_len entries.old < vec_capacity entries.old }
+    ensures buckets { (s : ℕ) → bucket_in entries.new.items slots s ≡ bucket_in entries.old.items slots s ++ (if is_in_slot slots s entry then entry.id ∷ [] else []) }
+    ensures by_slot { IsBySlot slots entries.new.items }
+    ensures more { vec_len entries.new ≡ vec_len entries.old + 1 }
+    ensures capacity { vec_capacity entries.new ≡ vec_capacity entries.old }
+{
+    let place = end_of(entries, slots, entry.tick % slots);
+    if entries.insert(place, entry).is_err() {
+        unreachable!()
+    }
+}
+
 /// Discards the entries in this slot.
 pub(crate) fn discard(entries: &mut Vec<Entry>, slots: u64, slot: u64)
     requires has_slots { 0 < slots }
+    requires by_slot { IsBySlot slots entries.old.items }
     ensures others { entries.new.items ≡ filter (λ entry. not (is_in_slot slots slot entry)) entries.old.items }
+    ensures by_slot { IsBySlot slots entries.new.items }
     ensures fewer { vec_len entries.new ≤ vec_len entries.old }
     ensures capacity { vec_capacity entries.new ≡ vec_capacity entries.old }
 {
     entries.retain(|entry| entry.tick % slots != slot);
 }
 
-/// Discards the entries in this slot where none of them is active, of which it has `active`.
-pub(crate) fn make_way(entries: &mut Vec<Entry>, slots: u64, slot: u64, active: usize)
+/// Discards the entries in this slot unless one of them is active.
+pub(crate) fn make_way(entries: &mut Vec<Entry>, slots: u64, slot: u64, active: bool)
     requires has_slots { 0 < slots }
-    ensures buckets { (s : ℕ) → bucket_in entries.new.items slots s ≡ (if active == 0 then (if slot == s then [] else bucket_in entries.old.items slots s) else bucket_in entries.old.items slots s) }
+    requires by_slot { IsBySlot slots entries.old.items }
+    ensures buckets { (s : ℕ) → bucket_in entries.new.items slots s ≡ (if active then bucket_in entries.old.items slots s else (if slot == s then [] else bucket_in entries.old.items slots s)) }
+    ensures by_slot { IsBySlot slots entries.new.items }
     ensures fewer { vec_len entries.new ≤ vec_len entries.old }
     ensures capacity { vec_capacity entries.new ≡ vec_capacity entries.old }
 {
-    if active == 0 {
+    if !active && has_any(entries, slots, slot) {
         discard(entries, slots, slot);
     }
 }

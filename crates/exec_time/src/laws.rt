@@ -2,12 +2,8 @@
 
 ghost use Rattle.std.specs.Prelude.{◌≡◌, ◌↔◌, ℕ, ◌+◌, ◌<◌, ◌≤◌, List, [], Contains};
 ghost use Rattle.std.specs.declared.cmp.Ordering.TheVariants.{Less, Equal, Greater};
-ghost use Rattle.exec_base.specs.Slab.{IsBefore};
-ghost use Rattle.exec_base.specs.declared.slab.Id.{Id};
-ghost use Rattle.exec_time.specs.Wheel.{Wheel, IsSettled, IsWithinReach, fresh, scheduled, removed, slot_of, moment_of};
-ghost use Rattle.exec_time.specs.Turning.{advanced};
-ghost use Rattle.exec_time.specs.WheelRuns.{Call, WasScheduled, after_all};
-ghost use Rattle.exec_time.specs.declared.timers.TimerId.{TimerId};
+ghost use Rattle.exec_base.specs.{Slab.IsBefore, declared.slab.Id.Id};
+ghost use Rattle.exec_time.specs.{Wheel.{Wheel, IsSettled, IsWithinReach, fresh, scheduled, removed, slot_of, moment_of}, Turning.advanced, WheelRuns.{Call, WasScheduled, after_all}, declared.timers.TimerId.TimerId};
 
 use crate::timers::TimerId;
 

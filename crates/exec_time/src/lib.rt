@@ -6,5 +6,6 @@ pub mod examples;
 pub mod laws;
 pub mod notes;
 pub mod sleep;
+mod ticks;
 pub mod timers;
 pub mod wheel;

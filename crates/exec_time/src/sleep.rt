@@ -15,15 +15,9 @@
 //! error ends the sleep, but for want of room for a sleeper, which leaves all as it was.
 
 ghost use Rattle.std.specs.Prelude.{◌≡◌, ◌≢◌, ℕ, ◌-◌, ◌<◌, ◌≤◌, ◌⊎◌, Some, None, Ok, Err, true, false, IsTrue, IfOk, OnOk, OnErr, IfErr};
-ghost use Rattle.exec_time.specs.declared.sleep.TimerMessage.TheVariants.{Forward};
-ghost use Rattle.exec_base.specs.OneShot.{poll_answer, polled};
-ghost use Rattle.exec_base.specs.Post.{Takes};
-ghost use Rattle.exec_base.specs.Slab.{value_at, written, IsFull};
+ghost use Rattle.exec_time.specs.{declared.{sleep.TimerMessage.TheVariants.Forward, timers.{Observer.TheVariants.Local, Sleeper.Sleeper as Sleeping, TimerId.TimerId as TimerName}}, Sleepers.is_forwarded};
+ghost use Rattle.exec_base.specs.{OneShot.{poll_answer, polled}, Post.Takes, Slab.{value_at, written, IsFull}};
 ghost use Rattle.exec_base.specs.declared.error.Error.TheVariants as error;
-ghost use Rattle.exec_time.specs.Sleepers.{is_forwarded};
-ghost use Rattle.exec_time.specs.declared.timers.Observer.TheVariants.{Local};
-ghost use Rattle.exec_time.specs.declared.timers.Sleeper.{Sleeper as Sleeping};
-ghost use Rattle.exec_time.specs.declared.timers.TimerId.{TimerId as TimerName};
 ghost use Rattle.exec_time.specs.declared.sleep.SleepState.TheVariants as state;
 
 use crate::timers::{TimerId, Timers};

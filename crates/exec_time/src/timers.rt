@@ -8,11 +8,9 @@
 
 ghost use Rattle.std.specs.Prelude.{◌≡◌, ℕ, ◌+◌, ◌<◌, ◌≤◌, ◌↔◌, [], Some, None, Ok, Err, IsOk, IsSome, IfSome, IfNone, IfOk, IfErr, ◌⊎◌, OnOk, OnErr, OnSome, false, List, ◌∷◌};
 ghost use Rattle.std.specs.Option.{option_map};
-ghost use Rattle.exec_base.specs.Slab.{value_at, next_id, inserted, removed, written, live_count, IsFull, IsPast, Updates, TakesId};
-ghost use Rattle.exec_base.specs.declared.slab.Id.{Id as Name};
+ghost use Rattle.exec_base.specs.{Slab.{value_at, next_id, inserted, removed, written, live_count, IsFull, IsPast, Updates, TakesId}, declared.slab.Id.Id as Name};
 ghost use Rattle.exec_base.specs.declared.error.Error.TheVariants as error;
-ghost use Rattle.exec_time.specs.Notes.{HasRoom, Adds};
-ghost use Rattle.exec_time.specs.Sleepers.{wakes_of, completions_of};
+ghost use Rattle.exec_time.specs.{Notes.{HasRoom, Adds}, Sleepers.{wakes_of, completions_of}};
 
 use crate::notes::{ForwardedResult, Notes};
 use exec_base::error::Error;

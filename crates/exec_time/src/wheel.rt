@@ -10,10 +10,10 @@ ghost use Rattle.std.specs.Prelude.{◌≡◌, ℕ, ◌+◌, ◌-◌, ◌*◌, �
 ghost use Rattle.std.specs.List.{range_with_len};
 ghost use Rattle.std.specs.Vec.{vec_capacity};
 ghost use Rattle.std.specs.VecDeque.{deque_len, deque_capacity};
-ghost use Rattle.exec_time.specs.Layouts.{slots_of, is_out_of_range as out_of_range};
-ghost use Rattle.exec_time.specs.Entries.{bucket_in, active_in, is_in_slot};
+ghost use Rattle.exec_time.specs.{Layouts.{slots_of, is_out_of_range as out_of_range}, Entries.{bucket_in, active_in, is_in_slot, IsBySlot, IsRising}};
 
-use crate::entries::{Entry, collect, discard, make_way};
+use crate::entries::{Entry, collect, discard, has_any, make_way, put};
+use crate::ticks::{is_among, join, least, leave};
 use exec_base::limits::LONGEST_TIMEOUT;
 use exec_base::slab::Id;
 use std::alloc::{AllocError, Global};
@@ -46,12 +46,14 @@ pub struct TimeoutWheel {
     slots: u64,
     /// The tick that the wheel stands at.
     current: Tick,
-    /// What is scheduled and didn't come out, stale entries too, in order of scheduling.
+    /// What is scheduled and didn't come out, stale entries too, by slot, and in a slot in order of scheduling.
     entries: Vec<Entry>,
-    /// The tick of each active entry.
+    /// The tick of each active entry, ascending.
     active: Vec<Tick>,
     /// The ids that came out and were not handed out yet.
     ready: VecDeque<Id>,
+    ghost by_slot: { IsBySlot slots entries.items },
+    ghost rising: { IsRising active.items },
     ghost turns: { 0 < tick },
     ghost has_slots: { 0 < slots },
     ghost in_span: { (t : ℕ) → 0 < active_in active.items t → t < current + slots },
@@ -157,10 +159,9 @@ impl TimeoutWheel {
         ensures scheduled { wheel_of self.new ≡ scheduled (wheel_of self.old) id tick }
         ensures room { room_of self.old ≤ room_of self.new + 1 }
     {
-        let active = self.active_at(tick);
-        make_way(&mut self.entries, self.slots, tick % self.slots, active);
-        self.entries.push_reserved(Entry { tick, id });
-        self.active.push_reserved(tick);
+        let was = join(&mut self.active, tick);
+        make_way(&mut self.entries, self.slots, tick % self.slots, was);
+        put(&mut self.entries, self.slots, Entry { tick, id });
     }
 
     /// Says that an entry of this tick is active no more. The caller must name a tick that has an active entry.
@@ -169,9 +170,7 @@ impl TimeoutWheel {
         ensures removed { wheel_of self.new ≡ removed (wheel_of self.old) tick }
         ensures room { room_of self.old ≤ room_of self.new }
     {
-        if let Some(place) = self.place_of(tick) {
-            self.active.remove(place);
-        }
+        leave(&mut self.active, tick);
     }
 
     /// Goes on to the tick at the moment `now`, and makes the ids of the buckets that are passed ready for
@@ -274,7 +273,7 @@ impl TimeoutWheel {
     pub fn is_active(&self, tick: Tick) -> bool
         ensures { IsTrue result ↔ (0 < (wheel_of self.now).active tick) }
     {
-        self.active_at(tick) > 0
+        is_among(&self.active, tick)
     }
 
     /// The tick at a moment.
@@ -284,14 +283,6 @@ impl TimeoutWheel {
         now.saturating_sub(self.start) / self.tick
     }
 
-    /// How many entries of this tick are active.
-    #[tactic(auto, unfolding(crate::specs::Entries::active_in))]
-    fn active_at(&self, tick: Tick) -> usize
-        ensures { result ≡ active_in self.now.active.items tick }
-    {
-        self.active.iter().filter(|active| **active == tick).count()
-    }
-
     /// The least tick that has an active entry.
     fn least_active(&self) -> Option<Tick>
         requires settled { IsSettled (wheel_of self.now) }
@@ -299,13 +290,6 @@ impl TimeoutWheel {
         ensures active { IfSome result (λ tick. 0 < active_in self.now.active.items tick) }
     {
         least(&self.active)
-    }
-
-    /// The place of a tick among those of the active entries.
-    fn place_of(&self, tick: Tick) -> Option<usize>
-        ensures { result ≡ position (λ active. active == tick) self.now.active.items }
-    {
-        self.active.iter().position(|active| *active == tick)
     }
 
     /// Empties the buckets that are passed on the way to this tick, at which an entry is due.
@@ -354,8 +338,10 @@ impl TimeoutWheel {
         ensures wheel { wheel_of self.new ≡ emptied (wheel_of self.old) (slot ∷ []) }
         ensures room { room_of self.old ≤ room_of self.new }
     {
-        collect(&self.entries, self.slots, slot, &mut self.ready);
-        discard(&mut self.entries, self.slots, slot);
+        if has_any(&self.entries, self.slots, slot) {
+            collect(&self.entries, self.slots, slot, &mut self.ready);
+            discard(&mut self.entries, self.slots, slot);
+        }
     }
 }
 
@@ -368,15 +354,6 @@ fn count_if_any(count: usize, is_full: bool) -> Option<usize>
     } else {
         None
     }
-}
-
-/// The least of some ticks.
-fn least(ticks: &[Tick]) -> Option<Tick>
-    ensures none { IfNone result (length ticks.now ≡ 0) }
-    ensures among { IfSome result (Contains ticks.now) }
-    ensures least { IfSome result (λ least. All (λ tick. least ≤ tick) ticks.now) }
-{
-    ticks.iter().copied().min()
 }
 
 /// Whether a length of time is none at all, or too long.

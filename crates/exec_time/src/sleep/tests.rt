@@ -1,7 +1,6 @@
 ghost use Rattle.std.specs.Prelude.{◌≡◌, ◌+◌, ◌≤◌, Some, IsTrue, false, vec_len, vec_capacity};
 ghost use Rattle.exec_base.specs.Slab.{value_at};
-ghost use Rattle.exec_time.specs.Sleepers.{is_forwarded};
-ghost use Rattle.exec_time.specs.declared.timers.TimerId.{TimerId as TimerName};
+ghost use Rattle.exec_time.specs.{Sleepers.is_forwarded, declared.timers.TimerId.TimerId as TimerName};
 ghost use Rattle.exec_time.specs.declared.sleep.SleepState.TheVariants as state;
 
 use super::*;

@@ -1,9 +1,8 @@
 use Rattle.std.proofs.Common.{arith}
 use Rattle.std.proofs.lemmas.Grind.{common_steps}
 use Rattle.exec_time.specs.Entries.{bucket_in}
-use Rattle.exec_time.proofs.Buckets.{bucket_in_more}
+use Rattle.exec_time.proofs.{Buckets.bucket_in_more, entries.collect.Goals.{then-entry-slots, else-entry-slots}}
 use Rattle.exec_time.proofs.entries.collect.Goals as goal
-use Rattle.exec_time.proofs.entries.collect.Goals.{then-entry-slots, else-entry-slots}
 
 pub loop-entry-init : goal.loop-entry-init
 unfolding bucket_in

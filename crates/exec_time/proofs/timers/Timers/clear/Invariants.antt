@@ -1,6 +1,5 @@
 use Rattle.exec_base.specs.Slab.{live_count}
-use Rattle.exec_time.specs.Notes.{HasRoom}
-use Rattle.exec_time.specs.Sleepers.{ClosesTo}
+use Rattle.exec_time.specs.{Notes.HasRoom, Sleepers.ClosesTo}
 use Rattle.exec_time.proofs.timers.Timers.clear.Given as goal
 
 abbrev pub invariant-open : goal.invariant-open

@@ -1,8 +1,7 @@
 use Rattle.std.proofs.Common.{◌≡◌, sym, ◌∙◌, Some}
 use Rattle.exec_base.specs.Slab.{slot_at, id_in}
-use Rattle.exec_time.proofs.Sleepers.{below_empty, below_keeps, below_takes, index_in, gone_in}
+use Rattle.exec_time.proofs.{Sleepers.{below_empty, below_keeps, below_takes, index_in, gone_in}, timers.Timers.earlier.Goals.{in_default-first-via-in-Some-first+else-deadline-sleeper, in_default-first-via-in_default-first}}
 use Rattle.exec_time.proofs.timers.Timers.earlier.Goals as goal
-use Rattle.exec_time.proofs.timers.Timers.earlier.Goals.{in_default-first-via-in-Some-first+else-deadline-sleeper, in_default-first-via-in_default-first}
 
 pub returns-in_default : goal.returns-in_default
 returns-in_default g c = below_empty c.args.self.now c.args.index c.args.first c.requires.below (rw c.self.view_is at (sym c.id_at.ensures ∙ c.in_default.is))

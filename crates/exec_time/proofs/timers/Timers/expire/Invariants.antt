@@ -1,8 +1,6 @@
 use Rattle.std.proofs.Common.{◌≡◌}
-use Rattle.exec_base.specs.Slab.{live_count, value_at}
-use Rattle.exec_base.specs.declared.slab.Id.{Id}
-use Rattle.exec_time.specs.Notes.{HasRoom}
-use Rattle.exec_time.specs.Sleepers.{FiresTo, left_at}
+use Rattle.exec_base.specs.{Slab.{live_count, value_at}, declared.slab.Id.Id}
+use Rattle.exec_time.specs.{Notes.HasRoom, Sleepers.{FiresTo, left_at}}
 use Rattle.exec_time.proofs.timers.Timers.expire.Given as goal
 
 abbrev pub invariant-due : goal.invariant-due

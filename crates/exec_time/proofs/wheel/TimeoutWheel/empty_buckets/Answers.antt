@@ -1,6 +1,5 @@
 use Rattle.std.proofs.Common.{arith, ◌≡◌, ◌+◌, ◌%◌, ap}
-use Rattle.exec_time.specs.Wheel.{Wheel}
-use Rattle.exec_time.specs.WheelView.{wheel_of}
+use Rattle.exec_time.specs.{Wheel.Wheel, WheelView.wheel_of}
 use Rattle.exec_time.proofs.Views.{emptied_none, emptied_step}
 use Rattle.exec_time.proofs.wheel.TimeoutWheel.empty_buckets.Goals as goal
 

@@ -1,7 +1,6 @@
 use Rattle.std.proofs.Common.{arith, ◌≡◌, ◌<◌, ◌≤◌, length, Some, refl}
 use Rattle.std.proofs.lemmas.Grind.{common_steps}
-use Rattle.exec_time.specs.Wheel.{IsSettled}
-use Rattle.exec_time.specs.WheelView.{wheel_of}
+use Rattle.exec_time.specs.{Wheel.IsSettled, WheelView.wheel_of}
 use Rattle.exec_time.proofs.Ranges.{active_few, active_is_among, found_active}
 use Rattle.exec_time.proofs.wheel.TimeoutWheel.is_settled.Goals as goal
 

@@ -1,5 +1,4 @@
-use Rattle.exec_time.specs.Wheel.{least_active}
-use Rattle.exec_time.specs.WheelView.{wheel_of}
+use Rattle.exec_time.specs.{Wheel.least_active, WheelView.wheel_of}
 use Rattle.exec_time.proofs.Ranges.{least_found, found_active}
 use Rattle.exec_time.proofs.wheel.TimeoutWheel.least_active.Goals as goal
 
