@@ -1,36 +1,16 @@
 -- The room that an admission makes, and gives up again.
-use Rattle.std.proofs.Common.{◌≡◌, ℕ, ◌+◌, ◌-◌, ◌*◌, ◌^◌, ◌<◌, ◌≤◌, ltb, Bool, true, false, not, List, [], ◌∷◌, length, Option, Some, None, Result, Ok, Err, refl, sym, ap, ◌∙◌, inl, inr, arith}
-use Rattle.exec_driver.proofs.Words.{cases_Bool}
+use Rattle.std.proofs.Common.{◌≡◌, ℕ, ◌+◌, ◌-◌, ◌*◌, ◌^◌, ◌<◌, ◌≤◌, ltb, cond, Bool, true, false, not, List, [], ◌∷◌, length, Option, Some, None, Result, Ok, Err, refl, sym, ap, ◌∙◌, inl, inr, arith}
+use Rattle.exec_driver.proofs.{Words.cases_Bool, Counting.{flying_few, pending_is}, Shifts.few, Stepping.sound_ring}
 use Rattle.std.specs.Prelude.{is_some, is_err, count_by, IsSomeAnd, OnOk, OnErr}
-use Rattle.std.proofs.lemmas.Bool.{false≢true, ltb-true, ltb-false}
+use Rattle.std.proofs.lemmas.Bool.{false≢true, ltb-true, ltb-false, leb-false}
 use Rattle.std.proofs.lemmas.List.Sums.{sum_by-cons}
-use Rattle.exec_base.specs.Slab.{Slab}
-use Rattle.exec_base.specs.declared.slab.Slot.{Slot}
-use Rattle.exec_base.specs.declared.slab.Slot.TheVariants.{Live, Vacant, Retired}
-use Rattle.exec_request.specs.Buffers.{batch_of}
-use Rattle.exec_request.specs.Requests.{window_by}
-use Rattle.exec_request.specs.States.{asks_cancel}
-use Rattle.exec_request.specs.Syncing.{is_syncing}
-use Rattle.exec_request.specs.Ways.{is_direct}
-use Rattle.exec_request.specs.declared.buffers.WriteBuffers.{WriteBuffers}
-use Rattle.exec_request.specs.declared.buffers.WriteBuffers.TheVariants.{Single, Vectored}
-use Rattle.exec_request.specs.declared.request.Request.{Request}
-use Rattle.exec_request.specs.declared.request.Request.TheVariants.{Send, Recv, ReadAt, WriteAt, Sync, Connect, Poll}
-use Rattle.exec_request.specs.declared.window.Window.{Window}
-use Rattle.exec_ring.specs.Kernels.{Landing}
-use Rattle.exec_ring.specs.Rings.{RingState, taken_places, fresh as fresh_ring}
+use Rattle.exec_base.specs.{Slab.{Slab, next_index, next_id}, declared.slab.{Id.Id, Slot.{Slot, TheVariants.{Live, Vacant, Retired}}}}
+use Rattle.exec_request.specs.{Buffers.batch_of, Requests.window_by, States.asks_cancel, Syncing.is_syncing, Ways.is_direct, declared.{buffers.WriteBuffers.{WriteBuffers, TheVariants.{Single, Vectored}}, request.Request.{Request, TheVariants.{Send, Recv, ReadAt, WriteAt, Sync, Connect, Poll}}, window.Window.Window}}
+use Rattle.exec_ring.specs.{Kernels.Landing, Rings.{RingState, taken_places, fresh as fresh_ring}}
 use Rattle.exec_time.specs.Wheel.{Wheel, fresh}
-use Rattle.exec_waiters.specs.States.{counts_pending, pending_count}
-use Rattle.exec_waiters.specs.declared.waiter.Entry.{Entry}
-use Rattle.exec_waiters.specs.declared.waiter.Entry.TheVariants.{Pending, Ready}
+use Rattle.exec_waiters.specs.{States.{counts_pending, pending_count, is_full}, declared.waiter.Entry.{Entry, TheVariants.{Pending, Ready}}}
 use Rattle.exec_waiters.proofs.Changes.{one_if}
-use Rattle.exec_driver.specs.Driving.{Driving, is_cancelled}
-use Rattle.exec_driver.specs.Lists.{no_lists}
-use Rattle.exec_driver.specs.Sound.{IsSound, IsHeld, is_uncancelled, counts, count_of}
-use Rattle.exec_driver.specs.Steps.{widened, bytes_left, footprint_of}
-use Rattle.exec_driver.proofs.Counting.{flying_few, pending_is}
-use Rattle.exec_driver.proofs.Shifts.{few}
-use Rattle.exec_driver.proofs.Stepping.{sound_ring}
+use Rattle.exec_driver.specs.{Driving.{Driving, is_cancelled}, Lists.no_lists, Sound.{IsSound, IsHeld, is_uncancelled, counts, count_of}, Steps.{widened, bytes_left, footprint_of}}
 
 -- THE BYTES OF A REQUEST END WITHIN WHAT 64 BITS CAN SAY
 
@@ -158,3 +138,15 @@ pub record IsUnused (w : Wheel) : Type 0 where
 pub unused : (slots : Option ℕ) (w : Wheel) (horizon tick now : ℕ) → IsSomeAnd slots (λ n. w ≡ fresh horizon tick now n) → IsUnused w
 unused (Some n) w horizon tick now is = record { drained = ap (λ (v : Wheel). v.ready) is; idle = λ t. ap (λ (v : Wheel). v.active t) is }
 unused None w horizon tick now is = absurd (is)
+
+module _ {S F : Type 0} where
+  -- who comes into a slab that isn't full has an index below the last
+  pub small_slot : (s : Slab (Entry S F)) (id : Id) → next_id s ≡ Some id → is_full s ≡ false → id.index < 4294967295
+  small_slot s id next free =
+      let low = leb-false 4294967295 (next_index s.vacant (length s.slots)) free in
+      let at = ap (λ (i : Id). i.index) (taken (ltb (next_index s.vacant (length s.slots)) (2 ^ 32)) _ id next) in
+      omega (arith, low, at)
+    where
+      taken : (b : Bool) (x y : Id) → cond b (Some x) None ≡ Some y → x ≡ y
+      taken true x y is = cc
+      taken false x y is = absurd (cc)

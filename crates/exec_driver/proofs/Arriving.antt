@@ -1,48 +1,19 @@
 -- A request that comes in: it is in no list yet, then in those of its place, and there is room for it in each.
 use Rattle.std.proofs.Common.{◌≡◌, ◌↔◌, ℕ, ◌+◌, ◌^◌, ◌<◌, ◌≤◌, Bool, true, false, cond, List, [], ◌∷◌, length, set, Option, Some, None, refl, sym, ap, ◌∙◌, subst, inl, inr, arith, length-set, length-append}
-use Rattle.exec_driver.proofs.Words.{cases_Bool}
+use Rattle.exec_driver.proofs.{Words.cases_Bool, Counting.{OneChanged, pending_is, flying_is}, Shifts.{Shift, Kept, Joined, shifted, nowhere, few}}
 use Rattle.std.specs.Prelude.{is_some, count_by}
 use Rattle.std.proofs.lemmas.Bool.Decides.{eqb_tells}
 use Rattle.std.proofs.lemmas.List.Sums.{sum_by-set, sum_by_push}
-use Rattle.exec_base.specs.Slab.{Slab, slot_at, value_in, value_at, removed, inserted, filled, next_id, next_generation, generation_of, is_live, live_count, freed, IsPast, TakesId, Updates}
-use Rattle.exec_base.specs.declared.slab.Id.{Id}
-use Rattle.exec_base.specs.declared.slab.InsertError.{InsertError}
-use Rattle.exec_base.specs.declared.slab.InsertError.TheVariants.{Full, NoMemory}
-use Rattle.exec_base.specs.declared.slab.Slot.{Slot}
-use Rattle.exec_base.specs.declared.slab.Slot.TheVariants.{Live, Vacant, Retired}
+use Rattle.exec_base.specs.{Slab.{Slab, slot_at, value_in, value_at, removed, inserted, filled, next_id, next_generation, generation_of, is_live, live_count, freed, IsPast, TakesId, Updates}, declared.slab.{Id.Id, InsertError.{InsertError, TheVariants.{Full, NoMemory}}, Slot.{Slot, TheVariants.{Live, Vacant, Retired}}}}
 use Rattle.exec_base.proofs.Slots.{some_of_if, past-free, past-write, Changed-set}
 use Rattle.exec_outcomes.specs.Accounts.{Account, is_durable}
 use Rattle.exec_outcomes.specs.declared.outcome.Kind.TheVariants as kind
-use Rattle.exec_request.specs.Requests.{asked_of, deadline_of, gate_of, gate_of_write, output_of}
-use Rattle.exec_request.specs.States.{Ended}
-use Rattle.exec_request.specs.Syncing.{write_kind}
-use Rattle.exec_request.specs.Ways.{asked_by}
-use Rattle.exec_request.specs.declared.output.RequestOutput.{RequestOutput}
-use Rattle.exec_request.specs.declared.request.Request.{Request}
-use Rattle.exec_request.specs.declared.request.Request.TheVariants.{Send, Recv, ReadAt, WriteAt, Sync, Connect, Poll}
-use Rattle.exec_request.specs.declared.way.Way.{Way}
-use Rattle.exec_request.specs.declared.way.Way.TheVariants.{Buffered, Hinted, Direct, Switched}
-use Rattle.exec_request.specs.declared.write_at.WriteAtState.{WriteAtState}
-use Rattle.exec_request.specs.declared.write_at.WriteAtState.TheVariants.{Writing, WritingSync, WritingBeforeSync, Syncing}
+use Rattle.exec_request.specs.{Requests.{asked_of, deadline_of, gate_of, gate_of_write, output_of}, States.Ended, Syncing.write_kind, Ways.asked_by, declared.{output.RequestOutput.RequestOutput, request.Request.{Request, TheVariants.{Send, Recv, ReadAt, WriteAt, Sync, Connect, Poll}}, way.Way.{Way, TheVariants.{Buffered, Hinted, Direct, Switched}}, write_at.WriteAtState.{WriteAtState, TheVariants.{Writing, WritingSync, WritingBeforeSync, Syncing}}}}
 use Rattle.exec_ring.specs.Rings.{RingState}
 use Rattle.exec_time.specs.Wheel.{Wheel}
-use Rattle.exec_waiters.specs.Events.{admitted, finished, finished_for}
-use Rattle.exec_waiters.specs.States.{waiter_at, waiter_of, is_flying, pending_count}
-use Rattle.exec_waiters.specs.declared.observer.Observer.{Observer}
-use Rattle.exec_waiters.specs.declared.observer.Observer.TheVariants.{Local, Forwarded, DetachedSync, Orphaned}
-use Rattle.exec_waiters.specs.declared.waiter.Refused.{Refused}
-use Rattle.exec_waiters.specs.declared.waiter.Waiter.{Waiter}
-use Rattle.exec_waiters.specs.declared.waiter.Entry.{Entry}
-use Rattle.exec_waiters.specs.declared.waiter.Entry.TheVariants.{Pending, Ready}
-use Rattle.exec_waiters.specs.declared.waiter_id.WaiterId.{WaiterId}
+use Rattle.exec_waiters.specs.{Events.{admitted, finished, finished_for}, States.{waiter_at, waiter_of, is_flying, pending_count}, declared.{observer.Observer.{Observer, TheVariants.{Local, Forwarded, DetachedSync, Orphaned}}, waiter.{Refused.Refused, Waiter.Waiter, Entry.{Entry, TheVariants.{Pending, Ready}}}, waiter_id.WaiterId.WaiterId}}
 use Rattle.exec_waiters.proofs.Changes.{at_by, entry_of, one_if}
-use Rattle.exec_driver.specs.Admission.{HasTwoMore, IsRefused, with_rooms}
-use Rattle.exec_driver.specs.Driving.{Driving, is_queued, is_gated, is_unenrolled, is_enrolled, is_cancelled}
-use Rattle.exec_driver.specs.Lists.{Lists, with_queued, with_gated, with_enrolment}
-use Rattle.exec_driver.specs.Sound.{IsListed, IsSound, IsHeld, is_unpermitted, is_at_tick, is_uncancelled, counts, count_of}
-use Rattle.exec_driver.specs.Steps.{ended, in_place, with_deadline, placed_at, taken_in, newcomer, is_late, timed_out}
-use Rattle.exec_driver.proofs.Counting.{OneChanged, pending_is, flying_is}
-use Rattle.exec_driver.proofs.Shifts.{Shift, Kept, Joined, shifted, nowhere, few}
+use Rattle.exec_driver.specs.{Admission.{HasTwoMore, IsRefused, with_rooms}, Driving.{Driving, is_queued, is_gated, is_unenrolled, is_enrolled, is_cancelled}, Lists.{Lists, with_queued, with_gated, with_enrolment}, Sound.{IsListed, IsSound, IsHeld, is_unpermitted, is_at_tick, is_uncancelled, counts, count_of}, Steps.{ended, in_place, with_deadline, placed_at, taken_in, newcomer, is_late, timed_out}}
 
 -- what needs a permit has a gate
 reads : (way : Way) (n : ℕ) → is_durable (asked_by way n).kind ≡ false

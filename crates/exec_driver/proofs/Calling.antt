@@ -1,14 +1,10 @@
 -- What a call does to the requests of a worker keeps where they stand.
 use Rattle.std.proofs.Common.{◌≡◌, ℕ, Bool, true, false, cond, List, [], ◌∷◌, Option, Some, None, Result, Ok, Err, refl, sym, ap, subst}
 use Rattle.exec_request.specs.Requests.{gate_of, output_of}
-use Rattle.exec_waiters.specs.Events.{taken_from, forwarded_from, orphaned_from, changed_from, with_observer, with_waker}
-use Rattle.exec_driver.specs.Sharing.{Gates}
-use Rattle.exec_driver.proofs.Words.{TaskNo, Ended, Account, Posted, asks_cancel, cancelled, with_tick, deadline_of, asks_cancel_by_orphan, Slab, value_at, waiter_of, Waiter, Entry, Pending, Ready, WaiterId, Driving, request_at, Forwarded, Orphaned}
+use Rattle.exec_waiters.specs.{Events.{taken_from, forwarded_from, orphaned_from, changed_from, with_observer, with_waker}, States.{is_local, is_held_by}}
+use Rattle.exec_driver.specs.{Sharing.Gates, Steps.{cancelled_at, cancelled_from, cancelling, let_go, without_observer, enrolled_by, granted_as, placed_at, timed_out, is_late, swept_from, ended, is_control, noted}}
+use Rattle.exec_driver.proofs.{Words.{TaskNo, Ended, Account, Posted, asks_cancel, cancelled, with_tick, deadline_of, asks_cancel_by_orphan, Slab, value_at, waiter_of, Waiter, Entry, Pending, Ready, WaiterId, Driving, request_at, Forwarded, Orphaned}, Arriving.placed_is, Standing.{AllFit, IsLast, there_last, asking_last, removed_fits, becomes, finished_fits}}
 use Rattle.exec_base.specs.declared.error.Error.{Error}
-use Rattle.exec_waiters.specs.States.{is_local, is_held_by}
-use Rattle.exec_driver.specs.Steps.{cancelled_at, cancelled_from, cancelling, let_go, without_observer, enrolled_by, granted_as, placed_at, timed_out, is_late, swept_from, ended, is_control, noted}
-use Rattle.exec_driver.proofs.Arriving.{placed_is}
-use Rattle.exec_driver.proofs.Standing.{AllFit, IsLast, there_last, asking_last, removed_fits, becomes, finished_fits}
 
 module _ {S F : Type 0} where
   -- WHAT A CALL DOES TO THE REQUESTS

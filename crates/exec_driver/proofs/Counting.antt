@@ -4,9 +4,7 @@ use Rattle.std.specs.Prelude.{count_by}
 use Rattle.std.proofs.lemmas.List.{set-get_or}
 use Rattle.std.proofs.lemmas.List.Sums.{sum_by-set, sum_by-le-sum_by}
 use Rattle.exec_driver.proofs.Words.{is_some, Slab, value_at, written, Id, waiter_at, waiter_in, waiter_of, is_flying, pending_count, flying_count, Waiter, Entry, Pending, Ready, one_if, count_of}
-use Rattle.exec_base.specs.Slab.{removed, freed}
-use Rattle.exec_base.specs.declared.slab.Slot.{Slot}
-use Rattle.exec_base.specs.declared.slab.Slot.TheVariants.{Live, Vacant, Retired}
+use Rattle.exec_base.specs.{Slab.{removed, freed}, declared.slab.Slot.{Slot, TheVariants.{Live, Vacant, Retired}}}
 use Rattle.exec_base.proofs.Slots.{Changed-set, Updates-write, Updates-free}
 use Rattle.exec_waiters.specs.States.{counts_pending, counts_flying}
 use Rattle.exec_waiters.proofs.Changes.{at_by}

@@ -1,16 +1,11 @@
 -- A request that ends, or is cancelled, keeps a driver sound.
 use Rattle.std.proofs.Common.{◌≡◌, ℕ, ◌+◌, ◌<◌, ◌≤◌, Bool, true, false, not, [], ◌∷◌, length, Option, Some, None, refl, sym, ap, ◌∙◌, inl, inr, arith, length-append}
 use Rattle.std.specs.Option.{IfSome}
-use Rattle.exec_driver.proofs.Words.{is_some, false≢true, eqb_tells, Slab, value_at, written, Id, Account, Ended, asks_cancel, Wheel, told_by_finish, cancelled, changed, waiter_at, is_flying, pending_count, tick_in, Observer, Local, Forwarded, DetachedSync, Orphaned, Waiter, Entry, Pending, Ready, WaiterId, WaiterState, Active, CancelRequested, entry_of, one_if, Driving, request_at, is_queued, is_gated, is_unenrolled, is_enrolled, is_cancelled, without, IsSound, IsHeld, is_tick, is_unpermitted, is_at_tick, is_uncancelled, count_of, Tells, Deferred, ended, cancelling, not-true, not-false}
-use Rattle.exec_request.specs.Requests.{output_of}
-use Rattle.exec_request.specs.declared.output.RequestOutput.{RequestOutput}
+use Rattle.exec_driver.proofs.{Words.{is_some, false≢true, eqb_tells, Slab, value_at, written, Id, Account, Ended, asks_cancel, Wheel, told_by_finish, cancelled, changed, waiter_at, is_flying, pending_count, tick_in, Observer, Local, Forwarded, DetachedSync, Orphaned, Waiter, Entry, Pending, Ready, WaiterId, WaiterState, Active, CancelRequested, entry_of, one_if, Driving, request_at, is_queued, is_gated, is_unenrolled, is_enrolled, is_cancelled, without, IsSound, IsHeld, is_tick, is_unpermitted, is_at_tick, is_uncancelled, count_of, Tells, Deferred, ended, cancelling, not-true, not-false}, Names.fewer_without, Counting.{OneChanged, same_written, one_written, one_removed, pending_is, flying_is}, Shifts.{Left, Kept, Joined, shifted, nowhere, room_for}}
+use Rattle.exec_request.specs.{Requests.output_of, declared.output.RequestOutput.RequestOutput}
 use Rattle.exec_time.specs.Wheel.{removed}
-use Rattle.exec_waiters.specs.Events.{finished, finished_for, may_cancel}
-use Rattle.exec_waiters.specs.States.{is_idle}
+use Rattle.exec_waiters.specs.{Events.{finished, finished_for, may_cancel}, States.is_idle}
 use Rattle.exec_driver.specs.Steps.{unscheduled, told_by_cancel, timed_out}
-use Rattle.exec_driver.proofs.Names.{fewer_without}
-use Rattle.exec_driver.proofs.Counting.{OneChanged, same_written, one_written, one_removed, pending_is, flying_is}
-use Rattle.exec_driver.proofs.Shifts.{Left, Kept, Joined, shifted, nowhere, room_for}
 
 -- the active entries of the wheel without one
 pub ticks_after : (w : Wheel) (tick : Option ℕ) (n n' : ℕ → ℕ) → ((t : ℕ) → w.active t ≡ n t) → ((t : ℕ) → n' t + one_if (is_tick t tick) ≡ n t) → (t : ℕ) → (unscheduled w tick).active t ≡ n' t

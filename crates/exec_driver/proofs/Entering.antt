@@ -4,10 +4,8 @@ use Rattle.std.specs.Prelude.{fold}
 use Rattle.std.proofs.lemmas.List.Edits.{length-remove}
 use Rattle.std.proofs.lemmas.Option.{slice_get_within}
 use Rattle.exec_driver.proofs.Words.{cond_both, false≢true, OpResult, wake_completion, Landing, landed, may_land, reaped, next_completion, next_in, flight_of, RingState, taken_places, Completion, Posted, Submission, is_control, cases_Bool}
-use Rattle.exec_request.specs.declared.window.Opcode.{Opcode}
-use Rattle.exec_request.specs.declared.window.Opcode.TheVariants.{Send, Recv, Read, Write, Sync, Connect, Poll, Cancel, Wake}
-use Rattle.exec_ring.specs.Completions.{acknowledged, completed}
-use Rattle.exec_ring.specs.Kernels.{woken, with_wake, with_poll, taken_as, taken_in, all_taken, all_landed, MayAllLand, entered_with, allows, flight_place}
+use Rattle.exec_request.specs.declared.window.Opcode.{Opcode, TheVariants.{Send, Recv, Read, Write, Sync, Connect, Poll, Cancel, Wake}}
+use Rattle.exec_ring.specs.{Completions.{acknowledged, completed}, Kernels.{woken, with_wake, with_poll, taken_as, taken_in, all_taken, all_landed, MayAllLand, entered_with, allows, flight_place}}
 
 -- a ring has at most so many entries more, and is the same ring
 pub record Within (s s' : RingState) (more : ℕ) : Type 0 where

@@ -5,14 +5,10 @@ use Rattle.std.specs.Prelude.{find, nat_lt, if◌then◌else◌}
 use Rattle.std.specs.List.{range_with_len}
 use Rattle.exec_time.specs.Wheel.{Wheel, IsSettled, IsWithinReach, least_active}
 use Rattle.exec_time.proofs.Passes.{least_before}
-use Rattle.exec_waiters.specs.States.{tick_of, waiter_at}
-use Rattle.exec_waiters.specs.declared.waiter_id.WaiterId.{WaiterId}
+use Rattle.exec_waiters.specs.{States.{tick_of, waiter_at}, declared.waiter_id.WaiterId.WaiterId}
 use Rattle.exec_base.specs.declared.slab.Slot.TheVariants.{Vacant}
-use Rattle.exec_driver.specs.Driving.{Driving, request_at}
-use Rattle.exec_driver.specs.Punctual.{IsPunctual, IsFirstTick, TellsDeadlines}
-use Rattle.exec_driver.specs.Sound.{IsSound, is_at_tick, counts}
-use Rattle.exec_driver.proofs.Coming.{tick_there}
-use Rattle.exec_driver.proofs.Punctual.{counted, named_there, settled}
+use Rattle.exec_driver.specs.{Driving.{Driving, request_at}, Punctual.{IsPunctual, IsFirstTick, TellsDeadlines}, Sound.{IsSound, is_at_tick, counts}}
+use Rattle.exec_driver.proofs.{Coming.tick_there, Punctual.{counted, named_there, settled}}
 
 found_passes : (p : ℕ → Bool) (xs : List ℕ) (x : ℕ) → find p xs ≡ Some x → p x ≡ true
 found_passes p [] x is = absurd (cc)

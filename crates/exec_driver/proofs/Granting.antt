@@ -1,14 +1,8 @@
 -- A permit, a deadline that is enrolled, and one that has come, keep a driver as it should be.
 use Rattle.std.proofs.Common.{◌≡◌, ℕ, ◌+◌, ◌<◌, ◌≤◌, Bool, true, false, not, ◌&&◌, List, [], ◌∷◌, ◌++◌, length, Option, Some, None, refl, ap, ◌∙◌, inl, inr, arith}
-use Rattle.exec_driver.proofs.Words.{is_some, false≢true, eqb_tells, Slab, written, Id, deadline_of, asks_cancel, WaiterState, Active, CancelRequested, Wheel, with_permit, with_tick, waiter_at, is_flying, needs_permit, takes_tick, Waiter, Entry, Pending, WaiterId, one_if, Driving, request_at, is_queued, is_gated, is_unenrolled, is_enrolled, is_cancelled, first_of, rest_of, is_among, with_queued, after_enrolment, IsSound, IsHeld, is_unpermitted, is_at_tick, is_tick, is_uncancelled, are_all, is_once, count_of, and_parts, not-true}
-use Rattle.exec_driver.specs.Placed.{ListsRequests}
+use Rattle.exec_driver.proofs.{Words.{is_some, false≢true, eqb_tells, Slab, written, Id, deadline_of, asks_cancel, WaiterState, Active, CancelRequested, Wheel, with_permit, with_tick, waiter_at, is_flying, needs_permit, takes_tick, Waiter, Entry, Pending, WaiterId, one_if, Driving, request_at, is_queued, is_gated, is_unenrolled, is_enrolled, is_cancelled, first_of, rest_of, is_among, with_queued, after_enrolment, IsSound, IsHeld, is_unpermitted, is_at_tick, is_tick, is_uncancelled, are_all, is_once, count_of, and_parts, not-true}, Names.same_tells, Counting.{pending_is, flying_is}, Shifts.{Left, Kept, Joined, First, shifted, nowhere, room_for}, Endings.one_changed, Stepping.{stays, there_by, first_tells}}
+use Rattle.exec_driver.specs.{Placed.ListsRequests, Lists.without_gated}
 use Rattle.exec_time.specs.Wheel.{scheduled}
-use Rattle.exec_driver.specs.Lists.{without_gated}
-use Rattle.exec_driver.proofs.Names.{same_tells}
-use Rattle.exec_driver.proofs.Counting.{pending_is, flying_is}
-use Rattle.exec_driver.proofs.Shifts.{Left, Kept, Joined, First, shifted, nowhere, room_for}
-use Rattle.exec_driver.proofs.Endings.{one_changed}
-use Rattle.exec_driver.proofs.Stepping.{stays, there_by, first_tells}
 
 -- one more is active at a tick
 ticks_more : (w : Wheel) (id : Id) (tick : ℕ) (n n' : ℕ → ℕ) → ((t : ℕ) → w.active t ≡ n t) → ((t : ℕ) → n' t ≡ n t + one_if (is_tick t (Some tick))) → (t : ℕ) → (scheduled w id tick).active t ≡ n' t

@@ -1,21 +1,10 @@
 -- Each call keeps a driver punctual: whose deadline stands in the wheel is due, or comes out at its tick.
 use Rattle.std.proofs.Common.{zero, suc, ◌≡◌, ◌⊎◌, ℕ, ◌<◌, Bool, true, false, cond, List, [], ◌∷◌, set, slice_get, Option, Some, None, refl, sym, ap, subst, ◌∙◌, inl, inr}
 use Rattle.std.specs.Option.{IfSome}
-use Rattle.exec_driver.proofs.Words.{Slab, value_at, written, TaskNo, Account, asks_cancel, cancelled, changed, waiter_in, tick_in, tick_of, Observer, Local, Forwarded, Orphaned, Waiter, Entry, Pending, Ready, WaiterId, Driving, request_at, Ended, OpenState, cases_Bool}
+use Rattle.exec_driver.proofs.{Words.{Slab, value_at, written, TaskNo, Account, asks_cancel, cancelled, changed, waiter_in, tick_in, tick_of, Observer, Local, Forwarded, Orphaned, Waiter, Entry, Pending, Ready, WaiterId, Driving, request_at, Ended, OpenState, cases_Bool}, Names.same_tells, Counting.{OneChanged, one_written, one_removed}, Endings.one_changed, Lines.placed_there, Serving.{keeps_one, keeps_punctual, like_unscheduled, eases_ended}}
 use Rattle.exec_base.specs.Slab.{removed}
-use Rattle.exec_waiters.specs.Events.{taken_from, taken, forwarded_from, forwarded, orphaned_from, changed_from, with_observer, with_waker, asks_cancel_by_orphan}
-use Rattle.exec_waiters.specs.States.{is_local, is_held_by}
-use Rattle.exec_driver.specs.Admission.{with_rooms}
-use Rattle.exec_driver.specs.Opens.{open_at, open_named, with_open_in, with_named, placed, writing}
-use Rattle.exec_driver.specs.Punctual.{IsPunctual}
-use Rattle.exec_driver.specs.Steps.{cancelled_from, cancelled_at, cancelling, without_observer, let_go, timed_out, ended, entered}
-use Rattle.exec_driver.specs.Turns.{made_way}
-use Rattle.exec_driver.specs.Driving.{is_full}
-use Rattle.exec_driver.proofs.Names.{same_tells}
-use Rattle.exec_driver.proofs.Counting.{OneChanged, one_written, one_removed}
-use Rattle.exec_driver.proofs.Endings.{one_changed}
-use Rattle.exec_driver.proofs.Lines.{placed_there}
-use Rattle.exec_driver.proofs.Serving.{keeps_one, keeps_punctual, like_unscheduled, eases_ended}
+use Rattle.exec_waiters.specs.{Events.{taken_from, taken, forwarded_from, forwarded, orphaned_from, changed_from, with_observer, with_waker, asks_cancel_by_orphan}, States.{is_local, is_held_by}}
+use Rattle.exec_driver.specs.{Admission.with_rooms, Opens.{open_at, open_named, with_open_in, with_named, placed, writing}, Punctual.IsPunctual, Steps.{cancelled_from, cancelled_at, cancelling, without_observer, let_go, timed_out, ended, entered}, Turns.made_way, Driving.is_full}
 
 -- WHO WAS ADMITTED MAY JOIN
 

@@ -1,19 +1,11 @@
 -- An operation that ends in a ring in memory keeps a driver as it should be.
 use Rattle.std.proofs.Common.{◌≡◌, ℕ, Bool, true, not, ◌&&◌, cond, Some, Result, Ok, Err, refl, ap, inl, inr}
 use Rattle.std.specs.Prelude.{OnOk, OnErr}
-use Rattle.exec_driver.proofs.Words.{Slab, written, is_durable, Asked, OpResult, asked_of, Request, landed, may_land, flight_of, RingState, is_flying, needs_permit, Waiter, Entry, Pending, WaiterId, Driving, request_at, IsHeld, cases_Bool}
-use Rattle.exec_ring.specs.declared.landing.Unlawful.{Unlawful}
-use Rattle.exec_ring.specs.declared.store.Store.{Store}
-use Rattle.exec_waiters.specs.Events.{Lands}
-use Rattle.exec_waiters.specs.Ids.{user_data_of}
+use Rattle.exec_driver.proofs.{Words.{Slab, written, is_durable, Asked, OpResult, asked_of, Request, landed, may_land, flight_of, RingState, is_flying, needs_permit, Waiter, Entry, Pending, WaiterId, Driving, request_at, IsHeld, cases_Bool}, Endings.{one_changed, flying_there}, Entering.landed_within, Keeping.punctual_one, Observing.held_alike, Stepping.held_ring}
+use Rattle.exec_ring.specs.declared.{landing.Unlawful.Unlawful, store.Store.Store}
+use Rattle.exec_waiters.specs.{Events.Lands, Ids.user_data_of}
 use Rattle.exec_waiters.proofs.Fits.{asked_after}
-use Rattle.exec_driver.specs.Punctual.{IsPunctual}
-use Rattle.exec_driver.specs.Steps.{LandsOne}
-use Rattle.exec_driver.proofs.Endings.{one_changed, flying_there}
-use Rattle.exec_driver.proofs.Entering.{landed_within}
-use Rattle.exec_driver.proofs.Keeping.{punctual_one}
-use Rattle.exec_driver.proofs.Observing.{held_alike}
-use Rattle.exec_driver.proofs.Stepping.{held_ring}
+use Rattle.exec_driver.specs.{Punctual.IsPunctual, Steps.LandsOne}
 
 -- what came of a landing: the answer, the ring, and the requests with the store
 pub record Landed {S F : Type 0} (d : Driving S F) (s' : Slab (Entry S F)) (ring' : RingState) (id : WaiterId) (given : OpResult) (answer : Result (Unit {0}) Unlawful) (st st' : Store) : Type 0 where

@@ -24,6 +24,7 @@ pub mod Coming
 pub mod Queues
 pub mod Serving
 pub mod Turns
+pub mod Service
 pub mod Punctual
 pub mod Firsts
 pub mod Promises

@@ -1,12 +1,8 @@
 -- Who waits for a request decides nothing of where it is.
 use Rattle.std.proofs.Common.{◌≡◌, ◌⊎◌, ℕ, ◌+◌, ◌≤◌, Bool, true, false, cond, List, length, Option, Some, None, refl, sym, ap, ◌∙◌, inl, inr, arith}
-use Rattle.exec_driver.proofs.Words.{is_some, false≢true, Slab, value_at, written, Id, TaskNo, changed, waiter_at, waiter_in, is_flying, pending_count, flying_count, Observer, Local, Forwarded, Orphaned, Waiter, Entry, Pending, Ready, WaiterId, Driving, is_queued, is_gated, is_unenrolled, is_enrolled, is_cancelled, IsSound, IsHeld, is_unpermitted, is_at_tick, is_uncancelled}
+use Rattle.exec_driver.proofs.{Words.{is_some, false≢true, Slab, value_at, written, Id, TaskNo, changed, waiter_at, waiter_in, is_flying, pending_count, flying_count, Observer, Local, Forwarded, Orphaned, Waiter, Entry, Pending, Ready, WaiterId, Driving, is_queued, is_gated, is_unenrolled, is_enrolled, is_cancelled, IsSound, IsHeld, is_unpermitted, is_at_tick, is_uncancelled}, Counting.{OneChanged, one_written, one_removed, pending_is, flying_is}, Shifts.{Shift, Left, Kept, Joined, First, shifted, nowhere}, Stepping.stays}
 use Rattle.exec_base.specs.Slab.{removed}
-use Rattle.exec_waiters.specs.Events.{taken_from, taken, forwarded_from, forwarded, orphaned_from, orphaned, changed_from, with_observer, with_waker}
-use Rattle.exec_waiters.specs.States.{is_local, is_held_by}
-use Rattle.exec_driver.proofs.Counting.{OneChanged, one_written, one_removed, pending_is, flying_is}
-use Rattle.exec_driver.proofs.Shifts.{Shift, Left, Kept, Joined, First, shifted, nowhere}
-use Rattle.exec_driver.proofs.Stepping.{stays}
+use Rattle.exec_waiters.specs.{Events.{taken_from, taken, forwarded_from, forwarded, orphaned_from, orphaned, changed_from, with_observer, with_waker}, States.{is_local, is_held_by}}
 
 module _ {S F : Type 0} where
   -- one change after which each place has the request as before

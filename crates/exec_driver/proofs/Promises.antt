@@ -1,37 +1,14 @@
 -- Why the laws hold.
 use Rattle.std.proofs.Common.{◌≡◌, ℕ, Bool, true, false, not, ◌&&◌, cond, List, Option, Some, None, Ok, Err, refl, sym, ap, subst}
 use Rattle.std.proofs.lemmas.Bool.{false≢true}
-use Rattle.exec_base.specs.declared.error.Error.{Error}
-use Rattle.exec_base.specs.declared.slab.Id.{Id}
-use Rattle.exec_outcomes.specs.Accounts.{Account, is_durable, outcome_at_grant}
-use Rattle.exec_outcomes.specs.declared.outcome.Kind.{Kind}
+use Rattle.exec_base.specs.{declared.{error.Error.Error, slab.Id.Id}, Slab.Slab}
+use Rattle.exec_outcomes.specs.{Accounts.{Account, is_durable, outcome_at_grant}, declared.outcome.{Kind.Kind, OpResult.OpResult, Outcome.TheVariants.Failure}}
 use Rattle.exec_outcomes.specs.declared.outcome.Kind.TheVariants as kind
-use Rattle.exec_outcomes.specs.declared.outcome.OpResult.{OpResult}
-use Rattle.exec_outcomes.specs.declared.outcome.Outcome.TheVariants.{Failure}
-use Rattle.exec_request.specs.Requests.{asked_of, deadline_of, goes_on_alone, output_of}
-use Rattle.exec_request.specs.States.{asks_cancel}
-use Rattle.exec_request.specs.Ways.{asked_by}
-use Rattle.exec_request.specs.declared.way.Way.{Way}
-use Rattle.exec_request.specs.declared.way.Way.TheVariants.{Buffered, Hinted, Direct, Switched}
-use Rattle.exec_request.specs.declared.request.Request.{Request}
-use Rattle.exec_request.specs.declared.request.Request.TheVariants.{Send, Recv, ReadAt, WriteAt, Sync, Connect, Poll}
-use Rattle.exec_waiters.specs.Events.{ending_of, cancelled}
-use Rattle.exec_waiters.specs.declared.waiter.Waiter.{Waiter}
-use Rattle.exec_waiters.specs.declared.waiter.Entry.{Entry}
-use Rattle.exec_base.specs.Slab.{Slab}
-use Rattle.exec_waiters.specs.declared.waiter_id.WaiterId.{WaiterId}
+use Rattle.exec_request.specs.{Requests.{asked_of, deadline_of, goes_on_alone, output_of}, States.asks_cancel, Ways.asked_by, declared.{way.Way.{Way, TheVariants.{Buffered, Hinted, Direct, Switched}}, request.Request.{Request, TheVariants.{Send, Recv, ReadAt, WriteAt, Sync, Connect, Poll}}}}
+use Rattle.exec_waiters.specs.{Events.{ending_of, cancelled}, declared.{waiter.{Waiter.Waiter, Entry.Entry}, waiter_id.WaiterId.WaiterId}}
 use Rattle.exec_waiters.proofs.Changes.{entry_of}
-use Rattle.exec_driver.specs.Driving.{Driving, request_at}
-use Rattle.exec_driver.specs.Laws.{ShareGates, IsDurableFlight, GoesOnFlying}
-use Rattle.exec_driver.specs.Lists.{Lists, withdrawn}
-use Rattle.exec_driver.specs.Laws.{is_listed}
-use Rattle.exec_driver.specs.Opens.{OpenState, holder_at}
-use Rattle.exec_driver.specs.Steps.{let_go, without_observer, cancelled_at, cancelling, lawful_of}
-use Rattle.exec_driver.specs.declared.opens.WaiterKey.{WaiterKey}
-use Rattle.exec_driver.proofs.Endings.{one_changed}
-use Rattle.exec_driver.proofs.Granting.{same_some}
-use Rattle.exec_driver.proofs.Names.{among_without}
-use Rattle.exec_driver.proofs.Turns.{if_tells}
+use Rattle.exec_driver.specs.{Driving.{Driving, request_at}, Laws.{ShareGates, IsDurableFlight, GoesOnFlying, is_listed}, Lists.{Lists, withdrawn}, Opens.{OpenState, holder_at}, Steps.{let_go, without_observer, cancelled_at, cancelling, lawful_of}, declared.opens.WaiterKey.WaiterKey}
+use Rattle.exec_driver.proofs.{Endings.one_changed, Granting.same_some, Names.among_without, Turns.if_tells}
 
 never : (b : Bool) → (b && not true) ≡ false
 never true = refl

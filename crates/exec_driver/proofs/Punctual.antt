@@ -1,45 +1,19 @@
 -- Deadlines that are kept: one that is enrolled, and when a wheel is settled.
 use Rattle.std.proofs.Common.{zero, suc, ◌≡◌, ◌≢◌, ◌⊎◌, ℕ, ◌+◌, ◌%◌, ◌<◌, ◌≤◌, eqb, Bool, true, false, not, ◌&&◌, ◌||◌, cond, List, [], ◌∷◌, ◌++◌, length, get_or, Option, Some, None, Ok, Err, Result, refl, sym, ap, subst, ◌∙◌, inl, inr, arith}
-use Rattle.exec_driver.proofs.Words.{cases_Bool}
+use Rattle.exec_driver.proofs.{Words.cases_Bool, Coming.advanced_punctual, Names.{same_tells, fewer_without}, Counting.pending_is, Endings.{one_changed, ticked}, Expiring.{IsTaken, tick_tells, unset_there}, Serving.{eases_ended, keeps_still, keeps_both, serves_by, room_ended, room_still, none_without}, Stepping.first_tells}
 use Rattle.std.specs.Prelude.{count_by, is_some, Contains}
 use Rattle.std.specs.Option.{IfSome, IfNone}
 use Rattle.std.proofs.lemmas.Bool.{false≢true, cases_lt}
 use Rattle.std.proofs.lemmas.Bool.Decides.{eqb_tells}
 use Rattle.std.proofs.lemmas.List.Sums.{sum_by-cons}
 use Rattle.std.proofs.lemmas.List.Elements.{Contains-append_left, Contains-append_right}
-use Rattle.exec_base.specs.Slab.{Slab, written}
-use Rattle.exec_base.specs.declared.error.Error.{Error}
-use Rattle.exec_base.specs.declared.slab.Id.{Id}
-use Rattle.exec_base.specs.declared.slab.Slot.{Slot}
-use Rattle.exec_base.specs.declared.slab.Slot.TheVariants.{Live, Vacant, Retired}
+use Rattle.exec_base.specs.{Slab.{Slab, written}, declared.{error.Error.Error, slab.{Id.Id, Slot.{Slot, TheVariants.{Live, Vacant, Retired}}}}}
 use Rattle.exec_request.specs.Requests.{deadline_of}
-use Rattle.exec_time.specs.Wheel.{Wheel, IsSettled, IsWithinReach, slot_of, scheduled}
-use Rattle.exec_time.specs.WheelView.{wheel_of}
-use Rattle.exec_time.specs.declared.wheel.TimeoutWheel.{TimeoutWheel}
+use Rattle.exec_time.specs.{Wheel.{Wheel, IsSettled, IsWithinReach, slot_of, scheduled}, WheelView.wheel_of, declared.wheel.TimeoutWheel.TimeoutWheel}
 use Rattle.exec_time.proofs.Ranges.{slots_apart}
-use Rattle.exec_waiters.specs.Events.{with_tick}
-use Rattle.exec_waiters.specs.States.{waiter_at, tick_in, tick_of}
-use Rattle.exec_waiters.specs.Told.{Tells}
-use Rattle.exec_waiters.specs.declared.deferred.Deferred.{Deferred}
-use Rattle.exec_waiters.specs.declared.waiter.Waiter.{Waiter}
-use Rattle.exec_waiters.specs.declared.waiter.Entry.{Entry}
-use Rattle.exec_waiters.specs.declared.waiter.Entry.TheVariants.{Pending, Ready}
-use Rattle.exec_waiters.specs.declared.waiter_id.WaiterId.{WaiterId}
+use Rattle.exec_waiters.specs.{Events.with_tick, States.{waiter_at, tick_in, tick_of}, Told.Tells, declared.{deferred.Deferred.Deferred, waiter.{Waiter.Waiter, Entry.{Entry, TheVariants.{Pending, Ready}}}, waiter_id.WaiterId.WaiterId}}
 use Rattle.exec_waiters.proofs.Changes.{one_if}
-use Rattle.exec_driver.specs.Driving.{Driving, request_at, is_unenrolled}
-use Rattle.exec_driver.specs.Lists.{has_first, first_of, is_among, without, after_enrolment}
-use Rattle.exec_driver.specs.Punctual.{IsPunctual}
-use Rattle.exec_driver.specs.Sound.{IsSound, is_tick, is_at_tick, counts, count_of}
-use Rattle.exec_driver.specs.Steps.{advanced_to, tick_for, enrolled, told_by_enrolment, ended, Enrols}
-use Rattle.exec_driver.specs.Turns.{CanTell, GoesOn, Serves}
-use Rattle.exec_driver.specs.declared.driver.timing.Enrolled.{Enrolled}
-use Rattle.exec_driver.proofs.Coming.{advanced_punctual}
-use Rattle.exec_driver.proofs.Names.{same_tells, fewer_without}
-use Rattle.exec_driver.proofs.Counting.{pending_is}
-use Rattle.exec_driver.proofs.Endings.{one_changed, ticked}
-use Rattle.exec_driver.proofs.Expiring.{IsTaken, tick_tells, unset_there}
-use Rattle.exec_driver.proofs.Serving.{eases_ended, keeps_still, keeps_both, serves_by, room_ended, room_still, none_without}
-use Rattle.exec_driver.proofs.Stepping.{first_tells}
+use Rattle.exec_driver.specs.{Driving.{Driving, request_at, is_unenrolled}, Lists.{has_first, first_of, is_among, without, after_enrolment}, Punctual.IsPunctual, Sound.{IsSound, is_tick, is_at_tick, counts, count_of}, Steps.{advanced_to, tick_for, enrolled, told_by_enrolment, ended, Enrols}, Turns.{CanTell, GoesOn, Serves}, declared.driver.timing.Enrolled.Enrolled}
 
 -- WHEELS
 

@@ -2,12 +2,8 @@
 use Rattle.std.proofs.Common.{◌≡◌, ℕ, Bool, true, false, cond, List, [], ◌∷◌, length, refl, sym, ◌∙◌}
 use Rattle.std.specs.Prelude.{fold}
 use Rattle.std.proofs.lemmas.Bool.{false≢true}
-use Rattle.exec_request.specs.declared.window.Opcode.{Opcode}
-use Rattle.exec_request.specs.declared.window.Opcode.TheVariants.{Send, Recv, Read, Write, Sync, Connect, Poll, Cancel, Wake}
-use Rattle.exec_ring.specs.Kernels.{Landing, woken, with_poll, taken_as, taken_in, all_taken, landed, all_landed, entered_with, answer_of_enter}
-use Rattle.exec_ring.specs.Rings.{RingState}
-use Rattle.exec_ring.specs.declared.completion.Submission.{Submission}
-use Rattle.exec_ring.specs.declared.ring.Entered.TheVariants.{Taken, Busy}
+use Rattle.exec_request.specs.declared.window.Opcode.{Opcode, TheVariants.{Send, Recv, Read, Write, Sync, Connect, Poll, Cancel, Wake}}
+use Rattle.exec_ring.specs.{Kernels.{Landing, woken, with_poll, taken_as, taken_in, all_taken, landed, all_landed, entered_with, answer_of_enter}, Rings.RingState, declared.{completion.Submission.Submission, ring.Entered.TheVariants.{Taken, Busy}}}
 
 -- the kernel is as busy as it was, and its queue is as it was
 record IsFixed (s s' : RingState) : Type 0 where

@@ -1,34 +1,16 @@
 -- What each step of a service keeps.
 use Rattle.std.proofs.Common.{◌≡◌, ◌≢◌, ◌⊎◌, ℕ, ◌+◌, ◌≤◌, Bool, true, false, List, [], ◌∷◌, ◌++◌, length, Option, Some, None, refl, sym, ap, subst, ◌∙◌, inl, inr, arith, length-append}
-use Rattle.exec_driver.proofs.Words.{cases_Bool}
+use Rattle.exec_driver.proofs.{Words.cases_Bool, Names.same_tells, Counting.{OneChanged, pending_is}, Endings.{one_changed, one_finished}, Telling.{few_finished, room_left, room_within}}
 use Rattle.std.specs.Prelude.{is_some}
 use Rattle.std.proofs.lemmas.Bool.{false≢true}
 use Rattle.exec_base.specs.Slab.{written}
-use Rattle.exec_outcomes.specs.Accounts.{Account}
-use Rattle.exec_outcomes.specs.declared.outcome.OpResult.{OpResult}
+use Rattle.exec_outcomes.specs.{Accounts.Account, declared.outcome.OpResult.OpResult}
 use Rattle.exec_request.specs.States.{Ended}
-use Rattle.exec_ring.specs.Kernels.{reaped}
-use Rattle.exec_ring.specs.declared.completion.Posted.{Posted}
+use Rattle.exec_ring.specs.{Kernels.reaped, declared.completion.Posted.Posted}
 use Rattle.exec_time.specs.Wheel.{Wheel, removed}
-use Rattle.exec_waiters.specs.Events.{told_by_finish}
-use Rattle.exec_waiters.specs.States.{pending_count, tick_in, tick_of, file_of}
-use Rattle.exec_waiters.specs.Told.{HasPlaces, Tells, nothing_told}
-use Rattle.exec_waiters.specs.declared.deferred.Deferred.{Deferred}
-use Rattle.exec_waiters.specs.declared.waiter.Waiter.{Waiter}
-use Rattle.exec_waiters.specs.declared.waiter.Entry.TheVariants.{Pending}
-use Rattle.exec_waiters.specs.declared.waiter_id.WaiterId.{WaiterId}
+use Rattle.exec_waiters.specs.{Events.told_by_finish, States.{pending_count, tick_in, tick_of, file_of}, Told.{HasPlaces, Tells, nothing_told}, declared.{deferred.Deferred.Deferred, waiter.{Waiter.Waiter, Entry.TheVariants.Pending}, waiter_id.WaiterId.WaiterId}}
 use Rattle.exec_waiters.proofs.Changes.{one_if}
-use Rattle.exec_driver.specs.Driving.{Driving, request_at}
-use Rattle.exec_driver.specs.Lists.{Lists, has_first, rest_of, is_among, is_same, without}
-use Rattle.exec_driver.specs.Opens.{OpenState, account_in}
-use Rattle.exec_driver.specs.Steps.{open_after, is_control, unscheduled, ended, noted, swept_from, taken_out, landed_at, judged_as_over, told_by_end, Reaps}
-use Rattle.exec_driver.specs.Punctual.{IsPunctual}
-use Rattle.exec_driver.specs.Turns.{CanTell, GoesOn, Serves, StaysDone}
-use Rattle.exec_driver.specs.declared.driver.reaping.Reaped.{Reaped}
-use Rattle.exec_driver.proofs.Names.{same_tells}
-use Rattle.exec_driver.proofs.Counting.{OneChanged, pending_is}
-use Rattle.exec_driver.proofs.Endings.{one_changed, one_finished}
-use Rattle.exec_driver.proofs.Telling.{few_finished, room_left, room_within}
+use Rattle.exec_driver.specs.{Driving.{Driving, request_at}, Lists.{Lists, has_first, rest_of, is_among, is_same, without}, Opens.{OpenState, account_in}, Steps.{open_after, is_control, unscheduled, ended, noted, swept_from, taken_out, landed_at, judged_as_over, told_by_end, Reaps}, Punctual.IsPunctual, Turns.{CanTell, GoesOn, Serves, StaysDone}, declared.driver.reaping.Reaped.Reaped}
 
 -- a list without a name is empty where it was, and has every other that it had
 pub none_without : (id : WaiterId) (ids : List WaiterId) → has_first ids ≡ false → has_first (without id ids) ≡ false

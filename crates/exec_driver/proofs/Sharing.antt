@@ -1,30 +1,12 @@
 -- Drivers that share gates go on sharing them: what each call keeps of where requests stand.
 use Rattle.std.proofs.Common.{◌≡◌, ◌≢◌, ◌⊎◌, ℕ, zero, suc, ◌<◌, ◌^◌, eqb, true, false, cond, List, get_or, Option, Some, None, refl, sym, ap, subst, ◌∙◌, inl, inr, arith}
 use Rattle.std.specs.Prelude.{replicate}
-use Rattle.exec_base.specs.Slab.{next_id, IsPast}
-use Rattle.exec_base.specs.declared.slab.Slot.{Slot}
-use Rattle.exec_base.specs.declared.slab.Slot.TheVariants.{Vacant}
+use Rattle.exec_base.specs.{Slab.{next_id, IsPast}, declared.slab.Slot.{Slot, TheVariants.Vacant}}
 use Rattle.exec_request.specs.Requests.{gate_of, output_of, record_after}
-use Rattle.exec_waiters.proofs.Changes.{at_by, named_flies}
-use Rattle.exec_waiters.proofs.Over.{over}
-use Rattle.exec_driver.specs.Opens.{holder_in, holder_at, open_at, with_open, with_named, joined, passed, placed, writing, keeping}
-use Rattle.exec_driver.specs.Sharing.{Gates, IsGiven, StandsIn, StandsAt, key_of, at_gate, with_leaving, leaving_by, permit_by, with_lines, passed_on, LineUp, FliesPermitted, Call, Admit, Join, Observe, SetWaker, Forward, Orphan, Expire, Enrol, Grant, Stage, Land, Reap, Leave, Other, CallsOne, AreFresh, IsRun}
-use Rattle.exec_driver.specs.declared.opens.WaiterKey.{WaiterKey}
-use Rattle.exec_driver.proofs.Words.{is_some, IsSound, is_unpermitted, false≢true, Ended, Account, with_permit, file_of, account_in, next_completion, result_in, Completion, Deferred, eqb_tells, Slab, value_at, waiter_at, Id, asked_of, Request, is_durable, OpResult, Waiter, Entry, Pending, WaiterId, Driving, request_at, OpenState, fresh_open, Observer, entry_of}
+use Rattle.exec_waiters.proofs.{Changes.{at_by, named_flies}, Over.over}
+use Rattle.exec_driver.specs.{Opens.{holder_in, holder_at, open_at, with_open, with_named, joined, passed, placed, writing, keeping}, Sharing.{Gates, IsGiven, StandsIn, StandsAt, key_of, at_gate, with_leaving, leaving_by, permit_by, with_lines, passed_on, LineUp, FliesPermitted, Call, Admit, Join, Observe, SetWaker, Forward, Orphan, Expire, Enrol, Grant, Stage, Land, Reap, Leave, Other, CallsOne, AreFresh, IsRun}, declared.{opens.WaiterKey.WaiterKey, driver.{reaping.Reaped.Reaped, staging.Granted.Granted}}, Steps.{granted_as, permitted, taken_in, newcomer, opens_after_end, Grants, Reaps, ReapsNext, completed_in, plainly_written, taken_out, tick_for, landed_at, lawful_of, open_after, permit_after}, Laws.IsDurableFlight, Admission.Admits, Lists.{after_due, after_enrolment}}
+use Rattle.exec_driver.proofs.{Words.{is_some, IsSound, is_unpermitted, false≢true, Ended, Account, with_permit, file_of, account_in, next_completion, result_in, Completion, Deferred, eqb_tells, Slab, value_at, waiter_at, Id, asked_of, Request, is_durable, OpResult, Waiter, Entry, Pending, WaiterId, Driving, request_at, OpenState, fresh_open, Observer, entry_of}, Arriving.durable_gated, Turns.{completed_there, if_tells}, Endings.one_changed, Granting.same_some, Promises.at_most_one, Calling.{taken_fits, waked_fits, forwarded_fits, cancelled_fits, let_go_fits, enrolled_fits, granted_fits, placed_fits, swept_requests}, Standing.{gate_kept, gate_moved, open_tells, SameLines, named_lines, unmoved, then_lines, joined_holds, joined_stands, left_stands, holder_stands, granted_by, Fits, AllFit, asking_last, all_over, reads, none_past, written_fits, filled_fits, filled_last, becomes}}
 use Rattle.exec_waiters.specs.States.{gate_in, named}
-use Rattle.exec_driver.specs.Steps.{granted_as, permitted, taken_in, newcomer, opens_after_end, Grants, Reaps, ReapsNext, completed_in, plainly_written, taken_out, tick_for, landed_at, lawful_of, open_after, permit_after}
-use Rattle.exec_driver.proofs.Arriving.{durable_gated}
-use Rattle.exec_driver.proofs.Turns.{completed_there, if_tells}
-use Rattle.exec_driver.proofs.Endings.{one_changed}
-use Rattle.exec_driver.proofs.Granting.{same_some}
-use Rattle.exec_driver.proofs.Promises.{at_most_one}
-use Rattle.exec_driver.specs.Laws.{IsDurableFlight}
-use Rattle.exec_driver.specs.Admission.{Admits}
-use Rattle.exec_driver.specs.Lists.{after_due, after_enrolment}
-use Rattle.exec_driver.specs.declared.driver.reaping.Reaped.{Reaped}
-use Rattle.exec_driver.specs.declared.driver.staging.Granted.{Granted}
-use Rattle.exec_driver.proofs.Calling.{taken_fits, waked_fits, forwarded_fits, cancelled_fits, let_go_fits, enrolled_fits, granted_fits, placed_fits, swept_requests}
-use Rattle.exec_driver.proofs.Standing.{gate_kept, gate_moved, open_tells, SameLines, named_lines, unmoved, then_lines, joined_holds, joined_stands, left_stands, holder_stands, granted_by, Fits, AllFit, asking_last, all_over, reads, none_past, written_fits, filled_fits, filled_last, becomes}
 
 -- who is to leave a gate, where one was named
 leaving_tells : (gate : ℕ) (who : Option WaiterKey) (leaving : ℕ → Option WaiterKey) (file : ℕ) (key : WaiterKey) → at_gate gate who leaving file ≡ Some key → ((file ≡ gate) × (who ≡ Some key)) ⊎ ((file ≢ gate) × (leaving file ≡ Some key))

@@ -1,10 +1,8 @@
 -- How the list of a place follows one request that changed.
 use Rattle.std.proofs.Common.{◌≡◌, ◌≢◌, ◌⊎◌, ℕ, ◌<◌, ◌≤◌, Bool, true, false, not, List, [], ◌∷◌, ◌++◌, length, Option, Some, None, refl, sym, ap, ◌∙◌, inl, inr, arith, length-append}
-use Rattle.exec_driver.proofs.Words.{is_some, false≢true, Slab, value_at, Id, waiter_at, waiter_of, pending_count, Waiter, Entry, Pending, Ready, WaiterId, is_same, without, is_among, is_once, are_all, IsListed, count_of, and_from, and_parts, not-true, or_parts}
+use Rattle.exec_driver.proofs.{Words.{is_some, false≢true, Slab, value_at, Id, waiter_at, waiter_of, pending_count, Waiter, Entry, Pending, Ready, WaiterId, is_same, without, is_among, is_once, are_all, IsListed, count_of, and_from, and_parts, not-true, or_parts}, Names.{same_tells, once_without, once_push}, Counting.{OneChanged, one_removed, pending_is}}
 use Rattle.exec_base.specs.Slab.{removed}
 use Rattle.exec_base.proofs.Slots.{id_cases}
-use Rattle.exec_driver.proofs.Names.{same_tells, once_without, once_push}
-use Rattle.exec_driver.proofs.Counting.{OneChanged, one_removed, pending_is}
 
 -- a list without a name that it hasn't
 unchanged : (x : WaiterId) (ids : List WaiterId) → is_among x ids ≡ false → without x ids ≡ ids

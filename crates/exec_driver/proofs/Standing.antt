@@ -6,31 +6,17 @@ use Rattle.std.proofs.lemmas.Bool.{cases_lt}
 use Rattle.std.proofs.lemmas.Grind.{get_or-set_at}
 use Rattle.std.proofs.lemmas.List.{get_or_past, get_or_push, get_or_append_left, get_or-set_other}
 use Rattle.std.proofs.lemmas.List.Elements.{Contains-push_cases}
-use Rattle.exec_base.specs.Slab.{slot_at, value_at, value_in, removed, freed, filled, next_id, generation_of, next_generation}
-use Rattle.exec_base.specs.declared.slab.Slot.{Slot}
-use Rattle.exec_base.specs.declared.slab.Slot.TheVariants.{Live, Vacant, Retired}
+use Rattle.exec_base.specs.{Slab.{slot_at, value_at, value_in, removed, freed, filled, next_id, generation_of, next_generation}, declared.slab.Slot.{Slot, TheVariants.{Live, Vacant, Retired}}}
 use Rattle.exec_base.proofs.Slots.{same_id, some_of_if}
 use Rattle.exec_outcomes.specs.declared.outcome.OpResult.TheVariants.{Count, Errno}
-use Rattle.exec_request.specs.Kept.{Kept, kept_of}
-use Rattle.exec_request.specs.Requests.{gate_of, gate_of_write, target_of}
-use Rattle.exec_request.specs.Syncing.{write_kind}
-use Rattle.exec_request.specs.declared.output.RequestOutput.{RequestOutput}
+use Rattle.exec_request.specs.{Kept.{Kept, kept_of}, Requests.{gate_of, gate_of_write, target_of}, Syncing.write_kind, declared.{output.RequestOutput.RequestOutput, window.{Opcode.Opcode, Window.Window}, write_at.WriteAtState.{WriteAtState, TheVariants.{Writing, WritingSync, WritingBeforeSync, Syncing}}}}
 use Rattle.exec_request.specs.declared.request.Request.TheVariants as request
-use Rattle.exec_request.specs.declared.window.Opcode.{Opcode}
 use Rattle.exec_request.specs.declared.window.Opcode.TheVariants as opcode
-use Rattle.exec_request.specs.declared.window.Window.{Window}
-use Rattle.exec_request.specs.declared.write_at.WriteAtState.{WriteAtState}
-use Rattle.exec_request.specs.declared.write_at.WriteAtState.TheVariants.{Writing, WritingSync, WritingBeforeSync, Syncing}
-use Rattle.exec_ring.specs.Landings.{MovesBy, Moves}
-use Rattle.exec_ring.specs.declared.store.Store.{Store}
+use Rattle.exec_ring.specs.{Landings.{MovesBy, Moves}, declared.store.Store.Store}
 use Rattle.exec_waiters.proofs.Changes.{at_by, entry_of}
 use Rattle.exec_waiters.specs.Events.{finished_for}
-use Rattle.exec_driver.specs.Opens.{holder_in, holder_at, open_at, with_open, with_open_in, with_named, joined}
-use Rattle.exec_driver.specs.Sharing.{Gates, IsGiven, StandsIn, StandsAt, key_of, with_lines}
-use Rattle.exec_driver.specs.declared.opens.WaiterKey.{WaiterKey}
-use Rattle.exec_driver.proofs.Words.{false≢true, eqb_tells, Slab, written, Id, asked_of, Request, is_durable, OpResult, Submission, waiter_at, waiter_in, waiter_of, Waiter, Entry, Pending, Ready, WaiterId, OpenState, Observer, Local, Forwarded, DetachedSync, Orphaned}
-use Rattle.exec_driver.proofs.Arriving.{durable_gated}
-use Rattle.exec_driver.proofs.Lines.{set_there}
+use Rattle.exec_driver.specs.{Opens.{holder_in, holder_at, open_at, with_open, with_open_in, with_named, joined}, Sharing.{Gates, IsGiven, StandsIn, StandsAt, key_of, with_lines}, declared.opens.WaiterKey.WaiterKey}
+use Rattle.exec_driver.proofs.{Words.{false≢true, eqb_tells, Slab, written, Id, asked_of, Request, is_durable, OpResult, Submission, waiter_at, waiter_in, waiter_of, Waiter, Entry, Pending, Ready, WaiterId, OpenState, Observer, Local, Forwarded, DetachedSync, Orphaned}, Arriving.durable_gated, Lines.set_there}
 
 -- THE GATE OF A REQUEST: what its operations leave as it is tells it
 

@@ -1,12 +1,7 @@
 -- Room in a store that was made, and given up again.
 use Rattle.std.proofs.Common.{◌≡◌, ℕ, ◌+◌, ◌-◌, eqb, Bool, true, false, cond, refl, ap, ◌∙◌, arith}
-use Rattle.exec_request.specs.Windows.{cancel_window}
-use Rattle.exec_request.specs.declared.window.Opcode.{Opcode}
-use Rattle.exec_request.specs.declared.window.Opcode.TheVariants.{Send, Recv, Read, Write, Sync, Connect, Poll, Cancel, Wake}
-use Rattle.exec_request.specs.declared.window.Window.{Window}
-use Rattle.exec_ring.specs.Sockets.{SocketState}
-use Rattle.exec_ring.specs.Stores.{SameFiles, Same, Reserves, Releases, MakesStretch, with_room, without_room, socket_of}
-use Rattle.exec_ring.specs.declared.store.Store.{Store}
+use Rattle.exec_request.specs.{Windows.cancel_window, declared.window.{Opcode.{Opcode, TheVariants.{Send, Recv, Read, Write, Sync, Connect, Poll, Cancel, Wake}}, Window.Window}}
+use Rattle.exec_ring.specs.{Sockets.SocketState, Stores.{SameFiles, Same, Reserves, Releases, MakesStretch, with_room, without_room, socket_of}, declared.store.Store.Store}
 
 same_files : (a b c : Store) → SameFiles a b → SameFiles b c → SameFiles a c
 same_files a b c one other =

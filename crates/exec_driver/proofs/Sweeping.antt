@@ -2,8 +2,7 @@
 use Rattle.std.proofs.Common.{◌≡◌, ℕ, suc, ltb, ◌+◌, ◌-◌, ◌<◌, Bool, true, false, ◌&&◌, cond, List, [], ◌∷◌, Option, Some, None, refl, sym, ap, ◌∙◌, inl, inr, arith}
 use Rattle.exec_driver.proofs.Words.{false≢true, ltb-true, ltb-false, Landing, next_in, next_completion, posted_left, reaped, wake_completion, RingState, Completion, Posted, Driving, is_control, noted, taken_out, cases_Bool}
 use Rattle.exec_ring.specs.Kernels.{wakes_left}
-use Rattle.exec_driver.specs.Steps.{is_next_control, swept_from, swept, after_next_control}
-use Rattle.exec_driver.specs.Turns.{waiting}
+use Rattle.exec_driver.specs.{Steps.{is_next_control, swept_from, swept, after_next_control}, Turns.waiting}
 
 pub one_less : (w : ℕ) → 0 < w → w - 1 < w
 one_less w some = omega (arith, some)

@@ -1,20 +1,10 @@
 -- What two calls tell, one after the other, and the room that they need.
 use Rattle.std.proofs.Common.{◌≡◌, ℕ, ◌+◌, ◌<◌, ◌≤◌, List, [], ◌∷◌, ◌++◌, length, Option, Some, None, ap, ◌∙◌, arith, length-append}
 use Rattle.std.proofs.lemmas.List.{append_assoc}
-use Rattle.exec_base.specs.declared.slab.Id.{Id}
-use Rattle.exec_base.specs.declared.task_no.TaskNo.{TaskNo}
+use Rattle.exec_base.specs.declared.{slab.Id.Id, task_no.TaskNo.TaskNo}
 use Rattle.exec_outcomes.specs.Accounts.{Account}
-use Rattle.exec_request.specs.States.{Ended}
-use Rattle.exec_request.specs.declared.output.RequestOutput.{RequestOutput}
-use Rattle.exec_waiters.specs.Events.{told_by_orphan, told_by_close, told_by_finish, told_to, output_told, waker_at}
-use Rattle.exec_waiters.specs.Told.{Told, HasPlaces, Tells, tasks_of}
-use Rattle.exec_waiters.specs.declared.deferred.Deferred.{Deferred}
-use Rattle.exec_waiters.specs.declared.deferred.Retired.{Retired}
-use Rattle.exec_waiters.specs.declared.waiter.Waiter.{Waiter}
-use Rattle.exec_waiters.specs.declared.observer.Observer.{Observer}
-use Rattle.exec_waiters.specs.declared.observer.Observer.TheVariants.{Local, Forwarded, DetachedSync, Orphaned}
-use Rattle.exec_waiters.specs.declared.waiter.Entry.{Entry}
-use Rattle.exec_waiters.specs.declared.waiter.Entry.TheVariants.{Pending, Ready}
+use Rattle.exec_request.specs.{States.Ended, declared.output.RequestOutput.RequestOutput}
+use Rattle.exec_waiters.specs.{Events.{told_by_orphan, told_by_close, told_by_finish, told_to, output_told, waker_at}, Told.{Told, HasPlaces, Tells, tasks_of}, declared.{deferred.{Deferred.Deferred, Retired.Retired}, waiter.{Waiter.Waiter, Entry.{Entry, TheVariants.{Pending, Ready}}}, observer.Observer.{Observer, TheVariants.{Local, Forwarded, DetachedSync, Orphaned}}}}
 use Rattle.exec_driver.specs.Steps.{both}
 
 few_tasks : (o : Option TaskNo) → length (tasks_of o) ≤ 1

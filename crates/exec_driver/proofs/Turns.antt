@@ -1,46 +1,17 @@
 -- The steps of a service: completions, deadlines, permits.
 use Rattle.std.proofs.Common.{zero, suc, ◌≡◌, ◌⊎◌, ℕ, ◌+◌, ◌^◌, ◌<◌, ◌≤◌, eqb, ltb, Bool, true, false, not, ◌&&◌, ◌||◌, cond, List, [], ◌∷◌, length, Option, Some, None, refl, sym, ap, subst, ◌∙◌, inl, inr, arith}
-use Rattle.exec_driver.proofs.Words.{and_from, and_parts, cases_Bool, not-false, or_parts}
+use Rattle.exec_driver.proofs.{Words.{and_from, and_parts, cases_Bool, not-false, or_parts}, Names.{same_tells, fewer_without}, Endings.{one_changed, one_finished}, Granting.gated_there, Queues.{IsEntered, enters}, Serving.{Eases, Answers, eases_itself, eases_both, eases_is, eases_ring, eases_swept, eases_written, eases_judged, after_reap, reaps_ring, room_still, room_judged, room_ended, keeps_one, like_unscheduled, serves_by, serves_itself, done_itself, none_rest, eases_queued}, Stepping.{first_in, first_there, first_tells}, Telling.room_within, Sweeping.{one_less, none_left, fewer_by}}
 use Rattle.std.specs.Prelude.{is_some, is_none, min}
 use Rattle.std.specs.Option.{IfSome, IfNone, SomeIff}
 use Rattle.std.proofs.lemmas.Bool.{false≢true, ltb-true, ltb-false}
-use Rattle.exec_base.specs.Slab.{Slab, written}
-use Rattle.exec_base.specs.declared.slab.Id.{Id}
+use Rattle.exec_base.specs.{Slab.{Slab, written}, declared.slab.Id.Id}
 use Rattle.exec_base.proofs.Slots.{ltb_tells}
-use Rattle.exec_outcomes.specs.Accounts.{Account}
-use Rattle.exec_outcomes.specs.declared.outcome.OpResult.{OpResult}
-use Rattle.exec_request.specs.States.{Ended, asks_cancel}
-use Rattle.exec_request.specs.declared.results.WaiterState.{WaiterState}
-use Rattle.exec_request.specs.declared.results.WaiterState.TheVariants.{Active, CancelRequested}
-use Rattle.exec_ring.specs.Completions.{result_in, wake_completion}
-use Rattle.exec_ring.specs.Kernels.{is_quiet, has_none, next_completion, next_in, posted_left, wakes_left, reaped}
-use Rattle.exec_ring.specs.declared.completion.Completion.{Completion}
-use Rattle.exec_ring.specs.declared.completion.Posted.{Posted}
-use Rattle.exec_waiters.specs.Events.{is_lawful_for, cancelled, with_permit}
-use Rattle.exec_waiters.specs.States.{waiter_at, flying_count, tick_in, file_of, gate_in}
-use Rattle.exec_waiters.specs.Told.{Tells}
-use Rattle.exec_waiters.specs.declared.deferred.Deferred.{Deferred}
-use Rattle.exec_waiters.specs.declared.waiter.Waiter.{Waiter}
-use Rattle.exec_waiters.specs.declared.waiter.Entry.{Entry}
-use Rattle.exec_waiters.specs.declared.waiter.Entry.TheVariants.{Pending}
-use Rattle.exec_waiters.specs.declared.waiter_id.WaiterId.{WaiterId}
+use Rattle.exec_outcomes.specs.{Accounts.Account, declared.outcome.OpResult.OpResult}
+use Rattle.exec_request.specs.{States.{Ended, asks_cancel}, declared.results.WaiterState.{WaiterState, TheVariants.{Active, CancelRequested}}}
+use Rattle.exec_ring.specs.{Completions.{result_in, wake_completion}, Kernels.{is_quiet, has_none, next_completion, next_in, posted_left, wakes_left, reaped}, declared.completion.{Completion.Completion, Posted.Posted}}
+use Rattle.exec_waiters.specs.{Events.{is_lawful_for, cancelled, with_permit}, States.{waiter_at, flying_count, tick_in, file_of, gate_in}, Told.Tells, declared.{deferred.Deferred.Deferred, waiter.{Waiter.Waiter, Entry.{Entry, TheVariants.Pending}}, waiter_id.WaiterId.WaiterId}}
 use Rattle.exec_waiters.proofs.Changes.{one_if}
-use Rattle.exec_driver.specs.Driving.{Driving, request_at, is_enrolled, is_queued, is_full, may_stage_one, has_pending}
-use Rattle.exec_driver.specs.Lists.{has_first, first_of, rest_of, is_same, without, after_due, after_queued}
-use Rattle.exec_driver.specs.Opens.{OpenState, account_in}
-use Rattle.exec_driver.specs.Sound.{IsSound}
-use Rattle.exec_driver.specs.Steps.{is_control, noted, swept, swept_from, taken_out, judged_as_over, granted_as, permitted, ReapsNext, completed_in, lawful_of, if_lawful, expired, told_by_cancel, timed_out, cancelling, ended, Grants, StagesOne, with_staged, cancel_staged, poll_staged, entered, lower, lower_of, lowest_gate}
-use Rattle.exec_driver.specs.Turns.{Serves, StaysDone, waiting, unreaped, unstaged, made_way, may_wait}
-use Rattle.exec_driver.specs.declared.driver.reaping.Reaped.{Reaped}
-use Rattle.exec_driver.specs.declared.driver.staging.Granted.{Granted}
-use Rattle.exec_driver.proofs.Names.{same_tells, fewer_without}
-use Rattle.exec_driver.proofs.Endings.{one_changed, one_finished}
-use Rattle.exec_driver.proofs.Granting.{gated_there}
-use Rattle.exec_driver.proofs.Queues.{IsEntered, enters}
-use Rattle.exec_driver.proofs.Serving.{Eases, Answers, eases_itself, eases_both, eases_is, eases_ring, eases_swept, eases_written, eases_judged, after_reap, reaps_ring, room_still, room_judged, room_ended, keeps_one, like_unscheduled, serves_by, serves_itself, done_itself, none_rest, eases_queued}
-use Rattle.exec_driver.proofs.Stepping.{first_in, first_there, first_tells}
-use Rattle.exec_driver.proofs.Telling.{room_within}
-use Rattle.exec_driver.proofs.Sweeping.{one_less, none_left, fewer_by}
+use Rattle.exec_driver.specs.{Driving.{Driving, request_at, is_enrolled, is_queued, is_full, may_stage_one, has_pending}, Lists.{has_first, first_of, rest_of, is_same, without, after_due, after_queued}, Opens.{OpenState, account_in}, Sound.IsSound, Steps.{is_control, noted, swept, swept_from, taken_out, judged_as_over, granted_as, permitted, ReapsNext, completed_in, lawful_of, if_lawful, expired, told_by_cancel, timed_out, cancelling, ended, Grants, StagesOne, with_staged, cancel_staged, poll_staged, entered, lower, lower_of, lowest_gate}, Turns.{Serves, StaysDone, waiting, unreaped, unstaged, made_way, may_wait}, declared.driver.{reaping.Reaped.Reaped, staging.Granted.Granted}}
 
 -- HOW MANY COMPLETIONS
 
@@ -83,7 +54,7 @@ no_tick : (s : WaiterState) → asks_cancel s ≡ true → is_some (tick_in s) �
 no_tick (Active tick) is = absurd (false≢true is)
 no_tick CancelRequested is = refl
 
-no_first : (ids : List WaiterId) → has_first ids ≡ true → None ≡ first_of ids → ⊥
+pub no_first : (ids : List WaiterId) → has_first ids ≡ true → None ≡ first_of ids → ⊥
 no_first [] some is = false≢true some
 no_first (x ∷ ids) some is = absurd (cc)
 
@@ -104,7 +75,7 @@ pub added_tells : (a : ℕ) (o : Option ℕ) (b : ℕ) → SomeIff o (a + 1 < 2 
 added_tells a None b is some = absurd (cc)
 added_tells a (Some x) b is some = let same : x ≡ b = cc in (is.0, sym same ∙ is.1)
 
-never : (b : Bool) → (b && false) ≡ false
+pub never : (b : Bool) → (b && false) ≡ false
 never true = refl
 never false = refl
 
@@ -295,7 +266,7 @@ module _ {S F : Type 0} where
   no_cancel d (x ∷ ids) first some = absurd (cc)
 
   -- and nothing changed where there was none
-  none_staged : (d d' : Driving S F) (o : Option WaiterId) → is_none o ≡ true → o ≡ first_of d.lists.cancels → IfNone o (d' ≡ d) → (has_first d.lists.cancels || may_stage_one d) ≡ true → (d' ≡ d) × (may_stage_one d ≡ true)
+  pub none_staged : (d d' : Driving S F) (o : Option WaiterId) → is_none o ≡ true → o ≡ first_of d.lists.cancels → IfNone o (d' ≡ d) → (has_first d.lists.cancels || may_stage_one d) ≡ true → (d' ≡ d) × (may_stage_one d ≡ true)
   none_staged d d' None none first is some = (is, no_cancel d d.lists.cancels first some)
   none_staged d d' (Some id) none first is some = absurd (false≢true none)
 

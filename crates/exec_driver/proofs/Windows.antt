@@ -3,15 +3,7 @@
 use Rattle.std.proofs.Common.{◌≡◌, ◌⊎◌, ℕ, Bool, true, false, cond, Option, Some, None, refl, inl, inr, ap, sym, ◌∙◌}
 use Rattle.exec_driver.proofs.Words.{Asked, Kind, asked_of, Request, file_of, cases_Bool}
 use Rattle.exec_outcomes.specs.declared.outcome.Kind.TheVariants.{Fill, Read, Hint, Direct, Write, Dsync, Many, Recv as Receives, Sync as Syncs}
-use Rattle.exec_request.specs.Kept.{Kept, kept_of}
-use Rattle.exec_request.specs.Requests.{window_by}
-use Rattle.exec_request.specs.Syncing.{is_syncing, write_kind}
-use Rattle.exec_request.specs.Ways.{asked_by}
-use Rattle.exec_request.specs.declared.way.Way.{Way}
-use Rattle.exec_request.specs.declared.way.Way.TheVariants.{Buffered, Hinted, Direct as Directly, Switched}
-use Rattle.exec_request.specs.declared.request.Request.TheVariants.{Send, Recv, ReadAt, WriteAt, Sync, Connect, Poll}
-use Rattle.exec_request.specs.declared.write_at.WriteAtState.{WriteAtState}
-use Rattle.exec_request.specs.declared.write_at.WriteAtState.TheVariants.{Writing, WritingSync, WritingBeforeSync, Syncing}
+use Rattle.exec_request.specs.{Kept.{Kept, kept_of}, Requests.window_by, Syncing.{is_syncing, write_kind}, Ways.asked_by, declared.{way.Way.{Way, TheVariants.{Buffered, Hinted, Direct as Directly, Switched}}, request.Request.TheVariants.{Send, Recv, ReadAt, WriteAt, Sync, Connect, Poll}, write_at.WriteAtState.{WriteAtState, TheVariants.{Writing, WritingSync, WritingBeforeSync, Syncing}}}}
 use Rattle.exec_ring.specs.Kernels.{suits}
 
 pub is_no_poll : (hinted : Bool) (r : Request) (user_data : ℕ) → suits (window_by hinted r) user_data ≡ true

@@ -1,20 +1,12 @@
 -- Why the drivers of the worked example share gates, or don't.
 use Rattle.std.proofs.Common.{◌≡◌, ℕ, zero, suc, Bool, true, false, ◌||◌, ◌==◌, eqb, [], ◌∷◌, get_or, Some, refl, sym, ap, subst, ◌∙◌, inl, inr, arith}
 use Rattle.std.proofs.lemmas.List.Elements.{Contains-push_cases}
-use Rattle.exec_base.specs.Slab.{value_in}
-use Rattle.exec_base.specs.declared.slab.Slot.TheVariants.{Live, Vacant}
+use Rattle.exec_base.specs.{Slab.value_in, declared.slab.Slot.TheVariants.{Live, Vacant}}
 use Rattle.exec_base.proofs.Slots.{same_id}
 use Rattle.exec_request.specs.Requests.{gate_of}
-use Rattle.exec_waiters.specs.Examples.{sync, here}
-use Rattle.exec_driver.specs.Examples.{first, workers, held, gates}
-use Rattle.exec_driver.specs.Laws.{ShareGates}
-use Rattle.exec_driver.specs.Opens.{holder_at}
-use Rattle.exec_driver.specs.Sharing.{LineUp, IsGiven, StandsAt, key_of}
-use Rattle.exec_driver.specs.Steps.{newcomer}
-use Rattle.exec_driver.specs.declared.opens.WaiterKey.{WaiterKey}
-use Rattle.exec_waiters.specs.declared.waiter_id.WaiterId.{WaiterId}
-use Rattle.exec_driver.proofs.Standing.{live_tells}
-use Rattle.exec_driver.proofs.Words.{eqb_tells, false≢true, waiter_of, Waiter, Pending}
+use Rattle.exec_waiters.specs.{Examples.{sync, here}, declared.waiter_id.WaiterId.WaiterId}
+use Rattle.exec_driver.specs.{Examples.{first, workers, held, gates}, Laws.ShareGates, Opens.holder_at, Sharing.{LineUp, IsGiven, StandsAt, key_of}, Steps.newcomer, declared.opens.WaiterKey.WaiterKey}
+use Rattle.exec_driver.proofs.{Standing.live_tells, Words.{eqb_tells, false≢true, waiter_of, Waiter, Pending}}
 
 abbrev alone : Bool → Waiter ℕ ℕ
 alone permit = record (newcomer sync here) { permit = permit }

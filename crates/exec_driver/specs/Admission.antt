@@ -1,19 +1,9 @@
 -- What an admission does, what it needs, and what it answers where it can't be made.
 use Rattle.std.specs.Prelude.{◌≡◌, ℕ, true, ◌+◌, ◌≤◌, List, length}
-use Rattle.exec_base.specs.Slab.{Slab}
-use Rattle.exec_base.specs.declared.slab.InsertError.{InsertError}
-use Rattle.exec_base.specs.declared.slab.InsertError.TheVariants.{Full, NoMemory}
-use Rattle.exec_request.specs.Requests.{gate_of}
-use Rattle.exec_request.specs.declared.request.Request.{Request}
-use Rattle.exec_waiters.specs.States.{is_full, pending_count}
-use Rattle.exec_waiters.specs.declared.observer.Observer.{Observer}
-use Rattle.exec_waiters.specs.declared.waiter.Entry.{Entry}
-use Rattle.exec_waiters.specs.declared.waiter.Refused.{Refused}
-use Rattle.exec_waiters.specs.declared.waiter_id.WaiterId.{WaiterId}
-use Rattle.exec_driver.specs.Driving.{Driving}
-use Rattle.exec_driver.specs.Opens.{OpenState, with_named, placed, writing}
-use Rattle.exec_driver.specs.Sound.{count_of, is_uncancelled}
-use Rattle.exec_driver.specs.Steps.{placed_at, taken_in, newcomer, plainly_written}
+use Rattle.exec_base.specs.{Slab.Slab, declared.slab.InsertError.{InsertError, TheVariants.{Full, NoMemory}}}
+use Rattle.exec_request.specs.{Requests.gate_of, declared.request.Request.Request}
+use Rattle.exec_waiters.specs.{States.{is_full, pending_count}, declared.{observer.Observer.Observer, waiter.{Entry.Entry, Refused.Refused}, waiter_id.WaiterId.WaiterId}}
+use Rattle.exec_driver.specs.{Driving.Driving, Opens.{OpenState, with_named, placed, writing}, Sound.{count_of, is_uncancelled}, Steps.{placed_at, taken_in, newcomer, plainly_written}}
 
 module _ {S F : Type 0} where
   -- nothing of the driver changed but its rooms, and what else ends

@@ -1,17 +1,10 @@
 -- What a contract sees of a driver: its requests, its wheel, its ring, and for each place the requests in it.
 use Rattle.std.specs.Prelude.{ℕ, Bool, false, not, ◌&&◌, ◌||◌, List, length, nat_lt, Option, Some, None, is_some}
 use Rattle.exec_base.specs.Slab.{Slab}
-use Rattle.exec_request.specs.Requests.{deadline_of}
-use Rattle.exec_request.specs.States.{asks_cancel}
-use Rattle.exec_ring.specs.Kernels.{Landing}
-use Rattle.exec_ring.specs.Rings.{RingState}
-use Rattle.exec_time.specs.Wheel.{Wheel}
-use Rattle.exec_time.specs.WheelView.{wheel_of}
-use Rattle.exec_time.specs.declared.wheel.TimeoutWheel.{TimeoutWheel}
-use Rattle.exec_waiters.specs.States.{waiter_at, flying_count, needs_permit, takes_tick, tick_in}
-use Rattle.exec_waiters.specs.declared.waiter.Waiter.{Waiter}
-use Rattle.exec_waiters.specs.declared.waiter.Entry.{Entry}
-use Rattle.exec_waiters.specs.declared.waiter_id.WaiterId.{WaiterId}
+use Rattle.exec_request.specs.{Requests.deadline_of, States.asks_cancel}
+use Rattle.exec_ring.specs.{Kernels.Landing, Rings.RingState}
+use Rattle.exec_time.specs.{Wheel.Wheel, WheelView.wheel_of, declared.wheel.TimeoutWheel.TimeoutWheel}
+use Rattle.exec_waiters.specs.{States.{waiter_at, flying_count, needs_permit, takes_tick, tick_in}, declared.{waiter.{Waiter.Waiter, Entry.Entry}, waiter_id.WaiterId.WaiterId}}
 use Rattle.exec_driver.specs.Lists.{Lists, has_first}
 
 pub record Driving (S F : Type 0) : Type 0 where

@@ -4,14 +4,8 @@ use Rattle.exec_base.specs.Slab.{inserted}
 use Rattle.exec_request.specs.declared.request.Request.{Request}
 use Rattle.exec_ring.specs.Rings.{fresh as fresh_ring}
 use Rattle.exec_time.specs.Wheel.{Wheel, fresh}
-use Rattle.exec_waiters.specs.Examples.{named, poll, sync, here}
-use Rattle.exec_waiters.specs.declared.waiter.Entry.TheVariants.{Pending}
-use Rattle.exec_waiters.specs.declared.waiter_id.WaiterId.{WaiterId}
-use Rattle.exec_driver.specs.Driving.{Driving}
-use Rattle.exec_driver.specs.Lists.{no_lists}
-use Rattle.exec_driver.specs.Opens.{OpenState, fresh_open}
-use Rattle.exec_driver.specs.Sharing.{Gates, key_of}
-use Rattle.exec_driver.specs.Steps.{placed_at, taken_in, newcomer}
+use Rattle.exec_waiters.specs.{Examples.{named, poll, sync, here}, declared.{waiter.Entry.TheVariants.Pending, waiter_id.WaiterId.WaiterId}}
+use Rattle.exec_driver.specs.{Driving.Driving, Lists.no_lists, Opens.{OpenState, fresh_open}, Sharing.{Gates, key_of}, Steps.{placed_at, taken_in, newcomer}}
 
 abbrev pub first : WaiterId
 first = record { 0 = named 0 0 }

@@ -1,12 +1,8 @@
 -- Words of the laws of drivers.
 use Rattle.std.specs.Prelude.{◌≡◌, ℕ, Bool, true, ◌||◌, List, Some}
 use Rattle.exec_request.specs.Requests.{gate_of}
-use Rattle.exec_waiters.specs.declared.waiter.Waiter.{Waiter}
-use Rattle.exec_waiters.specs.declared.waiter_id.WaiterId.{WaiterId}
-use Rattle.exec_driver.specs.Driving.{Driving, request_at}
-use Rattle.exec_driver.specs.Lists.{Lists, is_among}
-use Rattle.exec_driver.specs.Opens.{OpenState, holder_at}
-use Rattle.exec_driver.specs.declared.opens.WaiterKey.{WaiterKey}
+use Rattle.exec_waiters.specs.declared.{waiter.Waiter.Waiter, waiter_id.WaiterId.WaiterId}
+use Rattle.exec_driver.specs.{Driving.{Driving, request_at}, Lists.{Lists, is_among}, Opens.{OpenState, holder_at}, declared.opens.WaiterKey.WaiterKey}
 
 -- some list has the name
 abbrev pub is_listed : WaiterId → Lists → Bool

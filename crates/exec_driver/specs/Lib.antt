@@ -6,6 +6,7 @@ pub mod Sound
 pub mod Admission
 pub mod Punctual
 pub mod Turns
+pub mod Service
 pub mod Laws
 pub mod Sharing
 pub mod Placed

@@ -1,8 +1,7 @@
 -- The requests that a driver lists.
 use Rattle.std.specs.Prelude.{◌≡◌, true, false, Some}
 use Rattle.exec_waiters.specs.declared.waiter_id.WaiterId.{WaiterId}
-use Rattle.exec_driver.specs.Driving.{Driving, request_at, is_queued, is_gated, is_unenrolled, is_enrolled, is_cancelled}
-use Rattle.exec_driver.specs.Lists.{first_of, rest_of, is_among}
+use Rattle.exec_driver.specs.{Driving.{Driving, request_at, is_queued, is_gated, is_unenrolled, is_enrolled, is_cancelled}, Lists.{first_of, rest_of, is_among}}
 
 module _ {S F : Type 0} where
   -- Each list has requests of its place, which aren't over. Each driver says so of itself (`Driver::lists_requests`).

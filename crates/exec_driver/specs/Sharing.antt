@@ -1,29 +1,12 @@
 -- What a worker does to its driver and the opens, one call after the other, and what drivers that share gates go on with.
 use Rattle.std.specs.Prelude.{◌≡◌, ◌≢◌, ◌⊎◌, ℕ, suc, ◌^◌, ◌<◌, ◌==◌, true, List, [], replicate, Option, Some, None, is_some, if◌then◌else◌}
 use Rattle.std.specs.List.{Contains}
-use Rattle.exec_base.specs.Slab.{Slab, next_id, IsPast}
-use Rattle.exec_base.specs.declared.error.Error.{Error}
-use Rattle.exec_base.specs.declared.task_no.TaskNo.{TaskNo}
-use Rattle.exec_outcomes.specs.Accounts.{Account}
-use Rattle.exec_outcomes.specs.declared.outcome.OpResult.{OpResult}
-use Rattle.exec_request.specs.Requests.{gate_of}
-use Rattle.exec_request.specs.declared.request.Request.{Request}
+use Rattle.exec_base.specs.{Slab.{Slab, next_id, IsPast}, declared.{error.Error.Error, task_no.TaskNo.TaskNo}}
+use Rattle.exec_outcomes.specs.{Accounts.Account, declared.outcome.OpResult.OpResult}
+use Rattle.exec_request.specs.{Requests.gate_of, declared.request.Request.Request}
 use Rattle.exec_ring.specs.declared.store.Store.{Store}
-use Rattle.exec_waiters.specs.Events.{changed, with_waker, taken, forwarded}
-use Rattle.exec_waiters.specs.States.{gate_in}
-use Rattle.exec_waiters.specs.declared.deferred.Deferred.{Deferred}
-use Rattle.exec_waiters.specs.declared.observer.Observer.{Observer}
-use Rattle.exec_waiters.specs.declared.waiter.Entry.{Entry}
-use Rattle.exec_waiters.specs.declared.waiter.Waiter.{Waiter}
-use Rattle.exec_waiters.specs.declared.waiter_id.WaiterId.{WaiterId}
-use Rattle.exec_driver.specs.Admission.{Admits}
-use Rattle.exec_driver.specs.Driving.{Driving, request_at}
-use Rattle.exec_driver.specs.Laws.{ShareGates}
-use Rattle.exec_driver.specs.Opens.{OpenState, fresh_open, open_at, holder_at, with_open, with_named, joined, passed}
-use Rattle.exec_driver.specs.Steps.{let_go, expired, EnrolsAs, Grants, StagesOne, LandsOne, ReapsNext}
-use Rattle.exec_driver.specs.declared.driver.reaping.Reaped.{Reaped}
-use Rattle.exec_driver.specs.declared.driver.staging.Granted.{Granted}
-use Rattle.exec_driver.specs.declared.opens.WaiterKey.{WaiterKey}
+use Rattle.exec_waiters.specs.{Events.{changed, with_waker, taken, forwarded}, States.gate_in, declared.{deferred.Deferred.Deferred, observer.Observer.Observer, waiter.{Entry.Entry, Waiter.Waiter}, waiter_id.WaiterId.WaiterId}}
+use Rattle.exec_driver.specs.{Admission.Admits, Driving.{Driving, request_at}, Laws.ShareGates, Opens.{OpenState, fresh_open, open_at, holder_at, with_open, with_named, joined, passed}, Steps.{let_go, expired, EnrolsAs, Grants, StagesOne, LandsOne, ReapsNext}, declared.{driver.{reaping.Reaped.Reaped, staging.Granted.Granted}, opens.WaiterKey.WaiterKey}}
 
 -- it has the permit of an open, or waits for it
 abbrev pub StandsIn : WaiterKey → Option OpenState → Type 0

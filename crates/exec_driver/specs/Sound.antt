@@ -1,17 +1,10 @@
 -- What holds of a driver between its calls. No public clause cites this module.
 use Rattle.std.specs.Prelude.{◌≡◌, ℕ, Bool, true, false, not, ◌+◌, ◌≤◌, ◌==◌, ◌&&◌, List, [], ◌∷◌, length, count_by, Option, Some, None, if◌then◌else◌}
-use Rattle.exec_base.specs.Slab.{Slab}
-use Rattle.exec_base.specs.declared.slab.Slot.{Slot}
-use Rattle.exec_base.specs.declared.slab.Slot.TheVariants.{Live, Vacant, Retired}
+use Rattle.exec_base.specs.{Slab.Slab, declared.slab.{Slot.{Slot, TheVariants.{Live, Vacant, Retired}}, Id.Id}}
 use Rattle.exec_request.specs.States.{asks_cancel}
 use Rattle.exec_ring.specs.Rings.{taken_places}
-use Rattle.exec_waiters.specs.States.{waiter_at, waiter_in, flying_count, pending_count, tick_in, needs_permit}
-use Rattle.exec_base.specs.declared.slab.Id.{Id}
-use Rattle.exec_waiters.specs.declared.waiter.Waiter.{Waiter}
-use Rattle.exec_waiters.specs.declared.waiter.Entry.{Entry}
-use Rattle.exec_waiters.specs.declared.waiter_id.WaiterId.{WaiterId}
-use Rattle.exec_driver.specs.Lists.{is_among}
-use Rattle.exec_driver.specs.Driving.{Driving, is_queued, is_gated, is_unenrolled, is_enrolled, is_cancelled}
+use Rattle.exec_waiters.specs.{States.{waiter_at, waiter_in, flying_count, pending_count, tick_in, needs_permit}, declared.{waiter.{Waiter.Waiter, Entry.Entry}, waiter_id.WaiterId.WaiterId}}
+use Rattle.exec_driver.specs.{Lists.is_among, Driving.{Driving, is_queued, is_gated, is_unenrolled, is_enrolled, is_cancelled}}
 
 -- no name stands twice in a list
 abbrev pub is_once : List WaiterId → Bool

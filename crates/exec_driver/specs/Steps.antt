@@ -1,54 +1,12 @@
 -- What each step of a driver does, and what it leaves to be told.
 use Rattle.std.specs.Prelude.{◌≡◌, ℕ, Bool, true, false, ◌+◌, ◌-◌, ◌^◌, ◌==◌, ◌&&◌, ◌||◌, List, [], ◌∷◌, ◌++◌, nat_lt, nat_le, min, Option, Some, None, Result, Ok, Err, is_some, IsSomeAnd, if◌then◌else◌}
-use Rattle.exec_base.specs.Slab.{Slab, value_at, written, inserted}
-use Rattle.exec_base.specs.declared.error.Cause.TheVariants.{InvalidInput}
-use Rattle.exec_base.specs.declared.error.Error.{Error}
-use Rattle.exec_base.specs.declared.error.Error.TheVariants.{Timeout, Io}
-use Rattle.exec_base.specs.declared.slab.Id.{Id}
-use Rattle.exec_outcomes.specs.Accounts.{Account}
-use Rattle.exec_outcomes.specs.declared.outcome.OpResult.{OpResult}
-use Rattle.exec_outcomes.specs.declared.outcome.Judged.{Judged}
-use Rattle.exec_outcomes.specs.Outcomes.{HasCome, is_unsupported}
-use Rattle.exec_request.specs.Hints.{has_hint, without_hint}
-use Rattle.exec_request.specs.Judging.{Judges, judged_as}
-use Rattle.exec_request.specs.Kept.{kept_of}
-use Rattle.exec_request.specs.Requests.{asked_of, cursor_of, hinted_of, deadline_of, gate_of, record_after, window_by, outcome_if_granted}
-use Rattle.exec_request.specs.States.{Ended, as_answer, asks_cancel, told_by}
-use Rattle.exec_request.specs.Windows.{cancel_window, wake_window}
-use Rattle.exec_request.specs.Buffers.{length_of, moved_of}
-use Rattle.exec_request.specs.declared.buffers.WriteBuffers.{WriteBuffers}
-use Rattle.exec_request.specs.declared.request.Request.{Request}
-use Rattle.exec_request.specs.declared.request.Request.TheVariants.{Send, WriteAt}
-use Rattle.exec_request.specs.declared.results.WaiterState.TheVariants.{Active}
-use Rattle.exec_request.specs.declared.window.Window.{Window}
-use Rattle.exec_request.specs.declared.write_at.WriteAtState.{WriteAtState}
-use Rattle.exec_request.specs.declared.write_at.WriteAtState.TheVariants.{Writing}
-use Rattle.exec_ring.specs.Completions.{result_in}
-use Rattle.exec_ring.specs.Kernels.{with_entry, entered_with, reaped, next_completion, flight_of, landed}
-use Rattle.exec_ring.specs.Rings.{fresh as fresh_ring}
-use Rattle.exec_ring.specs.declared.store.Store.{Store}
-use Rattle.exec_ring.specs.declared.completion.Completion.{Completion}
-use Rattle.exec_ring.specs.declared.completion.Posted.{Posted}
-use Rattle.exec_ring.specs.declared.completion.Submission.{Submission}
-use Rattle.exec_time.specs.Wheel.{Wheel, fresh, target_of, moment_of, scheduled, removed}
-use Rattle.exec_time.specs.Layouts.{slots_of}
-use Rattle.exec_time.specs.Turning.{advanced}
-use Rattle.exec_waiters.specs.Events.{admitted, finished, told_by_finish, cancelled, with_permit, with_tick, orphaned, asks_cancel_by_orphan, is_lawful_for, Lands}
-use Rattle.exec_waiters.specs.Ids.{user_data_of}
-use Rattle.exec_waiters.specs.States.{waiter_at, named, tick_in, file_of, gate_in}
-use Rattle.exec_waiters.specs.Told.{Told, nothing_told, Tells}
-use Rattle.exec_waiters.specs.declared.deferred.Deferred.{Deferred}
-use Rattle.exec_waiters.specs.declared.observer.Observer.{Observer}
-use Rattle.exec_waiters.specs.declared.waiter.Waiter.{Waiter}
-use Rattle.exec_waiters.specs.declared.waiter.Entry.{Entry}
-use Rattle.exec_waiters.specs.declared.waiter.Entry.TheVariants.{Pending}
-use Rattle.exec_waiters.specs.declared.waiter_id.WaiterId.{WaiterId}
-use Rattle.exec_driver.specs.Opens.{OpenState, holder_at, account_in, with_account}
-use Rattle.exec_driver.specs.Driving.{Driving, request_at}
-use Rattle.exec_driver.specs.Lists.{Lists, is_among, no_lists, withdrawn, with_queued, with_gated, with_enrolment, with_due, with_cancel, without_gated, after_queued, after_enrolment, after_due, after_cancel}
-use Rattle.exec_driver.specs.declared.driver.reaping.Reaped.{Reaped}
-use Rattle.exec_driver.specs.declared.driver.staging.Granted.{Granted}
-use Rattle.exec_driver.specs.declared.opens.WaiterKey.{WaiterKey}
+use Rattle.exec_base.specs.{Slab.{Slab, value_at, written, inserted}, declared.{error.{Cause.TheVariants.InvalidInput, Error.{Error, TheVariants.{Timeout, Io}}}, slab.Id.Id}}
+use Rattle.exec_outcomes.specs.{Accounts.Account, declared.outcome.{OpResult.OpResult, Judged.Judged}, Outcomes.{HasCome, is_unsupported}}
+use Rattle.exec_request.specs.{Hints.{has_hint, without_hint}, Judging.{Judges, judged_as}, Kept.kept_of, Requests.{asked_of, cursor_of, hinted_of, deadline_of, gate_of, record_after, window_by, outcome_if_granted}, States.{Ended, as_answer, asks_cancel, told_by}, Windows.{cancel_window, wake_window}, Buffers.{length_of, moved_of}, declared.{buffers.WriteBuffers.WriteBuffers, request.Request.{Request, TheVariants.{Send, WriteAt}}, results.WaiterState.TheVariants.Active, window.Window.Window, write_at.WriteAtState.{WriteAtState, TheVariants.Writing}}}
+use Rattle.exec_ring.specs.{Completions.result_in, Kernels.{with_entry, entered_with, reaped, next_completion, flight_of, landed}, Rings.fresh as fresh_ring, declared.{store.Store.Store, completion.{Completion.Completion, Posted.Posted, Submission.Submission}}}
+use Rattle.exec_time.specs.{Wheel.{Wheel, fresh, target_of, moment_of, scheduled, removed}, Layouts.slots_of, Turning.advanced}
+use Rattle.exec_waiters.specs.{Events.{admitted, finished, told_by_finish, cancelled, with_permit, with_tick, orphaned, asks_cancel_by_orphan, is_lawful_for, Lands}, Ids.user_data_of, States.{waiter_at, named, tick_in, file_of, gate_in}, Told.{Told, nothing_told, Tells}, declared.{deferred.Deferred.Deferred, observer.Observer.Observer, waiter.{Waiter.Waiter, Entry.{Entry, TheVariants.Pending}}, waiter_id.WaiterId.WaiterId}}
+use Rattle.exec_driver.specs.{Opens.{OpenState, holder_at, account_in, with_account}, Driving.{Driving, request_at}, Lists.{Lists, is_among, no_lists, withdrawn, with_queued, with_gated, with_enrolment, with_due, with_cancel, without_gated, after_queued, after_enrolment, after_due, after_cancel}, declared.{driver.{reaping.Reaped.Reaped, staging.Granted.Granted}, opens.WaiterKey.WaiterKey}}
 
 -- an error of a timed-out request, and of one whose deadline is beyond the wheel
 abbrev pub timed_out : Ended

@@ -1,16 +1,9 @@
 -- What a whole service needs, and what each of its steps keeps.
 use Rattle.std.specs.Prelude.{◌≡◌, ℕ, suc, Bool, true, false, not, ◌+◌, ◌≤◌, ◌==◌, ◌&&◌, ◌||◌, length, nat_lt, List, [], ◌∷◌, Option, Some, None, if◌then◌else◌}
 use Rattle.exec_base.specs.Post.{Takes}
-use Rattle.exec_ring.specs.Rings.{RingState}
-use Rattle.exec_ring.specs.declared.completion.Posted.{Posted}
-use Rattle.exec_waiters.specs.States.{pending_count}
-use Rattle.exec_waiters.specs.Told.{HasPlaces, is_untold}
-use Rattle.exec_waiters.specs.declared.deferred.Deferred.{Deferred}
-use Rattle.exec_driver.specs.Driving.{Driving, may_stage_one, has_pending, is_full}
-use Rattle.exec_driver.specs.Lists.{has_first}
-use Rattle.exec_driver.specs.Punctual.{IsPunctual}
-use Rattle.exec_driver.specs.Steps.{entered}
-use Rattle.exec_driver.specs.declared.opens.WaiterKey.{WaiterKey}
+use Rattle.exec_ring.specs.{Rings.RingState, declared.completion.Posted.Posted}
+use Rattle.exec_waiters.specs.{States.pending_count, Told.{HasPlaces, is_untold}, declared.deferred.Deferred.Deferred}
+use Rattle.exec_driver.specs.{Driving.{Driving, may_stage_one, has_pending, is_full}, Lists.has_first, Punctual.IsPunctual, Steps.entered, declared.opens.WaiterKey.WaiterKey}
 
 module _ {S F : Type 0} where
   -- There is room to tell the end of each request that isn't over, and of one more.

@@ -7,21 +7,25 @@
 //! Who gives up the permit of an open signals the worker of the next holder, the own one too, since a permit is granted
 //! by a service of that worker.
 
-ghost use Rattle.std.specs.Prelude.{◌≡◌, ℕ, Bool, List, Option};
+ghost use Rattle.std.specs.Prelude.{◌≡◌, ℕ, Bool, true, false, List, Option};
 ghost use Rattle.exec_base.specs.Post.{Takes};
 
 /// The wake word of a worker.
 pub trait Armed {
     // The word stands as the worker left it: no signal, and no batch of messages but those that were taken.
     ghost is_calm: { Self → ℕ → Bool };
+    // The worker waits on its ring: who sends it something raises a wake there.
+    ghost is_armed: { Self → Bool };
 
     /// Says that the worker waits on its ring from now on, having taken `processed` batches of messages. False just
     /// where a signal stands there or another batch was sent.
     fn arm(&mut self, processed: u32) -> bool
-        ensures { result ≡ is_calm self.old processed };
+        ensures calm { result ≡ is_calm self.old processed }
+        ensures armed { is_armed self.new ≡ true };
 
     /// Says that the worker waits no more, and takes the signal out.
-    fn disarm(&mut self);
+    fn disarm(&mut self)
+        ensures { is_armed self.new ≡ false };
 }
 
 /// The signals to workers.

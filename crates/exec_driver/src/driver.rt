@@ -26,15 +26,10 @@
 //! nanoseconds.
 
 ghost use Rattle.std.specs.Prelude.{◌≡◌, ℕ, ◌+◌, ◌==◌, not, [], IfOk, IfErr, IsTrue, IsSome, ◌↔◌};
-ghost use Rattle.exec_ring.specs.Kernels.{with_wake, is_quiet};
-ghost use Rattle.exec_ring.specs.Rings.{fresh as fresh_ring};
-ghost use Rattle.exec_time.specs.Layouts.{slots_of};
-ghost use Rattle.exec_time.specs.Wheel.{IsSettled, next_moment};
+ghost use Rattle.exec_ring.specs.{Kernels.{with_wake, is_quiet}, Rings.fresh as fresh_ring};
+ghost use Rattle.exec_time.specs.{Layouts.slots_of, Wheel.{IsSettled, next_moment}};
 ghost use Rattle.exec_waiters.specs.States.{pending_count};
-ghost use Rattle.exec_driver.specs.Driving.{seen, has_pending, may_stage_one, is_full};
-ghost use Rattle.exec_driver.specs.Lists.{has_first};
-ghost use Rattle.exec_driver.specs.Punctual.{IsPunctual};
-ghost use Rattle.exec_driver.specs.Steps.{IsFresh};
+ghost use Rattle.exec_driver.specs.{Driving.{seen, has_pending, may_stage_one, is_full}, Lists.has_first, Punctual.IsPunctual, Steps.IsFresh};
 
 use crate::lists::Lists;
 use exec_request::window::Window;
@@ -180,7 +175,7 @@ impl<R: Ring + Drop, S: Drop, F: Drop> Driver<R, S, F> {
         self.lists.has_cancels()
     }
 
-    /// How many entries the submission queue has; a service wants one at least.
+    /// How many entries the submission queue has room for; a service wants one at least.
     pub fn ring_size(&self) -> usize
         ensures { result ≡ (seen self.now).ring.size }
     {

@@ -1,22 +1,14 @@
 //! Worked examples of what calls do to a driver, proved by computation.
 
-ghost use Rattle.std.specs.Prelude.{◌≡◌, [], ◌∷◌, Some, None, Ok, Err, true, false};
+ghost use Rattle.std.specs.Prelude.{◌≡◌, ℕ, [], ◌∷◌, Some, None, Ok, Err, true, false};
 ghost use Rattle.exec_base.specs.Slab.{value_at};
 ghost use Rattle.exec_base.specs.declared.error.Cause.TheVariants as cause;
 ghost use Rattle.exec_base.specs.declared.error.Error.TheVariants as error;
 ghost use Rattle.exec_request.specs.declared.output.RequestOutput.TheVariants as output;
 ghost use Rattle.exec_ring.specs.Completions.{acknowledged, wake_completion, completed};
 ghost use Rattle.exec_outcomes.specs.declared.outcome.OpResult.TheVariants.{Count, Errno};
-ghost use Rattle.exec_waiters.specs.Examples.{poll, sync};
-ghost use Rattle.exec_waiters.specs.Told.{nothing_told};
-ghost use Rattle.exec_waiters.specs.declared.waiter.Entry.TheVariants.{Pending, Ready};
-ghost use Rattle.exec_driver.specs.Driving.{may_stage_one, has_pending};
-ghost use Rattle.exec_driver.specs.Lists.{no_lists};
-ghost use Rattle.exec_driver.specs.Steps.{cancelled_at, told_by_cancel, let_go, expired, cancel_staged, cancel_entry, noted, completed_in, is_control, is_turn_of, tick_for, lowest_gate};
-ghost use Rattle.exec_driver.specs.Turns.{may_wait};
-ghost use Rattle.exec_driver.specs.Examples.{first, wheel, idle, with_one, flying, workers, held, gates};
-ghost use Rattle.exec_driver.specs.Laws.{ShareGates};
-ghost use Rattle.exec_driver.specs.Sharing.{LineUp};
+ghost use Rattle.exec_waiters.specs.{Examples.{poll, sync}, Told.nothing_told, declared.{waiter.Entry.TheVariants.{Pending, Ready}, deferred.Deferred.Deferred}};
+ghost use Rattle.exec_driver.specs.{Driving.{may_stage_one, has_pending}, Lists.no_lists, Steps.{cancelled_at, told_by_cancel, let_go, expired, cancel_staged, cancel_entry, poll_staged, noted, completed_in, is_control, is_turn_of, tick_for, lowest_gate}, Service.{ServesInOrder, reached}, Turns.may_wait, Examples.{first, wheel, idle, with_one, flying, workers, held, gates}, Laws.ShareGates, Sharing.LineUp};
 
 /// Admission: a poll is queued and its deadline to be enrolled, one whose deadline has come is over, and a sync waits
 /// at the gate of its open, which grants only to the worker of its holder.
@@ -74,6 +66,11 @@ pub fn waits()
     ensures pending { may_wait (with_one poll 0) ≡ false }
     ensures gated { may_wait (with_one sync 0) ≡ true }
     ensures no_room { may_wait (record idle { ring = record idle.ring { size = 0 } }) ≡ false }
+{}
+
+/// A service of a driver without requests stages the wake poll, and makes no other step.
+pub fn services()
+    ensures idle { (told : Deferred ℕ ℕ) → ServesInOrder 3 0 false false (reached idle [] told None) (reached (poll_staged idle) [] told None) }
 {}
 
 /// Gates: workers share one whose holder's request alone was granted the permit, and don't where two were.

@@ -1,26 +1,12 @@
 //! Laws of drivers, and of drivers that share gates.
 
 ghost use Rattle.std.specs.Prelude.{◌≡◌, ℕ, [], ◌∷◌, true, false, List, Option, Some, None, Ok, Err};
-ghost use Rattle.exec_base.specs.declared.error.Error.{Error};
-ghost use Rattle.exec_base.specs.declared.slab.Id.{Id};
-ghost use Rattle.exec_outcomes.specs.Accounts.{Account, is_durable};
-ghost use Rattle.exec_outcomes.specs.declared.outcome.Outcome.TheVariants.{Failure};
-ghost use Rattle.exec_request.specs.Requests.{asked_of, deadline_of, goes_on_alone, outcome_if_granted, output_of, retired_of};
-ghost use Rattle.exec_request.specs.States.{Ended};
-ghost use Rattle.exec_request.specs.declared.request.Request.{Request};
+ghost use Rattle.exec_base.specs.declared.{error.Error.Error, slab.Id.Id};
+ghost use Rattle.exec_outcomes.specs.{Accounts.{Account, is_durable}, declared.outcome.Outcome.TheVariants.Failure};
+ghost use Rattle.exec_request.specs.{Requests.{asked_of, deadline_of, goes_on_alone, outcome_if_granted, output_of, retired_of}, States.Ended, declared.request.Request.Request};
 ghost use Rattle.exec_ring.specs.declared.completion.Completion.{Completion};
-ghost use Rattle.exec_waiters.specs.Events.{ending_of};
-ghost use Rattle.exec_waiters.specs.Ids.{user_data_of};
-ghost use Rattle.exec_waiters.specs.States.{waiter_at, is_flying};
-ghost use Rattle.exec_waiters.specs.Told.{nothing_told};
-ghost use Rattle.exec_waiters.specs.declared.waiter.Waiter.{Waiter};
-ghost use Rattle.exec_waiters.specs.declared.waiter_id.WaiterId.{WaiterId};
-ghost use Rattle.exec_driver.specs.Driving.{Driving, request_at};
-ghost use Rattle.exec_driver.specs.Opens.{OpenState};
-ghost use Rattle.exec_driver.specs.Steps.{let_go, without_observer, ended, cancelled_at, told_by_cancel, told_by_end, noted, completed_in};
-ghost use Rattle.exec_driver.specs.Laws.{is_listed, ShareGates, IsDurableFlight, GoesOnFlying};
-ghost use Rattle.exec_driver.specs.Sharing.{Gates, LineUp, CallsOne, AreFresh, IsRun};
-ghost use Rattle.exec_driver.specs.declared.opens.WaiterKey.{WaiterKey};
+ghost use Rattle.exec_waiters.specs.{Events.ending_of, Ids.user_data_of, States.{waiter_at, is_flying}, Told.nothing_told, declared.{waiter.Waiter.Waiter, waiter_id.WaiterId.WaiterId}};
+ghost use Rattle.exec_driver.specs.{Driving.{Driving, request_at}, Opens.OpenState, Steps.{let_go, without_observer, ended, cancelled_at, told_by_cancel, told_by_end, noted, completed_in}, Laws.{is_listed, ShareGates, IsDurableFlight, GoesOnFlying}, Sharing.{Gates, LineUp, CallsOne, AreFresh, IsRun}, declared.opens.WaiterKey.WaiterKey};
 
 use exec_waiters::laws::{
     a_recycled_slot_takes_no_old_completion, a_request_is_resolved_at_most_once,

@@ -3,21 +3,11 @@ use Rattle.std.proofs.Common.{◌≡◌, ◌<◌, Bool, true, false, length, Opt
 use Rattle.std.proofs.lemmas.Bool.{cases_lt}
 use Rattle.std.proofs.lemmas.List.{get_or_past}
 use Rattle.exec_base.proofs.Slots.{Changed-set, Updates-write, Updates-free, was_live}
-use Rattle.exec_base.specs.Slab.{Slab, value_at, slot_at, written, removed, freed}
-use Rattle.exec_base.specs.declared.slab.Id.{Id}
-use Rattle.exec_base.specs.declared.slab.Slot.TheVariants.{Live, Vacant}
-use Rattle.exec_driver.specs.Driving.{Driving}
-use Rattle.exec_driver.specs.Steps.{let_go, cancelled_from}
-use Rattle.exec_request.specs.Requests.{goes_on_alone}
-use Rattle.exec_request.specs.States.{asks_cancel}
+use Rattle.exec_base.specs.{Slab.{Slab, value_at, slot_at, written, removed, freed}, declared.slab.{Id.Id, Slot.TheVariants.{Live, Vacant}}}
+use Rattle.exec_driver.specs.{Driving.Driving, Steps.{let_go, cancelled_from}}
+use Rattle.exec_request.specs.{Requests.goes_on_alone, States.asks_cancel}
 use Rattle.exec_time.specs.declared.timers.Sleeper.{Sleeper}
-use Rattle.exec_waiters.specs.Events.{cancelled, with_observer}
-use Rattle.exec_waiters.specs.States.{is_held_at, is_held_by, waiter_of}
-use Rattle.exec_waiters.specs.declared.observer.Observer.TheVariants.{Orphaned}
-use Rattle.exec_waiters.specs.declared.waiter.Entry.{Entry}
-use Rattle.exec_waiters.specs.declared.waiter.Entry.TheVariants.{Pending, Ready}
-use Rattle.exec_waiters.specs.declared.waiter.Waiter.{Waiter}
-use Rattle.exec_waiters.specs.declared.waiter_id.WaiterId.{WaiterId}
+use Rattle.exec_waiters.specs.{Events.{cancelled, with_observer}, States.{is_held_at, is_held_by, waiter_of}, declared.{observer.Observer.TheVariants.Orphaned, waiter.{Entry.{Entry, TheVariants.{Pending, Ready}}, Waiter.Waiter}, waiter_id.WaiterId.WaiterId}}
 
 module _ {T : Type 0} where
   -- what is written stands there, and what is removed doesn't

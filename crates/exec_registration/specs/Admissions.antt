@@ -1,29 +1,12 @@
 -- What a registration of a request, and the beginning of a sync, do.
 use Rattle.std.specs.Prelude.{◌≡◌, ℕ, ◌*◌, Bool, true, false, List, Option, Some, None, Err, Ok}
-use Rattle.exec_base.specs.Slab.{Slab, next_id, live_count, IsPast, TakesId}
-use Rattle.exec_base.specs.declared.error.Error.{Error}
-use Rattle.exec_base.specs.declared.slab.InsertError.{InsertError}
-use Rattle.exec_base.specs.declared.slab.InsertError.TheVariants.{Full, NoMemory}
-use Rattle.exec_driver.specs.Opens.{OpenState}
-use Rattle.exec_driver.specs.Admission.{Admits, with_rooms}
-use Rattle.exec_driver.specs.Steps.{told_at_admission, newcomer}
+use Rattle.exec_base.specs.{Slab.{Slab, next_id, live_count, IsPast, TakesId}, declared.{error.Error.Error, slab.InsertError.{InsertError, TheVariants.{Full, NoMemory}}}}
+use Rattle.exec_driver.specs.{Opens.OpenState, Admission.{Admits, with_rooms}, Steps.{told_at_admission, newcomer}}
 use Rattle.exec_outcomes.specs.Accounts.{Account, is_dirty}
-use Rattle.exec_registration.specs.Homes.{HomeState}
-use Rattle.exec_registration.specs.declared.operation.Started.{Started}
-use Rattle.exec_registration.specs.declared.operation.Started.TheVariants.{UnderWay}
-use Rattle.exec_registration.specs.declared.registration.RegistrationState.{RegistrationState}
-use Rattle.exec_registration.specs.declared.registration.RegistrationState.TheVariants.{Waiting}
-use Rattle.exec_request.specs.States.{Ended}
-use Rattle.exec_request.specs.declared.request.Request.{Request}
-use Rattle.exec_ring.specs.Stores.{Same}
-use Rattle.exec_ring.specs.declared.store.Store.{Store}
-use Rattle.exec_waiters.specs.States.{is_full}
-use Rattle.exec_waiters.specs.Told.{HasPlaces, Tells, nothing_told}
-use Rattle.exec_waiters.specs.declared.observer.Observer.{Observer}
-use Rattle.exec_waiters.specs.declared.observer.Observer.TheVariants.{Local}
-use Rattle.exec_waiters.specs.declared.waiter.Entry.{Entry}
-use Rattle.exec_waiters.specs.declared.waiter.Refused.{Refused}
-use Rattle.exec_waiters.specs.declared.waiter_id.WaiterId.{WaiterId}
+use Rattle.exec_registration.specs.{Homes.HomeState, declared.{operation.Started.{Started, TheVariants.UnderWay}, registration.RegistrationState.{RegistrationState, TheVariants.Waiting}}}
+use Rattle.exec_request.specs.{States.Ended, declared.request.Request.Request}
+use Rattle.exec_ring.specs.{Stores.Same, declared.store.Store.Store}
+use Rattle.exec_waiters.specs.{States.is_full, Told.{HasPlaces, Tells, nothing_told}, declared.{observer.Observer.{Observer, TheVariants.Local}, waiter.{Entry.Entry, Refused.Refused}, waiter_id.WaiterId.WaiterId}}
 
 -- What ends a sync at once: the failure that its open keeps, or that every change is durable. Of an open that isn't
 -- there nothing is known.

@@ -1,10 +1,7 @@
 -- Values for the worked examples: registrations for the thing 5 of worker 3, which gives 7.
 use Rattle.std.specs.Prelude.{ℕ, Result, Ok, Err}
-use Rattle.exec_base.specs.OneShot.{sent, closed}
-use Rattle.exec_base.specs.declared.error.Error.{Error}
+use Rattle.exec_base.specs.{OneShot.{sent, closed}, declared.{error.Error.Error, one_shot.OneShotState.{OneShotState, TheVariants.Open}}}
 use Rattle.exec_base.specs.declared.error.Error.TheVariants as error
-use Rattle.exec_base.specs.declared.one_shot.OneShotState.{OneShotState}
-use Rattle.exec_base.specs.declared.one_shot.OneShotState.TheVariants.{Open}
 use Rattle.exec_registration.specs.declared.registration.RegistrationState.{RegistrationState}
 use Rattle.exec_registration.specs.declared.registration.RegistrationState.TheVariants as state
 use Rattle.exec_time.specs.declared.timers.Observation.{Observation}

@@ -1,8 +1,7 @@
 -- What a clause sees of a worker's home.
 use Rattle.std.specs.Prelude.{ℕ, Bool}
 use Rattle.exec_base.specs.Slab.{Slab}
-use Rattle.exec_driver.specs.Driving.{Driving, seen}
-use Rattle.exec_driver.specs.declared.home.Home.{Home}
+use Rattle.exec_driver.specs.{Driving.{Driving, seen}, declared.home.Home.Home}
 use Rattle.exec_time.specs.declared.timers.Sleeper.{Sleeper}
 use Rattle.exec_waiters.specs.declared.deferred.Deferred.{Deferred}
 

@@ -1,15 +1,9 @@
 -- What a look of a task at something of its worker comes to.
 use Rattle.std.specs.Prelude.{Option, Some, None}
-use Rattle.exec_base.specs.Slab.{Slab, written}
-use Rattle.exec_base.specs.declared.task_no.TaskNo.{TaskNo}
+use Rattle.exec_base.specs.{Slab.{Slab, written}, declared.task_no.TaskNo.TaskNo}
 use Rattle.exec_registration.specs.Homes.{HomeState}
-use Rattle.exec_time.specs.declared.timers.Observation.{Observation}
-use Rattle.exec_time.specs.declared.timers.Observation.TheVariants.{Ready, Pending, Refresh}
-use Rattle.exec_time.specs.declared.timers.Observer.TheVariants.{Local}
-use Rattle.exec_time.specs.declared.timers.Sleeper.{Sleeper}
-use Rattle.exec_time.specs.declared.timers.TimerId.{TimerId}
-use Rattle.exec_waiters.specs.Events.{taken, changed, with_waker}
-use Rattle.exec_waiters.specs.declared.waiter_id.WaiterId.{WaiterId}
+use Rattle.exec_time.specs.declared.timers.{Observation.{Observation, TheVariants.{Ready, Pending, Refresh}}, Observer.TheVariants.Local, Sleeper.Sleeper, TimerId.TimerId}
+use Rattle.exec_waiters.specs.{Events.{taken, changed, with_waker}, declared.waiter_id.WaiterId.WaiterId}
 
 module _ {T A : Type 0} where
   -- one value where the thing has ended, and else another

@@ -1,23 +1,12 @@
 -- What a message does to its worker.
 use Rattle.std.specs.Prelude.{◌≡◌, false, List, [], Option, Some, None, Ok, Err}
-use Rattle.exec_base.specs.Slab.{Slab, value_at, written, removed}
-use Rattle.exec_base.specs.declared.error.Error.TheVariants.{Closed}
+use Rattle.exec_base.specs.{Slab.{Slab, value_at, written, removed}, declared.error.Error.TheVariants.Closed}
 use Rattle.exec_driver.specs.Steps.{let_go, told_by_let_go}
-use Rattle.exec_registration.specs.Homes.{HomeState}
-use Rattle.exec_registration.specs.declared.mail.Cancel.{Cancel}
+use Rattle.exec_registration.specs.{Homes.HomeState, declared.mail.{Cancel.Cancel, Forward.Forward}}
 use Rattle.exec_registration.specs.declared.mail.Cancel.TheVariants as cancel
-use Rattle.exec_registration.specs.declared.mail.Forward.{Forward}
 use Rattle.exec_registration.specs.declared.mail.Forward.TheVariants as forward
-use Rattle.exec_time.specs.Notes.{HasRoom, Adds}
-use Rattle.exec_time.specs.Sleepers.{is_forwarded, completions_of}
-use Rattle.exec_time.specs.declared.notes.ForwardedResult.{ForwardedResult}
-use Rattle.exec_time.specs.declared.timers.Observer.TheVariants.{Forwarded}
-use Rattle.exec_time.specs.declared.timers.Sleeper.{Sleeper}
-use Rattle.exec_time.specs.declared.timers.TimerId.{TimerId}
-use Rattle.exec_waiters.specs.Events.{forwarded, told_by_forward, told_by_orphan}
-use Rattle.exec_waiters.specs.States.{is_held_at}
-use Rattle.exec_waiters.specs.Told.{HasPlaces, Tells}
-use Rattle.exec_waiters.specs.declared.waiter_id.WaiterId.{WaiterId}
+use Rattle.exec_time.specs.{Notes.{HasRoom, Adds}, Sleepers.{is_forwarded, completions_of}, declared.{notes.ForwardedResult.ForwardedResult, timers.{Observer.TheVariants.Forwarded, Sleeper.Sleeper, TimerId.TimerId}}}
+use Rattle.exec_waiters.specs.{Events.{forwarded, told_by_forward, told_by_orphan}, States.is_held_at, Told.{HasPlaces, Tells}, declared.waiter_id.WaiterId.WaiterId}
 
 module _ {S : Type 0} where
   -- a sleeper that is there sends its result by this from now on; one that is gone has fired, and it is sent at once

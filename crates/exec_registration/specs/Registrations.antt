@@ -1,14 +1,9 @@
 -- How a registration stands, and what a poll and a release do.
 use Rattle.std.specs.Prelude.{◌≡◌, ℕ, Bool, true, List, ◌⊎◌, Option, Some, None, Result, Ok, Err}
-use Rattle.exec_base.specs.OneShot.{poll_answer, polled}
-use Rattle.exec_base.specs.Post.{Takes}
-use Rattle.exec_base.specs.declared.error.Error.{Error}
+use Rattle.exec_base.specs.{OneShot.{poll_answer, polled}, Post.Takes, declared.{error.Error.Error, one_shot.OneShotState.OneShotState}}
 use Rattle.exec_base.specs.declared.error.Error.TheVariants as error
-use Rattle.exec_base.specs.declared.one_shot.OneShotState.{OneShotState}
-use Rattle.exec_registration.specs.declared.registration.RegistrationState.{RegistrationState}
-use Rattle.exec_registration.specs.declared.registration.RegistrationState.TheVariants.{Waiting, Forwarded, Closed, Done}
-use Rattle.exec_time.specs.declared.timers.Observation.{Observation}
-use Rattle.exec_time.specs.declared.timers.Observation.TheVariants.{Ready, Pending, Refresh}
+use Rattle.exec_registration.specs.declared.registration.RegistrationState.{RegistrationState, TheVariants.{Waiting, Forwarded, Closed, Done}}
+use Rattle.exec_time.specs.declared.timers.Observation.{Observation, TheVariants.{Ready, Pending, Refresh}}
 
 module _ {K : Type 0} where
   -- what it still waits for: the worker and the key

@@ -4,10 +4,7 @@ ghost use Rattle.std.specs.Prelude.{◌≡◌, Some, None, Ok, Err, true, false}
 ghost use Rattle.exec_base.specs.OneShot.{poll_answer};
 ghost use Rattle.exec_base.specs.declared.error.Error.TheVariants as error;
 ghost use Rattle.exec_outcomes.specs.Accounts.{fresh_account, changed, covered, poisoned};
-ghost use Rattle.exec_registration.specs.Admissions.{over_at_once};
-ghost use Rattle.exec_registration.specs.Examples.{waiting, forwarded, refused, over, ended, waits, wakes_another, nothing_sent, given, turned_away, never_sent};
-ghost use Rattle.exec_registration.specs.Looks.{after_look};
-ghost use Rattle.exec_registration.specs.Registrations.{pending_of, told_by_look, state_after, heard, after_hearing};
+ghost use Rattle.exec_registration.specs.{Admissions.over_at_once, Examples.{waiting, forwarded, refused, over, ended, waits, wakes_another, nothing_sent, given, turned_away, never_sent}, Looks.after_look, Registrations.{pending_of, told_by_look, state_after, heard, after_hearing}};
 
 /// What a thing gave is answered and taken, and the registration is over; until then it waits on, and has the thing
 /// wake its task where it would wake another.

@@ -6,8 +6,7 @@ ghost use Rattle.exec_registration.specs.Looks.{without_output, with_task, awake
 ghost use Rattle.exec_registration.specs.declared.mail.Cancel.TheVariants as cancel;
 ghost use Rattle.exec_registration.specs.declared.mail.Forward.TheVariants as forward;
 ghost use Rattle.exec_time.specs.Sleepers.{is_forwarded, observation};
-ghost use Rattle.exec_waiters.specs.Events.{seen_by};
-ghost use Rattle.exec_waiters.specs.States.{may_be_seen};
+ghost use Rattle.exec_waiters.specs.{Events.seen_by, States.may_be_seen};
 
 use crate::mail::{Cancel, Forward};
 use crate::registration::Key;

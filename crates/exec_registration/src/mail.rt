@@ -6,8 +6,7 @@
 //! a sleeper that is gone by `Ok`, of a request by its output where that is kept, and else by `Closed`.
 
 ghost use Rattle.std.specs.Prelude.{◌≡◌, ℕ, ◌+◌, ◌≤◌, OnOk, OnErr};
-ghost use Rattle.exec_registration.specs.Homes.{home_of};
-ghost use Rattle.exec_registration.specs.Mail.{MayForward, Forwards, HasRoomFor, Cancels, IsUnheld};
+ghost use Rattle.exec_registration.specs.{Homes.home_of, Mail.{MayForward, Forwards, HasRoomFor, Cancels, IsUnheld}};
 
 use exec_driver::home::Home;
 use exec_ring::ring::Ring;

@@ -21,12 +21,7 @@ ghost use Rattle.std.specs.Prelude.{◌≡◌, ℕ, ◌≢◌, Some, Ok, Err, No
 ghost use Rattle.exec_base.specs.OneShot.{poll_answer, polled};
 ghost use Rattle.exec_base.specs.declared.error.Error.TheVariants as error;
 ghost use Rattle.exec_time.specs.declared.timers.Observation.TheVariants as observation;
-ghost use Rattle.exec_registration.specs.Homes.{HomeState, home_of};
-ghost use Rattle.exec_registration.specs.Mail.{HasRoomFor, Cancels, IsUnheld};
-ghost use Rattle.exec_registration.specs.Looks.{if_ready, after_look};
-ghost use Rattle.exec_registration.specs.Registrations.{told_by_look, state_after, heard, after_hearing, pending_of, Asks, Sends};
-ghost use Rattle.exec_registration.specs.declared.mail.Cancel.{Cancel as CancelOf};
-ghost use Rattle.exec_registration.specs.declared.mail.Forward.{Forward as ForwardOf};
+ghost use Rattle.exec_registration.specs.{Homes.{HomeState, home_of}, Mail.{HasRoomFor, Cancels, IsUnheld}, Looks.{if_ready, after_look}, Registrations.{told_by_look, state_after, heard, after_hearing, pending_of, Asks, Sends}, declared.mail.{Cancel.Cancel as CancelOf, Forward.Forward as ForwardOf}};
 ghost use Rattle.exec_registration.specs.declared.registration.RegistrationState.TheVariants as state;
 
 use crate::mail::{Cancel, Forward};

@@ -6,26 +6,11 @@ use Rattle.std.proofs.lemmas.Bool.Decides.{eqb_tells}
 use Rattle.std.proofs.lemmas.List.{get_or_past, get_or-set_same, get_or_default}
 use Rattle.std.proofs.lemmas.List.Sums.{sum_by-set, sum_by_push, get_or-le-sum_by}
 use Rattle.std.proofs.lemmas.List.Elements.{All-set, All-push}
-use Rattle.exec_base.specs.Slab.{Slab, value_at, value_in, slot_at, written, removed, inserted, filled, generation_of}
-use Rattle.exec_base.specs.SlabLayout.{Lacks, AreVacant, ListsAll}
+use Rattle.exec_base.specs.{Slab.{Slab, value_at, value_in, slot_at, written, removed, inserted, filled, generation_of}, SlabLayout.{Lacks, AreVacant, ListsAll}, declared.slab.{Id.Id, Slot.{Slot, TheVariants.{Live, Vacant, Retired}}}}
 use Rattle.exec_base.proofs.Slots.{ltb_tells, vacant_within, AreVacant-set, AreVacant-push, ListsAll-fill, ListsAll-keep, ListsAll-free, ListsAll-push, none-vacant, Lacks-live}
-use Rattle.exec_base.specs.declared.slab.Id.{Id}
-use Rattle.exec_base.specs.declared.slab.Slot.{Slot}
-use Rattle.exec_base.specs.declared.slab.Slot.TheVariants.{Live, Vacant, Retired}
 use Rattle.exec_outcomes.specs.Accounts.{is_durable}
-use Rattle.exec_request.specs.Kept.{Kept, kept_of}
-use Rattle.exec_request.specs.Requests.{asked_of}
-use Rattle.exec_request.specs.States.{asks_cancel}
-use Rattle.exec_request.specs.declared.output.RequestOutput.{RequestOutput}
-use Rattle.exec_request.specs.declared.request.Request.{Request}
-use Rattle.exec_waiters.specs.declared.observer.Observer.{Observer}
-use Rattle.exec_waiters.specs.declared.waiter.Entry.{Entry}
-use Rattle.exec_waiters.specs.declared.waiter.Entry.TheVariants.{Pending, Ready}
-use Rattle.exec_waiters.specs.declared.waiter_id.WaiterId.{WaiterId}
-use Rattle.exec_waiters.specs.declared.waiter.Waiter.{Waiter}
-use Rattle.exec_waiters.specs.States.{is_asking, flies, counts_pending, counts_flying, waiter_at, waiter_of, is_full, suits, is_sync, is_detached, needs_permit, may_stage, named, is_flying, is_idle, name_of, IsUsedUp}
-use Rattle.exec_waiters.specs.Events.{admitted, with_permit, with_observer}
-use Rattle.exec_waiters.specs.Layout.{IsKept, is_sound, is_sound_entry, is_sound_slot}
+use Rattle.exec_request.specs.{Kept.{Kept, kept_of}, Requests.asked_of, States.asks_cancel, declared.{output.RequestOutput.RequestOutput, request.Request.Request}}
+use Rattle.exec_waiters.specs.{declared.{observer.Observer.Observer, waiter.{Entry.{Entry, TheVariants.{Pending, Ready}}, Waiter.Waiter}, waiter_id.WaiterId.WaiterId}, States.{is_asking, flies, counts_pending, counts_flying, waiter_at, waiter_of, is_full, suits, is_sync, is_detached, needs_permit, may_stage, named, is_flying, is_idle, name_of, IsUsedUp}, Events.{admitted, with_permit, with_observer}, Layout.{IsKept, is_sound, is_sound_entry, is_sound_slot}}
 
 abbrev pub one_if : Bool → ℕ
 one_if b = cond b 1 0

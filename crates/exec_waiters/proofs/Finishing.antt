@@ -1,21 +1,10 @@
 -- A request that ends for a task of the worker.
 use Rattle.std.proofs.Common.{◌≡◌, ℕ, true, [], ◌∷◌, Option, Some, refl}
 use Rattle.std.proofs.lemmas.Bool.{false≢true}
-use Rattle.exec_base.specs.Slab.{Slab, written}
-use Rattle.exec_base.specs.declared.slab.Id.{Id}
+use Rattle.exec_base.specs.{Slab.{Slab, written}, declared.slab.Id.Id}
 use Rattle.exec_outcomes.specs.Accounts.{Account}
-use Rattle.exec_request.specs.Requests.{output_of, retired_of, record_after}
-use Rattle.exec_request.specs.States.{Ended}
-use Rattle.exec_request.specs.declared.output.RequestOutput.{RequestOutput}
-use Rattle.exec_waiters.specs.Told.{Tells, awake}
-use Rattle.exec_waiters.specs.States.{is_local, is_observed_here, tick_in}
-use Rattle.exec_waiters.specs.Events.{Finishes, finished_for, output_told, waker_in}
-use Rattle.exec_waiters.specs.declared.deferred.Deferred.{Deferred}
-use Rattle.exec_waiters.specs.declared.observer.Observer.{Observer}
-use Rattle.exec_waiters.specs.declared.observer.Observer.TheVariants.{Local, Forwarded, DetachedSync, Orphaned}
-use Rattle.exec_waiters.specs.declared.waiter.Waiter.{Waiter}
-use Rattle.exec_waiters.specs.declared.waiter.Entry.{Entry}
-use Rattle.exec_waiters.specs.declared.waiter.Entry.TheVariants.{Ready}
+use Rattle.exec_request.specs.{Requests.{output_of, retired_of, record_after}, States.Ended, declared.output.RequestOutput.RequestOutput}
+use Rattle.exec_waiters.specs.{Told.{Tells, awake}, States.{is_local, is_observed_here, tick_in}, Events.{Finishes, finished_for, output_told, waker_in}, declared.{deferred.Deferred.Deferred, observer.Observer.{Observer, TheVariants.{Local, Forwarded, DetachedSync, Orphaned}}, waiter.{Waiter.Waiter, Entry.{Entry, TheVariants.Ready}}}}
 
 module _ {S F : Type 0} where
   slab_here : (s : Slab (Entry S F)) (id : Id) (told : RequestOutput) (observer : Observer S F) → is_local observer ≡ true → written s id (Ready told) ≡ finished_for s id told observer

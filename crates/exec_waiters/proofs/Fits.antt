@@ -1,31 +1,12 @@
 -- What an output is of, and what bytes that move leave of a request.
 use Rattle.std.proofs.Common.{◌≡◌, ℕ, Bool, true, false, cond, Option, Some, None, Result, Ok, Err, refl, sym, ap, length}
 use Rattle.std.specs.Result.{OnOk, OnErr}
-use Rattle.exec_outcomes.specs.Accounts.{Account}
+use Rattle.exec_outcomes.specs.{Accounts.Account, declared.outcome.OpResult.{OpResult, TheVariants.{Count, Errno}}}
 use Rattle.exec_outcomes.specs.declared.outcome.Kind.TheVariants as kind
-use Rattle.exec_outcomes.specs.declared.outcome.OpResult.{OpResult}
-use Rattle.exec_outcomes.specs.declared.outcome.OpResult.TheVariants.{Count, Errno}
-use Rattle.exec_request.specs.Kept.{Kept}
-use Rattle.exec_request.specs.Requests.{asked_of, output_of}
-use Rattle.exec_request.specs.States.{Ended}
-use Rattle.exec_request.specs.Syncing.{write_kind}
-use Rattle.exec_request.specs.Ways.{asked_by}
-use Rattle.exec_request.specs.declared.way.Way.{Way}
-use Rattle.exec_request.specs.declared.way.Way.TheVariants.{Buffered, Hinted, Direct, Switched}
-use Rattle.exec_request.specs.declared.request.Request.{Request}
-use Rattle.exec_request.specs.declared.request.Request.TheVariants.{Send, Recv, ReadAt, WriteAt, Sync, Connect, Poll}
-use Rattle.exec_request.specs.declared.window.Opcode.{Opcode}
+use Rattle.exec_request.specs.{Kept.Kept, Requests.{asked_of, output_of}, States.Ended, Syncing.write_kind, Ways.asked_by, declared.{way.Way.{Way, TheVariants.{Buffered, Hinted, Direct, Switched}}, request.Request.{Request, TheVariants.{Send, Recv, ReadAt, WriteAt, Sync, Connect, Poll}}, window.{Opcode.Opcode, Window.Window}, write_at.WriteAtState.{WriteAtState, TheVariants.{Writing, WritingSync, WritingBeforeSync, Syncing}}}}
 use Rattle.exec_request.specs.declared.window.Opcode.TheVariants as opcode
-use Rattle.exec_request.specs.declared.write_at.WriteAtState.{WriteAtState}
-use Rattle.exec_request.specs.declared.write_at.WriteAtState.TheVariants.{Writing, WritingSync, WritingBeforeSync, Syncing}
-use Rattle.exec_ring.specs.Landings.{MovesBy, MovesBytes, Moves}
-use Rattle.exec_ring.specs.declared.completion.Submission.{Submission}
-use Rattle.exec_ring.specs.declared.landing.Unlawful.{Unlawful}
-use Rattle.exec_ring.specs.declared.store.Store.{Store}
-use Rattle.exec_request.specs.declared.window.Window.{Window}
-use Rattle.exec_waiters.specs.States.{is_sync, suits}
-use Rattle.exec_waiters.specs.Events.{is_of_sync, fits}
-use Rattle.exec_waiters.specs.declared.observer.Observer.{Observer}
+use Rattle.exec_ring.specs.{Landings.{MovesBy, MovesBytes, Moves}, declared.{completion.Submission.Submission, landing.Unlawful.Unlawful, store.Store.Store}}
+use Rattle.exec_waiters.specs.{States.{is_sync, suits}, Events.{is_of_sync, fits}, declared.observer.Observer.Observer}
 
 no_receive : (exact : Bool) → is_sync (cond exact kind.Fill kind.Recv) ≡ false
 no_receive true = refl

@@ -2,11 +2,8 @@
 use Rattle.std.proofs.Common.{◌≡◌, ℕ, ◌+◌, ◌<◌, false, length, refl, arith, inl, inr}
 use Rattle.std.proofs.lemmas.Bool.{cases_lt}
 use Rattle.std.proofs.lemmas.List.{get_or_past}
-use Rattle.exec_base.specs.Slab.{Slab, value_at}
-use Rattle.exec_base.specs.declared.slab.Id.{Id}
-use Rattle.exec_base.specs.declared.slab.Slot.TheVariants.{Vacant}
-use Rattle.exec_waiters.specs.States.{is_held_at}
-use Rattle.exec_waiters.specs.declared.waiter.Entry.{Entry}
+use Rattle.exec_base.specs.{Slab.{Slab, value_at}, declared.slab.{Id.Id, Slot.TheVariants.Vacant}}
+use Rattle.exec_waiters.specs.{States.is_held_at, declared.waiter.Entry.Entry}
 
 module _ {S F : Type 0} where
   -- no entry in the slots below this one can be let go

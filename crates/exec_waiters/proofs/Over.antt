@@ -1,16 +1,9 @@
 -- What a finish does to the map of requests.
 use Rattle.std.proofs.Common.{◌≡◌, ◌≢◌, ◌^◌, ◌<◌, Option, Some, None, IsSome, refl, ap, ◌∙◌, arith}
-use Rattle.exec_base.specs.Slab.{Slab, value_at, removed, freed, Updates, IsPast}
-use Rattle.exec_base.specs.declared.slab.Id.{Id}
+use Rattle.exec_base.specs.{Slab.{Slab, value_at, removed, freed, Updates, IsPast}, declared.slab.Id.Id}
 use Rattle.exec_base.proofs.Slots.{Changed-set, Updates-write, Updates-free, past-write, past-free}
 use Rattle.exec_request.specs.declared.output.RequestOutput.{RequestOutput}
-use Rattle.exec_waiters.specs.States.{waiter_at, waiter_of}
-use Rattle.exec_waiters.specs.Events.{finished_for}
-use Rattle.exec_waiters.specs.declared.observer.Observer.{Observer}
-use Rattle.exec_waiters.specs.declared.observer.Observer.TheVariants.{Local, Forwarded, DetachedSync, Orphaned}
-use Rattle.exec_waiters.specs.declared.waiter.Waiter.{Waiter}
-use Rattle.exec_waiters.specs.declared.waiter.Entry.{Entry}
-use Rattle.exec_waiters.specs.declared.waiter.Entry.TheVariants.{Pending, Ready}
+use Rattle.exec_waiters.specs.{States.{waiter_at, waiter_of}, Events.finished_for, declared.{observer.Observer.{Observer, TheVariants.{Local, Forwarded, DetachedSync, Orphaned}}, waiter.{Waiter.Waiter, Entry.{Entry, TheVariants.{Pending, Ready}}}}}
 use Rattle.exec_waiters.proofs.Changes.{at_by, entry_of}
 
 module _ {S F : Type 0} where

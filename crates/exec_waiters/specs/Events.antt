@@ -1,45 +1,13 @@
 -- What each call does to the requests of a worker, and what it leaves to be told.
 use Rattle.std.specs.Prelude.{◌≡◌, ℕ, Bool, true, false, not, ◌<◌, ◌==◌, ◌&&◌, ◌||◌, List, [], ◌∷◌, Option, Some, None, Result, Ok, Err, if◌then◌else◌}
-use Rattle.exec_base.specs.Slab.{Slab, value_at, written, removed, HasRoom}
-use Rattle.exec_base.specs.declared.slab.InsertError.{InsertError}
-use Rattle.exec_base.specs.declared.slab.InsertError.TheVariants.{Full, NoMemory}
-use Rattle.exec_base.specs.declared.error.Error.{Error}
-use Rattle.exec_base.specs.declared.error.Error.TheVariants.{Closed}
-use Rattle.exec_base.specs.declared.slab.Id.{Id}
-use Rattle.exec_base.specs.declared.task_no.TaskNo.{TaskNo}
-use Rattle.exec_outcomes.specs.Accounts.{Account}
-use Rattle.exec_outcomes.specs.Lawful.{is_lawful, window_of}
-use Rattle.exec_outcomes.specs.Outcomes.{HasCome, is_unsupported}
-use Rattle.exec_outcomes.specs.declared.outcome.Judged.{Judged}
-use Rattle.exec_outcomes.specs.declared.outcome.OpResult.{OpResult}
-use Rattle.exec_outcomes.specs.declared.outcome.Outcome.{Outcome}
-use Rattle.exec_request.specs.Hints.{has_hint, without_hint}
-use Rattle.exec_request.specs.Judging.{Judges, judged_as}
-use Rattle.exec_request.specs.Kept.{kept_of}
-use Rattle.exec_request.specs.Requests.{asked_of, cursor_of, hinted_of, goes_on_alone, window_by, output_of, retired_of, outcome_if_granted, record_after}
-use Rattle.exec_request.specs.States.{Ended, as_answer, asks_cancel}
-use Rattle.exec_request.specs.declared.output.RequestOutput.{RequestOutput}
+use Rattle.exec_base.specs.{Slab.{Slab, value_at, written, removed, HasRoom}, declared.{slab.{InsertError.{InsertError, TheVariants.{Full, NoMemory}}, Id.Id}, error.Error.{Error, TheVariants.Closed}, task_no.TaskNo.TaskNo}}
+use Rattle.exec_outcomes.specs.{Accounts.Account, Lawful.{is_lawful, window_of}, Outcomes.{HasCome, is_unsupported}, declared.outcome.{Judged.Judged, OpResult.OpResult, Outcome.Outcome}}
+use Rattle.exec_request.specs.{Hints.{has_hint, without_hint}, Judging.{Judges, judged_as}, Kept.kept_of, Requests.{asked_of, cursor_of, hinted_of, goes_on_alone, window_by, output_of, retired_of, outcome_if_granted, record_after}, States.{Ended, as_answer, asks_cancel}, declared.{output.RequestOutput.RequestOutput, request.Request.Request, results.WaiterState.{WaiterState, TheVariants.{Active, CancelRequested}}}}
 use Rattle.exec_request.specs.declared.output.RequestOutput.TheVariants as output
-use Rattle.exec_request.specs.declared.request.Request.{Request}
-use Rattle.exec_request.specs.declared.results.WaiterState.{WaiterState}
-use Rattle.exec_request.specs.declared.results.WaiterState.TheVariants.{Active, CancelRequested}
-use Rattle.exec_ring.specs.Landings.{Moves}
-use Rattle.exec_ring.specs.declared.completion.Submission.{Submission}
-use Rattle.exec_ring.specs.declared.store.Store.{Store}
+use Rattle.exec_ring.specs.{Landings.Moves, declared.{completion.Submission.Submission, store.Store.Store}}
 use Rattle.exec_time.specs.declared.timers.Observation.{Observation}
 use Rattle.exec_time.specs.declared.timers.Observation.TheVariants as observation
-use Rattle.exec_waiters.specs.Ids.{user_data_of}
-use Rattle.exec_waiters.specs.Told.{Told, Tells, nothing_told, tasks_of}
-use Rattle.exec_waiters.specs.States.{is_local, is_held_by, is_detached, is_held_at, is_full, tick_in, IsUsedUp}
-use Rattle.exec_waiters.specs.declared.deferred.Deferred.{Deferred}
-use Rattle.exec_waiters.specs.declared.observer.Observer.{Observer}
-use Rattle.exec_waiters.specs.declared.observer.Observer.TheVariants.{Local, Forwarded, DetachedSync, Orphaned}
-use Rattle.exec_waiters.specs.declared.completed.CompletionOutcome.{CompletionOutcome}
-use Rattle.exec_waiters.specs.declared.completed.CompletionOutcome.TheVariants.{Requeue, Complete}
-use Rattle.exec_waiters.specs.declared.waiter.Waiter.{Waiter}
-use Rattle.exec_waiters.specs.declared.waiter.Refused.{Refused}
-use Rattle.exec_waiters.specs.declared.waiter.Entry.{Entry}
-use Rattle.exec_waiters.specs.declared.waiter.Entry.TheVariants.{Pending, Ready}
+use Rattle.exec_waiters.specs.{Ids.user_data_of, Told.{Told, Tells, nothing_told, tasks_of}, States.{is_local, is_held_by, is_detached, is_held_at, is_full, tick_in, IsUsedUp}, declared.{deferred.Deferred.Deferred, observer.Observer.{Observer, TheVariants.{Local, Forwarded, DetachedSync, Orphaned}}, completed.CompletionOutcome.{CompletionOutcome, TheVariants.{Requeue, Complete}}, waiter.{Waiter.Waiter, Refused.Refused, Entry.{Entry, TheVariants.{Pending, Ready}}}}}
 
 abbrev pub wakes_this : TaskNo → Option TaskNo → Bool
 wakes_this task None = false

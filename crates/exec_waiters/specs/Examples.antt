@@ -1,16 +1,8 @@
 -- Requests of the worked examples. A sender is a number.
 use Rattle.std.specs.Prelude.{ℕ, [], Some, true}
-use Rattle.exec_base.specs.Slab.{Slab, inserted}
-use Rattle.exec_base.specs.declared.slab.Id.{Id}
-use Rattle.exec_base.specs.declared.task_no.TaskNo.{TaskNo}
-use Rattle.exec_request.specs.declared.request.Request.{Request}
-use Rattle.exec_request.specs.declared.request.Request.TheVariants.{Sync, Poll}
-use Rattle.exec_waiters.specs.declared.observer.Observer.{Observer}
-use Rattle.exec_waiters.specs.declared.observer.Observer.TheVariants.{Local, Forwarded, DetachedSync, Orphaned}
-use Rattle.exec_waiters.specs.declared.waiter.Waiter.{Waiter}
-use Rattle.exec_waiters.specs.declared.waiter.Entry.{Entry}
-use Rattle.exec_waiters.specs.declared.waiter.Entry.TheVariants.{Pending}
-use Rattle.exec_waiters.specs.Events.{fresh}
+use Rattle.exec_base.specs.{Slab.{Slab, inserted}, declared.{slab.Id.Id, task_no.TaskNo.TaskNo}}
+use Rattle.exec_request.specs.declared.request.Request.{Request, TheVariants.{Sync, Poll}}
+use Rattle.exec_waiters.specs.{declared.{observer.Observer.{Observer, TheVariants.{Local, Forwarded, DetachedSync, Orphaned}}, waiter.{Waiter.Waiter, Entry.{Entry, TheVariants.Pending}}}, Events.fresh}
 
 abbrev pub task : ℕ → TaskNo
 task n = record { 0 = n }

@@ -1,13 +1,7 @@
 -- How the requests of a worker lie in memory. No public clause cites this module.
 use Rattle.std.specs.Prelude.{◌≡◌, ℕ, Bool, true, not, ◌&&◌, ◌≤◌, length, All}
-use Rattle.exec_base.specs.Slab.{Slab}
-use Rattle.exec_base.specs.SlabLayout.{AreVacant, ListsAll}
-use Rattle.exec_base.specs.declared.slab.Slot.{Slot}
-use Rattle.exec_base.specs.declared.slab.Slot.TheVariants.{Live, Vacant, Retired}
-use Rattle.exec_waiters.specs.States.{suits, needs_permit, pending_count, flying_count}
-use Rattle.exec_waiters.specs.declared.waiter.Waiter.{Waiter}
-use Rattle.exec_waiters.specs.declared.waiter.Entry.{Entry}
-use Rattle.exec_waiters.specs.declared.waiter.Entry.TheVariants.{Pending, Ready}
+use Rattle.exec_base.specs.{Slab.Slab, SlabLayout.{AreVacant, ListsAll}, declared.slab.Slot.{Slot, TheVariants.{Live, Vacant, Retired}}}
+use Rattle.exec_waiters.specs.{States.{suits, needs_permit, pending_count, flying_count}, declared.waiter.{Waiter.Waiter, Entry.{Entry, TheVariants.{Pending, Ready}}}}
 
 module _ {S F : Type 0} where
   -- who waits suits the request, and the kernel has an operation only where the permit that it needs is there

@@ -1,13 +1,7 @@
 -- What an entry, and a slab of entries, end as, where a `&mut` to a request of theirs is returned.
 use Rattle.std.specs.Borrow.{Lends, Fml, RattleType, MutBor}
-use Rattle.exec_base.specs.Slab.{Slab, written}
-use Rattle.exec_base.specs.contracts.slab.Slab.{the_row as slab_row}
-use Rattle.exec_base.specs.declared.slab.Id.{Id}
-use Rattle.exec_waiters.specs.contracts.waiter.Entry.{the_row as entry_row}
-use Rattle.exec_waiters.specs.contracts.waiter.Waiter.{the_row as waiter_row}
-use Rattle.exec_waiters.specs.declared.waiter.Entry.{Entry}
-use Rattle.exec_waiters.specs.declared.waiter.Entry.TheVariants.{Pending}
-use Rattle.exec_waiters.specs.declared.waiter.Waiter.{Waiter}
+use Rattle.exec_base.specs.{Slab.{Slab, written}, contracts.slab.Slab.the_row as slab_row, declared.slab.Id.Id}
+use Rattle.exec_waiters.specs.{contracts.waiter.{Entry.the_row as entry_row, Waiter.the_row as waiter_row}, declared.waiter.{Entry.{Entry, TheVariants.Pending}, Waiter.Waiter}}
 
 module _ (S F : RattleType) where
   -- once the borrow r ends, the entry is the request as it was last written through r

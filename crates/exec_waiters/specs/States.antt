@@ -5,28 +5,11 @@
 -- Staged, Flying and Landed are `in_flight`, Gated is durable without its permit, Queued is what is neither, and
 -- Resolved is an entry with an output or one that is gone.
 use Rattle.std.specs.Prelude.{◌≡◌, ℕ, Bool, All, true, false, not, ◌%◌, ◌==◌, ◌&&◌, ◌||◌, length, count_by, nat_le, Option, Some, None, if◌then◌else◌}
-use Rattle.exec_base.specs.Slab.{Slab, slot_at, value_at, next_index, is_vacant}
-use Rattle.exec_base.specs.declared.slab.Id.{Id}
-use Rattle.exec_base.specs.declared.slab.Slot.{Slot}
-use Rattle.exec_base.specs.declared.slab.Slot.TheVariants.{Live, Vacant, Retired}
-use Rattle.exec_outcomes.specs.Accounts.{is_durable}
-use Rattle.exec_outcomes.specs.declared.outcome.Kind.{Kind}
+use Rattle.exec_base.specs.{Slab.{Slab, slot_at, value_at, next_index, is_vacant}, declared.slab.{Id.Id, Slot.{Slot, TheVariants.{Live, Vacant, Retired}}}}
+use Rattle.exec_outcomes.specs.{Accounts.is_durable, declared.outcome.Kind.Kind}
 use Rattle.exec_outcomes.specs.declared.outcome.Kind.TheVariants as kind
-use Rattle.exec_request.specs.declared.output.RequestOutput.{RequestOutput}
-use Rattle.exec_request.specs.declared.request.Request.{Request}
-use Rattle.exec_request.specs.declared.request.Request.TheVariants.{ReadAt, WriteAt, Sync}
-use Rattle.exec_request.specs.declared.results.WaiterState.{WaiterState}
-use Rattle.exec_request.specs.declared.results.WaiterState.TheVariants.{Active, CancelRequested}
-use Rattle.exec_request.specs.Requests.{asked_of, deadline_of, gate_of}
-use Rattle.exec_request.specs.States.{asks_cancel}
-use Rattle.exec_waiters.specs.Ids.{index_in, generation_in}
-use Rattle.exec_waiters.specs.declared.observer.Observer.{Observer}
-use Rattle.exec_waiters.specs.declared.observer.Observer.TheVariants.{Local, Forwarded, DetachedSync, Orphaned}
-use Rattle.exec_waiters.specs.declared.waiter.Waiter.{Waiter}
-use Rattle.exec_waiters.specs.declared.waiter.Refused.{Refused}
-use Rattle.exec_waiters.specs.declared.waiter_id.WaiterId.{WaiterId}
-use Rattle.exec_waiters.specs.declared.waiter.Entry.{Entry}
-use Rattle.exec_waiters.specs.declared.waiter.Entry.TheVariants.{Pending, Ready}
+use Rattle.exec_request.specs.{declared.{output.RequestOutput.RequestOutput, request.Request.{Request, TheVariants.{ReadAt, WriteAt, Sync}}, results.WaiterState.{WaiterState, TheVariants.{Active, CancelRequested}}}, Requests.{asked_of, deadline_of, gate_of}, States.asks_cancel}
+use Rattle.exec_waiters.specs.{Ids.{index_in, generation_in}, declared.{observer.Observer.{Observer, TheVariants.{Local, Forwarded, DetachedSync, Orphaned}}, waiter.{Waiter.Waiter, Refused.Refused, Entry.{Entry, TheVariants.{Pending, Ready}}}, waiter_id.WaiterId.WaiterId}}
 
 -- the tick of the wheel that is to be removed with it
 abbrev pub tick_in : WaiterState → Option ℕ

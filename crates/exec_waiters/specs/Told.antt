@@ -2,12 +2,8 @@
 use Rattle.std.specs.Prelude.{◌≡◌, ℕ, Bool, ◌+◌, ◌≤◌, ◌==◌, ◌&&◌, List, [], ◌∷◌, ◌++◌, length, Option, Some, None, vec_len}
 use Rattle.std.specs.Vec.{vec_capacity}
 use Rattle.exec_base.specs.declared.task_no.TaskNo.{TaskNo}
-use Rattle.exec_time.specs.declared.notes.ForwardedResult.{ForwardedResult}
-use Rattle.exec_time.specs.Notes.{HasRoom as HasNotes, Adds}
-use Rattle.exec_waiters.specs.declared.deferred.Untaken.{Untaken}
-use Rattle.exec_waiters.specs.declared.deferred.Retired.{Retired}
-use Rattle.exec_waiters.specs.declared.deferred.Answer.{Answer}
-use Rattle.exec_waiters.specs.declared.deferred.Deferred.{Deferred}
+use Rattle.exec_time.specs.{declared.notes.ForwardedResult.ForwardedResult, Notes.{HasRoom as HasNotes, Adds}}
+use Rattle.exec_waiters.specs.declared.deferred.{Untaken.Untaken, Retired.Retired, Answer.Answer, Deferred.Deferred}
 
 -- what one call puts into each list
 pub record Told (S F : Type 0) : Type 0 where

@@ -5,9 +5,7 @@
 //! there. The room is made by the caller before (`HasPlaces`), so a call that tells takes no memory.
 
 ghost use Rattle.std.specs.Prelude.{◌≡◌, [], OnOk, true, false};
-ghost use Rattle.exec_waiters.specs.Told.{HasPlaces, HasWakePlace, Tells, nothing_told, is_untold, awake};
-ghost use Rattle.exec_waiters.specs.States.{is_local};
-ghost use Rattle.exec_waiters.specs.Events.{told_to, output_told, fits};
+ghost use Rattle.exec_waiters.specs.{Told.{HasPlaces, HasWakePlace, Tells, nothing_told, is_untold, awake}, States.is_local, Events.{told_to, output_told, fits}};
 
 use crate::observer::Observer;
 use crate::waiter_id::WaiterId;

@@ -7,12 +7,7 @@ ghost use Rattle.exec_request.specs.declared.output.RequestOutput.TheVariants as
 ghost use Rattle.exec_request.specs.declared.output.RetiredResources.TheVariants as retired;
 ghost use Rattle.exec_request.specs.declared.results.WaiterState.TheVariants as stands;
 ghost use Rattle.exec_time.specs.declared.timers.Observation.TheVariants as observation;
-ghost use Rattle.exec_waiters.specs.Ids.{user_data_of, index_in, generation_in};
-ghost use Rattle.exec_waiters.specs.Told.{nothing_told};
-ghost use Rattle.exec_waiters.specs.States.{suits, is_held_by, may_stage, named as named_by};
-ghost use Rattle.exec_waiters.specs.Events.{fresh, with_permit, with_state, may_cancel, seen_in, told_by_forward, told_by_orphan, told_by_close, told_by_finish, asks_cancel_by_orphan, finished, forwarded};
-ghost use Rattle.exec_waiters.specs.Examples.{task, named, poll, sync, here, elsewhere, detached, nobody, awaited, flying, alone};
-ghost use Rattle.exec_waiters.specs.declared.waiter.Entry.TheVariants.{Pending, Ready};
+ghost use Rattle.exec_waiters.specs.{Ids.{user_data_of, index_in, generation_in}, Told.nothing_told, States.{suits, is_held_by, may_stage, named as named_by}, Events.{fresh, with_permit, with_state, may_cancel, seen_in, told_by_forward, told_by_orphan, told_by_close, told_by_finish, asks_cancel_by_orphan, finished, forwarded}, Examples.{task, named, poll, sync, here, elsewhere, detached, nobody, awaited, flying, alone}, declared.waiter.Entry.TheVariants.{Pending, Ready}};
 
 /// The user data of an id has its index and the low half of its generation.
 pub fn user_data_of_an_id()

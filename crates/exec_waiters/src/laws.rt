@@ -1,16 +1,10 @@
 //! Laws of the requests of a worker.
 
 ghost use Rattle.std.specs.Prelude.{◌≡◌, ◌≢◌, ◌<◌, ◌^◌, ℕ, true, false, [], ◌∷◌, Option, Some, None};
-ghost use Rattle.exec_base.specs.Slab.{Slab, value_at, IsPast};
-ghost use Rattle.exec_base.specs.declared.slab.Id.{Id};
+ghost use Rattle.exec_base.specs.{Slab.{Slab, value_at, IsPast}, declared.slab.Id.Id};
 ghost use Rattle.exec_outcomes.specs.Accounts.{Account};
-ghost use Rattle.exec_request.specs.Requests.{retired_of};
-ghost use Rattle.exec_request.specs.States.{Ended};
-ghost use Rattle.exec_waiters.specs.Ids.{user_data_of};
-ghost use Rattle.exec_waiters.specs.States.{waiter_at, is_flying, named};
-ghost use Rattle.exec_waiters.specs.Events.{finished, told_by_finish, told_by_forward, told_by_orphan, told_by_close};
-ghost use Rattle.exec_waiters.specs.declared.waiter.Waiter.{Waiter};
-ghost use Rattle.exec_waiters.specs.declared.waiter.Entry.{Entry};
+ghost use Rattle.exec_request.specs.{Requests.retired_of, States.Ended};
+ghost use Rattle.exec_waiters.specs.{Ids.user_data_of, States.{waiter_at, is_flying, named}, Events.{finished, told_by_finish, told_by_forward, told_by_orphan, told_by_close}, declared.waiter.{Waiter.Waiter, Entry.Entry}};
 
 /// A completion is taken in by the request alone whose operation is under way with its user data, and by no other that
 /// had the slot before: while the operation is under way, its user data names its request.

@@ -1,8 +1,7 @@
 //! Who waits for a request.
 
 ghost use Rattle.std.specs.Prelude.{◌≡◌};
-ghost use Rattle.exec_waiters.specs.States.{suits, is_held_by, is_local};
-ghost use Rattle.exec_waiters.specs.Events.{waker_in};
+ghost use Rattle.exec_waiters.specs.{States.{suits, is_held_by, is_local}, Events.waker_in};
 
 use exec_base::task_no::TaskNo;
 use exec_outcomes::outcome::Kind;

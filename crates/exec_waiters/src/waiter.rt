@@ -1,11 +1,8 @@
 //! One request with its observer and its flags, and what stands under an id.
 
 ghost use Rattle.std.specs.Prelude.{◌≡◌, Some, IsSome, true};
-ghost use Rattle.exec_waiters.specs.States.{tick_in, takes_tick, file_of, needs_permit};
-ghost use Rattle.exec_waiters.specs.Events.{admitted};
+ghost use Rattle.exec_waiters.specs.{States.{tick_in, takes_tick, file_of, needs_permit, waiter_at, waiter_in}, Events.admitted, Lends.{lends_waiter, lends_waiter_at}};
 ghost use Rattle.std.specs.Borrow.{sem};
-ghost use Rattle.exec_waiters.specs.Lends.{lends_waiter, lends_waiter_at};
-ghost use Rattle.exec_waiters.specs.States.{waiter_at, waiter_in};
 
 use crate::observer::Observer;
 use crate::waiter_id::WaiterId;

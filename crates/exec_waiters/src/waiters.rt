@@ -22,8 +22,7 @@
 ghost use Rattle.std.specs.Prelude.{◌≡◌, ◌≤◌, ◌==◌, [], Some, IfOk, IfErr, OnOk, OnErr, true, false};
 ghost use Rattle.std.specs.Option.{option_copied};
 ghost use Rattle.exec_base.specs.Slab.{next_id, inserted, live_count, IsPast, Updates, TakesId};
-ghost use Rattle.exec_waiters.specs.States.{waiter_at, suits, pending_count, flying_count, is_full};
-ghost use Rattle.exec_waiters.specs.Events.{admitted, IsTurnedDown};
+ghost use Rattle.exec_waiters.specs.{States.{waiter_at, suits, pending_count, flying_count, is_full}, Events.{admitted, IsTurnedDown}};
 
 mod landing;
 mod looking;

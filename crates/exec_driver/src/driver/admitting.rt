@@ -1,17 +1,11 @@
 //! Admission: a request comes in, with all the memory that it will need.
 
-ghost use Rattle.std.specs.Prelude.{◌≡◌, ◌+◌, ◌*◌, ◌-◌, ◌^◌, ◌<◌, ◌≤◌, ◌⊎◌, ◌↔◌, true, Some, None, IfOk, IfErr, IfSome, IsTrue, OnOk, OnErr};
+ghost use Rattle.std.specs.Prelude.{◌≡◌, ◌+◌, ◌*◌, ◌-◌, ◌^◌, ◌<◌, ◌≤◌, ◌⊎◌, ◌↔◌, true, false, Some, None, IfOk, IfErr, IfSome, IsTrue, OnOk, OnErr};
 ghost use Rattle.exec_base.specs.Slab.{next_id, live_count, IsPast, TakesId};
 ghost use Rattle.exec_request.specs.Requests.{gate_of};
-ghost use Rattle.exec_ring.specs.Rings.{taken_places};
-ghost use Rattle.exec_ring.specs.Stores.{Same, Reserves, Releases};
-ghost use Rattle.exec_waiters.specs.States.{suits, gate_in, pending_count};
-ghost use Rattle.exec_waiters.specs.Told.{HasPlaces, Tells, nothing_told};
-ghost use Rattle.exec_driver.specs.Opens.{open_named, with_named, placed, displaced, joined};
-ghost use Rattle.exec_driver.specs.Driving.{seen, request_at};
-ghost use Rattle.exec_driver.specs.Punctual.{IsPunctual};
-ghost use Rattle.exec_driver.specs.Steps.{placed_at, told_at_admission, newcomer, plainly_written, footprint_of, widened, taken_in, is_late};
-ghost use Rattle.exec_driver.specs.Admission.{IsRefused, Admits, with_rooms, HasTwoMore};
+ghost use Rattle.exec_ring.specs.{Rings.taken_places, Stores.{Same, Reserves, Releases}};
+ghost use Rattle.exec_waiters.specs.{States.{suits, gate_in, pending_count, is_full}, Told.{HasPlaces, Tells, nothing_told}};
+ghost use Rattle.exec_driver.specs.{Opens.{open_named, with_named, placed, displaced, joined}, Driving.{seen, request_at}, Punctual.IsPunctual, Steps.{placed_at, told_at_admission, newcomer, plainly_written, footprint_of, widened, taken_in, is_late}, Admission.{IsRefused, Admits, with_rooms, HasTwoMore}};
 
 use super::Driver;
 use crate::opens::{Opens, WaiterKey};
@@ -50,6 +44,8 @@ impl<R: Ring + Drop, S: Drop, F: Drop> Driver<R, S, F> {
     ) -> Result<WaiterId, InsertError<Refused<S, F>>>
         requires suits { suits request observer ≡ true }
         ensures id { IfOk result (λ id. next_id (seen self.old).requests ≡ Some id.0) }
+        ensures not_full { OnOk result (is_full (seen self.old).requests ≡ false) }
+        ensures slot { IfOk result (λ id. id.0.index < 4294967295) }
         ensures admits { IfOk result (λ id. Admits (seen self.old) (seen self.new) opens.old opens.new id request observer now) }
         ensures told { IfOk result (λ id. Tells deferred.old deferred.new (told_at_admission id (newcomer request observer) now)) }
         ensures places { OnOk result (HasPlaces deferred.new (2 * live_count (seen self.new).requests)) }
@@ -180,6 +176,7 @@ impl<R: Ring + Drop, S: Drop, F: Drop> Driver<R, S, F> {
         requires suits { suits request observer ≡ true }
         requires places { HasTwoMore (seen self.old) }
         ensures id { IfOk result (λ id. next_id (seen self.old).requests ≡ Some id.0) }
+        ensures not_full { OnOk result (is_full (seen self.old).requests ≡ false) }
         ensures taken { IfOk result (λ id. seen self.new ≡ with_rooms (seen self.new) (placed_at (taken_in (seen self.old) request observer) id (newcomer request observer) now)) }
         ensures told { IfOk result (λ id. Tells deferred.old deferred.new (told_at_admission id (newcomer request observer) now)) }
         ensures places { OnOk result (HasPlaces deferred.new (2 * live_count (seen self.new).requests)) }

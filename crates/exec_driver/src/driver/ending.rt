@@ -3,12 +3,8 @@
 ghost use Rattle.std.specs.Prelude.{◌≡◌, ◌<◌, ◌≤◌, Some, None, Err, IfSome, true};
 ghost use Rattle.exec_time.specs.WheelView.{wheel_of, room_of};
 ghost use Rattle.exec_request.specs.Requests.{record_after};
-ghost use Rattle.exec_waiters.specs.States.{is_idle, is_flying, file_of};
-ghost use Rattle.exec_waiters.specs.Events.{told_by_finish};
-ghost use Rattle.exec_waiters.specs.Told.{HasPlaces, Tells};
-ghost use Rattle.exec_driver.specs.Opens.{account_in, with_account};
-ghost use Rattle.exec_driver.specs.Driving.{seen, request_at};
-ghost use Rattle.exec_driver.specs.Steps.{ended, cancelled_at, told_by_cancel, unscheduled};
+ghost use Rattle.exec_waiters.specs.{States.{is_idle, is_flying, file_of}, Events.told_by_finish, Told.{HasPlaces, Tells}};
+ghost use Rattle.exec_driver.specs.{Opens.{account_in, with_account}, Driving.{seen, request_at}, Steps.{ended, cancelled_at, told_by_cancel, unscheduled}};
 
 use super::Driver;
 use crate::opens::Opens;

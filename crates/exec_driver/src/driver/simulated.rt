@@ -1,14 +1,9 @@
 //! A driver over the ring in memory, whose kernel does what it is told.
 
 ghost use Rattle.std.specs.Prelude.{◌≡◌, ◌↔◌, [], Ok, Err, Some, true, false, IsTrue, OnOk, OnErr, ◌&&◌, if◌then◌else◌};
-ghost use Rattle.exec_ring.specs.Kernels.{may_land, landed, flight_of};
-ghost use Rattle.exec_ring.specs.Landings.{IsReady};
-ghost use Rattle.exec_waiters.specs.Events.{Lands};
-ghost use Rattle.exec_waiters.specs.Ids.{user_data_of};
-ghost use Rattle.exec_waiters.specs.States.{is_flying};
-ghost use Rattle.exec_driver.specs.Driving.{seen, request_at};
-ghost use Rattle.exec_driver.specs.Punctual.{IsPunctual};
-ghost use Rattle.exec_driver.specs.Steps.{LandsOne};
+ghost use Rattle.exec_ring.specs.{Kernels.{may_land, landed, flight_of}, Landings.IsReady};
+ghost use Rattle.exec_waiters.specs.{Events.Lands, Ids.user_data_of, States.is_flying};
+ghost use Rattle.exec_driver.specs.{Driving.{seen, request_at}, Punctual.IsPunctual, Steps.LandsOne};
 
 use super::Driver;
 use exec_outcomes::outcome::OpResult;

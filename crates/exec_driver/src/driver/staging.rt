@@ -2,17 +2,9 @@
 
 ghost use Rattle.std.specs.Prelude.{◌≡◌, ◌<◌, ◌≤◌, not, ◌&&◌, ◌||◌, List, Some, None, IfSome, IfNone, true, false, if◌then◌else◌};
 ghost use Rattle.exec_ring.specs.Kernels.{Landing, answer_of_enter, MayAllLand, all_taken};
-ghost use Rattle.exec_request.specs.States.{as_answer};
-ghost use Rattle.exec_request.specs.Requests.{outcome_if_granted};
-ghost use Rattle.exec_waiters.specs.States.{gate_in, file_of};
-ghost use Rattle.exec_waiters.specs.Told.{HasPlaces, Tells};
-ghost use Rattle.exec_driver.specs.Opens.{account_in, holder_at};
-ghost use Rattle.exec_driver.specs.Driving.{seen, request_at, is_full, may_stage_one};
-ghost use Rattle.exec_driver.specs.Lists.{has_first, first_of};
-ghost use Rattle.exec_driver.specs.Punctual.{IsPunctual};
-ghost use Rattle.exec_driver.specs.Placed.{ListsRequests};
-ghost use Rattle.exec_driver.specs.Sharing.{FliesPermitted};
-ghost use Rattle.exec_driver.specs.Steps.{lowest_gate, lower, granted, is_turn_of, Grants, cancel_staged, StagesOne, poll_staged, entered, with_landings};
+ghost use Rattle.exec_request.specs.{States.as_answer, Requests.outcome_if_granted};
+ghost use Rattle.exec_waiters.specs.{States.{gate_in, file_of}, Told.{HasPlaces, Tells}};
+ghost use Rattle.exec_driver.specs.{Opens.{account_in, holder_at}, Driving.{seen, request_at, is_full, may_stage_one}, Lists.{has_first, first_of}, Punctual.IsPunctual, Placed.ListsRequests, Sharing.FliesPermitted, Steps.{lowest_gate, lower, granted, is_turn_of, Grants, cancel_staged, StagesOne, poll_staged, entered, with_landings}};
 
 use super::Driver;
 use crate::opens::{Opens, WaiterKey};
@@ -132,6 +124,7 @@ impl<R: Ring + Drop, S: Drop, F: Drop> Driver<R, S, F> {
     /// submission queue has no room for it.
     pub fn stage_wake_poll(&mut self) -> bool
         ensures answer { result ≡ ((seen self.old).armed || not (is_full (seen self.old))) }
+        ensures same { ((seen self.old).armed || is_full (seen self.old)) ≡ true → seen self.new ≡ seen self.old }
         ensures staged { seen self.new ≡ with_landings (seen self.new) (if (seen self.old).armed then (seen self.old) else (if is_full (seen self.old) then (seen self.old) else poll_staged (seen self.old))) }
         ensures punctual { IsPunctual (seen self.old) → IsPunctual (seen self.new) }
     {

@@ -1,15 +1,9 @@
 //! Deadlines: what is due, and what is to be enrolled.
 
 ghost use Rattle.std.specs.Prelude.{◌≡◌, [], ◌<◌, ◌≤◌, ◌+◌, Some, None, Err, IfSome, IfNone, IsSome, OnErr, OnOk};
-ghost use Rattle.exec_time.specs.Wheel.{IsSettled};
-ghost use Rattle.exec_time.specs.WheelView.{wheel_of, room_of};
-ghost use Rattle.exec_waiters.specs.States.{waiter_at, pending_count};
-ghost use Rattle.exec_driver.specs.Sound.{IsListed};
-ghost use Rattle.exec_waiters.specs.Told.{HasPlaces, Tells};
-ghost use Rattle.exec_driver.specs.Driving.{seen, request_at, is_enrolled};
-ghost use Rattle.exec_driver.specs.Lists.{first_of, after_due, after_enrolment};
-ghost use Rattle.exec_driver.specs.Punctual.{IsPunctual, TellsDeadlines};
-ghost use Rattle.exec_driver.specs.Steps.{advanced_to, all_due, fallen_due, expired, told_by_cancel, enrolled_by, tick_for, in_time, told_by_enrolment, Enrols};
+ghost use Rattle.exec_time.specs.{Wheel.IsSettled, WheelView.{wheel_of, room_of}};
+ghost use Rattle.exec_waiters.specs.{States.{waiter_at, pending_count}, Told.{HasPlaces, Tells}};
+ghost use Rattle.exec_driver.specs.{Sound.IsListed, Driving.{seen, request_at, is_enrolled}, Lists.{first_of, after_due, after_enrolment}, Punctual.{IsPunctual, TellsDeadlines}, Steps.{advanced_to, all_due, fallen_due, expired, told_by_cancel, enrolled_by, tick_for, in_time, told_by_enrolment, Enrols}};
 
 use super::Driver;
 use crate::lists::Lists;

@@ -13,13 +13,7 @@ ghost use Rattle.std.specs.Prelude.{◌≡◌, ◌<◌, ◌≤◌, ◌&&◌, ◌
 ghost use Rattle.exec_ring.specs.Kernels.{is_quiet};
 ghost use Rattle.exec_time.specs.Wheel.{IsWithinReach};
 ghost use Rattle.exec_waiters.specs.States.{pending_count};
-ghost use Rattle.exec_driver.specs.Opens.{next_at, with_open, passed};
-ghost use Rattle.exec_driver.specs.Driving.{seen, is_full, may_stage_one};
-ghost use Rattle.exec_driver.specs.Lists.{has_first};
-ghost use Rattle.exec_driver.specs.Punctual.{IsPunctual};
-ghost use Rattle.exec_driver.specs.Sound.{IsSound};
-ghost use Rattle.exec_driver.specs.Steps.{with_landings};
-ghost use Rattle.exec_driver.specs.Turns.{CanTell, GoesOn, Serves, StaysDone, IsStaged, unstaged, unreaped, may_wait, made_way, must_enter, is_after, PassesTo};
+ghost use Rattle.exec_driver.specs.{Opens.{next_at, with_open, passed}, Driving.{seen, is_full, may_stage_one}, Lists.has_first, Punctual.IsPunctual, Sound.IsSound, Service.{Repeats, ReapsOne, ExpiresOne, EnrolsOne, GrantsAt, GrantsAll, StagesEntry, ServesInOrder, Parks, reached, entered_if}, Steps.with_landings, Turns.{CanTell, GoesOn, Serves, StaysDone, IsStaged, unstaged, unreaped, may_wait, made_way, must_enter, is_after, PassesTo}};
 
 use super::Driver;
 use super::reaping::Reaped;
@@ -31,7 +25,8 @@ use exec_waiters::deferred::Deferred;
 
 impl<R: Ring + Drop, S: Drop, F: Drop> Driver<R, S, F> {
     /// Serves the requests at the moment `now`: takes completions in, tells what is due, enrols deadlines, grants
-    /// permits, stages cancels and requests, and lets the kernel work. Whose permit comes next is signalled.
+    /// permits, stages cancels and requests, and lets the kernel work. Whose permit comes next is signalled. Each of these
+    /// goes on until nothing is left of it, but for what the kernel has completed or a permit allows only later.
     ///
     /// Answers whether it left its last enter out: where `defer` is set, requests stand, and neither is anything to
     /// be told nor a submission pending. The caller must have told what was due, have made room in what is to be told,
@@ -54,6 +49,7 @@ impl<R: Ring + Drop, S: Drop, F: Drop> Driver<R, S, F> {
         ensures told { has_first (seen self.new).lists.due ≡ false }
         ensures enrolled { has_first (seen self.new).lists.enrolments ≡ false }
         ensures cancelled { (seen self.old).ring.busy ≡ false → has_first (seen self.new).lists.cancels ≡ false }
+        ensures steps { ServesInOrder worker now defer result (reached (seen self.old) opens.old deferred.old (W.signalled workers.old)) (reached (seen self.new) opens.new deferred.new (W.signalled workers.new)) }
         ensures put_off { IsTrue result → IsTrue defer }
         ensures stand { IsTrue result → (pending_count (seen self.new).requests == 0) ≡ false }
     {
@@ -94,6 +90,8 @@ impl<R: Ring + Drop, S: Drop, F: Drop> Driver<R, S, F> {
     /// room, or the word had a signal or another batch. Ports `park`.
     pub fn park<A: Armed>(&mut self, processed: u32, word: &mut A) -> bool
         ensures answer { result ≡ (may_wait (seen self.old) && A.is_calm word.old processed) }
+        ensures parks { Parks (A.is_calm word.old processed) (seen self.old) (seen self.new) }
+        ensures disarmed { A.is_armed word.old ≡ false → A.is_armed word.new ≡ false }
         ensures armed { IsTrue result → (seen self.new).armed ≡ true }
         ensures entered { IsTrue result → (seen self.old).ring.busy ≡ false → (seen self.new).ring.staged ≡ [] }
         ensures same { seen self.new ≡ record (seen self.old) { ring = (seen self.new).ring; landings = (seen self.new).landings; armed = (seen self.new).armed } }
@@ -116,6 +114,7 @@ impl<R: Ring + Drop, S: Drop, F: Drop> Driver<R, S, F> {
     fn enter_if(&mut self, enters: bool)
         ensures going { GoesOn (seen self.old) (seen self.new) }
         ensures entered { IsTrue enters → (seen self.old).ring.busy ≡ false → (seen self.new).ring.staged ≡ [] }
+        ensures works { seen self.new ≡ with_landings (seen self.new) (entered_if enters (seen self.old)) }
         ensures same { seen self.new ≡ record (seen self.old) { ring = (seen self.new).ring; landings = (seen self.new).landings } }
         ensures done { StaysDone (seen self.old) (seen self.new) }
     {
@@ -154,6 +153,7 @@ impl<R: Ring + Drop, S: Drop, F: Drop> Driver<R, S, F> {
         ensures serves { Serves (seen self.old) (seen self.new) deferred.old deferred.new }
         ensures done { StaysDone (seen self.old) (seen self.new) }
         ensures quiet { is_quiet (seen self.new).ring ≡ true }
+        ensures reaps { Repeats ReapsOne (reached (seen self.old) opens.old deferred.old (W.signalled workers.old)) (reached (seen self.new) opens.new deferred.new (W.signalled workers.new)) }
     {
         'completions: while self.has_completion() {
             self.reap_one(opens, deferred, workers);
@@ -170,6 +170,7 @@ impl<R: Ring + Drop, S: Drop, F: Drop> Driver<R, S, F> {
         requires room { CanTell (seen self.old) deferred.old }
         ensures serves { Serves (seen self.old) (seen self.new) deferred.old deferred.new }
         ensures done { StaysDone (seen self.old) (seen self.new) }
+        ensures reaps { ReapsOne (reached (seen self.old) opens.old deferred.old (W.signalled workers.old)) (reached (seen self.new) opens.new deferred.new (W.signalled workers.new)) }
         ensures fewer { is_quiet (seen self.old).ring ≡ false → unreaped (seen self.new).ring < unreaped (seen self.old).ring }
     {
         let reaped = self.reap(opens, deferred);
@@ -191,6 +192,7 @@ impl<R: Ring + Drop, S: Drop, F: Drop> Driver<R, S, F> {
         requires room { CanTell (seen self.old) deferred.old }
         ensures serves { Serves (seen self.old) (seen self.new) deferred.old deferred.new }
         ensures told { has_first (seen self.new).lists.due ≡ false }
+        ensures expires { Repeats ExpiresOne (seen self.old, deferred.old) (seen self.new, deferred.new) }
     {
         'due: while self.has_due() {
             self.sound();
@@ -206,6 +208,7 @@ impl<R: Ring + Drop, S: Drop, F: Drop> Driver<R, S, F> {
         ensures serves { Serves (seen self.old) (seen self.new) deferred.old deferred.new }
         ensures told { has_first (seen self.new).lists.due ≡ false }
         ensures enrolled { has_first (seen self.new).lists.enrolments ≡ false }
+        ensures enrols { Repeats (EnrolsOne now) (seen self.old, deferred.old) (seen self.new, deferred.new) }
     {
         'enrolments: while self.has_enrolments() {
             self.sound();
@@ -224,6 +227,7 @@ impl<R: Ring + Drop, S: Drop, F: Drop> Driver<R, S, F> {
         requires room { CanTell (seen self.old) deferred.old }
         ensures serves { Serves (seen self.old) (seen self.new) deferred.old deferred.new }
         ensures done { StaysDone (seen self.old) (seen self.new) }
+        ensures grants { GrantsAll worker (reached (seen self.old) opens.old deferred.old (W.signalled workers.old)) (reached (seen self.new) opens.new deferred.new (W.signalled workers.new)) }
     {
         let mut from = 0;
         'gates: while let Some(file) = self.next_gate(from) {
@@ -247,6 +251,7 @@ impl<R: Ring + Drop, S: Drop, F: Drop> Driver<R, S, F> {
         requires room { CanTell (seen self.old) deferred.old }
         ensures serves { Serves (seen self.old) (seen self.new) deferred.old deferred.new }
         ensures done { StaysDone (seen self.old) (seen self.new) }
+        ensures grants { GrantsAt worker file (reached (seen self.old) opens.old deferred.old (W.signalled workers.old)) (reached (seen self.new) opens.new deferred.new (W.signalled workers.new)) }
     {
         self.sound();
         let granted = self.grant(worker, file, opens, deferred);
@@ -268,6 +273,8 @@ impl<R: Ring + Drop, S: Drop, F: Drop> Driver<R, S, F> {
         ensures going { GoesOn (seen self.old) (seen self.new) }
         ensures done { StaysDone (seen self.old) (seen self.new) }
         ensures staged { (seen self.old).ring.busy ≡ false → IsStaged (seen self.new) }
+        ensures full { is_full (seen self.new) ≡ false → IsStaged (seen self.new) }
+        ensures stages { Repeats (StagesEntry opens.now) (seen self.old) (seen self.new) }
     {
         'queues: while self.stage_some(opens) {
             match self.enter() {
@@ -284,6 +291,7 @@ impl<R: Ring + Drop, S: Drop, F: Drop> Driver<R, S, F> {
         ensures done { StaysDone (seen self.old) (seen self.new) }
         ensures full { IsTrue result → is_full (seen self.new) ≡ true }
         ensures staged { result ≡ false → IsStaged (seen self.new) }
+        ensures stages { Repeats (StagesEntry opens.now) (seen self.old) (seen self.new) }
         ensures less { unstaged (seen self.new) ≤ unstaged (seen self.old) }
         ensures some { IsTrue result → is_full (seen self.old) ≡ false → unstaged (seen self.new) < unstaged (seen self.old) }
     {
@@ -303,6 +311,7 @@ impl<R: Ring + Drop, S: Drop, F: Drop> Driver<R, S, F> {
         requires enrolled { has_first (seen self.old).lists.enrolments ≡ false }
         ensures going { GoesOn (seen self.old) (seen self.new) }
         ensures done { StaysDone (seen self.old) (seen self.new) }
+        ensures stages { StagesEntry opens.now (seen self.old) (seen self.new) }
         ensures fewer { unstaged (seen self.new) < unstaged (seen self.old) }
     {
         self.sound();

@@ -1,11 +1,8 @@
 //! Landings in a ring in memory: an operation of a request ends there, and its bytes move.
 
 ghost use Rattle.std.specs.Prelude.{◌≡◌, ◌↔◌, Some, Ok, Err, IsTrue, OnOk, OnErr, true, if◌then◌else◌};
-ghost use Rattle.exec_ring.specs.Kernels.{may_land, landed, flight_of};
-ghost use Rattle.exec_ring.specs.Landings.{IsReady};
-ghost use Rattle.exec_waiters.specs.Ids.{user_data_of};
-ghost use Rattle.exec_waiters.specs.States.{waiter_at, is_flying};
-ghost use Rattle.exec_waiters.specs.Events.{Lands};
+ghost use Rattle.exec_ring.specs.{Kernels.{may_land, landed, flight_of}, Landings.IsReady};
+ghost use Rattle.exec_waiters.specs.{Ids.user_data_of, States.{waiter_at, is_flying}, Events.Lands};
 
 use super::Waiters;
 use crate::waiter::waiter_mut;

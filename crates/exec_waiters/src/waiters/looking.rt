@@ -2,8 +2,7 @@
 
 ghost use Rattle.std.specs.Prelude.{◌≡◌, is_some};
 ghost use Rattle.exec_base.specs.Slab.{value_at};
-ghost use Rattle.exec_waiters.specs.States.{waiter_at, is_flying, is_idle, deadline_in, tick_of, gate_in, file_in, is_observed_here, may_be_seen, awaits_tick, lacks_permit, may_stage, named, name_of};
-ghost use Rattle.exec_waiters.specs.Events.{may_complete, waker_of};
+ghost use Rattle.exec_waiters.specs.{States.{waiter_at, is_flying, is_idle, deadline_in, tick_of, gate_in, file_in, is_observed_here, may_be_seen, awaits_tick, lacks_permit, may_stage, named, name_of}, Events.{may_complete, waker_of}};
 
 use super::Waiters;
 use crate::waiter::Entry;

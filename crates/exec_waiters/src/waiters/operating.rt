@@ -3,10 +3,7 @@
 ghost use Rattle.std.specs.Prelude.{◌≡◌, ◌<◌, Some, None, is_some, true, false};
 ghost use Rattle.exec_base.specs.declared.slab.Id.{Id as Name};
 ghost use Rattle.exec_request.specs.States.{as_answer};
-ghost use Rattle.exec_waiters.specs.Ids.{index_in};
-ghost use Rattle.exec_waiters.specs.Told.{HasPlaces};
-ghost use Rattle.exec_waiters.specs.States.{waiter_at, is_idle, is_observed_here, awaits_tick, may_stage, lacks_permit, named};
-ghost use Rattle.exec_waiters.specs.Events.{changed, with_permit, with_tick, with_state, cancelled, may_cancel, answer_at_grant, is_lawful_for, Stages, Completes, Finishes};
+ghost use Rattle.exec_waiters.specs.{Ids.index_in, Told.HasPlaces, States.{waiter_at, is_idle, is_observed_here, awaits_tick, may_stage, lacks_permit, named}, Events.{changed, with_permit, with_tick, with_state, cancelled, may_cancel, answer_at_grant, is_lawful_for, Stages, Completes, Finishes}};
 
 use super::Waiters;
 use crate::completed::CompletionOutcome;

@@ -1,13 +1,8 @@
 use Rattle.std.proofs.Common.{refl, sym, ap, ◌∙◌}
 use Rattle.exec_base.specs.Slab.{live_count}
 use Rattle.exec_waiters.specs.States.{gate_in}
-use Rattle.exec_driver.specs.Driving.{Driving, seen, request_at}
-use Rattle.exec_driver.specs.Steps.{placed_at, taken_in, newcomer}
-use Rattle.exec_driver.proofs.Admitting.{on_ok}
-use Rattle.exec_driver.proofs.Arriving.{placed_over, rooms_over, refused_over, takes_over, takes_still, two_still}
-use Rattle.exec_driver.proofs.Lines.{placed_back, placed_there}
-use Rattle.exec_driver.proofs.Storing.{reserved_still, given_back}
-use Rattle.exec_driver.proofs.Keeping.{rooms_punctual, place_made}
+use Rattle.exec_driver.specs.{Driving.{Driving, seen, request_at}, Steps.{placed_at, taken_in, newcomer}}
+use Rattle.exec_driver.proofs.{Admitting.{on_ok, small_slot}, Arriving.{placed_over, rooms_over, refused_over, takes_over, takes_still, two_still}, Lines.{placed_back, placed_there}, Storing.{reserved_still, given_back}, Keeping.{rooms_punctual, place_made}}
 use Rattle.exec_driver.proofs.driver.Driver.admit.Goals as goal
 
 pub take_in-requires-clause-places : goal.take_in-requires-clause-places
@@ -17,6 +12,12 @@ take_in-requires-clause-places g c =
 
 pub returns-in-Ok-clause-id : goal.returns-in-Ok-clause-id
 returns-in-Ok-clause-id g c = rw (ap (λ (m : Driving g.row.S.Denot g.row.F.Denot). m.requests) c.make_room.ensures.same) at c.in-Ok.ensures.id
+
+pub returns-in-Ok-clause-not_full : goal.returns-in-Ok-clause-not_full
+returns-in-Ok-clause-not_full g c = rw (ap (λ (m : Driving g.row.S.Denot g.row.F.Denot). m.requests) c.make_room.ensures.same) at c.in-Ok.ensures.not_full
+
+pub returns-in-Ok-clause-slot : goal.returns-in-Ok-clause-slot
+returns-in-Ok-clause-slot g c = small_slot (seen c.make_room.new.self).requests c.in-Ok.id.0 c.in-Ok.ensures.id c.in-Ok.ensures.not_full
 
 pub returns-in-Ok-clause-admits : goal.returns-in-Ok-clause-admits
 returns-in-Ok-clause-admits g c =

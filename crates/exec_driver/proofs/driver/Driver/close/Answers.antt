@@ -1,10 +1,7 @@
 use Rattle.std.proofs.Common.{◌≡◌, true, false, sym, ◌∙◌, arith}
 use Rattle.exec_base.specs.Slab.{value_at}
 use Rattle.exec_waiters.specs.Events.{asks_cancel_by_orphan}
-use Rattle.exec_driver.proofs.Observing.{held_orphaned}
-use Rattle.exec_driver.proofs.Telling.{tells_both, few_closed, room_left}
-use Rattle.exec_driver.proofs.Keeping.{cancelled_punctual, orphaned_punctual}
-use Rattle.exec_driver.proofs.driver.Driver.close.Goals.{then-closed, else-closed}
+use Rattle.exec_driver.proofs.{Observing.held_orphaned, Telling.{tells_both, few_closed, room_left}, Keeping.{cancelled_punctual, orphaned_punctual}, driver.Driver.close.Goals.{then-closed, else-closed}}
 use Rattle.exec_driver.proofs.driver.Driver.close.Goals as goal
 
 pub invariant_of-self-then-closed : goal.invariant_of-self-then-closed

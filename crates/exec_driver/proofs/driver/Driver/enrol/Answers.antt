@@ -1,11 +1,6 @@
 use Rattle.std.proofs.Common.{◌≡◌, Some, None, Ok, Err, sym, ◌∙◌, refl, arith}
-use Rattle.exec_driver.proofs.Words.{wheel_of, with_tick, waiter_at, first_of, tick_for}
+use Rattle.exec_driver.proofs.{Words.{wheel_of, with_tick, waiter_at, first_of, tick_for}, Endings.changed_is, Expiring.{tick_tells, some_first, unset_there}, Granting.{held_enrolled, same_some}, Keeping.ended_punctual, Punctual.{enrolled_punctual, reach_of, some_slots_of}}
 use Rattle.exec_waiters.specs.States.{deadline_in}
-use Rattle.exec_driver.proofs.Endings.{changed_is}
-use Rattle.exec_driver.proofs.Expiring.{tick_tells, some_first, unset_there}
-use Rattle.exec_driver.proofs.Granting.{held_enrolled, same_some}
-use Rattle.exec_driver.proofs.Keeping.{ended_punctual}
-use Rattle.exec_driver.proofs.Punctual.{enrolled_punctual, reach_of, some_slots_of}
 use Rattle.exec_driver.proofs.driver.Driver.enrol.Goals as goal
 
 pub schedule-requires : goal.schedule-requires

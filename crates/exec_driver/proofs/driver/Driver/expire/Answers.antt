@@ -1,10 +1,6 @@
 use Rattle.std.proofs.Common.{◌≡◌, Some, sym, ◌∙◌, refl}
-use Rattle.exec_driver.proofs.Expiring.{held_undue}
-use Rattle.exec_driver.specs.Driving.{seen}
-use Rattle.exec_driver.specs.Lists.{first_of}
-use Rattle.exec_driver.specs.Sound.{IsSound}
-use Rattle.exec_driver.proofs.Stepping.{first_tells}
-use Rattle.exec_driver.proofs.Turns.{expire_serves}
+use Rattle.exec_driver.proofs.{Expiring.held_undue, Stepping.first_tells, Turns.expire_serves}
+use Rattle.exec_driver.specs.{Driving.seen, Lists.first_of, Sound.IsSound}
 use Rattle.exec_driver.proofs.driver.Driver.expire.Goals as goal
 
 pub invariant_of-self : goal.invariant_of-self

@@ -1,5 +1,4 @@
-use Rattle.exec_driver.proofs.Observing.{held_forwarded}
-use Rattle.exec_driver.proofs.Keeping.{forwarded_punctual}
+use Rattle.exec_driver.proofs.{Observing.held_forwarded, Keeping.forwarded_punctual}
 use Rattle.exec_driver.proofs.driver.Driver.forward.Goals as goal
 
 pub invariant_of-self : goal.invariant_of-self

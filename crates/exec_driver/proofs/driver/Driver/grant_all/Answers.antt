@@ -1,11 +1,10 @@
-use Rattle.std.proofs.Common.{◌≡◌, ◌≤◌, ◌+◌, ◌<◌, Some, None, sym, ◌∙◌, arith, rules}
-use Rattle.exec_driver.specs.Driving.{seen}
-use Rattle.exec_driver.proofs.Serving.{serves_itself, serves_both, done_itself, done_both}
-use Rattle.exec_driver.proofs.Turns.{gate_from, added_tells}
+use Rattle.std.proofs.Common.{◌≡◌, ◌+◌, None, sym, ◌∙◌, arith, rules}
+use Rattle.exec_driver.specs.{Driving.seen, Service.{NoGate, NextGate}}
+use Rattle.exec_driver.proofs.{Serving.{serves_itself, serves_both, done_itself, done_both}, Turns.{gate_from, added_tells}, Service.none_added}
 use Rattle.exec_driver.proofs.driver.Driver.grant_all.Goals as goal
 
 pub gates-init : goal.gates-init
-gates-init g c = (serves_itself _ _, done_itself _)
+gates-init g c = (serves_itself _ _, done_itself _, NoGate)
 
 pub grant_one-requires : goal.grant_one-requires
 grant_one-requires g c = record { room = c.gates.invariant.0.room c.requires.room }
@@ -17,10 +16,29 @@ gates-smaller g c =
     omega (arith, low, next.0, next.1)
 
 pub gates-preserved : goal.gates-preserved
-gates-preserved g c = (serves_both _ _ _ _ _ _ c.gates.invariant.0 c.grant_one.ensures.serves, done_both _ _ _ c.gates.invariant.1 c.grant_one.ensures.done)
+gates-preserved g c =
+    let next = added_tells c.in-Some.file c.checked_add.result c.in-Some-checked_add.next c.checked_add.ensures c.in-Some-checked_add.is in (
+      serves_both _ _ _ _ _ _ c.gates.invariant.0 c.grant_one.ensures.serves,
+      done_both _ _ _ c.gates.invariant.1 c.grant_one.ensures.done,
+      rw next.1 (NextGate _ c.in-Some.file _ _ c.gates.invariant.2 (sym c.next_gate.ensures ∙ c.in-Some.is) c.grant_one.ensures.grants),
+    )
 
 pub returns-clause-serves : goal.returns-clause-serves
 returns-clause-serves g c = c.gates.invariant.0
 
 pub returns-clause-done : goal.returns-clause-done
 returns-clause-done g c = c.gates.invariant.1
+
+pub returns-in_default-checked_add-clause-grants : goal.returns-in_default-checked_add-clause-grants
+returns-in_default-checked_add-clause-grants g c =
+    let none : c.checked_add.result ≡ None = search rules in
+    record {
+      end = c.in-Some.file + 1;
+      below = NextGate _ c.in-Some.file _ _ c.gates.invariant.2 (sym c.next_gate.ensures ∙ c.in-Some.is) c.grant_one.ensures.grants;
+      none = λ small. absurd (none_added c.in-Some.file c.checked_add.result c.checked_add.ensures none small);
+    }
+
+pub returns-clause-grants : goal.returns-clause-grants
+returns-clause-grants g c =
+    let none : c.next_gate.result ≡ None = search rules in
+    record { end = c.gates.from; below = c.gates.invariant.2; none = λ small. sym c.next_gate.ensures ∙ none }

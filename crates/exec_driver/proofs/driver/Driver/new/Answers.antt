@@ -1,9 +1,7 @@
 use Rattle.std.proofs.Common.{◌+◌, false, length, refl, sym, ap, ◌∙◌, arith}
 use Rattle.exec_ring.specs.Rings.{RingState}
-use Rattle.exec_time.specs.Layouts.{slots_of}
-use Rattle.exec_time.specs.WheelView.{wheel_of}
-use Rattle.exec_driver.proofs.Admitting.{held_fresh, is_fresh, unused, on_ok}
-use Rattle.exec_driver.proofs.Keeping.{fresh_punctual}
+use Rattle.exec_time.specs.{Layouts.slots_of, WheelView.wheel_of}
+use Rattle.exec_driver.proofs.{Admitting.{held_fresh, is_fresh, unused, on_ok}, Keeping.fresh_punctual}
 use Rattle.exec_driver.proofs.driver.Driver.new.Goals as goal
 
 pub invariant_of-result : goal.invariant_of-result

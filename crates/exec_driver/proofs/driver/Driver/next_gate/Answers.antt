@@ -1,6 +1,5 @@
 use Rattle.std.proofs.Common.{◌≡◌, ◌<◌, ◌≤◌, length, refl, ap, sym, ◌∙◌, arith}
-use Rattle.exec_driver.proofs.Words.{gate_in, waiter_at, lower}
-use Rattle.exec_driver.proofs.Gates.{gate_step, gate_end}
+use Rattle.exec_driver.proofs.{Words.{gate_in, waiter_at, lower}, Gates.{gate_step, gate_end}}
 use Rattle.exec_driver.proofs.driver.Driver.next_gate.Goals as goal
 
 pub gates-init : goal.gates-init

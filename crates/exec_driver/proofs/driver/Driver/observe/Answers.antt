@@ -1,5 +1,4 @@
-use Rattle.exec_driver.proofs.Observing.{held_seen}
-use Rattle.exec_driver.proofs.Keeping.{observed_punctual}
+use Rattle.exec_driver.proofs.{Observing.held_seen, Keeping.observed_punctual}
 use Rattle.exec_driver.proofs.driver.Driver.observe.Goals as goal
 
 pub invariant_of-self : goal.invariant_of-self

@@ -1,7 +1,6 @@
 use Rattle.std.proofs.Common.{◌≡◌, true, false, sym, ◌∙◌, rules}
 use Rattle.exec_driver.specs.Driving.{seen}
-use Rattle.exec_driver.proofs.Keeping.{way_punctual}
-use Rattle.exec_driver.proofs.Turns.{wait_pending, wait_calm, way_free, poll_any}
+use Rattle.exec_driver.proofs.{Keeping.way_punctual, Turns.{wait_pending, wait_calm, way_free, poll_any}, Service.{no_wait, waited, pending_refused}}
 use Rattle.exec_driver.proofs.driver.Driver.park.Goals as goal
 
 pub returns-then-has_pending_submissions-clause-answer : goal.returns-then-has_pending_submissions-clause-answer
@@ -13,7 +12,7 @@ pub returns-clause-answer : goal.returns-clause-answer
 returns-clause-answer g c =
     let is : c.has_pending_submissions.result ≡ false = search rules in
     let poll : c.stage_wake_poll.result ≡ true = search rules in
-    wait_calm (seen c.args.self.now) (seen c.make_way.new.self) _ _ c.make_way.ensures (sym c.has_pending_submissions.ensures ∙ is) (sym c.stage_wake_poll.ensures.answer ∙ poll) c.arm-calm.ensures
+    wait_calm (seen c.args.self.now) (seen c.make_way.new.self) _ _ c.make_way.ensures (sym c.has_pending_submissions.ensures ∙ is) (sym c.stage_wake_poll.ensures.answer ∙ poll) c.arm-calm.ensures.calm
 
 pub returns-clause-entered : goal.returns-clause-entered
 returns-clause-entered g c = λ yes free.
@@ -22,3 +21,19 @@ returns-clause-entered g c = λ yes free.
 
 pub returns-clause-punctual : goal.returns-clause-punctual
 returns-clause-punctual g c = λ p. c.enter_if.ensures.going.punctual (c.stage_wake_poll.ensures.punctual (way_punctual _ _ c.make_way.ensures p))
+
+pub returns-then-has_pending_submissions-clause-parks : goal.returns-then-has_pending_submissions-clause-parks
+returns-then-has_pending_submissions-clause-parks g c =
+    let is : c.has_pending_submissions.result ≡ true = search rules in
+    pending_refused _ (seen c.args.self.now) (seen c.make_way.new.self) c.make_way.ensures (sym c.has_pending_submissions.ensures ∙ is)
+
+pub returns-then-not-stage_wake_poll-clause-parks : goal.returns-then-not-stage_wake_poll-clause-parks
+returns-then-not-stage_wake_poll-clause-parks g c =
+    let refused : c.stage_wake_poll.result ≡ false = search rules in
+    no_wait _ _ (seen c.make_way.new.self) _ c.make_way.ensures (sym c.stage_wake_poll.ensures.answer ∙ refused) c.stage_wake_poll.ensures.same
+
+pub returns-clause-parks : goal.returns-clause-parks
+returns-clause-parks g c =
+    let is : c.has_pending_submissions.result ≡ false = search rules in
+    let poll : c.stage_wake_poll.result ≡ true = search rules in
+    waited _ _ (seen c.make_way.new.self) (seen c.stage_wake_poll.new.self) _ c.make_way.ensures (sym c.has_pending_submissions.ensures ∙ is) (sym c.stage_wake_poll.ensures.answer ∙ poll) c.stage_wake_poll.ensures.staged (rw c.arm-calm.ensures.calm at c.enter_if.ensures.works)

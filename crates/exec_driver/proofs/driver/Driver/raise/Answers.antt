@@ -1,5 +1,4 @@
-use Rattle.exec_driver.proofs.Entering.{wake_within}
-use Rattle.exec_driver.proofs.Stepping.{held_ring}
+use Rattle.exec_driver.proofs.{Entering.wake_within, Stepping.held_ring}
 use Rattle.exec_driver.proofs.driver.Driver.raise.Goals as goal
 
 pub invariant_of-self : goal.invariant_of-self

@@ -1,8 +1,5 @@
 use Rattle.std.proofs.Common.{◌≡◌, Some, None, sym, ◌∙◌, refl}
-use Rattle.exec_driver.proofs.Words.{next_completion, seen}
-use Rattle.exec_driver.proofs.Granting.{same_some}
-use Rattle.exec_driver.proofs.Sweeping.{operation_next, stale_swept}
-use Rattle.exec_driver.proofs.Turns.{reap_serves}
+use Rattle.exec_driver.proofs.{Words.{next_completion, seen}, Granting.same_some, Sweeping.{operation_next, stale_swept}, Turns.reap_serves}
 use Rattle.exec_driver.proofs.driver.Driver.reap.Goals as goal
 
 pub judge-reaped-requires-clause-operation : goal.judge-reaped-requires-clause-operation

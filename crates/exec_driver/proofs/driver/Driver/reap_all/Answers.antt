@@ -1,10 +1,10 @@
 use Rattle.std.proofs.Common.{◌≡◌, true, sym, ◌∙◌, rules}
-use Rattle.exec_driver.proofs.Words.{not-true}
-use Rattle.exec_driver.proofs.Serving.{serves_itself, serves_both, done_itself, done_both}
+use Rattle.exec_driver.proofs.{Words.not-true, Serving.{serves_itself, serves_both, done_itself, done_both}}
+use Rattle.exec_driver.specs.Service.{NoStep, OneMore}
 use Rattle.exec_driver.proofs.driver.Driver.reap_all.Goals as goal
 
 pub completions-init : goal.completions-init
-completions-init g c = (serves_itself _ _, done_itself _)
+completions-init g c = (serves_itself _ _, done_itself _, NoStep)
 
 pub reap_one-requires : goal.reap_one-requires
 reap_one-requires g c = record { room = c.completions.invariant.0.room c.requires.room }
@@ -15,10 +15,13 @@ completions-smaller g c =
     c.reap_one.ensures.fewer (not-true _ (sym c.has_completion.ensures ∙ is))
 
 pub completions-preserved : goal.completions-preserved
-completions-preserved g c = (serves_both _ _ _ _ _ _ c.completions.invariant.0 c.reap_one.ensures.serves, done_both _ _ _ c.completions.invariant.1 c.reap_one.ensures.done)
+completions-preserved g c = (serves_both _ _ _ _ _ _ c.completions.invariant.0 c.reap_one.ensures.serves, done_both _ _ _ c.completions.invariant.1 c.reap_one.ensures.done, OneMore _ _ c.completions.invariant.2 c.reap_one.ensures.reaps)
 
 pub returns-clause-serves : goal.returns-clause-serves
 returns-clause-serves g c = c.completions.invariant.0
 
 pub returns-clause-done : goal.returns-clause-done
 returns-clause-done g c = c.completions.invariant.1
+
+pub returns-clause-reaps : goal.returns-clause-reaps
+returns-clause-reaps g c = c.completions.invariant.2

@@ -1,9 +1,7 @@
-use Rattle.std.proofs.Common.{◌≡◌, true, false, sym, ◌∙◌, rules, arith}
-use Rattle.exec_driver.proofs.Words.{not-true}
+use Rattle.std.proofs.Common.{◌≡◌, Bool, true, false, not, ap, sym, ◌∙◌, rules, arith}
+use Rattle.exec_driver.proofs.{Words.not-true, Punctual.{settled, advance_goes, put_off}, Serving.{goes_both, serves_both, serves_untold}, Service.{put_off_so, worked_so}}
 use Rattle.exec_waiters.specs.States.{pending_count}
-use Rattle.exec_driver.specs.Driving.{seen}
-use Rattle.exec_driver.proofs.Punctual.{settled, advance_goes, put_off}
-use Rattle.exec_driver.proofs.Serving.{goes_both, serves_both, serves_untold}
+use Rattle.exec_driver.specs.{Driving.seen, Service.reached}
 use Rattle.exec_driver.proofs.driver.Driver.service.Goals as goal
 
 pub advance-requires : goal.advance-requires
@@ -56,3 +54,55 @@ returns-else-not-enters-clause-serves g c =
     let before = serves_both _ _ _ _ _ _ (serves_both _ _ _ _ _ _ (serves_both _ _ _ _ _ _ first.serves (serves_untold _ _ c.reap_all.new.deferred on)) c.expire_all.ensures.serves) (serves_both _ _ _ _ _ _ c.enrol_all.ensures.serves c.grant_all.ensures.serves) in
     let all = serves_both _ _ _ _ _ _ before (serves_untold _ _ c.grant_all.new.deferred (goes_both _ _ _ c.stage_all.ensures.going c.enter_if.ensures.going)) in
     serves_both _ _ _ _ _ _ all c.reap_all-2.ensures.serves
+
+pub returns-then-not-enters-clause-steps : goal.returns-then-not-enters-clause-steps
+returns-then-not-enters-clause-steps g c =
+    let is : c.must_enter-enters.result ≡ false = search rules in
+    record {
+      reaped = reached (seen c.reap_all.new.self) c.reap_all.new.opens c.reap_all.new.deferred (g.W.Signals.signalled c.reap_all.new.workers);
+      reaps = c.reap_all.ensures.reaps;
+      quiet = c.reap_all.ensures.quiet;
+      expired = (seen c.expire_all.new.self, c.expire_all.new.deferred);
+      expires = rw c.advance.ensures.advanced at c.expire_all.ensures.expires;
+      none_due = c.expire_all.ensures.told;
+      enrolled = (seen c.enrol_all.new.self, c.enrol_all.new.deferred);
+      enrols = c.enrol_all.ensures.enrols;
+      none_unenrolled = c.enrol_all.ensures.enrolled;
+      granted = reached (seen c.grant_all.new.self) c.grant_all.new.opens c.grant_all.new.deferred (g.W.Signals.signalled c.grant_all.new.workers);
+      grants = c.grant_all.ensures.grants;
+      staged = seen c.stage_all.new.self;
+      stages = c.stage_all.ensures.stages;
+      none_unstaged = c.stage_all.ensures.full;
+      none_unless_busy = c.stage_all.ensures.staged;
+      worked = seen c.enter_if.new.self;
+      works = rw c.must_enter-enters.ensures at c.enter_if.ensures.works;
+      reaps_again = c.reap_all-2.ensures.reaps;
+      quiet_again = c.reap_all-2.ensures.quiet;
+      answers = put_off_so _ _ _ c.is_empty.ensures (sym c.must_enter-enters.ensures ∙ is);
+    }
+
+pub returns-else-not-enters-clause-steps : goal.returns-else-not-enters-clause-steps
+returns-else-not-enters-clause-steps g c =
+    let is : c.must_enter-enters.result ≡ true = search rules in
+    record {
+      reaped = reached (seen c.reap_all.new.self) c.reap_all.new.opens c.reap_all.new.deferred (g.W.Signals.signalled c.reap_all.new.workers);
+      reaps = c.reap_all.ensures.reaps;
+      quiet = c.reap_all.ensures.quiet;
+      expired = (seen c.expire_all.new.self, c.expire_all.new.deferred);
+      expires = rw c.advance.ensures.advanced at c.expire_all.ensures.expires;
+      none_due = c.expire_all.ensures.told;
+      enrolled = (seen c.enrol_all.new.self, c.enrol_all.new.deferred);
+      enrols = c.enrol_all.ensures.enrols;
+      none_unenrolled = c.enrol_all.ensures.enrolled;
+      granted = reached (seen c.grant_all.new.self) c.grant_all.new.opens c.grant_all.new.deferred (g.W.Signals.signalled c.grant_all.new.workers);
+      grants = c.grant_all.ensures.grants;
+      staged = seen c.stage_all.new.self;
+      stages = c.stage_all.ensures.stages;
+      none_unstaged = c.stage_all.ensures.full;
+      none_unless_busy = c.stage_all.ensures.staged;
+      worked = seen c.enter_if.new.self;
+      works = rw c.must_enter-enters.ensures at c.enter_if.ensures.works;
+      reaps_again = c.reap_all-2.ensures.reaps;
+      quiet_again = c.reap_all-2.ensures.quiet;
+      answers = ap (λ (b : Bool). not b) is ∙ worked_so _ _ (sym c.must_enter-enters.ensures ∙ is);
+    }

@@ -1,5 +1,4 @@
-use Rattle.exec_driver.proofs.Observing.{held_waked}
-use Rattle.exec_driver.proofs.Keeping.{waked_punctual}
+use Rattle.exec_driver.proofs.{Observing.held_waked, Keeping.waked_punctual}
 use Rattle.exec_driver.proofs.driver.Driver.set_waker.Goals as goal
 
 pub invariant_of-self : goal.invariant_of-self

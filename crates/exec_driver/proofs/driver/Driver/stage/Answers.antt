@@ -1,10 +1,6 @@
 use Rattle.std.proofs.Common.{◌≡◌, Some, sym, ap, ◌∙◌, refl}
-use Rattle.exec_driver.proofs.Words.{waiter_at, file_of, file_in, account_in, request_at, is_queued, first_of}
-use Rattle.exec_driver.proofs.Stepping.{first_there, held_staged, place_for_request, permit_same, relanded}
-use Rattle.exec_driver.proofs.Windows.{is_no_poll, asked_same}
+use Rattle.exec_driver.proofs.{Words.{waiter_at, file_of, file_in, account_in, request_at, is_queued, first_of}, Stepping.{first_there, held_staged, place_for_request, permit_same, relanded}, Windows.{is_no_poll, asked_same}, Serving.keeps_punctual, Turns.stage_serves}
 use Rattle.exec_driver.specs.Driving.{seen}
-use Rattle.exec_driver.proofs.Serving.{keeps_punctual}
-use Rattle.exec_driver.proofs.Turns.{stage_serves}
 use Rattle.exec_driver.proofs.driver.Driver.stage.Goals as goal
 
 pub stage-requires-clause-place : goal.stage-requires-clause-place

@@ -1,13 +1,11 @@
-use Rattle.std.proofs.Common.{◌≡◌, true, false, sym, ap, ◌∙◌, rules, arith}
+use Rattle.std.proofs.Common.{◌≡◌, true, false, sym, ◌∙◌, rules, arith}
 use Rattle.std.proofs.lemmas.Bool.{false≢true}
-use Rattle.exec_driver.specs.Driving.{seen}
-use Rattle.exec_driver.proofs.Queues.{taken_answer, busy_answer}
-use Rattle.exec_driver.proofs.Serving.{goes_itself, goes_both, goes_by, done_itself, done_both}
-use Rattle.exec_driver.proofs.Turns.{enter_any, filled_less, not_full}
+use Rattle.exec_driver.specs.{Driving.seen, Service.{NoStep, OneMore, Enter}}
+use Rattle.exec_driver.proofs.{Queues.{taken_answer, busy_answer}, Serving.{goes_itself, goes_both, goes_by, done_itself, done_both}, Turns.{enter_any, filled_less, not_full}, Service.{repeats_both, still_full}}
 use Rattle.exec_driver.proofs.driver.Driver.stage_all.Goals as goal
 
 pub queues-init : goal.queues-init
-queues-init g c = (goes_itself _, done_itself _)
+queues-init g c = (goes_itself _, done_itself _, NoStep)
 
 pub stage_some-requires : goal.stage_some-requires
 stage_some-requires g c = record { enrolled = c.queues.invariant.1.enrolments c.requires.enrolled }
@@ -34,9 +32,11 @@ queues-smaller g c =
 
 pub queues-preserved : goal.queues-preserved
 queues-preserved g c =
-    let e = enter_any (seen c.stage_some.new.self) (seen c.enter.new.self) c.enter.ensures.entered in (
+    let e = enter_any (seen c.stage_some.new.self) (seen c.enter.new.self) c.enter.ensures.entered in
+    let filled : c.stage_some.result ≡ true = search rules in (
       goes_both _ _ _ c.queues.invariant.0 (goes_both _ _ _ c.stage_some.ensures.going (goes_by _ _ e.0.eases.keeps)),
       done_both _ _ _ c.queues.invariant.1 (done_both _ _ _ c.stage_some.ensures.done e.0.eases.done),
+      OneMore _ _ (repeats_both _ _ _ _ c.queues.invariant.2 c.stage_some.ensures.stages) (Enter (c.stage_some.ensures.full filled) c.enter.ensures.entered),
     )
 
 pub returns-clause-going : goal.returns-clause-going
@@ -44,3 +44,23 @@ returns-clause-going g c = goes_both _ _ _ c.queues.invariant.0 c.stage_some.ens
 
 pub returns-clause-done : goal.returns-clause-done
 returns-clause-done g c = done_both _ _ _ c.queues.invariant.1 c.stage_some.ensures.done
+
+pub returns-in-Busy-clause-full : goal.returns-in-Busy-clause-full
+returns-in-Busy-clause-full g c = λ room.
+    let filled : c.stage_some.result ≡ true = search rules in
+    let e = enter_any (seen c.stage_some.new.self) (seen c.enter.new.self) c.enter.ensures.entered in
+    let busy = busy_answer (seen c.stage_some.new.self).ring (sym c.enter.ensures.answer ∙ c.in-Busy.is) in
+    absurd (false≢true (sym room ∙ still_full (seen c.stage_some.new.self) (seen c.enter.new.self) e.1 busy (c.stage_some.ensures.full filled)))
+
+pub returns-in-Busy-clause-stages : goal.returns-in-Busy-clause-stages
+returns-in-Busy-clause-stages g c =
+    let filled : c.stage_some.result ≡ true = search rules in
+    OneMore _ _ (repeats_both _ _ _ _ c.queues.invariant.2 c.stage_some.ensures.stages) (Enter (c.stage_some.ensures.full filled) c.enter.ensures.entered)
+
+pub returns-clause-full : goal.returns-clause-full
+returns-clause-full g c = λ room.
+    let left : c.stage_some.result ≡ false = search rules in
+    c.stage_some.ensures.staged left
+
+pub returns-clause-stages : goal.returns-clause-stages
+returns-clause-stages g c = repeats_both _ _ _ _ c.queues.invariant.2 c.stage_some.ensures.stages

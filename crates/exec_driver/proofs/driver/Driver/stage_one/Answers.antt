@@ -1,10 +1,8 @@
-use Rattle.std.proofs.Common.{◌≡◌, true, rules}
+use Rattle.std.proofs.Common.{◌≡◌, true, false, rules}
 use Rattle.std.specs.Prelude.{is_none}
 use Rattle.exec_waiters.specs.States.{file_of}
-use Rattle.exec_driver.specs.Driving.{seen}
-use Rattle.exec_driver.specs.Opens.{account_in}
-use Rattle.exec_driver.proofs.Serving.{goes_by}
-use Rattle.exec_driver.proofs.Turns.{stage_none}
+use Rattle.exec_driver.specs.{Driving.seen, Opens.account_in}
+use Rattle.exec_driver.proofs.{Serving.goes_by, Turns.stage_none, Service.{cancel_entry, request_entry}}
 use Rattle.exec_driver.proofs.driver.Driver.stage_one.Goals as goal
 
 pub returns-then-is_none-clause-going : goal.returns-then-is_none-clause-going
@@ -24,3 +22,13 @@ returns-then-is_none-clause-fewer g c =
     let none : is_none c.stage_cancel.result ≡ true = search rules in
     let staged = stage_none (seen c.args.self.now) (seen c.stage_cancel.new.self) (seen c.stage.new.self) c.stage_cancel.result c.stage.result (λ w. account_in c.args.opens.now (file_of w.request)) none c.stage_cancel.ensures.first c.stage_cancel.ensures.same c.requires.some c.sound.ensures.sound c.stage.ensures.first c.stage.ensures.staged in
     staged.1
+
+pub returns-then-is_none-clause-stages : goal.returns-then-is_none-clause-stages
+returns-then-is_none-clause-stages g c =
+    let none : is_none c.stage_cancel.result ≡ true = search rules in
+    request_entry _ _ _ _ c.stage_cancel.result c.stage.result none c.stage_cancel.ensures.first c.stage_cancel.ensures.same c.requires.some c.stage.ensures.first c.stage.ensures.staged
+
+pub returns-else-is_none-clause-stages : goal.returns-else-is_none-clause-stages
+returns-else-is_none-clause-stages g c =
+    let some : is_none c.stage_cancel.result ≡ false = search rules in
+    cancel_entry _ _ _ c.stage_cancel.result some c.stage_cancel.ensures.first c.stage_cancel.ensures.staged

@@ -1,12 +1,11 @@
-use Rattle.std.proofs.Common.{◌≡◌, ◌<◌, true, false, sym, ◌∙◌, rules, arith}
+use Rattle.std.proofs.Common.{◌≡◌, true, false, sym, ◌∙◌, rules, arith}
 use Rattle.std.proofs.lemmas.Bool.{false≢true}
-use Rattle.exec_driver.specs.Driving.{seen}
-use Rattle.exec_driver.proofs.Serving.{goes_itself, goes_both, goes_by, done_itself, done_both}
-use Rattle.exec_driver.proofs.Turns.{poll_any, poll_refused}
+use Rattle.exec_driver.specs.{Driving.{seen, may_stage_one}, Lists.has_first, Service.{NoStep, OneMore}}
+use Rattle.exec_driver.proofs.{Serving.{goes_itself, goes_both, goes_by, done_itself, done_both}, Turns.{poll_any, poll_refused}, Service.poll_entry}
 use Rattle.exec_driver.proofs.driver.Driver.stage_some.Goals as goal
 
 pub entries-init : goal.entries-init
-entries-init g c = (goes_itself _, done_itself _, omega arith, λ free full. absurd (false≢true (sym free ∙ full)))
+entries-init g c = (goes_itself _, done_itself _, omega arith, λ free full. absurd (false≢true (sym free ∙ full)), NoStep)
 
 pub returns-then-is_full-clause-some : goal.returns-then-is_full-clause-some
 returns-then-is_full-clause-some g c = λ yes free.
@@ -27,6 +26,7 @@ entries-preserved g c =
       done_both _ _ _ c.entries.invariant.1 c.stage_one.ensures.done,
       omega (arith, less, so),
       λ free full. omega (arith, less, so),
+      OneMore _ _ c.entries.invariant.4 c.stage_one.ensures.stages,
     )
 
 pub returns-clause-going : goal.returns-clause-going
@@ -46,3 +46,12 @@ returns-clause-some g c = λ yes free.
     let less = (poll_any (seen c.entries.self) (seen c.stage_wake_poll.new.self) c.stage_wake_poll.ensures.staged).no_more in
     let fewer = c.entries.invariant.3 free (poll_refused (seen c.entries.self) (sym c.stage_wake_poll.ensures.answer ∙ refused)) in
     omega (arith, less, fewer)
+
+pub returns-then-is_full-clause-stages : goal.returns-then-is_full-clause-stages
+returns-then-is_full-clause-stages g c = c.entries.invariant.4
+
+pub returns-clause-stages : goal.returns-clause-stages
+returns-clause-stages g c =
+    let cancels : has_first (seen c.entries.self).lists.cancels ≡ false = search rules in
+    let queued : may_stage_one (seen c.entries.self) ≡ false = search rules in
+    poll_entry _ _ _ _ c.entries.invariant.4 cancels queued c.stage_wake_poll.ensures.same c.stage_wake_poll.ensures.staged

@@ -3,15 +3,9 @@ use Rattle.std.specs.Prelude.{is_some}
 use Rattle.exec_base.specs.Slab.{live_count}
 use Rattle.exec_request.specs.Requests.{deadline_of, gate_of}
 use Rattle.exec_time.specs.WheelView.{wheel_of, room_of}
-use Rattle.exec_waiters.specs.States.{deadline_in, gate_in}
-use Rattle.exec_waiters.specs.Told.{nothing_told}
-use Rattle.exec_driver.specs.Driving.{Driving, seen, request_at, is_queued, is_gated, is_unenrolled}
-use Rattle.exec_driver.specs.Steps.{newcomer, is_late, timed_out}
-use Rattle.exec_driver.proofs.Admitting.{on_ok}
-use Rattle.exec_driver.proofs.Arriving.{Arrives, ready_of, one_arrived, live_arrived, live_finished, takes_over, takes_finished, joins_none, joins_put, durable_gated, put_few, put_room, is_placed, is_refused, placed_over, room_to_join, held_arrived}
-use Rattle.exec_driver.proofs.Telling.{tells_both, room_left, room_within, few_finished}
-use Rattle.exec_driver.proofs.Endings.{one_finished}
-use Rattle.exec_driver.proofs.Keeping.{rooms_punctual, punctual_one, ended_punctual}
+use Rattle.exec_waiters.specs.{States.{deadline_in, gate_in}, Told.nothing_told}
+use Rattle.exec_driver.specs.{Driving.{Driving, seen, request_at, is_queued, is_gated, is_unenrolled}, Steps.{newcomer, is_late, timed_out}}
+use Rattle.exec_driver.proofs.{Admitting.on_ok, Arriving.{Arrives, ready_of, one_arrived, live_arrived, live_finished, takes_over, takes_finished, joins_none, joins_put, durable_gated, put_few, put_room, is_placed, is_refused, placed_over, room_to_join, held_arrived}, Telling.{tells_both, room_left, room_within, few_finished}, Endings.one_finished, Keeping.{rooms_punctual, punctual_one, ended_punctual}}
 use Rattle.exec_driver.proofs.driver.Driver.take_in.Goals as goal
 
 pub invariant_of-self-then-is_late : goal.invariant_of-self-then-is_late

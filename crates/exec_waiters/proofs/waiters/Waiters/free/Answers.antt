@@ -1,7 +1,6 @@
 use Rattle.std.proofs.Common.{◌≡◌, Some, rules}
 use Rattle.exec_waiters.specs.States.{waiter_at}
-use Rattle.exec_waiters.proofs.Changes.{kept_gone, idle_tells, sound_at, and_left}
-use Rattle.exec_waiters.proofs.Fits.{fits_by}
+use Rattle.exec_waiters.proofs.{Changes.{kept_gone, idle_tells, sound_at, and_left}, Fits.fits_by}
 use Rattle.exec_waiters.proofs.waiters.Waiters.free.Goals as goal
 
 pub deliver-requires-clause-fits : goal.deliver-requires-clause-fits

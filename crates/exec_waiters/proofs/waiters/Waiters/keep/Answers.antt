@@ -1,7 +1,6 @@
 use Rattle.std.proofs.Common.{◌≡◌, Some, rules}
 use Rattle.exec_waiters.specs.States.{waiter_at}
-use Rattle.exec_waiters.proofs.Changes.{kept_over, idle_tells}
-use Rattle.exec_waiters.proofs.Finishing.{finishes_here, here_of}
+use Rattle.exec_waiters.proofs.{Changes.{kept_over, idle_tells}, Finishing.{finishes_here, here_of}}
 use Rattle.exec_waiters.proofs.waiters.Waiters.keep.Goals as goal
 
 pub invariant_of-self : goal.invariant_of-self

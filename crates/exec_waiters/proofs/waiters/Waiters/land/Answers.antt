@@ -1,6 +1,5 @@
 use Rattle.std.proofs.Common.{refl}
-use Rattle.exec_waiters.proofs.Changes.{kept_changed, sound_at, sound_moved}
-use Rattle.exec_waiters.proofs.Fits.{asked_after}
+use Rattle.exec_waiters.proofs.{Changes.{kept_changed, sound_at, sound_moved}, Fits.asked_after}
 use Rattle.exec_waiters.proofs.waiters.Waiters.land.Goals as goal
 
 pub invariant_of-self : goal.invariant_of-self

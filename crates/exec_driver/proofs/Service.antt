@@ -1,0 +1,123 @@
+-- The steps of a service, as its parts make them.
+use Rattle.std.proofs.Common.{◌≡◌, ℕ, ◌+◌, ◌^◌, ◌<◌, Bool, true, false, not, ◌&&◌, ◌||◌, cond, List, [], Option, Some, None, refl, sym, ap, subst, ◌∙◌, inl, inr}
+use Rattle.std.specs.Prelude.{is_none}
+use Rattle.std.specs.Option.{IfSome, IfNone, SomeIff}
+use Rattle.std.proofs.lemmas.Bool.{false≢true}
+use Rattle.exec_time.specs.Turning.{advanced}
+use Rattle.exec_waiters.specs.{States.file_of, Told.Tells, declared.{deferred.Deferred.Deferred, waiter.Waiter.Waiter, waiter_id.WaiterId.WaiterId}}
+use Rattle.exec_driver.specs.{Driving.{Driving, request_at, is_full, may_stage_one, has_pending}, Examples.idle, Lists.{has_first, first_of}, Opens.{OpenState, account_in, holder_at}, Sharing.permit_by, Service.{Repeats, NoStep, OneMore, Passes, permit_of, reached, ReapsOne, ExpiresOne, EnrolsOne, GrantsAt, Turn, NoTurn, StagesEntry, Cancel, Request, WakePoll, Parks, Refused, Waited, NoGate, ServesInOrder, entered_if}, Steps.{ReapsNext, Grants, Enrols, StagesOne, is_turn_of, expired, told_by_cancel, cancel_staged, poll_staged, with_landings}, declared.driver.{reaping.Reaped.Reaped, staging.Granted.Granted, timing.Enrolled.Enrolled}, Turns.made_way}
+use Rattle.exec_driver.proofs.{Queues.IsEntered, Turns.{no_first, none_staged, never, way_may}, Words.{cases_Bool, and_parts, and_from, or_parts, or_right, not-false}}
+
+module _ {A : Type 0} (Step : A → A → Type 0) where
+  pub repeats_both : (a b c : A) → Repeats Step a b → Repeats Step b c → Repeats Step a c
+  repeats_both a b c one NoStep = one
+  repeats_both a b c one (OneMore x y rest step) = OneMore x y (repeats_both a b x one rest) step
+
+pub none_added : (a : ℕ) (o : Option ℕ) → SomeIff o (a + 1 < 2 ^ 32) (a + 1) → o ≡ None → a + 1 < 2 ^ 32 → ⊥
+none_added a None not none = not
+none_added a (Some x) is none = absurd (cc)
+
+-- a service whose last enter was left out says so where requests stand
+pub put_off_so : (must none stand : Bool) → none ≡ stand → must ≡ false → not none ≡ (not must && not stand)
+put_off_so must none stand is off = rw (is, off) refl
+
+pub worked_so : (must stand : Bool) → must ≡ true → false ≡ (not must && not stand)
+worked_so must stand on = rw on refl
+
+-- the open whose permit is given up after a grant
+abbrev pub permit_granted : ℕ → Option Granted → Option ℕ
+permit_granted file None = None
+permit_granted file (Some g) = permit_by file g
+
+module _ {S F : Type 0} where
+  pub reaps_passed : (d d' : Driving S F) (opens mid opens' : List OpenState) (x y : Deferred S F) (s s' : Option (List ℕ)) (o : Option Reaped) (p : Option ℕ) → permit_of o ≡ p → ReapsNext d d' opens mid x y o → Passes p mid opens' s s' → ReapsOne (reached d opens x s) (reached d' opens' y s')
+  reaps_passed d d' opens mid opens' x y s s' o p is reaps passes = record { answer = o; opens = mid; reaps = reaps; passes = rw is passes }
+
+  pub grants_passed : (worker file : ℕ) (d d' : Driving S F) (opens mid opens' : List OpenState) (x y : Deferred S F) (s s' : Option (List ℕ)) (o : Option Granted) (p : Option ℕ) → permit_granted file o ≡ p → IfSome o (λ g. Grants d d' opens mid x y worker file g) → IfNone o (is_turn_of worker d.lists (holder_at opens file) ≡ false) → IfNone o ((d' ≡ d) × (mid ≡ opens) × (y ≡ x)) → Passes p mid opens' s s' → GrantsAt worker file (reached d opens x s) (reached d' opens' y s')
+  grants_passed worker file d d' opens mid opens' x y s s' None None is some none same passes = NoTurn none (rw (same.0, same.2, passes.0, passes.1, same.1) refl)
+  grants_passed worker file d d' opens mid opens' x y s s' None (Some p) is some none same passes = absurd (cc)
+  grants_passed worker file d d' opens mid opens' x y s s' (Some g) p is some none same passes = Turn mid g some (rw is passes)
+
+  pub expires_one : (d d' : Driving S F) (x y : Deferred S F) (o : Option WaiterId) → has_first d.lists.due ≡ true → o ≡ first_of d.lists.due → IfSome o (λ id. d' ≡ expired d id) → IfSome o (λ id. Tells x y (told_by_cancel id (request_at d id))) → ExpiresOne (d, x) (d', y)
+  expires_one d d' x y None some first is tells = absurd (no_first d.lists.due some first)
+  expires_one d d' x y (Some id) some first is tells = record { id = id; first = sym first; driver = is; tells = tells }
+
+  pub enrols_one : (now : ℕ) (d d' : Driving S F) (x y : Deferred S F) (o : Option Enrolled) → has_first d.lists.enrolments ≡ true → IfSome o (λ e. first_of d.lists.enrolments ≡ Some e.id) → IfNone o (first_of d.lists.enrolments ≡ None) → IfSome o (λ e. Enrols d d' x y e.id e.ended now) → EnrolsOne now (d, x) (d', y)
+  enrols_one now d d' x y None some first none enrols = absurd (no_first d.lists.enrolments some (sym none))
+  enrols_one now d d' x y (Some e) some first none enrols = record { answer = e; first = first; enrols = enrols }
+
+  -- STAGING
+
+  pub cancel_entry : (opens : List OpenState) (d d' : Driving S F) (o : Option WaiterId) → is_none o ≡ false → o ≡ first_of d.lists.cancels → IfSome o (λ id. d' ≡ with_landings d' (cancel_staged d id)) → StagesEntry opens d d'
+  cancel_entry opens d d' None some first is = absurd (false≢true (sym some))
+  cancel_entry opens d d' (Some id) some first is = Cancel id (sym first) is
+
+  request_here : (opens : List OpenState) (d d' : Driving S F) (p : Option WaiterId) → first_of d.lists.cancels ≡ None → may_stage_one d ≡ true → p ≡ first_of d.lists.queued → IfSome p (λ id. (w : Waiter S F) → request_at d id ≡ Some w → StagesOne d d' id w (account_in opens (file_of w.request))) → StagesEntry opens d d'
+  request_here opens d d' None none may next staged = absurd (no_first d.lists.queued (and_parts _ _ may).0 next)
+  request_here opens d d' (Some id) none may next staged = Request id none (sym next) staged
+
+  pub request_entry : (opens : List OpenState) (d e d' : Driving S F) (o p : Option WaiterId) → is_none o ≡ true → o ≡ first_of d.lists.cancels → IfNone o (e ≡ d) → (has_first d.lists.cancels || may_stage_one d) ≡ true → p ≡ first_of e.lists.queued → IfSome p (λ id. (w : Waiter S F) → request_at e id ≡ Some w → StagesOne e d' id w (account_in opens (file_of w.request))) → StagesEntry opens d d'
+  request_entry opens d e d' None p none first is some next staged =
+      let mid = none_staged d e None none first is some in
+      subst (λ (x : Driving S F). StagesEntry opens x d') mid.0 (request_here opens e d' p (ap (λ (x : Driving S F). first_of x.lists.cancels) mid.0 ∙ sym first) (ap (λ (x : Driving S F). may_stage_one x) mid.0 ∙ mid.1) next staged)
+  request_entry opens d e d' (Some id) p none first is some next staged = absurd (false≢true none)
+
+  pub poll_entry : (opens : List OpenState) (first d d' : Driving S F) → Repeats (StagesEntry opens) first d → has_first d.lists.cancels ≡ false → may_stage_one d ≡ false → ((d.armed || is_full d) ≡ true → d' ≡ d) → d' ≡ with_landings d' (cond d.armed d (cond (is_full d) d (poll_staged d))) → Repeats (StagesEntry opens) first d'
+  poll_entry opens first d d' before cancels queued same is =
+      elim (cases_Bool d.armed) [
+        | inl armed ↦ subst (λ (x : Driving S F). Repeats (StagesEntry opens) first x) (sym (same (rw armed refl))) before
+        | inr calm ↦
+            elim (cases_Bool (is_full d)) [
+              | inl full ↦ subst (λ (x : Driving S F). Repeats (StagesEntry opens) first x) (sym (same (rw (calm, full) refl))) before
+              | inr room ↦ OneMore d d' before (WakePoll cancels queued calm (rw (calm, room) at is))
+            ]
+      ]
+
+  -- PARK
+
+  pub pending_refused : (calm : Bool) (d e : Driving S F) → e ≡ with_landings e (made_way d) → has_pending e ≡ true → Parks calm d e
+  pending_refused calm d e way pending = Refused (way_may d e way ∙ ap (λ (b : Bool). not b && (e.armed || not (is_full e))) pending) way
+
+  pub no_wait : (calm : Bool) (d e d' : Driving S F) → e ≡ with_landings e (made_way d) → (e.armed || not (is_full e)) ≡ false → ((e.armed || is_full e) ≡ true → d' ≡ e) → Parks calm d d'
+  no_wait calm d e d' way room same =
+      let full : (e.armed || is_full e) ≡ true = or_right e.armed (is_full e) (not-false (is_full e) ((or_parts e.armed (not (is_full e)) room).1)) in
+      subst (λ (x : Driving S F). Parks calm d x) (sym (same full)) (Refused (way_may d e way ∙ ap (λ (b : Bool). not (has_pending e) && b) room ∙ never (not (has_pending e))) way)
+
+  pub waited : (calm : Bool) (d e f d' : Driving S F) → e ≡ with_landings e (made_way d) → has_pending e ≡ false → (e.armed || not (is_full e)) ≡ true → f ≡ with_landings f (cond e.armed e (cond (is_full e) e (poll_staged e))) → d' ≡ with_landings d' (entered_if calm f) → Parks calm d d'
+  waited calm d e f d' way calls room polls enters = Waited e f (way_may d e way ∙ and_from _ _ (ap not calls) room) way (out (is_full e) e.armed polls room) enters
+    where
+      out : (full armed : Bool) → f ≡ with_landings f (cond armed e (cond full e (poll_staged e))) → (armed || not full) ≡ true → f ≡ with_landings f (cond armed e (poll_staged e))
+      out full true is room = is
+      out false false is room = is
+      out true false is room = absurd (false≢true room)
+
+  -- an enter that takes nothing leaves the queue full
+  pub still_full : (d d' : Driving S F) → IsEntered d.ring d'.ring → d.ring.busy ≡ true → is_full d ≡ true → is_full d' ≡ true
+  still_full d d' e busy full = rw (e.left busy, e.size) full
+
+-- A service of a driver without requests stages the wake poll, and makes no other step.
+pub idle_served : (told : Deferred ℕ ℕ) → ServesInOrder 3 0 false false (reached idle [] told None) (reached (poll_staged idle) [] told None)
+unfolding advanced
+idle_served told =
+    record {
+      reaped = reached idle [] told None;
+      reaps = NoStep;
+      quiet = refl;
+      expired = (idle, told);
+      expires = NoStep;
+      none_due = refl;
+      enrolled = (idle, told);
+      enrols = NoStep;
+      none_unenrolled = refl;
+      granted = reached idle [] told None;
+      grants = record { end = 0; below = NoGate; none = λ low. refl };
+      staged = poll_staged idle;
+      stages = OneMore idle _ NoStep (WakePoll refl refl refl refl);
+      none_unstaged = λ room. record { cancels = refl; queued = refl; armed = refl };
+      none_unless_busy = λ free. record { cancels = refl; queued = refl; armed = refl };
+      worked = poll_staged idle;
+      works = refl;
+      reaps_again = NoStep;
+      quiet_again = refl;
+      answers = refl;
+    }
