@@ -1,152 +1,170 @@
 //! Each small call once, with ample memory, calls that come too late, and an admission for which memory is wanting.
 
+use crate::asks::Ask;
+use crate::steps::{Look, Sign, Step, Turn, Wait};
+use crate::trial::play;
 use crate::worker::{MILLI, Worker, bytes, name, send};
-use exec_base::error::Error;
 use exec_base::task_no::TaskNo;
-use exec_driver::driver::{Enrolled, Reaped};
+use exec_driver::driver::Enrolled;
 use exec_driver::home::Home;
 use exec_driver::opens::{Opens, WaiterKey};
 use exec_outcomes::outcome::OpResult;
-use exec_request::poll::PollRequest;
-use exec_request::request::Request;
 use exec_ring::landing::Unlawful;
 use exec_ring::ring::Entered;
 use exec_ring::sim_ring::SimRing;
 use exec_ring::store::Store;
+use std::alloc::Global;
 use std::process::Abort;
 use std::test::Fail;
 
 #[test]
 fn a_service_step_by_step(rt: HostRuntime) -> Result<(), Fail> {
-    let alloc = rt.alloc();
-    let mut store = Store::new(alloc);
-    let mut opens = Opens::new(alloc, 1)?;
-    let mut ours = Worker::new(alloc, 4, &mut store).ok_or("no worker")?;
-    assert_eq!(rt; ours.driver.ring_size(), 4);
-    let request = Request::Poll(PollRequest::new(2, Some(10 * MILLI)));
-    let id = ours
-        .admit(alloc, request, &mut opens, &mut store)
-        .ok_or("not admitted")?;
-    assert!(rt; ours.driver.may_be_seen(id) && ours.driver.is_observed_here(id));
-    assert_eq!(rt; ours.set_waker(&rt, id, 4), None);
-    assert_eq!(rt; ours.set_waker(&rt, id, 5), Some(TaskNo(4)));
-    assert!(rt; ours.driver.has_enrolments() && ours.must_enter());
-    ours.advance(&rt, 0);
+    let id = name(0, 0);
     let enrolled = Enrolled { id, ended: None };
-    assert_eq!(rt; ours.enrol(&rt, alloc, 0)?, Some(enrolled));
-    assert!(rt; !ours.driver.has_cancels() && ours.driver.may_stage());
-    assert!(rt; ours.driver.needs_wake_poll() && ours.stage_wake_poll());
-    assert!(rt; !ours.driver.needs_wake_poll() && !ours.driver.is_full());
-    assert_eq!(rt; ours.stage(&rt, &opens), Some(id));
-    assert!(rt; !ours.driver.has_completion() && !ours.must_enter());
-    assert_eq!(rt; ours.land(&rt, id, bytes(1), &mut store), Ok(()));
-    assert!(rt; ours.driver.has_completion());
-    let over = Reaped {
-        id,
-        given: bytes(1),
-        ended: Some(Ok(())),
-        permit: None,
-    };
-    assert_eq!(rt; ours.reap(alloc, &mut opens)?, Some(over));
-    assert!(rt; ours.driver.is_empty() && !ours.driver.has_completion());
-    assert_eq!(rt; ours.counts(), (1, 0, 1, 0, 0));
-    Ok(())
+    let steps = [
+        Step::Look(Look::RingSize(4)),
+        Step::Wait(Wait::Admit(Ask::Poll(Some(10 * MILLI)), id)),
+        Step::Look(Look::Seen(id, true)),
+        Step::Wait(Wait::SetWaker(id, 4, None)),
+        Step::Wait(Wait::SetWaker(id, 5, Some(TaskNo(4)))),
+        Step::Look(Look::Is(Sign::Enrolments, true)),
+        Step::Look(Look::Is(Sign::MustEnter, true)),
+        Step::Turn(Turn::Advance(0)),
+        Step::Turn(Turn::Enrol(0, Some(enrolled))),
+        Step::Look(Look::Is(Sign::Cancels, false)),
+        Step::Look(Look::Is(Sign::MayStage, true)),
+        Step::Look(Look::Is(Sign::NeedsWakePoll, true)),
+        Step::Turn(Turn::StageWakePoll(true)),
+        Step::Look(Look::Is(Sign::NeedsWakePoll, false)),
+        Step::Look(Look::Is(Sign::Full, false)),
+        Step::Turn(Turn::Stage(Some(id))),
+        Step::Look(Look::Is(Sign::Completion, false)),
+        Step::Look(Look::Is(Sign::MustEnter, false)),
+        Step::Turn(Turn::Land(id, bytes(1), Ok(()))),
+        Step::Look(Look::Is(Sign::Completion, true)),
+        Step::Turn(Turn::Over(id, bytes(1), Ok(()))),
+        Step::Look(Look::Is(Sign::Empty, true)),
+        Step::Look(Look::Is(Sign::Completion, false)),
+        Step::Look(Look::Counts((1, 0, 1, 0, 0))),
+    ];
+    play(&rt, rt.alloc(), 4, &steps)
 }
 
 #[test]
 fn a_late_cancel_changes_nothing(rt: HostRuntime) -> Result<(), Fail> {
-    let alloc = rt.alloc();
-    let mut store = Store::new(alloc);
-    let mut opens = Opens::new(alloc, 1)?;
-    let mut ours = Worker::new(alloc, 4, &mut store).ok_or("no worker")?;
     let id = name(0, 0);
-    let sent = ours.admit(alloc, send(alloc)?, &mut opens, &mut store);
-    assert_eq!(rt; sent, Some(id));
-    ours.serve(&rt, alloc, (0, 0, false), &mut opens)?;
-    assert_eq!(rt; ours.land(&rt, id, bytes(10), &mut store), Ok(()));
-    ours.advance(&rt, 10 * MILLI);
-    assert_eq!(rt; ours.expire(alloc)?, Some(id));
-    assert_eq!(rt; ours.stage_cancel(&rt), Some(id));
-    assert_eq!(rt; ours.enter(), Entered::Taken(1));
-    let over = Reaped {
-        id,
-        given: bytes(10),
-        ended: Some(Ok(())),
-        permit: None,
-    };
-    assert_eq!(rt; ours.reap(alloc, &mut opens)?, Some(over));
-    assert!(rt; ours.driver.is_empty() && !ours.driver.has_completion());
-    assert_eq!(rt; ours.reap(alloc, &mut opens)?, None);
-    assert_eq!(rt; ours.counts(), (0, 0, 1, 0, 0));
-    Ok(())
+    let steps = [
+        Step::Wait(Wait::Admit(Ask::Send, id)),
+        Step::Turn(Turn::Serve((0, 0, false), false)),
+        Step::Turn(Turn::Land(id, bytes(10), Ok(()))),
+        Step::Turn(Turn::Advance(10 * MILLI)),
+        Step::Turn(Turn::Expire(Some(id))),
+        Step::Turn(Turn::StageCancel(Some(id))),
+        Step::Turn(Turn::Enter(Entered::Taken(1))),
+        Step::Turn(Turn::Over(id, bytes(10), Ok(()))),
+        Step::Look(Look::Is(Sign::Empty, true)),
+        Step::Look(Look::Is(Sign::Completion, false)),
+        Step::Turn(Turn::Reap(None)),
+        Step::Look(Look::Counts((0, 0, 1, 0, 0))),
+    ];
+    play(&rt, rt.alloc(), 4, &steps)
 }
 
 #[test]
 fn what_is_gone_stays_gone(rt: HostRuntime) -> Result<(), Fail> {
+    let (old, next, new) = (name(0, 0), name(0, 1), name(0, 2));
+    let steps = [
+        Step::Wait(Wait::Admit(Ask::Send, old)),
+        Step::Wait(Wait::Orphan(old)),
+        Step::Wait(Wait::Admit(Ask::Send, next)),
+        Step::Wait(Wait::Orphan(next)),
+        Step::Look(Look::Len(0)),
+        Step::Look(Look::Counts((0, 2, 2, 0, 0))),
+        Step::Wait(Wait::Admit(Ask::Send, new)),
+        Step::Turn(Turn::Serve((0, 0, false), false)),
+        Step::Turn(Turn::Land(old, bytes(10), Err(Unlawful(0, bytes(10))))),
+        Step::Wait(Wait::Orphan(old)),
+        Step::Wait(Wait::Forward(old, 9)),
+        Step::Look(Look::Refused(1)),
+        Step::Look(Look::Seen(old, false)),
+        Step::Look(Look::Len(1)),
+        Step::Look(Look::Counts((0, 2, 2, 0, 1))),
+        Step::Turn(Turn::Land(new, OpResult::Errno(104), Ok(()))),
+        Step::Look(Look::UserData(name(7, (1 << 32) + 3), (3 << 32) + 7)),
+    ];
+    play(&rt, rt.alloc(), 4, &steps)
+}
+
+#[test]
+fn a_home_is_new(rt: HostRuntime) -> Result<(), Fail> {
     let alloc = rt.alloc();
     let mut store = Store::new(alloc);
-    let mut opens = Opens::new(alloc, 1)?;
-    let mut ours = Worker::new(alloc, 4, &mut store).ok_or("no worker")?;
-    for generation in 0..2 {
-        let next = ours.admit(alloc, send(alloc)?, &mut opens, &mut store);
-        assert_eq!(rt; next, Some(name(0, generation)));
-        ours.orphan(alloc, name(0, generation))?;
-    }
-    assert_eq!(rt; (ours.driver.len(), ours.counts()), (0, (0, 2, 2, 0, 0)));
-    let (old, new) = (name(0, 0), name(0, 2));
-    let next = ours.admit(alloc, send(alloc)?, &mut opens, &mut store);
-    assert_eq!(rt; next, Some(new));
-    ours.serve(&rt, alloc, (0, 0, false), &mut opens)?;
-    let late = Err(Unlawful(0, bytes(10)));
-    assert_eq!(rt; ours.land(&rt, old, bytes(10), &mut store), late);
-    ours.orphan(alloc, old)?;
-    ours.forward(alloc, old, 9)?;
-    assert_eq!(rt; ours.deferred.results.len(), 1);
-    assert!(rt; !ours.driver.may_be_seen(old) && !ours.driver.is_observed_here(old));
-    assert!(rt; matches!(&ours.deferred.results[0].result, Err(Error::Closed)));
-    assert_eq!(rt; (ours.driver.len(), ours.counts()), (1, (0, 2, 2, 0, 1)));
-    let reset = OpResult::Errno(104);
-    assert_eq!(rt; ours.land(&rt, new, reset, &mut store), Ok(()));
-    assert_eq!(rt; name(7, (1 << 32) + 3).user_data(), (3 << 32) + 7);
+    let ours = Worker::new(alloc, 4, &mut store).ok_or("no worker")?;
+    ours.driver().lands_nothing();
+    ours.driver().flies_permitted();
+    let home: Home<SimRing, u32, u32> = Home::new(alloc, 3, ours.into_driver());
+    assert_eq!(rt; (home.worker, home.driver.len()), (3, 0));
+    assert!(rt; !home.closing && home.deferred.is_empty());
     Ok(())
 }
 
 #[test]
-fn opens_and_a_home(rt: HostRuntime) -> Result<(), Fail> {
-    let alloc = rt.alloc();
-    let mut store = Store::new(alloc);
-    let mut opens = Opens::new(alloc, 2)?;
-    let ours = Worker::new(alloc, 4, &mut store).ok_or("no worker")?;
-    ours.driver.lands_nothing();
-    ours.driver.flies_permitted();
-    let Worker {
-        driver,
-        deferred: _deferred,
-        last: _last,
-    } = ours;
-    let home: Home<SimRing, u32, u32> = Home::new(alloc, 3, driver);
-    assert_eq!(rt; (home.worker, home.driver.len()), (3, 0));
-    assert!(rt; !home.closing && home.deferred.is_empty());
+fn opens_have_records(rt: HostRuntime) -> Result<(), Fail> {
+    let mut opens = Opens::new(rt.alloc(), 2)?;
     assert_eq!(rt; opens.len(), 2);
     opens.begin_write(Some(1));
     let account = opens.account(Some(1));
     assert!(rt; account.is_some() && opens.account(Some(2)).is_none());
     opens.set_account(Some(0), account);
+    Ok(())
+}
+
+/// A request of this worker joins the line of open 1.
+fn line_up(rt: &impl Abort, alloc: Global, opens: &mut Opens, key: WaiterKey) -> Result<(), Fail> {
+    opens.reserve(alloc, Some(1))?;
+    let may = opens.has_place(1);
+    assert!(rt; may);
+    opens.join(1, key);
+    Ok(())
+}
+
+#[test]
+fn opens_have_gates(rt: HostRuntime) -> Result<(), Fail> {
+    let alloc = rt.alloc();
+    let mut opens = Opens::new(alloc, 2)?;
     opens.reserve(alloc, Some(1))?;
     let may = opens.has_place(1);
     assert!(rt; may);
     opens.release(Some(1));
     let id = name(5, 0);
-    for worker in 0..2 {
-        opens.reserve(alloc, Some(1))?;
-        let may = opens.has_place(1);
-        assert!(rt; may);
-        opens.join(1, WaiterKey { worker, id });
-    }
-    assert_eq!(rt; opens.holder(1), Some(WaiterKey { worker: 0, id }));
-    assert_eq!(rt; opens.leave(1), Some(WaiterKey { worker: 1, id }));
+    let [first, second] = [0, 1].map(|worker| WaiterKey { worker, id });
+    line_up(&rt, alloc, &mut opens, first)?;
+    line_up(&rt, alloc, &mut opens, second)?;
+    assert_eq!(rt; opens.holder(1), Some(first));
+    assert_eq!(rt; opens.leave(1), Some(second));
     assert_eq!(rt; opens.leave(1), None);
     assert_eq!(rt; (opens.holder(1), opens.holder(2)), (None, None));
+    Ok(())
+}
+
+/// A send is admitted for which memory may be wanting: then nothing is left, and the next one is made.
+fn admit_again(
+    rt: &impl Abort,
+    alloc: Global,
+    ours: &mut Worker,
+    opens: &mut Opens,
+    store: &mut Store,
+) -> Result<(), Fail> {
+    let Ok(request) = send(alloc) else {
+        return Ok(());
+    };
+    if ours.admit(alloc, request, opens, store).is_none() {
+        assert_eq!(rt; (ours.driver().len(), ours.counts()), (0, (0, 0, 0, 0, 0)));
+        assert!(rt; !ours.driver().has_pending_submissions());
+        let next = ours.admit(alloc, send(alloc)?, opens, store);
+        assert_eq!(rt; next, Some(name(0, 0)));
+    }
+    assert_eq!(rt; (ours.driver().len(), ours.counts()), (1, (0, 0, 0, 0, 0)));
     Ok(())
 }
 
@@ -162,15 +180,5 @@ fn a_refused_admission_leaves_nothing(rt: HostRuntime) -> Result<(), Fail> {
     let Some(mut ours) = Worker::new(alloc, 4, &mut store) else {
         return Ok(());
     };
-    let Ok(request) = send(alloc) else {
-        return Ok(());
-    };
-    if ours.admit(alloc, request, &mut opens, &mut store).is_none() {
-        assert_eq!(rt; (ours.driver.len(), ours.counts()), (0, (0, 0, 0, 0, 0)));
-        assert!(rt; !ours.driver.has_pending_submissions());
-        let next = ours.admit(alloc, send(alloc)?, &mut opens, &mut store);
-        assert_eq!(rt; next, Some(name(0, 0)));
-    }
-    assert_eq!(rt; (ours.driver.len(), ours.counts()), (1, (0, 0, 0, 0, 0)));
-    Ok(())
+    admit_again(&rt, alloc, &mut ours, &mut opens, &mut store)
 }

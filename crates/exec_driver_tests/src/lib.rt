@@ -2,11 +2,17 @@
 #![tactic(auto)]
 
 #[cfg(test)]
+mod asks;
+#[cfg(test)]
 mod calls;
 #[cfg(test)]
 mod kinds;
 #[cfg(test)]
 mod lives;
+#[cfg(test)]
+mod steps;
+#[cfg(test)]
+mod trial;
 #[cfg(test)]
 mod waiters;
 #[cfg(test)]

@@ -1,5 +1,5 @@
-//! A worker of a test: its driver, with what is to be told and whom it signalled last. Its calls make room to tell, and
-//! test what the driver asks for.
+//! A driver with what is to be told and whom it signalled last, as one value. Where a call of the driver asks for
+//! something, the call here tests it, and a test that fails is a failed assertion.
 
 ghost use Rattle.std.specs.Prelude.{◌≡◌, ◌-◌, ◌^◌, ◌≤◌, true, IfOk};
 ghost use Rattle.exec_request.specs.Buffers.{is_sound, length_of, moved_of};
@@ -22,7 +22,7 @@ use exec_ring::sim_ring::SimRing;
 use exec_ring::store::Store;
 use exec_time::timers::Observation;
 use exec_time::wheel::TimeoutWheel;
-use exec_waiters::deferred::Deferred;
+use exec_waiters::deferred::{Deferred, Retired};
 use exec_waiters::observer::Observer;
 use exec_waiters::waiter_id::WaiterId;
 use std::alloc::{AllocError, Global};
@@ -32,7 +32,7 @@ use std::test::Fail;
 
 /// Whom a worker signalled last.
 #[derive(Drop)]
-pub(super) struct Last(pub(super) Option<u32>);
+struct Last(Option<u32>);
 
 impl Signals for Last {
     ghost use Rattle.std.specs.Prelude.{None};
@@ -46,30 +46,48 @@ impl Signals for Last {
 
 /// A wake word that is as its worker left it, or isn't.
 #[derive(Drop)]
-pub(super) struct Word(pub(super) bool);
-
-impl Armed for Word {
-    ghost is_calm = { λ w _. w.0 };
-
-    fn arm(&mut self, _processed: u32) -> bool {
-        self.0
-    }
-
-    fn disarm(&mut self) {}
+pub struct Word {
+    calm: bool,
+    armed: bool,
 }
 
-pub(super) const MILLI: u64 = 1_000_000;
+impl Word {
+    /// A word that is as its worker left it, or isn't.
+    pub fn new(calm: bool) -> Self {
+        Word { calm, armed: false }
+    }
+}
 
-pub(super) fn name(index: u32, generation: u64) -> WaiterId {
+impl Armed for Word {
+    ghost is_calm = { λ w _. w.calm };
+
+    ghost is_armed = { λ w. w.armed };
+
+    fn arm(&mut self, _processed: u32) -> bool {
+        self.armed = true;
+        self.calm
+    }
+
+    fn disarm(&mut self) {
+        self.armed = false;
+    }
+}
+
+/// The nanoseconds of a millisecond.
+pub const MILLI: u64 = 1_000_000;
+
+/// The name of a request by its slot, and by how often that was taken before.
+pub fn name(index: u32, generation: u64) -> WaiterId {
     WaiterId(Id { index, generation })
 }
 
-pub(super) fn bytes(count: u64) -> OpResult {
+/// The result of an operation that moved so many bytes.
+pub fn bytes(count: u64) -> OpResult {
     OpResult::Count(count)
 }
 
-/// These bytes in one part.
-pub(super) fn buffers(alloc: Global, data: &[u8]) -> Result<WriteBuffers, AllocError>
+/// These bytes in one part. An `Err` where memory is wanting, or where they are more than 2^40.
+pub fn buffers(alloc: Global, data: &[u8]) -> Result<WriteBuffers, AllocError>
     ensures sound { IfOk result (λ w. is_sound w ≡ true) }
     ensures short { IfOk result (λ w. length_of w - moved_of w ≤ 2 ^ 40) }
 {
@@ -85,18 +103,18 @@ pub(super) fn buffers(alloc: Global, data: &[u8]) -> Result<WriteBuffers, AllocE
     Ok(write)
 }
 
-/// A send of ten bytes to socket 0 that has to end within 10 ms.
-pub(super) fn send(alloc: Global) -> Result<Request, AllocError> {
+/// A send of ten bytes to socket 0 that has to end by 10 ms. An `Err` where memory is wanting.
+pub fn send(alloc: Global) -> Result<Request, AllocError> {
     let write = buffers(alloc, b"0123456789")?;
     Ok(Request::Send(SendRequest::new(0, write, Some(10 * MILLI))))
 }
 
 /// A driver with its deferred work and its signals. Its deadlines are always punctual.
 #[derive(Drop)]
-pub(super) struct Worker {
-    pub(super) driver: Driver<SimRing, u32, u32>,
-    pub(super) deferred: Deferred<u32, u32>,
-    pub(super) last: Last,
+pub struct Worker {
+    driver: Driver<SimRing, u32, u32>,
+    deferred: Deferred<u32, u32>,
+    last: Last,
 }
 
 impl Model for Worker {
@@ -111,8 +129,9 @@ impl Model for Worker {
 }
 
 impl Worker {
-    /// A worker over a ring of so many entries, with a wheel of 5 ms for 10 ms.
-    pub(super) fn new(alloc: Global, size: usize, store: &mut Store) -> Option<Self> {
+    /// A worker over a ring of so many entries, with a wheel of 5 ms for 10 ms. None where memory is wanting, or where
+    /// there is no such ring.
+    pub fn new(alloc: Global, size: usize, store: &mut Store) -> Option<Self> {
         let ring = SimRing::new(alloc, size).ok()?;
         TimeoutWheel::validate_layout(10 * MILLI, 5 * MILLI).ok()?;
         let driver = Driver::new(alloc, ring, 10 * MILLI, 5 * MILLI, 0, store).ok()?;
@@ -123,8 +142,38 @@ impl Worker {
         })
     }
 
-    /// Admits a request that a task of the worker waits for.
-    pub(super) fn admit(
+    /// The driver, to look at.
+    pub fn driver(&self) -> &Driver<SimRing, u32, u32> {
+        &self.driver
+    }
+
+    /// What is to be told.
+    pub fn deferred(&self) -> &Deferred<u32, u32> {
+        &self.deferred
+    }
+
+    /// Whom the worker signalled last.
+    pub fn last(&self) -> Option<u32> {
+        self.last.0
+    }
+
+    /// The driver, without the rest.
+    pub fn into_driver(self) -> Driver<SimRing, u32, u32> {
+        let Worker {
+            driver,
+            deferred: _deferred,
+            last: _last,
+        } = self;
+        driver
+    }
+
+    /// What a request owned that is over, and was let go last.
+    pub fn take_resources(&mut self) -> Option<Retired> {
+        self.deferred.resources.pop()
+    }
+
+    /// Admits a request that a task of the worker waits for. None where it is refused.
+    pub fn admit(
         &mut self,
         alloc: Global,
         request: Request,
@@ -145,13 +194,16 @@ impl Worker {
             .ok()
     }
 
-    pub(super) fn join(&self, rt: &impl Abort, worker: u32, id: WaiterId, opens: &mut Opens) {
+    /// A request takes its place in the line of its open. It fails where it may not.
+    pub fn join(&self, rt: &impl Abort, worker: u32, id: WaiterId, opens: &mut Opens) {
         let may = self.driver.may_join(id, opens);
         assert!(rt; may);
         self.driver.join(worker, id, opens);
     }
 
-    pub(super) fn serve(
+    /// A whole service by worker, moment in nanoseconds and whether the entry is put off. It fails where something is due
+    /// that was not told, or where the ring has no entry.
+    pub fn serve(
         &mut self,
         rt: &impl Abort,
         alloc: Global,
@@ -169,7 +221,8 @@ impl Worker {
         )
     }
 
-    pub(super) fn land(
+    /// A result comes from the kernel. `Unlawful` where it may not come; then nothing changes.
+    pub fn land(
         &mut self,
         rt: &impl Abort,
         id: WaiterId,
@@ -181,24 +234,28 @@ impl Worker {
         self.driver.land(id, given, store)
     }
 
-    pub(super) fn advance(&mut self, rt: &impl Abort, now: u64) {
+    /// The wheel advances to this moment, in nanoseconds. It fails where something due was not told.
+    pub fn advance(&mut self, rt: &impl Abort, now: u64) {
         let settled = self.driver.is_settled();
         assert!(rt; settled);
         self.driver.advance(now);
     }
 
-    pub(super) fn next_deadline(&self, rt: &impl Abort) -> Option<u64> {
+    /// When the next deadline comes, in nanoseconds.
+    pub fn next_deadline(&self, rt: &impl Abort) -> Option<u64> {
         let settled = self.driver.is_settled();
         assert!(rt; settled);
         self.driver.next_deadline()
     }
 
-    pub(super) fn expire(&mut self, alloc: Global) -> Result<Option<WaiterId>, Fail> {
+    /// Tells the first request that is due.
+    pub fn expire(&mut self, alloc: Global) -> Result<Option<WaiterId>, Fail> {
         self.deferred.reserve(alloc, 1)?;
         Ok(self.driver.expire(&mut self.deferred))
     }
 
-    pub(super) fn enrol(
+    /// The first request that has a deadline goes on the wheel, or ends since it is late or too far off.
+    pub fn enrol(
         &mut self,
         rt: &impl Abort,
         alloc: Global,
@@ -210,7 +267,8 @@ impl Worker {
         Ok(self.driver.enrol(now, &mut self.deferred))
     }
 
-    pub(super) fn grant(
+    /// Takes the permit of this open, as worker 0, where it waits for one.
+    pub fn grant(
         &mut self,
         alloc: Global,
         file: u32,
@@ -221,7 +279,7 @@ impl Worker {
     }
 
     /// Stages the first request that may be, and lets the kernel take it in.
-    pub(super) fn stage(&mut self, rt: &impl Abort, opens: &Opens) -> Option<WaiterId> {
+    pub fn stage(&mut self, rt: &impl Abort, opens: &Opens) -> Option<WaiterId> {
         let may = self.driver.may_stage()
             && !self.driver.is_full()
             && !self.driver.has_enrolments();
@@ -231,26 +289,26 @@ impl Worker {
         staged
     }
 
-    pub(super) fn enter(&mut self) -> Entered {
+    /// The kernel takes in what was staged.
+    pub fn enter(&mut self) -> Entered {
         self.driver.enter()
     }
 
-    pub(super) fn stage_cancel(&mut self, rt: &impl Abort) -> Option<WaiterId> {
+    /// Stages the first cancel. It fails where the submission queue is full.
+    pub fn stage_cancel(&mut self, rt: &impl Abort) -> Option<WaiterId> {
         let room = !self.driver.is_full();
         assert!(rt; room);
         self.driver.stage_cancel()
     }
 
-    pub(super) fn reap(
-        &mut self,
-        alloc: Global,
-        opens: &mut Opens,
-    ) -> Result<Option<Reaped>, Fail> {
+    /// Takes the next completion.
+    pub fn reap(&mut self, alloc: Global, opens: &mut Opens) -> Result<Option<Reaped>, Fail> {
         self.deferred.reserve(alloc, 1)?;
         Ok(self.driver.reap(opens, &mut self.deferred))
     }
 
-    pub(super) fn observe(
+    /// A task looks at a request. It fails where it may not.
+    pub fn observe(
         &mut self,
         rt: &impl Abort,
         id: WaiterId,
@@ -261,54 +319,62 @@ impl Worker {
         self.driver.observe(id, TaskNo(task))
     }
 
-    pub(super) fn forward(&mut self, alloc: Global, id: WaiterId, sender: u32) -> Result<(), Fail> {
+    /// The outcome of a request is to be sent on.
+    pub fn forward(&mut self, alloc: Global, id: WaiterId, sender: u32) -> Result<(), Fail> {
         self.deferred.reserve(alloc, 1)?;
         self.driver.forward(id, sender, &mut self.deferred);
         Ok(())
     }
 
-    pub(super) fn orphan(&mut self, alloc: Global, id: WaiterId) -> Result<(), Fail> {
+    /// Nobody waits for a request any more.
+    pub fn orphan(&mut self, alloc: Global, id: WaiterId) -> Result<(), Fail> {
         self.deferred.reserve(alloc, 2)?;
         self.driver.orphan(id, &mut self.deferred);
         Ok(())
     }
 
-    pub(super) fn close(&mut self, alloc: Global) -> Result<Option<WaiterId>, Fail> {
+    /// The next request loses its observer, as the worker closes.
+    pub fn close(&mut self, alloc: Global) -> Result<Option<WaiterId>, Fail> {
         self.deferred.reserve(alloc, 2)?;
         Ok(self.driver.close(&mut self.deferred))
     }
 
-    pub(super) fn set_waker(&mut self, rt: &impl Abort, id: WaiterId, task: u32) -> Option<TaskNo> {
+    /// Another task waits for a request. It fails where the request is not observed here.
+    pub fn set_waker(&mut self, rt: &impl Abort, id: WaiterId, task: u32) -> Option<TaskNo> {
         let here = self.driver.is_observed_here(id);
         assert!(rt; here);
         self.driver.set_waker(id, TaskNo(task))
     }
 
-    pub(super) fn park(&mut self, processed: u32, word: &mut Word) -> bool {
+    /// The worker looks whether it may sleep on its ring.
+    pub fn park(&mut self, processed: u32, word: &mut Word) -> bool {
         self.driver.park(processed, word)
     }
 
-    pub(super) fn stage_wake_poll(&mut self) -> bool {
+    /// Stages the poll of the wake, where it is wanted.
+    pub fn stage_wake_poll(&mut self) -> bool {
         self.driver.stage_wake_poll()
     }
 
-    pub(super) fn must_enter(&self) -> bool {
+    /// Whether a service that may put it off has to enter.
+    pub fn must_enter(&self) -> bool {
         self.driver.must_enter(true, &self.deferred)
     }
 
     /// A wake is raised, which ends the wake poll.
-    pub(super) fn wake_last(&mut self) {
+    pub fn wake_last(&mut self) {
         self.driver.last();
         self.driver.raise();
     }
 
-    pub(super) fn enter_busy(&mut self) -> Entered {
+    /// The kernel is busy, and takes in nothing.
+    pub fn enter_busy(&mut self) -> Entered {
         self.driver.busy();
         self.driver.enter()
     }
 
     /// How many of each list there are: wakes, outputs, resources, completions, results.
-    pub(super) fn counts(&self) -> (usize, usize, usize, usize, usize) {
+    pub fn counts(&self) -> (usize, usize, usize, usize, usize) {
         let deferred = &self.deferred;
         (
             deferred.notes.wakes.len(),

@@ -1,4 +1,4 @@
-//! A worker of a test with its mail, for registrations: its calls make room to tell, and test what registrations ask for.
+//! A worker with its mail, for registrations: its calls make room to tell, and test what registrations ask for.
 
 ghost use Rattle.std.specs.Prelude.{◌≡◌, IsTrue, true, false};
 ghost use Rattle.exec_base.specs.Slab.{value_at};
@@ -19,35 +19,53 @@ use exec_driver::home::Home;
 use exec_driver::opens::Opens;
 use exec_outcomes::outcome::OpResult;
 use exec_registration::mail::{Cancel, Forward, Places};
-use exec_registration::operation::Operation;
+use exec_registration::operation::{Operation, Started, start_sync};
 use exec_registration::registration::{Registration, RegistrationState};
 use exec_request::output::RequestOutput;
 use exec_request::poll::PollRequest;
 use exec_request::request::Request;
+use exec_request::sync::SyncRequest;
 use exec_ring::sim_ring::SimRing;
 use exec_ring::store::Store;
+use exec_time::notes::ForwardedResult;
 use exec_time::timers::TimerId;
 use exec_time::wheel::TimeoutWheel;
+use exec_waiters::deferred::Answer;
 use exec_waiters::waiter_id::WaiterId;
 use std::alloc::{AllocError, Global};
+use std::mem;
 use std::process::Abort;
 use std::test::Fail;
 
-pub(super) type Ours = Home<SimRing, u32, u32>;
+type Ours = Home<SimRing, u32, u32>;
 
-pub(super) type Answer = OneShot<Result<RequestOutput, Error>>;
-
-pub(super) fn name(index: u32, generation: u64) -> WaiterId {
+/// The name of a request by its slot, and by how often that was taken before.
+pub fn name(index: u32, generation: u64) -> WaiterId {
     WaiterId(Id { index, generation })
 }
 
+/// What a request that was sent on is answered by.
+pub type Awaited = OneShot<Result<RequestOutput, Error>>;
+
 /// The mail of a worker: what came last of each kind, unless it is closed.
 #[derive(Drop)]
-pub(super) struct Mail {
-    pub(super) places: usize,
-    pub(super) closed: bool,
-    pub(super) forwarded: Option<Forward<u32, u32>>,
-    pub(super) cancelled: Option<Cancel>,
+pub struct Mail {
+    places: usize,
+    closed: bool,
+    forwarded: Option<Forward<u32, u32>>,
+    cancelled: Option<Cancel>,
+}
+
+impl Mail {
+    /// How many places are reserved.
+    pub fn places(&self) -> usize {
+        self.places
+    }
+
+    /// Whether nothing was asked of another worker.
+    pub fn is_empty(&self) -> bool {
+        self.forwarded.is_none() && self.cancelled.is_none()
+    }
 }
 
 impl Places for Mail {
@@ -101,14 +119,14 @@ impl Post<Cancel> for Mail {
 
 /// A worker with its mail.
 #[derive(Drop)]
-pub(super) struct Desk {
-    pub(super) home: Ours,
-    pub(super) mail: Mail,
+pub struct Desk {
+    home: Ours,
+    mail: Mail,
 }
 
 impl Desk {
-    /// A worker with this number, over a ring of four entries.
-    pub(super) fn new(alloc: Global, worker: u32, store: &mut Store) -> Option<Self> {
+    /// A worker with this number, over a ring of four entries. None where memory is wanting.
+    pub fn new(alloc: Global, worker: u32, store: &mut Store) -> Option<Self> {
         let ring = SimRing::new(alloc, 4).ok()?;
         TimeoutWheel::validate_layout(1000, 100).ok()?;
         let driver = Driver::new(alloc, ring, 1000, 100, 0, store).ok()?;
@@ -124,8 +142,43 @@ impl Desk {
         })
     }
 
-    /// Registers a readiness poll of listener 1.
-    pub(super) fn listen(
+    /// The worker, to look at.
+    pub fn home(&self) -> &Ours {
+        &self.home
+    }
+
+    /// Its mail, to look at.
+    pub fn mail(&self) -> &Mail {
+        &self.mail
+    }
+
+    /// The worker closes.
+    pub fn close(&mut self) {
+        self.home.closing = true;
+    }
+
+    /// Its mail closes.
+    pub fn close_mail(&mut self) {
+        self.mail.closed = true;
+    }
+
+    /// The forward that was sent last.
+    pub fn take_forward(&mut self) -> Option<Forward<u32, u32>> {
+        mem::replace(&mut self.mail.forwarded, None)
+    }
+
+    /// The cancel that was sent last.
+    pub fn take_cancel(&mut self) -> Option<Cancel> {
+        mem::replace(&mut self.mail.cancelled, None)
+    }
+
+    /// The result that is to be sent on, with its sender.
+    pub fn take_result(&mut self) -> Option<Answer<u32>> {
+        self.home.deferred.results.pop()
+    }
+
+    /// Registers a readiness poll of listener 1. None where memory is wanting.
+    pub fn listen(
         &mut self,
         alloc: Global,
         opens: &mut Opens,
@@ -136,8 +189,53 @@ impl Desk {
         Operation::register(alloc, request, home, 0, opens, store, mail).ok()
     }
 
+    /// Makes a sleeper of a task that wakes at this moment, in nanoseconds.
+    pub fn insert_sleeper(&mut self, alloc: Global, at: u64, task: u32) -> Result<TimerId, Fail> {
+        Ok(self.home.timers.insert(alloc, at, TaskNo(task))?)
+    }
+
+    /// Wakes the sleepers whose moment, in nanoseconds, has come; none where memory is wanting.
+    pub fn wake_sleepers(&mut self, alloc: Global, now: u64) {
+        let count = self.home.timers.len();
+        if self.home.deferred.notes.reserve(alloc, count).is_ok() {
+            self.home.timers.expire(now, &mut self.home.deferred.notes);
+        }
+    }
+
+    /// Begins a sync of open 0 with sender 5, of which the caller saw so many writes. None where it is refused.
+    pub fn begin_sync(
+        &mut self,
+        alloc: Global,
+        seen: u64,
+        opens: &mut Opens,
+        store: &mut Store,
+    ) -> Option<Started> {
+        let sync = SyncRequest::new(0, seen);
+        start_sync(alloc, sync, 5, &mut self.home, opens, store).ok()
+    }
+
+    /// The worker, which has number 0, takes the permit of open 0.
+    pub fn grant_first(&mut self, alloc: Global, opens: &mut Opens) -> Result<(), Fail> {
+        self.home.deferred.reserve(alloc, 1)?;
+        let (driver, deferred) = (&mut self.home.driver, &mut self.home.deferred);
+        driver.grant(0, 0, opens, deferred);
+        Ok(())
+    }
+
+    /// The outcome that is to be sent last, with its sender.
+    pub fn take_completion(&mut self) -> Option<ForwardedResult<u32>> {
+        self.home.deferred.notes.completions.pop()
+    }
+
+    /// Applies a cancel of a request that came from elsewhere.
+    pub fn apply_cancel(&mut self, alloc: Global, id: WaiterId) -> Result<(), Fail> {
+        self.home.deferred.reserve(alloc, 2)?;
+        Cancel::Waiter(id).apply(&mut self.home);
+        Ok(())
+    }
+
     /// Stages the first request that was ever named.
-    pub(super) fn stage_first(&mut self, rt: &impl Abort, opens: &Opens) {
+    pub fn stage_first(&mut self, rt: &impl Abort, opens: &Opens) {
         let driver = &mut self.home.driver;
         let ready = driver.may_stage() && !driver.is_full() && !driver.has_enrolments();
         assert!(rt; ready);
@@ -145,7 +243,7 @@ impl Desk {
     }
 
     /// The operation of the first request fails with error number 5, and is taken in.
-    pub(super) fn fail_first(
+    pub fn fail_first(
         &mut self,
         rt: &impl Abort,
         alloc: Global,
@@ -169,13 +267,13 @@ impl Desk {
     }
 
     /// Polls a registration for a task, with sender 9.
-    pub(super) fn poll(
+    pub fn poll(
         &mut self,
         rt: &impl Abort,
         alloc: Global,
         op: &mut Operation,
         task: u32,
-        answer: &mut Answer,
+        answer: &mut Awaited,
     ) -> Result<Option<RequestOutput>, Error> {
         if self.home.deferred.reserve(alloc, 2).is_err() {
             return Err(Error::NoMemory);
@@ -186,7 +284,7 @@ impl Desk {
     }
 
     /// Polls a registration of a sleeper for a task.
-    pub(super) fn wait(
+    pub fn wait(
         &mut self,
         rt: &impl Abort,
         alloc: Global,
@@ -203,7 +301,7 @@ impl Desk {
     }
 
     /// Applies a forward of a request that came from elsewhere.
-    pub(super) fn apply(&mut self, alloc: Global, forward: Forward<u32, u32>) {
+    pub fn apply(&mut self, alloc: Global, forward: Forward<u32, u32>) {
         match forward {
             Forward::Timer(_, _) => {}
             Forward::Waiter(id, sender) => {
@@ -216,24 +314,34 @@ impl Desk {
     }
 
     /// Lets a registration go.
-    pub(super) fn release(&mut self, alloc: Global, op: Operation) {
+    pub fn release(&mut self, alloc: Global, op: Operation) {
         if self.home.deferred.reserve(alloc, 2).is_err() {
             op.release_elsewhere::<u32, u32, Mail>(&mut self.mail);
         } else {
             op.release(&mut self.home, &mut self.mail);
         }
     }
-}
 
-/// Polls a registration of who has no worker, with sender 9.
-pub(super) fn poll_away(
-    op: &mut Operation,
-    mail: &mut Mail,
-    answer: &mut Answer,
-) -> Result<Option<RequestOutput>, Error> {
-    match op.state() {
-        RegistrationState::Done => Err(Error::Full),
-        _ => op.poll_elsewhere(9, mail, answer),
+    /// Polls a registration for who has no worker, with sender 9. `Full` where it is over.
+    pub fn poll_away(
+        &mut self,
+        op: &mut Operation,
+        answer: &mut Awaited,
+    ) -> Result<Option<RequestOutput>, Error> {
+        match op.state() {
+            RegistrationState::Done => Err(Error::Full),
+            _ => op.poll_elsewhere(9, &mut self.mail, answer),
+        }
+    }
+
+    /// Who has no worker lets a registration go.
+    pub fn release_away(&mut self, op: Operation) {
+        op.release_elsewhere::<u32, u32, Mail>(&mut self.mail);
+    }
+
+    /// Who has no worker lets a registration of a sleeper go.
+    pub fn release_sleeper(&mut self, sleep: Registration<TimerId>) {
+        sleep.release_elsewhere::<u32, u32, Mail>(&mut self.mail);
     }
 }
 

@@ -7,3 +7,5 @@ mod desk;
 mod registrations;
 #[cfg(test)]
 mod sleepers;
+#[cfg(test)]
+mod visits;

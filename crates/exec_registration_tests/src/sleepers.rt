@@ -1,49 +1,32 @@
 //! Registrations of sleepers, and syncs whose outcome alone is sent.
 
-use crate::desk::{Desk, Mail, Ours, name};
+use crate::desk::{Desk, name};
 use exec_base::error::{Cause, Error};
 use exec_base::one_shot::OneShot;
 use exec_base::task_no::TaskNo;
 use exec_driver::opens::{Opens, WaiterKey};
-use exec_registration::operation::{Started, start_sync};
+use exec_registration::operation::Started;
 use exec_registration::registration::Registration;
 use exec_request::open_record::OpenRecord;
-use exec_request::sync::SyncRequest;
 use exec_ring::store::Store;
-use std::alloc::Global;
 use std::process::Abort;
 use std::test::Fail;
-
-/// Begins a sync of open 0 with sender 5, and answers how it ended, or that it goes on.
-fn begin(
-    alloc: Global,
-    home: &mut Ours,
-    seen: u64,
-    lent: (&mut Opens, &mut Store),
-) -> Option<Started> {
-    let (opens, store) = lent;
-    let sync = SyncRequest::new(0, seen);
-    start_sync(alloc, sync, 5, home, opens, store).ok()
-}
 
 #[test]
 fn a_sleeper_is_waited_for_like_a_request(rt: HostRuntime) -> Result<(), Fail> {
     let alloc = rt.alloc();
     let mut store = Store::new(alloc);
     let mut ours = Desk::new(alloc, 0, &mut store).ok_or("no worker")?;
-    let id = ours.home.timers.insert(alloc, 5, TaskNo(1))?;
+    let id = ours.insert_sleeper(alloc, 5, 1)?;
     let mut sleep = Registration::new(0, id);
     let waits = ours.wait(&rt, alloc, &mut sleep, 2);
     assert!(rt; matches!(waits, Ok(None)));
-    let count = ours.home.timers.len();
-    if ours.home.deferred.notes.reserve(alloc, count).is_ok() {
-        ours.home.timers.expire(5, &mut ours.home.deferred.notes);
-    }
-    let wakes = ours.home.deferred.notes.wakes.as_slice();
+    ours.wake_sleepers(alloc, 5);
+    let wakes = ours.home().deferred.notes.wakes.as_slice();
     assert_eq!(rt; wakes, [TaskNo(2)].as_slice());
     let over = ours.wait(&rt, alloc, &mut sleep, 2);
     assert!(rt; matches!(over, Ok(Some(()))));
-    sleep.release_elsewhere::<u32, u32, Mail>(&mut ours.mail);
+    ours.release_sleeper(sleep);
     Ok(())
 }
 
@@ -53,14 +36,14 @@ fn a_sync_of_a_clean_open_is_over_at_once(rt: HostRuntime) -> Result<(), Fail> {
     let mut store = Store::new(alloc);
     let mut opens = Opens::new(alloc, 1)?;
     let mut ours = Desk::new(alloc, 0, &mut store).ok_or("no worker")?;
-    let clean = begin(alloc, &mut ours.home, 0, (&mut opens, &mut store));
+    let clean = ours.begin_sync(alloc, 0, &mut opens, &mut store);
     assert_eq!(rt; clean, Some(Started::Over(Ok(()))));
     let mut account = OpenRecord::new();
     account.poison(Error::WriteFailed);
     opens.set_account(Some(0), Some(account));
-    let failed = begin(alloc, &mut ours.home, 0, (&mut opens, &mut store));
+    let failed = ours.begin_sync(alloc, 0, &mut opens, &mut store);
     assert_eq!(rt; failed, Some(Started::Over(Err(Error::WriteFailed))));
-    assert!(rt; ours.home.driver.is_empty());
+    assert!(rt; ours.home().driver.is_empty());
     Ok(())
 }
 
@@ -73,24 +56,21 @@ fn a_sync_of_a_dirty_open_sends_its_outcome(rt: HostRuntime) -> Result<(), Fail>
     let mut answer = OneShot::new();
     opens.begin_write(Some(0));
     let id = name(0, 0);
-    let begun = begin(alloc, &mut ours.home, 1, (&mut opens, &mut store));
+    let begun = ours.begin_sync(alloc, 1, &mut opens, &mut store);
     assert_eq!(rt; begun, Some(Started::UnderWay(id)));
     let place = opens.has_place(0);
     assert!(rt; place);
     opens.join(0, WaiterKey { worker: 0, id });
-    ours.home.deferred.reserve(alloc, 1)?;
-    ours.home
-        .driver
-        .grant(0, 0, &mut opens, &mut ours.home.deferred);
+    ours.grant_first(alloc, &mut opens)?;
     ours.fail_first(&rt, alloc, &mut opens, &mut store)?;
-    let told = ours.home.deferred.notes.completions.pop();
+    let told = ours.take_completion();
     let told = told.ok_or("no outcome")?;
     assert_eq!(rt; told.sender, 5);
     assert_eq!(rt; answer.send(told.result), Ok(()));
     assert_eq!(rt; answer.poll(), Ok(Some(Err(Error::Io(Cause::Code(5))))));
     opens.begin_write(Some(0));
-    ours.home.closing = true;
-    let closed = begin(alloc, &mut ours.home, 2, (&mut opens, &mut store));
+    ours.close();
+    let closed = ours.begin_sync(alloc, 2, &mut opens, &mut store);
     let kept = Err(Error::BlobSyncFailed(0, Cause::Code(5)));
     assert_eq!(rt; closed, Some(Started::Over(kept)));
     Ok(())
