@@ -1,10 +1,8 @@
 //! What the owner of a run queue does.
 
 ghost use Rattle.std.specs.Prelude.{◌≡◌, ◌≢◌, ◌≤◌, ◌<◌, []};
-ghost use Rattle.exec_live_idle.specs.Idle.{knows, IsSeatOf};
-ghost use Rattle.exec_live_idle.specs.Live.{first_view};
-ghost use Rattle.exec_live_queue.specs.Kinds.{first_of, handed};
-ghost use Rattle.exec_live_queue.specs.Lent.{left_of, lender};
+ghost use Rattle.exec_live_idle.specs.{Idle.{knows, IsSeatOf}, Live.first_view};
+ghost use Rattle.exec_live_queue.specs.{Kinds.{first_of, handed}, Lent.{left_of, lender}};
 
 use crate::BACKLOG;
 use exec_live_idle::notify::Rouse;

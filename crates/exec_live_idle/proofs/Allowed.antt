@@ -9,13 +9,8 @@ use mir.Syntax.{w64}
 use Rattle.std.specs.Int.{bit_not, trailing_zeros}
 use Rattle.atomic_table.specs.Table.{Me, step, opening, Allows, Splits, Joins, keeps}
 use Rattle.exec_words.specs.Idle.{is_in}
-use Rattle.exec_live_idle.specs.declared.view.View.{View}
-use Rattle.exec_live_idle.specs.Words.{set_of}
-use Rattle.exec_live_idle.specs.Live.{Kept, LiveIdle, next_number, own_number, with_counts, joined, first_view}
-use Rattle.exec_live_idle.specs.Plays.{published, looked, withdrawn, claimed, counted, looks, publishes, withdraws, claims, reads, adds, subtracts, begins}
-use Rattle.exec_live_idle.proofs.Sets.{bit_of, in_changed, in_changed_here, set_with, set_without, lowest_in, in_lowest, none_in}
-use Rattle.exec_live_idle.proofs.Seats.{splits, joins, begins as begins_}
-use Rattle.exec_live_idle.proofs.Keeps.{bounded, counts, held_within, publishes_kept, claims_kept, withdraws_kept, withdraws_claimed}
+use Rattle.exec_live_idle.specs.{declared.view.View.View, Words.set_of, Live.{Kept, LiveIdle, next_number, own_number, with_counts, joined, first_view}, Plays.{published, looked, withdrawn, claimed, counted, looks, publishes, withdraws, claims, reads, adds, subtracts, begins}}
+use Rattle.exec_live_idle.proofs.{Sets.{bit_of, in_changed, in_changed_here, set_with, set_without, lowest_in, in_lowest, none_in}, Seats.{splits, joins, begins as begins_}, Keeps.{bounded, counts, held_within, publishes_kept, claims_kept, withdraws_kept, withdraws_claimed}}
 
 module _ {S : Type 0} (workers slots id : ℕ) (me : Me S View) (f : ℕ → ℕ) (told : ℕ → Me S View → Type 0) where
   pub on_set : ((word count : ℕ) (views : List View) → Kept workers (set_of word) count views → get_elem? views id ≡ some me.0 → word < 2 ^ 64 → (w : View) × Kept workers (set_of (f word)) count (set views id w) × told word (w, me.1))

@@ -8,8 +8,7 @@ use mathlib.Core.Option.{some}
 use lib.ListN.{get_elem?}
 use Rattle.atomic_table.proofs.Lists.{at_set}
 use Rattle.exec_words.specs.Idle.{is_in}
-use Rattle.exec_live_idle.specs.declared.view.View.{View}
-use Rattle.exec_live_idle.specs.Live.{total, publishes, shares, width, has_number, IsSeat, Kept}
+use Rattle.exec_live_idle.specs.{declared.view.View.View, Live.{total, publishes, shares, width, has_number, IsSeat, Kept}}
 use Rattle.exec_live_idle.proofs.Totals.{Each, total_set, total_at, total_le, total_parts, total_gap, total_thrice, total_same}
 
 -- one of two sets has the worker k besides

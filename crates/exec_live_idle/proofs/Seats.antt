@@ -6,10 +6,8 @@ use mathlib.Core.Option.{some, some-injective, some-ne-none}
 use lib.ListN.{get_elem?}
 use Rattle.atomic_table.proofs.Lists.{at_snoc}
 use Rattle.exec_words.specs.Idle.{is_in}
-use Rattle.exec_live_idle.specs.declared.view.View.{View}
-use Rattle.exec_live_idle.specs.Live.{total, publishes, shares, width, has_number, IsSeat, Kept, next_number, own_number, with_counts, joined, first_view}
-use Rattle.exec_live_idle.proofs.Totals.{Each, total_set, total_push}
-use Rattle.exec_live_idle.proofs.Keeps.{each_after}
+use Rattle.exec_live_idle.specs.{declared.view.View.View, Live.{total, publishes, shares, width, has_number, IsSeat, Kept, next_number, own_number, with_counts, joined, first_view}}
+use Rattle.exec_live_idle.proofs.{Totals.{Each, total_set, total_push}, Keeps.each_after}
 
 each_push : (workers : ℕ) (views : List View) (w : View) → Each (IsSeat workers) views → IsSeat workers w → Each (IsSeat workers) (views ++ w ∷ [])
 each_push workers views w each mine j u at = ⊎_elim (λ old. each j u old) (λ (is : w ≡ u). subst (IsSeat workers) is mine) (at_snoc views w u j at)

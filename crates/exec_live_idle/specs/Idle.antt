@@ -1,9 +1,7 @@
 -- What a contract sees of an idle set and of a seat at it.
 use Rattle.std.specs.Prelude.{◌≡◌, ◌<◌}
 use Rattle.crossbeam_utils.specs.Padded.{padded_value}
-use Rattle.exec_live_idle.specs.declared.view.View.{View}
-use Rattle.exec_live_idle.specs.declared.seat.Idle.{Idle}
-use Rattle.exec_live_idle.specs.declared.seat.IdleSeat.{IdleSeat}
+use Rattle.exec_live_idle.specs.declared.{view.View.View, seat.{Idle.Idle, IdleSeat.IdleSeat}}
 
 -- what the seat knows
 abbrev pub knows : IdleSeat → View

@@ -27,8 +27,7 @@ use mathlib.Core.Option.{some}
 use lib.ListN.{get_elem?}
 use Rattle.atomic_table.specs.Table.{State}
 use Rattle.exec_words.specs.Idle.{is_in}
-use Rattle.exec_live_idle.specs.declared.view.View.{View}
-use Rattle.exec_live_idle.specs.Words.{set_of}
+use Rattle.exec_live_idle.specs.{declared.view.View.View, Words.set_of}
 
 -- f of each view, added up
 abbrev pub total : (View → ℕ) → List View → ℕ

@@ -3,8 +3,7 @@
 use Rattle.std.specs.Prelude.{◌≡◌, ◌≢◌, ℕ, ◌+◌, ◌-◌, ◌%◌, ◌^◌, ◌<◌, ◌==◌, if◌then◌else◌, Bool, true, false, [], ◌∷◌, ◌++◌, Some, bit_or, bit_and}
 use Rattle.atomic_table.specs.Table.{Me, Step}
 use Rattle.exec_words.specs.Idle.{is_in, lowest_of}
-use Rattle.exec_live_idle.specs.declared.view.View.{View}
-use Rattle.exec_live_idle.specs.Words.{set_of, MovesSet, MovesCount, publish, withdraw, add, subtract}
+use Rattle.exec_live_idle.specs.{declared.view.View.View, Words.{set_of, MovesSet, MovesCount, publish, withdraw, add, subtract}}
 
 -- the views after the steps
 abbrev pub published : View → View

@@ -1,9 +1,7 @@
 -- What the calls of a searcher make of its seat's view v and of the backlog b that it reaches: w and d.
 use Rattle.std.specs.Prelude.{◌≡◌, ◌≢◌, ℕ, ◌*◌, ◌/◌, ◌%◌, ◌^◌, ◌<◌, ◌≤◌, ◌⊎◌, Bool, true, false, if◌then◌else◌, bit_xor}
-use Rattle.exec_words.specs.declared.idle.Park.{Park}
-use Rattle.exec_words.specs.declared.idle.Park.TheVariants.{Wait, Run, Search}
-use Rattle.exec_live_idle.specs.declared.view.View.{View}
-use Rattle.exec_live_idle.specs.Plays.{counted}
+use Rattle.exec_words.specs.declared.idle.Park.{Park, TheVariants.{Wait, Run, Search}}
+use Rattle.exec_live_idle.specs.{declared.view.View.View, Plays.counted}
 
 -- the next number of the generator that picks where a search starts
 abbrev pub xorshift : ℕ → ℕ

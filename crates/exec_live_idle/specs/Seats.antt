@@ -1,7 +1,6 @@
 -- What the steps say of the seat that makes them.
 use Rattle.std.specs.Prelude.{◌≡◌, ℕ, ◌<◌}
-use Rattle.atomic_table.specs.declared.shared.Seat.{Seat}
-use Rattle.atomic_table.specs.declared.shared.Shared.{Shared}
+use Rattle.atomic_table.specs.declared.shared.{Seat.Seat, Shared.Shared}
 use Rattle.exec_live_idle.specs.declared.view.View.{View}
 
 module _ {S : Type 0} where

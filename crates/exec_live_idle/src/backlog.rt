@@ -2,8 +2,7 @@
 
 ghost use Rattle.std.specs.Prelude.{◌≡◌, ℕ, ◌<◌, ◌≤◌, Bool, true, false, IsTrue, IsFalse};
 ghost use Rattle.exec_base.specs.Io.{Rose};
-ghost use Rattle.exec_live_idle.specs.Idle.{knows, IsSeatOf, IsSame};
-ghost use Rattle.exec_live_idle.specs.Notify.{HoldsStill};
+ghost use Rattle.exec_live_idle.specs.{Idle.{knows, IsSeatOf, IsSame}, Notify.HoldsStill};
 
 use crate::seat::{Idle, IdleSeat};
 use std::sync::Wait;

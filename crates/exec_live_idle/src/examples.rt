@@ -1,11 +1,7 @@
 //! Worked examples of the definitions, proved by computation: what holds, and what doesn't.
 
 ghost use Rattle.std.specs.Prelude.{◌≡◌, ◌≢◌, ◌^◌, true, false, [], ◌∷◌, ◌++◌, replicate};
-ghost use Rattle.exec_live_idle.specs.Examples.{seat};
-ghost use Rattle.exec_live_idle.specs.Live.{total, publishes, awaits, shares, width, has_number, first_view, next_number, own_number};
-ghost use Rattle.exec_live_idle.specs.Plays.{claimed, withdrawn};
-ghost use Rattle.exec_live_idle.specs.Search.{xorshift};
-ghost use Rattle.exec_live_idle.specs.Words.{set_of};
+ghost use Rattle.exec_live_idle.specs.{Examples.seat, Live.{total, publishes, awaits, shares, width, has_number, first_view, next_number, own_number}, Plays.{claimed, withdrawn}, Search.xorshift, Words.set_of};
 
 /// The word 5 is the set of the workers 0 and 2.
 #[tactic(auto, unfolding(crate::specs::Words::set_of))]

@@ -6,11 +6,8 @@
 //! the `Idle` of `commonware_runtime`'s `iouring::idle`.
 
 ghost use Rattle.std.specs.Prelude.{◌≡◌, ◌+◌, ◌^◌, ◌<◌, ◌≤◌, ◌-◌, ◌↔◌, if◌then◌else◌, IsTrue, true, false, IfOk, IfSome, IfNone};
-ghost use Rattle.exec_live_idle.specs.Idle.{knows, IsSeatOf, IsSame};
-ghost use Rattle.exec_live_idle.specs.Live.{first_view, next_number, own_number, with_counts};
+ghost use Rattle.exec_live_idle.specs.{Idle.{knows, IsSeatOf, IsSame}, Live.{first_view, next_number, own_number, with_counts}, Words.set_of, Plays.{published, looked, withdrawn, claimed, counted}};
 ghost use Rattle.exec_words.specs.Idle.{is_in};
-ghost use Rattle.exec_live_idle.specs.Words.{set_of};
-ghost use Rattle.exec_live_idle.specs.Plays.{published, looked, withdrawn, claimed, counted};
 
 use crate::seat::{Idle, IdleSeat};
 use crate::steps;

@@ -26,8 +26,6 @@ pub mod plays;
 pub mod searcher;
 pub mod seat;
 pub mod steps;
-#[cfg(test)]
-mod tests;
 pub mod view;
 
 /// The word of a table that is the idle set.

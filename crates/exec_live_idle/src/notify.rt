@@ -9,8 +9,7 @@
 //! count looks again. Ports `notify` and `notify_global` of `commonware_runtime`'s `iouring::idle`.
 
 ghost use Rattle.std.specs.Prelude.{◌≡◌, ℕ, ◌<◌, ◌≤◌, ◌+◌, IsTrue, IsFalse};
-ghost use Rattle.exec_live_idle.specs.Idle.{knows, IsSeatOf, IsSame};
-ghost use Rattle.exec_live_idle.specs.Notify.{Notified, ReturnedOne, HandedOver};
+ghost use Rattle.exec_live_idle.specs.{Idle.{knows, IsSeatOf, IsSame}, Notify.{Notified, ReturnedOne, HandedOver}};
 
 use crate::seat::{Idle, IdleSeat};
 use std::sync::Wait;

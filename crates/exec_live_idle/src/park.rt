@@ -9,9 +9,7 @@
 //! count finds the backlog, or hands the duty on with its last return.
 
 ghost use Rattle.std.specs.Prelude.{◌≡◌, ◌≢◌, ◌+◌, ◌-◌, ◌<◌, ◌≤◌, ◌⊎◌, true, false, IsTrue, IsFalse, not, ◌↔◌, if◌then◌else◌};
-ghost use Rattle.exec_live_idle.specs.Idle.{knows, IsSame};
-ghost use Rattle.exec_live_idle.specs.Plays.{published, withdrawn, counted};
-ghost use Rattle.exec_live_idle.specs.Search.{Leaves, Parks, LooksTo, SearchesTo};
+ghost use Rattle.exec_live_idle.specs.{Idle.{knows, IsSame}, Plays.{published, withdrawn, counted}, Search.{Leaves, Parks, LooksTo, SearchesTo}};
 ghost use Rattle.exec_words.specs.declared.idle.Park.TheVariants.{Wait, Run};
 
 use crate::backlog::Backlog;

@@ -8,9 +8,7 @@
 
 ghost use Rattle.std.specs.Prelude.{◌≡◌, ◌+◌, ◌*◌, ◌%◌, ◌^◌, ◌<◌, ◌≤◌, ◌⊎◌, true, false, IsTrue, IsFalse, if◌then◌else◌};
 ghost use Rattle.exec_base.specs.Io.{Rose};
-ghost use Rattle.exec_live_idle.specs.Idle.{knows, IsSeatOf, IsSame};
-ghost use Rattle.exec_live_idle.specs.Plays.{published, withdrawn, counted};
-ghost use Rattle.exec_live_idle.specs.Search.{xorshift, counts_of, MaySearch, MayNot, Scans, Skips, Leaves, Reruns, Finds, Parks};
+ghost use Rattle.exec_live_idle.specs.{Idle.{knows, IsSeatOf, IsSame}, Plays.{published, withdrawn, counted}, Search.{xorshift, counts_of, MaySearch, MayNot, Scans, Skips, Leaves, Reruns, Finds, Parks}};
 
 use crate::backlog::Backlog;
 use crate::seat::{Idle, IdleSeat};

@@ -6,10 +6,7 @@
 
 ghost use Rattle.std.specs.Prelude.{◌≡◌, ◌≢◌, ◌+◌, ◌-◌, ◌^◌, ◌<◌, ◌==◌, if◌then◌else◌, true, false, Some, IfOk, OnOk, IfErr, ◌≤◌, bit_or, bit_and, []};
 ghost use Rattle.exec_words.specs.Idle.{is_in, lowest_of};
-ghost use Rattle.exec_live_idle.specs.Words.{set_of, MovesSet, MovesCount, publish as publishing, withdraw as withdrawing, add as adding, subtract as subtracting};
-ghost use Rattle.exec_live_idle.specs.Plays.{published, looked, withdrawn, claimed, counted};
-ghost use Rattle.exec_live_idle.specs.Live.{next_number, own_number, with_counts};
-ghost use Rattle.exec_live_idle.specs.Seats.{IsAt, SameSeat, view_of};
+ghost use Rattle.exec_live_idle.specs.{Words.{set_of, MovesSet, MovesCount, publish as publishing, withdraw as withdrawing, add as adding, subtract as subtracting}, Plays.{published, looked, withdrawn, claimed, counted}, Live.{next_number, own_number, with_counts}, Seats.{IsAt, SameSeat, view_of}};
 
 use crate::plays::{Add, Begin, Claim, Look, Next, Publish, Read, Subtract, TakeOver, Withdraw};
 use crate::view::{Place, Words};

@@ -1,13 +1,7 @@
 -- A thief's claim keeps the rule.
-use Rattle.exec_live_queue.proofs.Words.{◌≡◌, ◌≢◌, ℕ, ◌+◌, ◌-◌, ◌/◌, ◌%◌, ◌<◌, ◌≤◌, eqb, List, [], ◌++◌, map, length, set, take, sym, refl, ap, ◌∙◌, subst, inl, ⊎_elim, length-append, arith, none, some, some-injective, get_elem?, length-map, either, Option, Some, sum_by, sum_by-append, State, step, homes_after, Allows, set_here, at_longer, claimed, Own, Theft, View, Stage, Owns, Idle, SawHead, SawTail, Claimed, head_word, InOrder, words_of, queue_at, labels, Homes, HomeAt, Knows, AsLogged, LiveQueue, Sat, half, hand, at_head, claimed_view, Claims, claims}
+use Rattle.exec_live_queue.proofs.{Words.{◌≡◌, ◌≢◌, ℕ, ◌+◌, ◌-◌, ◌/◌, ◌%◌, ◌<◌, ◌≤◌, eqb, List, [], ◌++◌, map, length, set, take, sym, refl, ap, ◌∙◌, subst, inl, ⊎_elim, length-append, arith, none, some, some-injective, get_elem?, length-map, either, Option, Some, sum_by, sum_by-append, State, step, homes_after, Allows, set_here, at_longer, claimed, Own, Theft, View, Stage, Owns, Idle, SawHead, SawTail, Claimed, head_word, InOrder, words_of, queue_at, labels, Homes, HomeAt, Knows, AsLogged, LiveQueue, Sat, half, hand, at_head, claimed_view, Claims, claims}, Hands.{AllHome, take_behind, take_valid, take_carried, take_length, all_full}, Orders.{gap_fits, claimed_order}, Labels.{weigh_runs, labels_at, labels_length, at_drop, at_take, at_within, at_appended, at_either, window, window_length}, Rebuild.{Puts, exchanges, thief_steps, there}, Looks.{count_of_word, gap_of_word}, Thieves.{moved, sees_here}}
 use Rattle.std.proofs.Common.{drop, length-take-le, append-nil}
 use Rattle.exec_live_queue.specs.Plays.{take_all}
-use Rattle.exec_live_queue.proofs.Hands.{AllHome, take_behind, take_valid, take_carried, take_length, all_full}
-use Rattle.exec_live_queue.proofs.Orders.{gap_fits, claimed_order}
-use Rattle.exec_live_queue.proofs.Labels.{weigh_runs, labels_at, labels_length, at_drop, at_take, at_within, at_appended, at_either, window, window_length}
-use Rattle.exec_live_queue.proofs.Rebuild.{Puts, exchanges, thief_steps, there}
-use Rattle.exec_live_queue.proofs.Looks.{count_of_word, gap_of_word}
-use Rattle.exec_live_queue.proofs.Thieves.{moved, sees_here}
 
 -- k more labels below the front
 claimed_weight : (w : ℕ → ℕ) (start real k : ℕ) (ls : List ℕ) → start ≤ real → sum_by w (ls ++ labels real k) + sum_by w (labels start (real - start)) ≡ sum_by w ls + sum_by w (labels start (real + k - start))

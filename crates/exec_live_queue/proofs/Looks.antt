@@ -1,11 +1,8 @@
 -- The owner's loads of the head keep the rule.
-use Rattle.exec_live_queue.proofs.Words.{◌≡◌, ℕ, ◌+◌, ◌-◌, ◌/◌, ◌%◌, ◌<◌, ◌≤◌, List, [], ◌∷◌, ◌++◌, length, set, replicate, sym, refl, ap, ◌∙◌, subst, inl, ⊎_elim, le_refl, arith, none, some, get_elem?, length-replicate, Option, None, State, step, Valid, homes_after, Allows, View, Owns, head_word, InOrder, words_of, Kept, LiveQueue, Sat, room, hand, saw, out, laid}
+use Rattle.exec_live_queue.proofs.{Words.{◌≡◌, ℕ, ◌+◌, ◌-◌, ◌/◌, ◌%◌, ◌<◌, ◌≤◌, List, [], ◌∷◌, ◌++◌, length, set, replicate, sym, refl, ap, ◌∙◌, subst, inl, ⊎_elim, le_refl, arith, none, some, get_elem?, length-replicate, Option, None, State, step, Valid, homes_after, Allows, View, Owns, head_word, InOrder, words_of, Kept, LiveQueue, Sat, room, hand, saw, out, laid}, Hands.{take_before, take_behind, take_valid, take_carried, take_length, all_free}, Orders.{outside_none, gap_fits, laid_order}, Rebuild.{Gives, rebuilt, owner_steps}}
 use Rattle.std.proofs.lemmas.Nat.{div-mul-add, mod-mul-add}
 use Rattle.std.proofs.lemmas.List.{append-nil}
 use Rattle.exec_live_queue.specs.Plays.{take_all}
-use Rattle.exec_live_queue.proofs.Hands.{take_before, take_behind, take_valid, take_carried, take_length, all_free}
-use Rattle.exec_live_queue.proofs.Orders.{outside_none, gap_fits, laid_order}
-use Rattle.exec_live_queue.proofs.Rebuild.{Gives, rebuilt, owner_steps}
 
 -- the head that was found is taken apart again
 pub count_of_word : (real gap : ℕ) → gap < 512 → head_word real gap / 512 ≡ real

@@ -1,9 +1,7 @@
 -- Values that go from slot to slot: what a seat carries after each of them.
-use Rattle.exec_live_queue.proofs.Words.{◌≡◌, ℕ, suc, ◌+◌, ◌-◌, ◌%◌, ◌<◌, List, [], ◌∷◌, ◌++◌, length, map, replicate, sym, refl, ap, ◌∙◌, subst, length-append, append_assoc, arith, replicate_more, length-replicate, map-append, length-map, none, Option, Some, None, slice_get, step, rest, turned, View, Sat, hand, returned, values_of, published_view, AtRest, HasLooked, AtHand, Fills, Empties}
+use Rattle.exec_live_queue.proofs.{Words.{◌≡◌, ℕ, suc, ◌+◌, ◌-◌, ◌%◌, ◌<◌, List, [], ◌∷◌, ◌++◌, length, map, replicate, sym, refl, ap, ◌∙◌, subst, length-append, append_assoc, arith, replicate_more, length-replicate, map-append, length-map, none, Option, Some, None, slice_get, step, rest, turned, View, Sat, hand, returned, values_of, published_view, AtRest, HasLooked, AtHand, Fills, Empties}, Hands.{fronted, turned_on, values_in}, Looks.nothing_left}
 use Rattle.std.proofs.Common.{append-nil}
 use Rattle.std.specs.Prelude.{drop}
-use Rattle.exec_live_queue.proofs.Hands.{fronted, turned_on, values_in}
-use Rattle.exec_live_queue.proofs.Looks.{nothing_left}
 
 module _ {T : Type 0} where
   -- one more value of an overflow was handed out

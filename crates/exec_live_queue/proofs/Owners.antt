@@ -1,10 +1,9 @@
 -- What an owner's calls do to its view, step after step.
-use Rattle.exec_live_queue.proofs.Words.{◌≡◌, ◌≢◌, ℕ, ◌+◌, ◌-◌, ◌*◌, ◌/◌, ◌%◌, ◌^◌, ◌<◌, ◌≤◌, ◌⊎◌, List, [], ◌∷◌, ◌++◌, length, take, map, replicate, sym, refl, ap, ◌∙◌, subst, inl, inr, ⊎_elim, arith, none, some, dite, ℕ_discrete, dec_le, Bool, cond, lt_of_not-le, le-leb, get_elem?, Option, Some, None, step, Own, View, Owns, Sat, room, saw, out, hand, after_pop, laid, returned, Found, popped_view, Popped, values_of, published_view, Overflowed, overflowed_view, restored_view, whole, IsSeen, AtRest, looked, HasLooked, HasPopped, HasPublished, HasOverflowed, fully, AtHand, Fills, AfterSteal, HasKept, Theft, Steal, labels, rest, length-append, length-drop}
+use Rattle.exec_live_queue.proofs.{Words.{◌≡◌, ◌≢◌, ℕ, ◌+◌, ◌-◌, ◌*◌, ◌/◌, ◌%◌, ◌^◌, ◌<◌, ◌≤◌, ◌⊎◌, List, [], ◌∷◌, ◌++◌, length, take, map, replicate, sym, refl, ap, ◌∙◌, subst, inl, inr, ⊎_elim, arith, none, some, dite, ℕ_discrete, dec_le, Bool, cond, lt_of_not-le, le-leb, get_elem?, Option, Some, None, step, Own, View, Owns, Sat, room, saw, out, hand, after_pop, laid, returned, Found, popped_view, Popped, values_of, published_view, Overflowed, overflowed_view, restored_view, whole, IsSeen, AtRest, looked, HasLooked, HasPopped, HasPublished, HasOverflowed, fully, AtHand, Fills, AfterSteal, HasKept, Theft, Steal, labels, rest, length-append, length-drop}, Overflows.whole_length}
 use Rattle.std.proofs.Common.{min, drop}
 use Rattle.std.proofs.lemmas.Bool.{lt-leb}
 use Rattle.exec_words.specs.Head.{room_at, is_spent}
 use Rattle.exec_words.specs.declared.queue.Steal.TheVariants as steal
-use Rattle.exec_live_queue.proofs.Overflows.{whole_length}
 use Rattle.std.proofs.Common.{append-nil}
 use Rattle.std.proofs.lemmas.List.{length-take-le}
 

@@ -1,11 +1,6 @@
 -- The owner's pops keep the rule: by an exchange, and of a lone value by a store.
-use Rattle.exec_live_queue.proofs.Words.{◌≡◌, ℕ, ◌+◌, ◌-◌, ◌/◌, ◌%◌, ◌<◌, ◌≤◌, ◌⊎◌, eqb, List, [], ◌∷◌, ◌++◌, set, sym, refl, ap, ◌∙◌, subst, inl, inr, ⊎_elim, le_refl, arith, none, some, get_elem?, either, Option, Some, sum_by, sum_by_push, State, step, carried_after, homes_after, Allows, add-mod_right, popped, View, Owns, head_word, Outside, BesideClaim, words_of, queue_at, labels, Homes, Kept, LiveQueue, Sat, after_pop, hand, popped_view, Popped, pops, pops_last, missed}
+use Rattle.exec_live_queue.proofs.{Words.{◌≡◌, ℕ, ◌+◌, ◌-◌, ◌/◌, ◌%◌, ◌<◌, ◌≤◌, ◌⊎◌, eqb, List, [], ◌∷◌, ◌++◌, set, sym, refl, ap, ◌∙◌, subst, inl, inr, ⊎_elim, le_refl, arith, none, some, get_elem?, either, Option, Some, sum_by, sum_by_push, State, step, carried_after, homes_after, Allows, add-mod_right, popped, View, Owns, head_word, Outside, BesideClaim, words_of, queue_at, labels, Homes, Kept, LiveQueue, Sat, after_pop, hand, popped_view, Popped, pops, pops_last, missed}, Hands.{take_behind, take_length}, Orders.{outside_none, gap_fits, pop_gap, popped_order}, Labels.{weigh_runs, weigh_one, window}, Rebuild.{Puts, exchanges, rebuilt, owner_steps}, Looks.{count_of_word, gap_of_word, lays_here}}
 use Rattle.exec_live_queue.specs.Plays.{take_all}
-use Rattle.exec_live_queue.proofs.Hands.{take_behind, take_length}
-use Rattle.exec_live_queue.proofs.Orders.{outside_none, gap_fits, pop_gap, popped_order}
-use Rattle.exec_live_queue.proofs.Labels.{weigh_runs, weigh_one, window}
-use Rattle.exec_live_queue.proofs.Rebuild.{Puts, exchanges, rebuilt, owner_steps}
-use Rattle.exec_live_queue.proofs.Looks.{count_of_word, gap_of_word, lays_here}
 
 -- one more label below the front
 popped_weight : (w : ℕ → ℕ) (start real : ℕ) (ls : List ℕ) → start ≤ real → sum_by w (ls ++ real ∷ []) + sum_by w (labels start (real - start)) ≡ sum_by w ls + sum_by w (labels start (real + 1 - start))

@@ -1,10 +1,6 @@
 -- The owner's store of the tail, which shows what it wrote, keeps the rule.
-use Rattle.exec_live_queue.proofs.Words.{◌≡◌, ℕ, ◌+◌, ◌-◌, ◌^◌, ◌<◌, ◌≤◌, List, [], ◌++◌, map, length, set, sym, refl, ap, ◌∙◌, subst, inr, le_refl, lt_of_not-le, length-append, arith, none, some, dite, dec_le, get_elem?, length-map, Option, Some, None, State, step, homes_after, Allows, length-replicate, ap₂, replicate, take, at_longer, Own, View, Owns, head_word, words_of, Homes, Kept, LiveQueue, published, queue_at, Sat, hand, give_all, values_of, published_view, publishes}
+use Rattle.exec_live_queue.proofs.{Words.{◌≡◌, ℕ, ◌+◌, ◌-◌, ◌^◌, ◌<◌, ◌≤◌, List, [], ◌++◌, map, length, set, sym, refl, ap, ◌∙◌, subst, inr, le_refl, lt_of_not-le, length-append, arith, none, some, dite, dec_le, get_elem?, length-map, Option, Some, None, State, step, homes_after, Allows, length-replicate, ap₂, replicate, take, at_longer, Own, View, Owns, head_word, words_of, Homes, Kept, LiveQueue, published, queue_at, Sat, hand, give_all, values_of, published_view, publishes}, Hands.{AllHome, give_before, give_behind, give_here, give_length, give_valid, give_carried, home_behind, some_at, free_at, values_in}, Labels.{at_appended, window_grows}, Orders.published_order, Rebuild.{Puts, rebuilt, owner_steps}}
 use Rattle.std.proofs.Common.{drop}
-use Rattle.exec_live_queue.proofs.Hands.{AllHome, give_before, give_behind, give_here, give_length, give_valid, give_carried, home_behind, some_at, free_at, values_in}
-use Rattle.exec_live_queue.proofs.Labels.{at_appended, window_grows}
-use Rattle.exec_live_queue.proofs.Orders.{published_order}
-use Rattle.exec_live_queue.proofs.Rebuild.{Puts, rebuilt, owner_steps}
 
 module _ {T : Type 0} where
   -- values, and empty slots behind them

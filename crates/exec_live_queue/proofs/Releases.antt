@@ -1,10 +1,5 @@
 -- A thief's release keeps the rule.
-use Rattle.exec_live_queue.proofs.Words.{◌≡◌, ◌≢◌, ℕ, ◌+◌, ◌%◌, ◌<◌, ◌≤◌, eqb, List, [], length, set, replicate, sym, refl, ap, ◌∙◌, subst, inl, inr, ⊎_elim, lt_of_not-le, arith, length-replicate, none, some, dite, dec_le, get_elem?, either, Option, None, State, keeps, step, homes_after, Allows, set_here, Own, Theft, View, Stage, Owns, Idle, SawHead, SawTail, Claimed, head_word, words_of, released, queue_at, Homes, Knows, LiveQueue, Sat, hand, give_all, Widened, releases}
-use Rattle.exec_live_queue.proofs.Hands.{give_before, give_behind, give_here, give_valid, give_carried, give_length, free_at, hand_turn}
-use Rattle.exec_live_queue.proofs.Orders.{gap_fits, released_order}
-use Rattle.exec_live_queue.proofs.Rebuild.{Puts, exchanges, thief_steps, there}
-use Rattle.exec_live_queue.proofs.Looks.{gap_of_word}
-use Rattle.exec_live_queue.proofs.Thieves.{moved}
+use Rattle.exec_live_queue.proofs.{Words.{◌≡◌, ◌≢◌, ℕ, ◌+◌, ◌%◌, ◌<◌, ◌≤◌, eqb, List, [], length, set, replicate, sym, refl, ap, ◌∙◌, subst, inl, inr, ⊎_elim, lt_of_not-le, arith, length-replicate, none, some, dite, dec_le, get_elem?, either, Option, None, State, keeps, step, homes_after, Allows, set_here, Own, Theft, View, Stage, Owns, Idle, SawHead, SawTail, Claimed, head_word, words_of, released, queue_at, Homes, Knows, LiveQueue, Sat, hand, give_all, Widened, releases}, Hands.{give_before, give_behind, give_here, give_valid, give_carried, give_length, free_at, hand_turn}, Orders.{gap_fits, released_order}, Rebuild.{Puts, exchanges, thief_steps, there}, Looks.gap_of_word, Thieves.moved}
 
 -- no other seat holds this claim
 others_know : {T : Type 0} (tail real gap claimed holder j : ℕ) (t : Theft T) (st : Stage) → j ≢ holder → Knows tail real gap claimed holder j t st → Knows tail real 0 0 holder j t st

@@ -1,9 +1,5 @@
 -- The owner's load of the head at which it gives its empty slots back keeps the rule.
-use Rattle.exec_live_queue.proofs.Words.{◌≡◌, ℕ, ◌+◌, ◌/◌, ◌%◌, ◌<◌, ◌≤◌, List, length, set, replicate, sym, refl, ◌∙◌, subst, inl, inr, ⊎_elim, le_refl, lt_of_not-le, arith, length-replicate, none, some, dite, dec_le, get_elem?, Option, None, State, step, homes_after, Allows, Own, View, Owns, head_word, filled, InOrder, Homes, Kept, LiveQueue, Sat, hand, give_all, saw, out, returned}
-use Rattle.exec_live_queue.proofs.Hands.{give_before, give_behind, give_here, give_valid, give_carried, give_length, free_at}
-use Rattle.exec_live_queue.proofs.Orders.{gap_fits, returned_order}
-use Rattle.exec_live_queue.proofs.Rebuild.{rebuilt, owner_steps}
-use Rattle.exec_live_queue.proofs.Looks.{count_of_word, gap_of_word}
+use Rattle.exec_live_queue.proofs.{Words.{◌≡◌, ℕ, ◌+◌, ◌/◌, ◌%◌, ◌<◌, ◌≤◌, List, length, set, replicate, sym, refl, ◌∙◌, subst, inl, inr, ⊎_elim, le_refl, lt_of_not-le, arith, length-replicate, none, some, dite, dec_le, get_elem?, Option, None, State, step, homes_after, Allows, Own, View, Owns, head_word, filled, InOrder, Homes, Kept, LiveQueue, Sat, hand, give_all, saw, out, returned}, Hands.{give_before, give_behind, give_here, give_valid, give_carried, give_length, free_at}, Orders.{gap_fits, returned_order}, Rebuild.{rebuilt, owner_steps}, Looks.{count_of_word, gap_of_word}}
 
 module _ {T : Type 0} where
   abbrev Empty : ℕ → List (Option T)

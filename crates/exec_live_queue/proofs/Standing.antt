@@ -1,14 +1,11 @@
 -- How the seat of an owner stands between its calls.
-use Rattle.exec_live_queue.proofs.Words.{◌≡◌, ℕ, suc, ◌+◌, ◌-◌, ◌<◌, List, [], ◌∷◌, ◌++◌, length, map, replicate, sym, refl, ap, ◌∙◌, subst, arith, Option, Some, None, slice_get, push_answer, handed_out, View, hand, values_of, Place, Rests, HandsOut, Stands}
+use Rattle.exec_live_queue.proofs.{Words.{◌≡◌, ℕ, suc, ◌+◌, ◌-◌, ◌<◌, List, [], ◌∷◌, ◌++◌, length, map, replicate, sym, refl, ap, ◌∙◌, subst, arith, Option, Some, None, slice_get, push_answer, handed_out, View, hand, values_of, Place, Rests, HandsOut, Stands}, Hands.no_values, Looks.nothing_left}
 use Rattle.std.specs.Prelude.{drop}
 use Rattle.atomic_table.specs.declared.shared.Shared.{Shared}
 use Rattle.exec_words.specs.declared.head.Fit.{Fit}
 use Rattle.exec_words.specs.declared.head.Fit.TheVariants as fit
 use Rattle.exec_live_queue.specs.declared.owner.Owner.TheVariants as owner
-use Rattle.exec_live_queue.specs.Alone.{Alone}
-use Rattle.exec_live_queue.specs.Kinds.{handed_by}
-use Rattle.exec_live_queue.proofs.Hands.{no_values}
-use Rattle.exec_live_queue.proofs.Looks.{nothing_left}
+use Rattle.exec_live_queue.specs.{Alone.Alone, Kinds.handed_by}
 
 module _ {T : Type 0} where
   values_hand : (xs : List T) (a b j : ℕ) → values_of (hand a (map Some xs) ++ hand b (replicate j None)) ≡ xs

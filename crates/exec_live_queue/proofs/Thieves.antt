@@ -1,8 +1,5 @@
 -- The loads of a thief keep the rule, and one lemma for all steps of a thief that leave the head as it is.
-use Rattle.exec_live_queue.proofs.Words.{◌≡◌, ◌≢◌, ℕ, ◌+◌, ◌-◌, ◌/◌, ◌^◌, ◌<◌, ◌≤◌, List, [], ◌∷◌, length, set, sym, refl, ap, ◌∙◌, subst, ⊎_elim, le_refl, arith, none, some, some-injective, some-ne-none, get_elem?, Option, None, sum_by, ◌++◌, sum_by-append, State, keeps, step, Allows, Splits, at_set, at_snoc, at_longer, set_else, set_again, View, Stage, Owns, SawHead, SawTail, Claimed, head_word, filled, Outside, BesideClaim, InOrder, words_of, labels, Homes, HomeAt, FullAt, weight_of, Knows, AsLogged, LiveQueue, Sat, at_head, saw_head, saw_tail, newcomer}
-use Rattle.exec_live_queue.proofs.Orders.{gap_fits}
-use Rattle.exec_live_queue.proofs.Looks.{count_of_word}
-use Rattle.exec_live_queue.proofs.Rebuild.{Gives, sum_set, thief_steps}
+use Rattle.exec_live_queue.proofs.{Words.{◌≡◌, ◌≢◌, ℕ, ◌+◌, ◌-◌, ◌/◌, ◌^◌, ◌<◌, ◌≤◌, List, [], ◌∷◌, length, set, sym, refl, ap, ◌∙◌, subst, ⊎_elim, le_refl, arith, none, some, some-injective, some-ne-none, get_elem?, Option, None, sum_by, ◌++◌, sum_by-append, State, keeps, step, Allows, Splits, at_set, at_snoc, at_longer, set_else, set_again, View, Stage, Owns, SawHead, SawTail, Claimed, head_word, filled, Outside, BesideClaim, InOrder, words_of, labels, Homes, HomeAt, FullAt, weight_of, Knows, AsLogged, LiveQueue, Sat, at_head, saw_head, saw_tail, newcomer}, Orders.gap_fits, Looks.count_of_word, Rebuild.{Gives, sum_set, thief_steps}}
 
 module _ {T : Type 0} where
   -- the view of a thief becomes v', and what its step must show of the numbers, slots and labels

@@ -3,20 +3,11 @@ use Rattle.std.specs.Prelude.{◌≡◌, ◌≢◌, ℕ, ◌+◌, ◌-◌, ◌^�
 use mathlib.Core.Option.{some}
 use lib.ListN.{get_elem?}
 use Rattle.atomic_table.specs.declared.shared.Shared.{Shared}
-use Rattle.exec_words.specs.declared.queue.Steal.{Steal}
+use Rattle.exec_words.specs.declared.queue.{Steal.Steal, PushAnswer.PushAnswer}
 use Rattle.exec_words.specs.declared.queue.Steal.TheVariants as steal
-use Rattle.exec_live_queue.specs.declared.view.Own.{Own}
-use Rattle.exec_live_queue.specs.declared.view.Theft.{Theft}
-use Rattle.exec_live_queue.specs.declared.view.View.{View}
-use Rattle.exec_live_queue.specs.declared.view.Stage.TheVariants.{Owns}
-use Rattle.exec_words.specs.declared.queue.PushAnswer.{PushAnswer}
+use Rattle.exec_live_queue.specs.{declared.{view.{Own.Own, Theft.Theft, View.View, Stage.TheVariants.Owns}, answers.Try.Try}, Live.labels, Plays.{Sat, hand}, Pure.queue_at, Seats.{Place, IsAt, Rests}}
 use Rattle.exec_words.specs.declared.queue.PushAnswer.TheVariants as answer
-use Rattle.exec_live_queue.specs.declared.answers.Try.{Try}
 use Rattle.exec_live_queue.specs.declared.answers.Try.TheVariants as tried
-use Rattle.exec_live_queue.specs.Live.{labels}
-use Rattle.exec_live_queue.specs.Plays.{Sat, hand}
-use Rattle.exec_live_queue.specs.Pure.{queue_at}
-use Rattle.exec_live_queue.specs.Seats.{Place, IsAt, Rests}
 
 module _ {T : Type 0} where
   -- what an owner knows once it has looked: as before, but for the head that it saw and for where slots were out

@@ -1,8 +1,6 @@
 -- Owners and thieves to look at.
 use Rattle.std.specs.Prelude.{ℕ, zero, suc, ◌+◌, List, [], ◌∷◌, ◌++◌}
-use Rattle.exec_live_queue.specs.declared.view.Own.{Own}
-use Rattle.exec_live_queue.specs.declared.view.Theft.{Theft}
-use Rattle.exec_live_queue.specs.Live.{labels, unread}
+use Rattle.exec_live_queue.specs.{declared.view.{Own.Own, Theft.Theft}, Live.{labels, unread}}
 
 -- so many numbers from this one on
 abbrev pub numbers : ℕ → ℕ → List ℕ

@@ -1,12 +1,7 @@
 -- What contracts see of a queue, of its owner and of a thief.
 use Rattle.std.specs.Prelude.{◌≡◌, ℕ, ◌-◌, ◌<◌, ◌≤◌, List, length, Option}
-use Rattle.atomic_table.specs.Seated.{TableId}
-use Rattle.atomic_table.specs.declared.shared.Shared.{Shared}
-use Rattle.exec_live_queue.specs.declared.view.Own.{Own}
-use Rattle.exec_live_queue.specs.declared.view.View.{View}
-use Rattle.exec_live_queue.specs.Plays.{values_of}
-use Rattle.exec_live_queue.specs.Seats.{Place, Rests}
-use Rattle.exec_live_queue.specs.Calls.{HandsOut}
+use Rattle.atomic_table.specs.{Seated.TableId, declared.shared.Shared.Shared}
+use Rattle.exec_live_queue.specs.{declared.view.{Own.Own, View.View}, Plays.values_of, Seats.{Place, Rests}, Calls.HandsOut}
 
 -- which queue it is, and the count of its first value
 pub record Shown : Type 0 where

@@ -4,14 +4,9 @@ use Rattle.std.specs.Borrow.{Fml, GName, MutBor, RattleType, follows_so}
 use mathlib.Core.Option as maybe
 use Rattle.exec_words.specs.declared.queue.PushAnswer.{PushAnswer}
 use Rattle.exec_words.specs.declared.queue.PushAnswer.TheVariants as answer
-use Rattle.exec_live_queue.specs.declared.lent.Overflow.{Overflow}
-use Rattle.exec_live_queue.specs.declared.lent.Push.{Push}
+use Rattle.exec_live_queue.specs.{declared.{lent.{Overflow.Overflow, Push.Push, Settled.Settled}, owner.Owner.Owner}, contracts.owner.Owner.the_row, Kinds.{IsPushed, handed, handed_by}}
 use Rattle.exec_live_queue.specs.declared.lent.Push.TheVariants as push
-use Rattle.exec_live_queue.specs.declared.lent.Settled.{Settled}
 use Rattle.exec_live_queue.specs.declared.lent.Settled.TheVariants as settled
-use Rattle.exec_live_queue.specs.declared.owner.Owner.{Owner}
-use Rattle.exec_live_queue.specs.contracts.owner.Owner.{the_row}
-use Rattle.exec_live_queue.specs.Kinds.{IsPushed, handed, handed_by}
 
 module _ {T : Type 0} where
   -- as a plain queue answers it

@@ -35,12 +35,7 @@ use mathlib.Core.Option as maybe
 use lib.ListN.{get_elem?}
 use Rattle.std.specs.List.{sum_by}
 use Rattle.atomic_table.specs.Table.{State}
-use Rattle.exec_live_queue.specs.declared.view.Own.{Own}
-use Rattle.exec_live_queue.specs.declared.view.Theft.{Theft}
-use Rattle.exec_live_queue.specs.declared.view.View.{View}
-use Rattle.exec_live_queue.specs.declared.view.Stage.{Stage}
-use Rattle.exec_live_queue.specs.declared.view.Stage.TheVariants.{Owns, Idle, SawHead, SawTail, Claimed}
-use Rattle.exec_live_queue.specs.Numbers.{head_word, filled, Outside, BesideClaim, InOrder, words_of}
+use Rattle.exec_live_queue.specs.{declared.view.{Own.Own, Theft.Theft, View.View, Stage.{Stage, TheVariants.{Owns, Idle, SawHead, SawTail, Claimed}}}, Numbers.{head_word, filled, Outside, BesideClaim, InOrder, words_of}}
 
 -- the n labels from a on, and what they weigh
 unfoldable pub labels : ℕ → ℕ → List ℕ

@@ -1,18 +1,10 @@
 -- What each step of a run queue tells the seat that makes it.
 use Rattle.std.specs.Prelude.{◌≡◌, ◌≢◌, ℕ, suc, ◌+◌, ◌-◌, ◌/◌, ◌%◌, ◌^◌, ◌<◌, ◌≤◌, List, [], ◌∷◌, ◌++◌, length, map, take, replicate, Option, Some, None}
 use Rattle.atomic_table.specs.Table.{Me, Step, Act, keeps, takes, gives, chain}
-use Rattle.exec_live_queue.specs.declared.view.Own.{Own}
-use Rattle.exec_live_queue.specs.declared.view.Theft.{Theft}
-use Rattle.exec_live_queue.specs.declared.view.View.{View}
-use Rattle.exec_live_queue.specs.declared.view.Stage.TheVariants.{Idle, SawHead, SawTail, Claimed}
-use Rattle.exec_live_queue.specs.Numbers.{head_word, InOrder}
+use Rattle.exec_live_queue.specs.{declared.view.{Own.Own, Theft.Theft, View.View, Stage.TheVariants.{Idle, SawHead, SawTail, Claimed}}, Numbers.{head_word, InOrder}, Pure.queue_at, Live.labels}
 use mathlib.Core.Option.{some}
 use lib.ListN.{get_elem?}
-use Rattle.exec_words.specs.declared.head.Head.{Head}
-use Rattle.exec_words.specs.Head.{popped_head}
-use Rattle.exec_words.specs.Queue.{popped, claimed, released, published, overflowed, newest, restored}
-use Rattle.exec_live_queue.specs.Pure.{queue_at}
-use Rattle.exec_live_queue.specs.Live.{labels}
+use Rattle.exec_words.specs.{declared.head.Head.Head, Head.popped_head, Queue.{popped, claimed, released, published, overflowed, newest, restored}}
 
 abbrev pub Sat : Type 0 → Type 0
 Sat T = Me (Option T) (View T)

@@ -1,13 +1,8 @@
 -- What the steps say of the seat that makes them.
 use Rattle.std.specs.Prelude.{◌≡◌, ◌≢◌, ℕ, ◌+◌, ◌/◌, ◌%◌, ◌^◌, ◌<◌, ◌≤◌, List, [], ◌∷◌, ◌++◌, length, map, replicate, Option, Some, None}
 use mathlib.Core.Option.{none}
-use Rattle.atomic_table.specs.Table.{step, rest}
-use Rattle.atomic_table.specs.declared.shared.Seat.{Seat}
-use Rattle.atomic_table.specs.declared.shared.Shared.{Shared}
-use Rattle.exec_live_queue.specs.declared.view.Own.{Own}
-use Rattle.exec_live_queue.specs.declared.view.View.{View}
-use Rattle.exec_live_queue.specs.declared.view.Stage.TheVariants.{Owns, SawTail, Claimed}
-use Rattle.exec_live_queue.specs.Plays.{Sat, hand, laid, returned, pops, pops_last, flows_over, publishes, restores, saw_head, saw_tail, claims, releases}
+use Rattle.atomic_table.specs.{Table.{step, rest}, declared.shared.{Seat.Seat, Shared.Shared}}
+use Rattle.exec_live_queue.specs.{declared.view.{Own.Own, View.View, Stage.TheVariants.{Owns, SawTail, Claimed}}, Plays.{Sat, hand, laid, returned, pops, pops_last, flows_over, publishes, restores, saw_head, saw_tail, claims, releases}}
 
 abbrev pub Place : Type 0 → Type 0
 Place T = Seat (Option T) (View T)

@@ -2,10 +2,7 @@
 
 ghost use Rattle.std.specs.Prelude.{◌≡◌, ◌+◌, ◌-◌, ◌^◌, ◌<◌, ◌≤◌, ℕ, List, [], ◌∷◌, ◌++◌, length, replicate, Option, None};
 ghost use Rattle.exec_words.specs.Head.{room_at};
-ghost use Rattle.exec_live_queue.specs.Calls.{HasPublished, Fills};
-ghost use Rattle.exec_live_queue.specs.Plays.{hand, published_view};
-ghost use Rattle.exec_live_queue.specs.Seats.{IsAt, Rests, SameSeat};
-ghost use Rattle.exec_live_queue.specs.declared.view.Stage.TheVariants.{Owns};
+ghost use Rattle.exec_live_queue.specs.{Calls.{HasPublished, Fills}, Plays.{hand, published_view}, Seats.{IsAt, Rests, SameSeat}, declared.view.Stage.TheVariants.Owns};
 
 use crate::SLOTS;
 use crate::head::{gap_of, real_of};

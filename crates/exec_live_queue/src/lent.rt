@@ -5,8 +5,7 @@
 //! one that doesn't a caller learns how the owner stands after either.
 
 ghost use Rattle.std.specs.Prelude.{◌≡◌, ◌<◌, [], drop, length, slice_get, IfNone, IfSome};
-ghost use Rattle.exec_live_queue.specs.Kinds.{Looks};
-ghost use Rattle.exec_live_queue.specs.Lent.{left_of, lender};
+ghost use Rattle.exec_live_queue.specs.{Kinds.Looks, Lent.{left_of, lender}};
 
 use crate::owner::Owner;
 

@@ -1,8 +1,7 @@
 //! What an overflow hands out: the newest half, value by value.
 
 ghost use Rattle.std.specs.Prelude.{◌≡◌, ◌+◌, ◌<◌, List, [], ◌∷◌};
-ghost use Rattle.exec_live_queue.specs.Calls.{HandsOut, HasLooked};
-ghost use Rattle.exec_live_queue.specs.Seats.{Rests, SameSeat};
+ghost use Rattle.exec_live_queue.specs.{Calls.{HandsOut, HasLooked}, Seats.{Rests, SameSeat}};
 
 use crate::slots::take;
 use crate::steps::give_back;

@@ -6,8 +6,7 @@
 
 ghost use Rattle.std.specs.Prelude.{◌≡◌, ◌≤◌, ◌↔◌, [], length, drop, slice_get, IfNone, IfSome, IsTrue};
 ghost use Rattle.exec_words.specs.Queue.{published};
-ghost use Rattle.exec_live_queue.specs.Calls.{HasPopped, HasPublished};
-ghost use Rattle.exec_live_queue.specs.Alone.{TakesFront};
+ghost use Rattle.exec_live_queue.specs.{Calls.{HasPopped, HasPublished}, Alone.TakesFront};
 
 use crate::exclusive::ExclusiveOwner;
 use crate::lent::{Overflow, Push, Settled};

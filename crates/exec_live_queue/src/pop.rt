@@ -1,10 +1,7 @@
 //! The owner's pop.
 
 ghost use Rattle.std.specs.Prelude.{◌≡◌, ◌+◌, ◌^◌, ◌<◌, [], ◌∷◌, IfNone, IfSome, Some};
-ghost use Rattle.exec_live_queue.specs.Calls.{HasPopped, WasEmpty};
-ghost use Rattle.exec_live_queue.specs.Plays.{hand};
-ghost use Rattle.exec_live_queue.specs.Seats.{IsAt, Rests, IsSeen, SameSeat, returned_by};
-ghost use Rattle.exec_live_queue.specs.declared.view.Stage.TheVariants.{Owns};
+ghost use Rattle.exec_live_queue.specs.{Calls.{HasPopped, WasEmpty}, Plays.hand, Seats.{IsAt, Rests, IsSeen, SameSeat, returned_by}, declared.view.Stage.TheVariants.Owns};
 
 use crate::SLOTS;
 use crate::head::{gap_of, real_of};

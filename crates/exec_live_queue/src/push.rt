@@ -1,10 +1,7 @@
 //! The owner's push of one value.
 
 ghost use Rattle.std.specs.Prelude.{◌≡◌, ◌-◌, ◌^◌, ◌<◌, [], ◌∷◌, None};
-ghost use Rattle.exec_live_queue.specs.Calls.{AfterPush, AfterTry, PushLeaves};
-ghost use Rattle.exec_live_queue.specs.Plays.{hand, published_view};
-ghost use Rattle.exec_live_queue.specs.Seats.{IsAt, Rests, SameSeat};
-ghost use Rattle.exec_live_queue.specs.declared.view.Stage.TheVariants.{Owns};
+ghost use Rattle.exec_live_queue.specs.{Calls.{AfterPush, AfterTry, PushLeaves}, Plays.{hand, published_view}, Seats.{IsAt, Rests, SameSeat}, declared.view.Stage.TheVariants.Owns};
 
 use crate::answers::Try;
 use crate::head::{gap_of, real_of};

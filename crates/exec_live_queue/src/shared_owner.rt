@@ -3,8 +3,7 @@
 ghost use Rattle.std.specs.Prelude.{◌≡◌, ◌+◌, ◌≤◌, ◌↔◌, [], length, drop, slice_get, IfNone, IfSome, IsTrue};
 ghost use Rattle.exec_words.specs.Head.{room_at};
 ghost use Rattle.crossbeam_utils.specs.Padded.{padded_value};
-ghost use Rattle.exec_live_queue.specs.Seats.{IsAt, IsThief, Rests, SameSeat};
-ghost use Rattle.exec_live_queue.specs.Calls.{AfterPush, AfterSteal, HasLooked, HasPopped, HasPublished, WasEmpty, handed_after};
+ghost use Rattle.exec_live_queue.specs.{Seats.{IsAt, IsThief, Rests, SameSeat}, Calls.{AfterPush, AfterSteal, HasLooked, HasPopped, HasPublished, WasEmpty, handed_after}};
 
 use crate::batch::push_batch;
 use crate::head::{gap_of, real_of};

@@ -6,10 +6,7 @@
 //! of each is in `specs/Handles.antt`.
 
 ghost use Rattle.std.specs.Prelude.{◌≡◌, ◌≢◌, ◌+◌, ◌^◌, ◌<◌, ◌≤◌, ◌⊎◌, [], IfOk, IsTrue, IsFalse};
-ghost use Rattle.exec_live_queue.specs.Calls.{AfterInto, AfterSteal, HasKept};
-ghost use Rattle.exec_live_queue.specs.Live.{opened};
-ghost use Rattle.exec_live_queue.specs.Plays.{newcomer};
-ghost use Rattle.exec_live_queue.specs.declared.view.Stage.TheVariants.{Owns};
+ghost use Rattle.exec_live_queue.specs.{Calls.{AfterInto, AfterSteal, HasKept}, Live.opened, Plays.newcomer, declared.view.Stage.TheVariants.Owns};
 
 use crate::head::{gap_of, head_of, real_of};
 use crate::inner::{Inner, words_of};

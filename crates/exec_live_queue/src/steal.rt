@@ -2,10 +2,7 @@
 
 ghost use Rattle.std.specs.Prelude.{◌≡◌, ◌+◌, ◌/◌, ◌%◌, ◌^◌, ◌<◌, ◌≤◌, ◌⊎◌, ℕ, List, [], length, IfSome, IfNone};
 ghost use Rattle.exec_words.specs.Head.{room_at};
-ghost use Rattle.exec_live_queue.specs.Plays.{half};
-ghost use Rattle.exec_live_queue.specs.Calls.{AfterSteal, HasKept, Fills, Empties};
-ghost use Rattle.exec_live_queue.specs.Seats.{IsAt, IsThief, Rests, SameSeat, MayClaim, MayRelease};
-ghost use Rattle.exec_live_queue.specs.declared.view.Stage.TheVariants.{Idle};
+ghost use Rattle.exec_live_queue.specs.{Plays.half, Calls.{AfterSteal, HasKept, Fills, Empties}, Seats.{IsAt, IsThief, Rests, SameSeat, MayClaim, MayRelease}, declared.view.Stage.TheVariants.Idle};
 
 use crate::batch::show;
 use crate::head::{gap_of, head_of, real_of};

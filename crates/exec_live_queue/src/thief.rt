@@ -1,10 +1,7 @@
 //! The steps of a thief, one atomic step each.
 
 ghost use Rattle.std.specs.Prelude.{◌≡◌, ◌≢◌, ◌+◌, ◌/◌, ◌%◌, ◌^◌, ◌<◌, []};
-ghost use Rattle.exec_live_queue.specs.Numbers.{head_word};
-ghost use Rattle.exec_live_queue.specs.Plays.{half, newcomer};
-ghost use Rattle.exec_live_queue.specs.declared.view.Stage.TheVariants.{Owns, SawHead, Claimed};
-ghost use Rattle.exec_live_queue.specs.Seats.{IsAt, MayClaim, MayRelease, SameSeat, sees_head_by, sees_tail_by, claims_by, releases_by};
+ghost use Rattle.exec_live_queue.specs.{Numbers.head_word, Plays.{half, newcomer}, declared.view.Stage.TheVariants.{Owns, SawHead, Claimed}, Seats.{IsAt, MayClaim, MayRelease, SameSeat, sees_head_by, sees_tail_by, claims_by, releases_by}};
 
 use crate::head::{GAPS, gap_of, real_of};
 use crate::plays::{Another, Claim, Release, SeeHead, SeeTail};

@@ -1,8 +1,7 @@
 //! The calls of a shared and of an exclusive queue on live values.
 
 ghost use Rattle.std.specs.Prelude.{◌≡◌, ◌+◌, ◌^◌, ◌≤◌, [], IfOk};
-ghost use Rattle.exec_live_queue.specs.Kinds.{IsThief, handed};
-ghost use Rattle.exec_live_queue.specs.Lent.{left_of, lender};
+ghost use Rattle.exec_live_queue.specs.{Kinds.{IsThief, handed}, Lent.{left_of, lender}};
 
 use exec_live_queue::head::{gap_of, head_of, real_of};
 use exec_live_queue::lent::{Overflow, Push, Settled};

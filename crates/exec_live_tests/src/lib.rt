@@ -7,6 +7,8 @@ mod calls;
 #[cfg(test)]
 mod goes_on;
 #[cfg(test)]
+mod idle;
+#[cfg(test)]
 mod queue;
 #[cfg(test)]
 mod searchers;

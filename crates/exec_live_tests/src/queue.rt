@@ -2,8 +2,7 @@
 //! interleave, each value leaves once.
 
 ghost use Rattle.std.specs.Prelude.{◌≡◌, []};
-ghost use Rattle.exec_live_queue.specs.Kinds.{IsThief, first_of, handed};
-ghost use Rattle.exec_live_queue.specs.Lent.{left_of, lender};
+ghost use Rattle.exec_live_queue.specs.{Kinds.{IsThief, first_of, handed}, Lent.{left_of, lender}};
 
 use exec_live_queue::lent::{Overflow, Push, Settled};
 use exec_live_queue::owner::Owner;

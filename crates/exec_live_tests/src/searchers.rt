@@ -2,8 +2,7 @@
 //! a lone value stays.
 
 ghost use Rattle.std.specs.Prelude.{◌≡◌, ◌<◌, ◌+◌, ◌≤◌, [], false};
-ghost use Rattle.exec_live_idle.specs.Idle.{knows, IsSeatOf, IsSame};
-ghost use Rattle.exec_live_idle.specs.Live.{next_number};
+ghost use Rattle.exec_live_idle.specs.{Idle.{knows, IsSeatOf, IsSame}, Live.next_number};
 ghost use Rattle.exec_live_queue.specs.Kinds.{IsThief, handed};
 
 use crate::calls::{let_go, made, push_all};

@@ -2,8 +2,7 @@
 
 ghost use Rattle.std.specs.Prelude.{◌≡◌, ◌+◌, ◌^◌, ◌≤◌, []};
 ghost use Rattle.std.specs.Option.{ForSome};
-ghost use Rattle.exec_live_queue.specs.Kinds.{IsThief, handed};
-ghost use Rattle.exec_live_queue.specs.Lent.{left_of, lender};
+ghost use Rattle.exec_live_queue.specs.{Kinds.{IsThief, handed}, Lent.{left_of, lender}};
 
 use crate::fault::Fault;
 use crate::words::{flag, number, text_of, text_of_list};

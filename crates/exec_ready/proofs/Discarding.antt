@@ -2,12 +2,8 @@
 use Rattle.std.proofs.Common.{◌≡◌, ℕ, ◌+◌, ◌<◌, List, [], ◌∷◌, ◌++◌, length, refl, ap, sym, ◌∙◌, append-nil, append_assoc, le_refl, arith}
 use Rattle.std.specs.Prelude.{Some, None, slice_get, drop}
 use Rattle.exec_words.specs.Queue.{Queue, tail_of}
-use Rattle.exec_live_queue.specs.declared.view.Own.{Own}
-use Rattle.exec_live_queue.specs.declared.owner.Owner.{Owner}
+use Rattle.exec_live_queue.specs.{declared.{view.Own.Own, owner.Owner.Owner}, Alone.TakesFront, Calls.{looked, HasPopped}, Kinds.{Does, IsDrained, Looks, count}}
 use Rattle.exec_live_queue.specs.declared.owner.Owner.TheVariants as owner
-use Rattle.exec_live_queue.specs.Alone.{TakesFront}
-use Rattle.exec_live_queue.specs.Calls.{looked, HasPopped}
-use Rattle.exec_live_queue.specs.Kinds.{Does, IsDrained, Looks, count}
 use Rattle.exec_ready.specs.Discards.{HasDiscarded, IsEmptied}
 
 module _ {T : Type 0} where

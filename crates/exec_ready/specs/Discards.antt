@@ -1,8 +1,7 @@
 -- What is left of a queue that was discarded.
 use Rattle.std.specs.Prelude.{◌≡◌, ℕ, ◌≤◌, List, [], ◌++◌}
 use Rattle.exec_words.specs.Queue.{Queue, tail_of}
-use Rattle.exec_live_queue.specs.declared.view.Own.{Own}
-use Rattle.exec_live_queue.specs.Calls.{looked}
+use Rattle.exec_live_queue.specs.{declared.view.Own.Own, Calls.looked}
 
 module _ {T : Type 0} where
   -- these labels were popped: the owner put nothing in, and knows nothing else anew

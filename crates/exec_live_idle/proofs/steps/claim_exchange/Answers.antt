@@ -2,14 +2,10 @@ use Rattle.std.proofs.Common.{◌≡◌, sym, subst, ap, ◌∙◌, ℕ, ◌<◌
 use Rattle.std.specs.Prelude.{Some}
 use Rattle.atomic_table.specs.Table.{Me}
 use Rattle.exec_words.specs.Idle.{lowest_of}
-use Rattle.exec_live_idle.specs.declared.view.View.{View}
-use Rattle.exec_live_idle.specs.Words.{set_of}
-use Rattle.exec_live_idle.specs.Plays.{claimed}
-use Rattle.exec_live_idle.specs.Seats.{view_of}
+use Rattle.exec_live_idle.specs.{declared.view.View.View, Words.set_of, Plays.claimed, Seats.view_of}
 use mir.Syntax.{w64}
 use Rattle.std.specs.Int.{trailing_zeros}
-use Rattle.exec_live_idle.proofs.Sets.{lowest_in, moves_withdraw}
-use Rattle.exec_live_idle.proofs.Allowed.{claim_}
+use Rattle.exec_live_idle.proofs.{Sets.{lowest_in, moves_withdraw}, Allowed.claim_}
 use Rattle.exec_live_idle.proofs.steps.claim_exchange.Goals as goal
 
 pub compare_exchange-found-requires : goal.compare_exchange-found-requires

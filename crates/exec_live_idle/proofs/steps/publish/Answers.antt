@@ -1,10 +1,8 @@
 use Rattle.std.proofs.Common.{sym, subst, ℕ, ◌<◌, bit_or, arith}
 use mathlib.Core.Option.{none}
 use Rattle.atomic_table.specs.Table.{step, Allows}
-use Rattle.exec_live_idle.specs.Live.{LiveIdle}
-use Rattle.exec_live_idle.specs.Plays.{publishes}
-use Rattle.exec_live_idle.proofs.Sets.{bit_of, moves_publish}
-use Rattle.exec_live_idle.proofs.Allowed.{publish_}
+use Rattle.exec_live_idle.specs.{Live.LiveIdle, Plays.publishes}
+use Rattle.exec_live_idle.proofs.{Sets.{bit_of, moves_publish}, Allowed.publish_}
 use Rattle.exec_live_idle.proofs.steps.publish.Goals as goal
 
 pub fetch_or-requires : goal.fetch_or-requires

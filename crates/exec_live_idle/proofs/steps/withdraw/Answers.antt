@@ -3,10 +3,8 @@ use mathlib.Core.Option.{none}
 use mir.Syntax.{w64}
 use Rattle.std.specs.Int.{bit_not}
 use Rattle.atomic_table.specs.Table.{step, Allows}
-use Rattle.exec_live_idle.specs.Live.{LiveIdle}
-use Rattle.exec_live_idle.specs.Plays.{withdraws}
-use Rattle.exec_live_idle.proofs.Sets.{bit_of, moves_withdraw}
-use Rattle.exec_live_idle.proofs.Allowed.{withdraw_}
+use Rattle.exec_live_idle.specs.{Live.LiveIdle, Plays.withdraws}
+use Rattle.exec_live_idle.proofs.{Sets.{bit_of, moves_withdraw}, Allowed.withdraw_}
 use Rattle.exec_live_idle.proofs.steps.withdraw.Goals as goal
 
 pub fetch_and-requires : goal.fetch_and-requires

@@ -1,7 +1,5 @@
-use Rattle.exec_live_queue.proofs.Words.{◌≡◌, ◌+◌, List, [], length, refl, sym, ap, subst, ◌∙◌, length-drop, arith}
+use Rattle.exec_live_queue.proofs.{Words.{◌≡◌, ◌+◌, List, [], length, refl, sym, ap, subst, ◌∙◌, length-drop, arith}, Moves.{Filling, fill_front, fill_step, fill_all}, Looks.nothing_left}
 use Rattle.std.proofs.Common.{drop}
-use Rattle.exec_live_queue.proofs.Moves.{Filling, fill_front, fill_step, fill_all}
-use Rattle.exec_live_queue.proofs.Looks.{nothing_left}
 use Rattle.exec_live_queue.proofs.batch.fill.Goals as goal
 
 pub loop-i-init : goal.loop-i-init

@@ -1,5 +1,4 @@
-use Rattle.exec_live_queue.proofs.Words.{◌≡◌, ℕ, ◌+◌, [], length, SameSeat, Fills}
-use Rattle.exec_live_queue.proofs.Moves.{Filling}
+use Rattle.exec_live_queue.proofs.{Words.{◌≡◌, ℕ, ◌+◌, [], length, SameSeat, Fills}, Moves.Filling}
 use Rattle.exec_live_queue.proofs.batch.fill.Given as goal
 
 abbrev pub invariant-loop-i : goal.invariant-loop-i

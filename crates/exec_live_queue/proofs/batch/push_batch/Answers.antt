@@ -1,5 +1,4 @@
-use Rattle.exec_live_queue.proofs.Words.{◌≡◌, ℕ, ◌-◌, ◌/◌, ◌%◌, [], length, sym, ap, subst, ◌∙◌, arith, View, room, published_view, Fills}
-use Rattle.exec_live_queue.proofs.Owners.{laid_looked, room_stays, took_room, free_slots, published_after}
+use Rattle.exec_live_queue.proofs.{Words.{◌≡◌, ℕ, ◌-◌, ◌/◌, ◌%◌, [], length, sym, ap, subst, ◌∙◌, arith, View, room, published_view, Fills}, Owners.{laid_looked, room_stays, took_room, free_slots, published_after}}
 use Rattle.exec_live_queue.proofs.batch.push_batch.Goals as goal
 
 pub overflow_sub-free-4 : goal.overflow_sub-free-4

@@ -1,5 +1,4 @@
-use Rattle.exec_live_queue.proofs.Words.{ℕ, ◌+◌, ◌++◌, [], map, replicate, sym, ap, ◌∙◌, Some, None, hand, published_view, values_of}
-use Rattle.exec_live_queue.proofs.Moves.{laden, laden_values}
+use Rattle.exec_live_queue.proofs.{Words.{ℕ, ◌+◌, ◌++◌, [], map, replicate, sym, ap, ◌∙◌, Some, None, hand, published_view, values_of}, Moves.{laden, laden_values}}
 use Rattle.exec_live_queue.proofs.batch.show.Goals as goal
 
 pub publish-requires : goal.publish-requires

@@ -1,5 +1,4 @@
-use Rattle.exec_live_queue.proofs.Words.{refl, ap, ◌∙◌, arith}
-use Rattle.exec_live_queue.proofs.Moves.{skip_first, skip_more, skip_last}
+use Rattle.exec_live_queue.proofs.{Words.{refl, ap, ◌∙◌, arith}, Moves.{skip_first, skip_more, skip_last}}
 use Rattle.exec_live_queue.proofs.batch.skip.Goals as goal
 
 pub loop-i-init : goal.loop-i-init

@@ -1,5 +1,4 @@
-use Rattle.exec_live_queue.proofs.Words.{◌∙◌}
-use Rattle.exec_live_queue.proofs.Moves.{handed_all, handed_back}
+use Rattle.exec_live_queue.proofs.{Words.◌∙◌, Moves.{handed_all, handed_back}}
 use Rattle.exec_live_queue.proofs.overflow.end.Goals as goal
 
 pub give_back-requires : goal.give_back-requires

@@ -1,5 +1,4 @@
-use Rattle.exec_live_queue.proofs.Words.{ℕ, ◌+◌, ◌%◌, ap, ◌∙◌}
-use Rattle.exec_live_queue.proofs.Moves.{hands_front, handed_one, one_front}
+use Rattle.exec_live_queue.proofs.{Words.{ℕ, ◌+◌, ◌%◌, ap, ◌∙◌}, Moves.{hands_front, handed_one, one_front}}
 use Rattle.exec_live_queue.proofs.overflow.hand_out.Goals as goal
 
 pub take-requires : goal.take-requires

@@ -1,5 +1,4 @@
-use Rattle.exec_live_queue.proofs.Words.{◌+◌, ◌%◌, [], Some}
-use Rattle.exec_live_queue.proofs.Hands.{fronted}
+use Rattle.exec_live_queue.proofs.{Words.{◌+◌, ◌%◌, [], Some}, Hands.fronted}
 use Rattle.exec_live_queue.proofs.pop.carry_off.Goals as goal
 
 pub take-value-requires : goal.take-value-requires

@@ -1,5 +1,4 @@
-use Rattle.exec_live_queue.proofs.Words.{◌≡◌, ◌+◌, ◌∙◌, sym, ap, arith}
-use Rattle.exec_live_queue.proofs.Owners.{looks, looks_on, own_tail, laid_seen, pops_on, pops_out, pops_back, fewer}
+use Rattle.exec_live_queue.proofs.{Words.{◌≡◌, ◌+◌, ◌∙◌, sym, ap, arith}, Owners.{looks, looks_on, own_tail, laid_seen, pops_on, pops_out, pops_back, fewer}}
 use Rattle.exec_live_queue.proofs.pop.pop.Goals as goal
 
 pub tries-init : goal.tries-init

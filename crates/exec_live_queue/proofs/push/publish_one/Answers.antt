@@ -1,6 +1,4 @@
-use Rattle.exec_live_queue.proofs.Words.{◌≡◌, ℕ, ◌%◌, [], ◌∷◌, sym, ap, ◌∙◌, arith, Some, None, hand, published_view, values_of}
-use Rattle.exec_live_queue.proofs.Hands.{fronted}
-use Rattle.exec_live_queue.proofs.Owners.{filled_one}
+use Rattle.exec_live_queue.proofs.{Words.{◌≡◌, ℕ, ◌%◌, [], ◌∷◌, sym, ap, ◌∙◌, arith, Some, None, hand, published_view, values_of}, Hands.fronted, Owners.filled_one}
 use Rattle.exec_live_queue.proofs.push.publish_one.Goals as goal
 
 pub put-requires : goal.put-requires

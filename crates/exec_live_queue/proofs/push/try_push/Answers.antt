@@ -1,6 +1,5 @@
-use Rattle.exec_live_queue.proofs.Words.{ℕ, ◌+◌, ◌<◌, [], ◌∷◌, refl, sym, ap, ◌∙◌, arith, None, hand}
+use Rattle.exec_live_queue.proofs.{Words.{ℕ, ◌+◌, ◌<◌, [], ◌∷◌, refl, sym, ap, ◌∙◌, arith, None, hand}, Owners.{took_one, looks_full, looks, looks_on, laid_looked, laid_seen, overflowed_after, own_tail, newer}}
 use Rattle.std.proofs.Common.{min}
-use Rattle.exec_live_queue.proofs.Owners.{took_one, looks_full, looks, looks_on, laid_looked, laid_seen, overflowed_after, own_tail, newer}
 use Rattle.exec_live_queue.proofs.push.try_push.Goals as goal
 
 pub overflow_sub-len : goal.overflow_sub-len

@@ -1,5 +1,4 @@
-use Rattle.exec_live_queue.proofs.Words.{◌+◌, refl, ◌∙◌, arith}
-use Rattle.exec_live_queue.proofs.Moves.{carry_start, carry_fronts, carry_more, carry_end}
+use Rattle.exec_live_queue.proofs.{Words.{◌+◌, refl, ◌∙◌, arith}, Moves.{carry_start, carry_fronts, carry_more, carry_end}}
 use Rattle.exec_live_queue.proofs.steal.carry_over.Goals as goal
 
 pub loop-i-init : goal.loop-i-init

@@ -1,5 +1,4 @@
-use Rattle.exec_live_queue.proofs.Words.{◌≡◌, ℕ, ◌+◌, List, [], length, SameSeat, Fills, Empties}
-use Rattle.exec_live_queue.proofs.Moves.{Carrying}
+use Rattle.exec_live_queue.proofs.{Words.{◌≡◌, ℕ, ◌+◌, List, [], length, SameSeat, Fills, Empties}, Moves.Carrying}
 use Rattle.exec_live_queue.proofs.steal.carry_over.Given as goal
 
 abbrev pub invariant-loop-i : goal.invariant-loop-i

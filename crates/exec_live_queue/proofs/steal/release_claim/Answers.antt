@@ -1,5 +1,4 @@
-use Rattle.exec_live_queue.proofs.Words.{◌≡◌, ℕ, ◌+◌, ◌%◌, refl, sym, ap, ◌∙◌, arith, replicate, None, hand, head_word}
-use Rattle.exec_live_queue.proofs.Looks.{gap_of_word}
+use Rattle.exec_live_queue.proofs.{Words.{◌≡◌, ℕ, ◌+◌, ◌%◌, refl, sym, ap, ◌∙◌, arith, replicate, None, hand, head_word}, Looks.gap_of_word}
 use Rattle.exec_live_queue.proofs.steal.release_claim.Goals as goal
 
 pub tries-init : goal.tries-init

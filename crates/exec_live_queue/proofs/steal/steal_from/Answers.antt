@@ -1,6 +1,4 @@
-use Rattle.exec_live_queue.proofs.Words.{◌≡◌, ◌≢◌, ℕ, ◌+◌, ◌-◌, ◌/◌, ◌%◌, ◌<◌, ◌≤◌, ◌⊎◌, [], length, replicate, inl, inr, refl, sym, ap, subst, ◌∙◌, le_refl, arith, dite, ℕ_discrete, None, View, hand, room, claimed_view, published_view, Fills, Empties}
-use Rattle.exec_live_queue.proofs.Owners.{laid_looked, room_stays, took_room, free_slots, published_after}
-use Rattle.exec_live_queue.proofs.Steals.{heads, claimed_slots, taken_after, idle_thief}
+use Rattle.exec_live_queue.proofs.{Words.{◌≡◌, ◌≢◌, ℕ, ◌+◌, ◌-◌, ◌/◌, ◌%◌, ◌<◌, ◌≤◌, ◌⊎◌, [], length, replicate, inl, inr, refl, sym, ap, subst, ◌∙◌, le_refl, arith, dite, ℕ_discrete, None, View, hand, room, claimed_view, published_view, Fills, Empties}, Owners.{laid_looked, room_stays, took_room, free_slots, published_after}, Steals.{heads, claimed_slots, taken_after, idle_thief}}
 use Rattle.exec_live_queue.proofs.steal.steal_from.Goals as goal
 
 pub returns-in_default : goal.returns-in_default

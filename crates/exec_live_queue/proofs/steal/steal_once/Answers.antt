@@ -1,5 +1,4 @@
-use Rattle.exec_live_queue.proofs.Words.{◌-◌, sym, ◌∙◌, arith}
-use Rattle.exec_live_queue.proofs.Owners.{looks, own_tail, room_seen, steals_on}
+use Rattle.exec_live_queue.proofs.{Words.{◌-◌, sym, ◌∙◌, arith}, Owners.{looks, own_tail, room_seen, steals_on}}
 use Rattle.exec_live_queue.proofs.steal.steal_once.Goals as goal
 
 pub steal_from-requires : goal.steal_from-requires

@@ -1,5 +1,4 @@
-use Rattle.exec_live_queue.proofs.Words.{◌≡◌, ◌-◌, ◌/◌, inl, sym, ◌∙◌, arith}
-use Rattle.exec_live_queue.proofs.Steals.{heads, tails}
+use Rattle.exec_live_queue.proofs.{Words.{◌≡◌, ◌-◌, ◌/◌, inl, sym, ◌∙◌, arith}, Steals.{heads, tails}}
 use Rattle.exec_live_queue.proofs.steal.take_aim.Goals as goal
 
 pub returns-then-gap_of-gt0 : goal.returns-then-gap_of-gt0

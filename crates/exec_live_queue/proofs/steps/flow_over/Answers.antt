@@ -1,6 +1,4 @@
-use Rattle.exec_live_queue.proofs.Words.{◌≡◌, ap, ◌∙◌, ℕ, ◌+◌, eqb, arith, none, either, step, head_word, flows_over}
-use Rattle.exec_live_queue.proofs.Overflows.{flows_over_rule}
-use Rattle.exec_live_queue.proofs.Rebuild.{stepped}
+use Rattle.exec_live_queue.proofs.{Words.{◌≡◌, ap, ◌∙◌, ℕ, ◌+◌, eqb, arith, none, either, step, head_word, flows_over}, Overflows.flows_over_rule, Rebuild.stepped}
 use Rattle.exec_live_queue.proofs.steps.flow_over.Goals as goal
 
 pub compare_exchange-requires : goal.compare_exchange-requires

@@ -1,6 +1,4 @@
-use Rattle.exec_live_queue.proofs.Words.{refl, arith, none, step, returned}
-use Rattle.exec_live_queue.proofs.Returns.{returns}
-use Rattle.exec_live_queue.proofs.Rebuild.{stepped}
+use Rattle.exec_live_queue.proofs.{Words.{refl, arith, none, step, returned}, Returns.returns, Rebuild.stepped}
 use Rattle.exec_live_queue.proofs.steps.give_back.Goals as goal
 
 pub load-requires : goal.load-requires

@@ -1,6 +1,4 @@
-use Rattle.exec_live_queue.proofs.Words.{ℕ, arith, none, step, laid}
-use Rattle.exec_live_queue.proofs.Looks.{lays}
-use Rattle.exec_live_queue.proofs.Rebuild.{stepped}
+use Rattle.exec_live_queue.proofs.{Words.{ℕ, arith, none, step, laid}, Looks.lays, Rebuild.stepped}
 use Rattle.exec_live_queue.proofs.steps.look.Goals as goal
 
 pub load-requires : goal.load-requires

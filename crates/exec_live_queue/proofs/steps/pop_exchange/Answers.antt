@@ -1,6 +1,4 @@
-use Rattle.exec_live_queue.proofs.Words.{◌≡◌, ap, ◌∙◌, ℕ, ◌+◌, eqb, arith, none, either, step, head_word, pops, after_pop}
-use Rattle.exec_live_queue.proofs.Pops.{pops_rule}
-use Rattle.exec_live_queue.proofs.Rebuild.{stepped}
+use Rattle.exec_live_queue.proofs.{Words.{◌≡◌, ap, ◌∙◌, ℕ, ◌+◌, eqb, arith, none, either, step, head_word, pops, after_pop}, Pops.pops_rule, Rebuild.stepped}
 use Rattle.exec_live_queue.proofs.steps.pop_exchange.Goals as goal
 
 pub compare_exchange-requires : goal.compare_exchange-requires

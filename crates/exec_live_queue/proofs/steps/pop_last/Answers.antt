@@ -1,6 +1,4 @@
-use Rattle.exec_live_queue.proofs.Words.{◌≡◌, ap, ◌∙◌, ℕ, ◌+◌, arith, none, step, head_word, pops_last}
-use Rattle.exec_live_queue.proofs.Pops.{pops_last_rule}
-use Rattle.exec_live_queue.proofs.Rebuild.{stepped}
+use Rattle.exec_live_queue.proofs.{Words.{◌≡◌, ap, ◌∙◌, ℕ, ◌+◌, arith, none, step, head_word, pops_last}, Pops.pops_last_rule, Rebuild.stepped}
 use Rattle.exec_live_queue.proofs.steps.pop_last.Goals as goal
 
 pub store-requires : goal.store-requires

@@ -1,6 +1,4 @@
-use Rattle.exec_live_queue.proofs.Words.{arith, none, step, publishes}
-use Rattle.exec_live_queue.proofs.Publishes.{publish_rule}
-use Rattle.exec_live_queue.proofs.Rebuild.{stepped}
+use Rattle.exec_live_queue.proofs.{Words.{arith, none, step, publishes}, Publishes.publish_rule, Rebuild.stepped}
 use Rattle.exec_live_queue.proofs.steps.publish.Goals as goal
 
 pub store-requires : goal.store-requires

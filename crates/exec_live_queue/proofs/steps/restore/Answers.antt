@@ -1,6 +1,4 @@
-use Rattle.exec_live_queue.proofs.Words.{sym, ap, ◌∙◌, ℕ, ◌+◌, arith, none, step, restores}
-use Rattle.exec_live_queue.proofs.Overflows.{restore_rule}
-use Rattle.exec_live_queue.proofs.Rebuild.{stepped}
+use Rattle.exec_live_queue.proofs.{Words.{sym, ap, ◌∙◌, ℕ, ◌+◌, arith, none, step, restores}, Overflows.restore_rule, Rebuild.stepped}
 use Rattle.exec_live_queue.proofs.steps.restore.Goals as goal
 
 pub store-requires : goal.store-requires

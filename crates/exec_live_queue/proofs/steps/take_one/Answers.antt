@@ -1,7 +1,5 @@
-use Rattle.exec_live_queue.proofs.Words.{rules, ℕ, arith, none, step, laid}
+use Rattle.exec_live_queue.proofs.{Words.{rules, ℕ, arith, none, step, laid}, Looks.lays, Rebuild.stepped}
 use Rattle.std.specs.Prelude.{min}
-use Rattle.exec_live_queue.proofs.Looks.{lays}
-use Rattle.exec_live_queue.proofs.Rebuild.{stepped}
 use Rattle.exec_live_queue.proofs.steps.take_one.Goals as goal
 
 pub load-requires : goal.load-requires

@@ -1,6 +1,4 @@
-use Rattle.exec_live_queue.proofs.Words.{ℕ, le_refl, arith, none, step, laid}
-use Rattle.exec_live_queue.proofs.Looks.{lays}
-use Rattle.exec_live_queue.proofs.Rebuild.{stepped}
+use Rattle.exec_live_queue.proofs.{Words.{ℕ, le_refl, arith, none, step, laid}, Looks.lays, Rebuild.stepped}
 use Rattle.exec_live_queue.proofs.steps.take_room.Goals as goal
 
 pub load-requires : goal.load-requires

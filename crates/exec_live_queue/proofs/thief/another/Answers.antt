@@ -1,5 +1,4 @@
-use Rattle.exec_live_queue.proofs.Words.{sym, subst, ℕ, ◌<◌, arith}
-use Rattle.exec_live_queue.proofs.Thieves.{splits}
+use Rattle.exec_live_queue.proofs.{Words.{sym, subst, ℕ, ◌<◌, arith}, Thieves.splits}
 use Rattle.exec_live_queue.proofs.thief.another.Goals as goal
 
 pub split_seat-requires : goal.split_seat-requires

@@ -1,6 +1,4 @@
-use Rattle.exec_live_queue.proofs.Words.{◌≡◌, ◌∙◌, ◌+◌, ◌*◌, eqb, arith, none, either, step, claims}
-use Rattle.exec_live_queue.proofs.Claims.{claims_rule}
-use Rattle.exec_live_queue.proofs.Rebuild.{stepped}
+use Rattle.exec_live_queue.proofs.{Words.{◌≡◌, ◌∙◌, ◌+◌, ◌*◌, eqb, arith, none, either, step, claims}, Claims.claims_rule, Rebuild.stepped}
 use Rattle.exec_live_queue.proofs.thief.claim.Goals as goal
 
 pub compare_exchange-requires : goal.compare_exchange-requires

@@ -1,7 +1,4 @@
-use Rattle.exec_live_queue.proofs.Words.{◌≡◌, ap, ◌∙◌, ℕ, ◌+◌, ◌-◌, ◌%◌, eqb, arith, none, either, step, head_word, releases}
-use Rattle.exec_live_queue.proofs.Looks.{gap_of_word}
-use Rattle.exec_live_queue.proofs.Releases.{releases_rule}
-use Rattle.exec_live_queue.proofs.Rebuild.{stepped}
+use Rattle.exec_live_queue.proofs.{Words.{◌≡◌, ap, ◌∙◌, ℕ, ◌+◌, ◌-◌, ◌%◌, eqb, arith, none, either, step, head_word, releases}, Looks.gap_of_word, Releases.releases_rule, Rebuild.stepped}
 use Rattle.exec_live_queue.proofs.thief.release.Goals as goal
 
 pub compare_exchange-requires : goal.compare_exchange-requires

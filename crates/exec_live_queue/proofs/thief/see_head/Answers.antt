@@ -1,6 +1,4 @@
-use Rattle.exec_live_queue.proofs.Words.{arith, none, step, saw_head}
-use Rattle.exec_live_queue.proofs.Thieves.{sees_head}
-use Rattle.exec_live_queue.proofs.Rebuild.{stepped}
+use Rattle.exec_live_queue.proofs.{Words.{arith, none, step, saw_head}, Thieves.sees_head, Rebuild.stepped}
 use Rattle.exec_live_queue.proofs.thief.see_head.Goals as goal
 
 pub load-requires : goal.load-requires

@@ -1,6 +1,4 @@
-use Rattle.exec_live_queue.proofs.Words.{arith, none, step, saw_tail}
-use Rattle.exec_live_queue.proofs.Thieves.{sees_tail}
-use Rattle.exec_live_queue.proofs.Rebuild.{stepped}
+use Rattle.exec_live_queue.proofs.{Words.{arith, none, step, saw_tail}, Thieves.sees_tail, Rebuild.stepped}
 use Rattle.exec_live_queue.proofs.thief.see_tail.Goals as goal
 
 pub load-requires : goal.load-requires

@@ -1,10 +1,6 @@
 use Rattle.std.proofs.Common.{◌≡◌, refl, false, inl, inr, ap, ◌∙◌, subst, ℕ, ⊎_elim, ◌⊎◌}
-use Rattle.exec_words.specs.declared.idle.Park.{Park}
-use Rattle.exec_words.specs.declared.idle.Park.TheVariants.{Search}
-use Rattle.exec_live_idle.specs.declared.view.View.{View}
-use Rattle.exec_live_idle.specs.Plays.{counted}
-use Rattle.exec_live_idle.specs.Idle.{knows}
-use Rattle.exec_live_idle.specs.Search.{MaySearch, MayNot, Scans, Skips, Parks, StaysUp, NoRound, OneMore}
+use Rattle.exec_words.specs.declared.idle.Park.{Park, TheVariants.Search}
+use Rattle.exec_live_idle.specs.{declared.view.View.View, Plays.counted, Idle.knows, Search.{MaySearch, MayNot, Scans, Skips, Parks, StaysUp, NoRound, OneMore}}
 use Rattle.exec_live_idle.proofs.searcher.Searcher.publish_and_look.Goals as goal
 
 -- what a search, and a look that asks for one, leave of a view

@@ -1,6 +1,5 @@
 use Rattle.std.proofs.Common.{◌≡◌}
-use Rattle.exec_live_idle.specs.Idle.{knows, IsSame}
-use Rattle.exec_live_idle.specs.Search.{Rounds, StaysUp}
+use Rattle.exec_live_idle.specs.{Idle.{knows, IsSame}, Search.{Rounds, StaysUp}}
 use Rattle.exec_live_idle.proofs.searcher.Searcher.publish_and_look.Given as goal
 
 -- the worker is withdrawn, after some rounds

@@ -1,7 +1,5 @@
-use Rattle.exec_live_queue.proofs.Words.{◌≡◌, ◌+◌, ◌-◌, List, refl, sym, ap, subst, ◌∙◌, le_refl, arith, Some, slice_get, View, values_of, HasLooked, Owned, Stands}
+use Rattle.exec_live_queue.proofs.{Words.{◌≡◌, ◌+◌, ◌-◌, List, refl, sym, ap, subst, ◌∙◌, le_refl, arith, Some, slice_get, View, values_of, HasLooked, Owned, Stands}, Owners.own_tail, Standing.{handed, next_of, last_of, stands_rest, stands_hands}}
 use Rattle.std.specs.Prelude.{drop}
-use Rattle.exec_live_queue.proofs.Owners.{own_tail}
-use Rattle.exec_live_queue.proofs.Standing.{handed, next_of, last_of, stands_rest, stands_hands}
 use Rattle.exec_live_queue.proofs.shared_owner.SharedOwner.next_overflowed.Goals as goal
 
 pub hand_out-value-requires : goal.hand_out-value-requires

@@ -1,7 +1,6 @@
-use Rattle.exec_live_queue.proofs.Words.{◌≡◌, ℕ, ◌+◌, length, length-drop, refl, sym, ap, subst, ◌∙◌, arith, values_of, Owned, Stands, fully, handed_after, AfterPush, PushLeaves}
+use Rattle.exec_live_queue.proofs.{Words.{◌≡◌, ℕ, ◌+◌, length, length-drop, refl, sym, ap, subst, ◌∙◌, arith, values_of, Owned, Stands, fully, handed_after, AfterPush, PushLeaves}, Standing.{handed, stands_hands}}
 use Rattle.std.specs.Prelude.{drop}
 use Rattle.exec_words.specs.declared.queue.PushAnswer.{PushAnswer}
-use Rattle.exec_live_queue.proofs.Standing.{handed, stands_hands}
 use Rattle.exec_live_queue.proofs.shared_owner.SharedOwner.push.Goals as goal
 
 pub invariant_of-self-in-Overflow-1 : goal.invariant_of-self-in-Overflow-1

@@ -1,5 +1,4 @@
-use Rattle.exec_live_queue.proofs.Words.{ℕ, refl, ap, replicate, None, words_of}
-use Rattle.exec_live_queue.proofs.Opened.{opens}
+use Rattle.exec_live_queue.proofs.{Words.{ℕ, refl, ap, replicate, None, words_of}, Opened.opens}
 use Rattle.exec_live_queue.proofs.shared_queue.SharedQueue.at.Goals as goal
 
 pub vacant-requires : goal.vacant-requires

@@ -1,5 +1,4 @@
-use Rattle.exec_live_queue.proofs.Words.{refl, subst, ◌∙◌, le_refl, arith, Steal, AfterSteal}
-use Rattle.exec_live_queue.proofs.Owners.{steals_on, steals_after}
+use Rattle.exec_live_queue.proofs.{Words.{refl, subst, ◌∙◌, le_refl, arith, Steal, AfterSteal}, Owners.{steals_on, steals_after}}
 use Rattle.exec_live_queue.proofs.shared_queue.SharedQueue.steal_into.Goals as goal
 
 pub tries-init : goal.tries-init

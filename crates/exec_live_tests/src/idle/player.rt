@@ -4,7 +4,7 @@ ghost use Rattle.std.specs.Prelude.{◌≡◌, ◌≤◌, ◌<◌, true, false, 
 ghost use Rattle.exec_live_idle.specs.Idle.{knows};
 
 use super::fake::FakePool;
-use crate::searcher::Searcher;
+use exec_live_idle::searcher::Searcher;
 use exec_words::idle::Park;
 use std::process::Abort;
 use std::sync::Wait;

@@ -1,6 +1,6 @@
 use Rattle.std.proofs.Common.{◌≡◌}
 use Rattle.exec_live_idle.specs.Idle.{knows, IsSeatOf}
-use Rattle.exec_live_idle.proofs.tests.play.replay.Given as goal
+use Rattle.exec_live_tests.proofs.idle.play.replay.Given as goal
 
 abbrev pub invariant-loop-line : goal.invariant-loop-line
 invariant-loop-line g l = record {

@@ -1,13 +1,12 @@
 //! What the original answered, replayed on searchers over a fake pool.
 
 ghost use Rattle.std.specs.Prelude.{◌≡◌, ◌<◌, ◌≤◌, ◌+◌, ◌^◌, false};
-ghost use Rattle.exec_live_idle.specs.Idle.{knows, IsSeatOf};
-ghost use Rattle.exec_live_idle.specs.Live.{first_view};
+ghost use Rattle.exec_live_idle.specs.{Idle.{knows, IsSeatOf}, Live.first_view};
 
 use super::fake::FakePool;
 use super::next_player;
 use super::player::Player;
-use crate::seat::{Idle, IdleSeat};
+use exec_live_idle::seat::{Idle, IdleSeat};
 use exec_words::idle::Park;
 use std::alloc::{AllocFailed, Global};
 use std::process::Abort;

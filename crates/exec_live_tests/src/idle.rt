@@ -1,14 +1,16 @@
+//! The idle set and its searchers: claims, looks, searches and parks over a fake pool, and
+//! workers that publish on threads.
+
 ghost use Rattle.std.specs.Prelude.{◌≡◌, ◌<◌, ◌+◌, false};
-ghost use Rattle.exec_live_idle.specs.Idle.{knows, IsSeatOf, IsSame};
-ghost use Rattle.exec_live_idle.specs.Live.{next_number};
+ghost use Rattle.exec_live_idle.specs.{Idle.{knows, IsSeatOf, IsSame}, Live.next_number};
 
 mod fake;
 mod play;
 mod player;
 mod threads;
 
-use crate::searcher::Searcher;
-use crate::seat::{Idle, IdleSeat};
+use exec_live_idle::searcher::Searcher;
+use exec_live_idle::seat::{Idle, IdleSeat};
 use exec_words::idle::Park;
 use fake::FakePool;
 use play::{Line, Op, play};

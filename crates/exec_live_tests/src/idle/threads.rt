@@ -1,10 +1,9 @@
 //! Workers that publish and withdraw on threads of their own.
 
 ghost use Rattle.std.specs.Prelude.{◌≡◌, ◌+◌, ◌<◌, false, if◌then◌else◌};
-ghost use Rattle.exec_live_idle.specs.Idle.{knows, IsSeatOf, IsSame};
-ghost use Rattle.exec_live_idle.specs.Live.{next_number};
+ghost use Rattle.exec_live_idle.specs.{Idle.{knows, IsSeatOf, IsSame}, Live.next_number};
 
-use crate::seat::{Idle, IdleSeat};
+use exec_live_idle::seat::{Idle, IdleSeat};
 use std::process::Abort;
 use std::test::Fail;
 use std::thread::join;

@@ -1,6 +1,6 @@
 use Rattle.std.proofs.Common.{◌≡◌, ◌^◌, false}
 use Rattle.exec_live_idle.specs.Idle.{knows, IsSeatOf}
-use Rattle.exec_live_idle.proofs.tests.play.gather.Given as goal
+use Rattle.exec_live_tests.proofs.idle.play.gather.Given as goal
 
 abbrev pub invariant-loop-made : goal.invariant-loop-made
 invariant-loop-made g l = record {

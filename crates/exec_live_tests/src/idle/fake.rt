@@ -2,9 +2,9 @@
 
 ghost use Rattle.std.specs.Prelude.{◌≡◌, ℕ, ◌<◌, ◌≤◌, true, false, nat_lt, slice_set};
 
-use crate::backlog::Backlog;
-use crate::notify::Rouse;
-use crate::seat::{Idle, IdleSeat};
+use exec_live_idle::backlog::Backlog;
+use exec_live_idle::notify::Rouse;
+use exec_live_idle::seat::{Idle, IdleSeat};
 use std::sync::Wait;
 
 /// Who was woken.
