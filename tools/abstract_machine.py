@@ -1,6 +1,6 @@
 """The abstract machine as a program: which event may come in which state, and what it changes.
 
-It says in Python what crates/exec_abstract says as definitions, and was written from the same requirements by
+It says in Python what crates/exec_machine says as definitions, and was written from the same requirements by
 another hand. `tools/example` replays whole logs on it to find the choices, which a log doesn't tell.
 
 A `World` is a state. `World.choices` lists the choices that may explain a line, the likeliest first. `World.take` takes

@@ -1,4 +1,4 @@
-"""Traces, logs and choices as terms of exec_abstract."""
+"""Traces, logs and choices as terms of exec_machine."""
 from abstract_machine import World
 from traces import line_of
 
@@ -199,7 +199,7 @@ def imports(module, names):
     return f"use Rattle.{module}.{{{', '.join(names)}}}\n"
 
 
-DECLARED = "exec_abstract.specs.declared"
+DECLARED = "exec_machine.specs.declared"
 EVENTS = ("Turn Serve Begin Pend Done Fault Spawn Dedicated Closed Clear Admit Wait Got Drop Timer GotTimer Pass Grant "
           "Enrol Stage Enter Busy Reap Expire Cancel Orphan Release Fire Send Apply Rouse Sleep Close Stop End Return "
           "Land Clock Set Stir Peer").split()
@@ -217,7 +217,7 @@ USES = "".join([
     f"use Rattle.{DECLARED}.step.Action.TheVariants as action\n",
     f"use Rattle.{DECLARED}.state.MailMessage.TheVariants as message\n",
     imports(f"{DECLARED}.event.Event.TheVariants", EVENTS),
-    imports("exec_abstract.specs.Choice.Payer", ["ByRequest", "BySleeper", "ByAct", "ByCall", "ByStop"]),
-    imports("exec_abstract.specs.Examples",
+    imports("exec_machine.specs.Choice.Payer", ["ByRequest", "BySleeper", "ByAct", "ByCall", "ByStop"]),
+    imports("exec_machine.specs.Examples",
             ["Example", "usual", "says", "does", "refuses", "passes", "pays", "posts", "times"]),
 ])

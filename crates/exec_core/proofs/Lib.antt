@@ -1,17 +1,11 @@
-pub mod Calls
-pub mod Credits
-pub mod Doings
-pub mod Dues
-pub mod Goings
-pub mod Keeping
-pub mod Lines
-pub mod Looks
-pub mod Moments
-pub mod Polls
+pub mod Enabling
+pub mod Lifting
+pub mod Applying
 pub mod Powers
-pub mod Resting
-pub mod Rounds
-pub mod Settled
-pub mod Sleeping
-pub mod Steps
-pub mod Words
+pub mod Beginning
+pub mod Started
+pub mod Stood
+pub mod Playing
+pub mod Taking
+mod Standing
+mod Rooting

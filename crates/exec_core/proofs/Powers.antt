@@ -1,14 +1,15 @@
 -- The next power of two, and what the ranges of a configuration give.
-use Rattle.std.proofs.Common.{◌≡◌, ℕ, zero, suc, ◌+◌, ◌-◌, ◌*◌, ◌/◌, ◌^◌, ◌<◌, ◌≤◌, Bool, true, false, if◌then◌else◌, List, [], ◌∷◌, Some, None, sym, ap, subst, ◌∙◌, ⊎_elim, arith, leb-false}
-use Rattle.std.specs.Prelude.{max, nat_le}
-use Rattle.std.specs.Int.{IsPowerOfTwo}
+use Rattle.std.proofs.Common.{◌≡◌, ℕ, zero, suc, ◌+◌, ◌-◌, ◌*◌, ◌/◌, ◌^◌, ◌<◌, ◌≤◌, Bool, true, false, if◌then◌else◌, List, [], ◌∷◌, Some, None, refl, sym, ap, subst, ◌∙◌, ⊎_elim, arith, leb-false}
+use Rattle.std.specs.Prelude.{max, min, ◌%◌, ◌||◌, nat_le, find}
+use Rattle.std.specs.Int.{IsPowerOfTwo, div_ceil}
 use Rattle.std.proofs.Math.Pow.{pow_pos}
 use Rattle.std.proofs.Math.Nat.{pow-le-pow_right, pow-suc}
-use Rattle.std.proofs.lemmas.Bool.{cases_Bool, cases_lt, and_parts, leb-true, eqb-true}
-use Rattle.exec_base.specs.declared.limits.TheConstants.{LONGEST_TIMEOUT}
-use Rattle.exec_machine.specs.declared.config.Configuration.{Configuration}
-use Rattle.exec_machine.specs.declared.config.Field.{Field}
-use Rattle.exec_machine.specs.Ranges.{doubled_up_to, first_out_of, first_out_of_range, tested_parts, is_within, ticks_needed}
+use Rattle.std.proofs.lemmas.Nat.{div-mul-add, div-add-mod', mod_below}
+use Rattle.std.proofs.lemmas.Bool.Decides.{nat_tests}
+use Rattle.exec_time.specs.Layouts.{sizes, slots_needed, is_out_of_range, slots_of}
+use Rattle.std.proofs.lemmas.Bool.{cases_Bool, cases_lt, and_parts, leb-true, le-leb}
+use Rattle.exec_machine.specs.{declared.config.Configuration.Configuration, Ranges.{doubled_up_to, ticks_needed, horizon, wheel_slots}}
+use Rattle.exec_core.specs.Ranges.{is_in_range, longest_timeout}
 
 -- a power of two that is n or more, and of which the half is less, is the first such
 least : (j m n : ℕ) → j ≤ m → n ≤ 2 ^ j → 2 ^ m / 2 < max 1 n → j ≡ m
@@ -54,76 +55,98 @@ power_is most n r power above half below =
     let few : k ≤ 0 + most = omega (arith, few_doublings most k n below half') in
     power.1 ∙ sym (doubled_is most 0 k n (omega arith) few above' half')
 
-tested : (p : Field × ℕ × Bool) (ps : List (Field × ℕ × Bool)) → first_out_of (p ∷ ps) ≡ None → (p.2 ≡ true) × (first_out_of ps ≡ None)
-tested p ps h =
-    ⊎_elim
-    (λ (e : p.2 ≡ true). (e, ap (λ (b : Bool). if b then first_out_of ps else Some (record { field = p.0; value = p.1 })) (sym e) ∙ h))
-    (λ (e : p.2 ≡ false). let f : Some (record { field = p.0; value = p.1 }) ≡ None = ap (λ (b : Bool). if b then first_out_of ps else Some (record { field = p.0; value = p.1 })) (sym e) ∙ h in cc)
-    (cases_Bool p.2)
+-- A CONFIGURATION IN ITS RANGES
 
--- each part passes its test
-abbrev AllPass : List (Field × ℕ × Bool) → Type 0
-AllPass [] = Unit {0}
-AllPass (p ∷ ps) = (p.2 ≡ true) × AllPass ps
-
-passing : (ps : List (Field × ℕ × Bool)) → first_out_of ps ≡ None → AllPass ps
-passing [] h = tt
-passing (p ∷ ps) h = let one = tested p ps h in (one.0, passing ps one.1)
-
-within : (low high n : ℕ) → is_within low high n ≡ true → (low ≤ n) × (n ≤ high)
-within low high n h = let both = and_parts (nat_le low n) (nat_le n high) h in (leb-true low n both.0, leb-true n high both.1)
-
--- a configuration in its ranges
 pub record InRange (c : Configuration) : Type 0 where
-  pub workers : c.workers ≡ 1
+  pub workers : c.workers ≤ 64
   pub interval : 1 ≤ c.interval
-  pub ring : (1 ≤ c.ring) × (c.ring ≤ 32768)
-  pub tick : (1 ≤ c.tick) × (c.tick ≤ LONGEST_TIMEOUT)
-  pub connect : (1 ≤ c.connect) × (c.connect ≤ LONGEST_TIMEOUT)
-  pub rw : (1 ≤ c.rw) × (c.rw ≤ LONGEST_TIMEOUT)
+  pub ring : c.ring ≤ 32768
+  pub tick : (1 ≤ c.tick) × (c.tick ≤ longest_timeout)
+  pub connect : (1 ≤ c.connect) × (c.connect ≤ longest_timeout)
+  pub rw : (1 ≤ c.rw) × (c.rw ≤ longest_timeout)
+  pub spins : c.spin.budget ≤ c.spin.most
   pub layout : ticks_needed c ≤ 2 ^ 20
 
-pub in_range : (c : Configuration) → first_out_of_range c ≡ None → InRange c
+pub in_range : (c : Configuration) → is_in_range c ≡ true → InRange c
 in_range c h =
-    let t = passing (tested_parts c) h in
+    let p19 = and_parts _ _ h in
+    let p18 = and_parts _ _ p19.0 in
+    let p17 = and_parts _ _ p18.0 in
+    let p16 = and_parts _ _ p17.0 in
+    let p15 = and_parts _ _ p16.0 in
+    let p14 = and_parts _ _ p15.0 in
+    let p13 = and_parts _ _ p14.0 in
+    let p12 = and_parts _ _ p13.0 in
+    let p11 = and_parts _ _ p12.0 in
+    let p10 = and_parts _ _ p11.0 in
+    let p9 = and_parts _ _ p10.0 in
+    let p8 = and_parts _ _ p9.0 in
+    let p7 = and_parts _ _ p8.0 in
+    let p6 = and_parts _ _ p7.0 in
+    let p5 = and_parts _ _ p6.0 in
+    let p4 = and_parts _ _ p5.0 in
+    let p3 = and_parts _ _ p4.0 in
+    let p2 = and_parts _ _ p3.0 in
     record {
-      workers = eqb-true c.workers 1 t.0;
-      interval = (within 1 (2 ^ 32 - 1) c.interval t.1.0).0;
-      ring = within 1 32768 c.ring t.1.1.0;
-      tick = within 1 LONGEST_TIMEOUT c.tick t.1.1.1.0;
-      connect = within 1 LONGEST_TIMEOUT c.connect t.1.1.1.1.0;
-      rw = within 1 LONGEST_TIMEOUT c.rw t.1.1.1.1.1.0;
-      layout = leb-true (ticks_needed c) (2 ^ 20) t.1.1.1.1.1.1.1.1.1.0;
+      workers = leb-true c.workers 64 p2.1;
+      interval = leb-true 1 c.interval p3.1;
+      ring = leb-true c.ring 32768 p6.1;
+      tick = (leb-true 1 c.tick p7.1, leb-true c.tick longest_timeout p8.1);
+      connect = (leb-true 1 c.connect p9.1, leb-true c.connect longest_timeout p10.1);
+      rw = (leb-true 1 c.rw p11.1, leb-true c.rw longest_timeout p12.1);
+      spins = leb-true c.spin.budget c.spin.most p13.1;
+      layout = leb-true (ticks_needed c) (2 ^ 20) p19.1;
     }
 
--- so many doublings of a power of two make no less, and no more than the power that is so much higher
-doubled_between : (more j n : ℕ) → (2 ^ j ≤ doubled_up_to more (2 ^ j) n) × (doubled_up_to more (2 ^ j) n ≤ 2 ^ (j + more))
-doubled_between zero j n = (omega arith, pow-le-pow_right (omega arith) (omega arith))
-doubled_between (suc more) j n =
-    let P : ℕ → Type 0 = λ x. (2 ^ j ≤ x) × (x ≤ 2 ^ (j + suc more)) in
+-- THE LAYOUT OF THE WHEEL
+
+-- the powers that doubling goes through, and the last of them
+abbrev doublings : ℕ → ℕ → List ℕ
+doublings zero p = p ∷ []
+doublings (suc more) p = p ∷ doublings more (p + p)
+
+abbrev last_of : ℕ → ℕ → ℕ
+last_of zero p = p
+last_of (suc more) p = last_of more (p + p)
+
+found_by_doubling : (more p n : ℕ) → n ≤ last_of more p → find (λ size. nat_le n size) (doublings more p) ≡ Some (doubled_up_to more p n)
+found_by_doubling zero p n fits = ap (λ (b : Bool). if b then Some p else None) (le-leb n p fits)
+found_by_doubling (suc more) p n fits =
     ⊎_elim
-    (λ (e : nat_le n (2 ^ j) ≡ true).
-    let is : 2 ^ j ≡ doubled_up_to (suc more) (2 ^ j) n = ap (λ (b : Bool). if b then 2 ^ j else doubled_up_to more (2 ^ j + 2 ^ j) n) (sym e) in
-    let up : 2 ^ j ≤ 2 ^ (j + suc more) = pow-le-pow_right (omega arith) (omega arith) in
-    subst P is (omega arith, up))
-    (λ (e : nat_le n (2 ^ j) ≡ false).
-    let next : j + 1 ≡ suc j = omega arith in
-    let double : 2 ^ (j + 1) ≡ 2 ^ j * 2 = ap (λ k. 2 ^ k) next ∙ pow-suc 2 j in
-    let twice : 2 ^ (j + 1) ≡ 2 ^ j + 2 ^ j = omega (arith, double) in
-    let is : doubled_up_to more (2 ^ (j + 1)) n ≡ doubled_up_to (suc more) (2 ^ j) n =
-    ap (λ p. doubled_up_to more p n) twice
-    ∙ ap (λ (b : Bool). if b then 2 ^ j else doubled_up_to more (2 ^ j + 2 ^ j) n) (sym e) in
-    let rest = doubled_between more (j + 1) n in
-    let top : 2 ^ (j + 1 + more) ≡ 2 ^ (j + suc more) = ap (λ k. 2 ^ k) (omega arith) in
-    subst P is (omega (arith, twice, rest.0), omega (arith, top, rest.1)))
-    (cases_Bool (nat_le n (2 ^ j)))
+    (λ (e : nat_le n p ≡ true). ap (λ (b : Bool). if b then Some p else find (λ size. nat_le n size) (doublings more (p + p))) e ∙ ap (λ (b : Bool). Some (if b then p else doubled_up_to more (p + p) n)) (sym e))
+    (λ (e : nat_le n p ≡ false). ap (λ (b : Bool). if b then Some p else find (λ size. nat_le n size) (doublings more (p + p))) e ∙ found_by_doubling more (p + p) n fits ∙ ap (λ (b : Bool). Some (if b then p else doubled_up_to more (p + p) n)) (sym e))
+    (cases_Bool (nat_le n p))
 
--- the next power of two is some, and at most the one after so many doublings
-pub doubled_some : (most n : ℕ) → 0 < doubled_up_to most 1 n
-doubled_some most n = let b = doubled_between most 0 n in omega (arith, b.0)
+next_multiple : (q y : ℕ) → (q + 1) * y ≡ q * y + y
+next_multiple q y = grind arith
 
-pub doubled_most : (most n : ℕ) → doubled_up_to most 1 n ≤ 2 ^ most
-doubled_most most n =
-    let b = doubled_between most 0 n in
-    let top : 2 ^ (0 + most) ≡ 2 ^ most = ap (λ k. 2 ^ k) (omega arith) in
-    omega (arith, b.1, top)
+-- a quotient that is rounded up, in two ways
+rounded_up : (x y : ℕ) → 1 ≤ y → div_ceil x y ≡ (x + (y - 1)) / y
+rounded_up x y some =
+    let whole : x / y * y + x % y ≡ x = div-add-mod' x y in
+    let below : x % y < y = mod_below x y some in
+    let by : (n : ℕ) → x % y ≡ n → x / y + min 1 (x % y) ≡ (x + (y - 1)) / y = λ n.
+    elim n as (λ k. x % y ≡ k → x / y + min 1 (x % y) ≡ (x + (y - 1)) / y) [
+      | zero ↦ λ is.
+          let e : x / y * y + (y - 1) ≡ x + (y - 1) = omega (arith, whole, is) in
+          ap (λ m. x / y + min 1 m) is ∙ omega arith ∙ sym (div-mul-add (x / y) y (y - 1) (omega (arith, some))) ∙ ap (λ z. z / y) e
+      | suc k ↦ λ is.
+          let e : (x / y + 1) * y + k ≡ x + (y - 1) = omega (arith, whole, is, some, next_multiple (x / y) y) in
+          ap (λ m. x / y + min 1 m) is ∙ omega arith ∙ sym (div-mul-add (x / y + 1) y k (omega (arith, below, is))) ∙ ap (λ z. z / y) e
+    ] in
+    by (x % y) refl
+
+in_time : (n : ℕ) → 1 ≤ n → n ≤ longest_timeout → is_out_of_range n ≡ false
+in_time n some few = grind (arith, nat_tests)
+
+longer : (c : Configuration) → InRange c → (1 ≤ horizon c) × (horizon c ≤ longest_timeout)
+longer c r = (omega (arith, r.connect.0), omega (arith, r.connect.1, r.rw.1))
+
+pub slots_of_wheel : (c : Configuration) → InRange c → slots_of (horizon c) c.tick ≡ Some (wheel_slots c)
+unfolding slots_of
+slots_of_wheel c r =
+    let far = longer c r in
+    let needed : slots_needed (horizon c) c.tick ≡ ticks_needed c = ap (λ n. n + 2) (rounded_up (horizon c) c.tick r.tick.0) in
+    ap (λ (b : Bool). if b || is_out_of_range c.tick then None else find (λ size. nat_le (slots_needed (horizon c) c.tick) size) sizes) (in_time (horizon c) far.0 far.1)
+    ∙ ap (λ (b : Bool). if false || b then None else find (λ size. nat_le (slots_needed (horizon c) c.tick) size) sizes) (in_time c.tick r.tick.0 r.tick.1)
+    ∙ ap (λ n. find (λ size. nat_le n size) (doublings 20 1)) needed ∙ found_by_doubling 20 1 (ticks_needed c) r.layout

@@ -1,8 +1,4 @@
-pub mod View
-pub mod Acts
-pub mod Places
-pub mod Sound
-pub mod Order
-pub mod Credit
-pub mod Turns
-pub mod Minds
+pub mod Configs
+pub mod Ranges
+pub mod Firsts
+pub mod Lift

@@ -1,269 +1,246 @@
-//! One executor as one value, and what stands around a step: whether it may be taken, and what
-//! became of it.
+//! One executor as one value, and what stands around a step: whether it may be taken, and what became of it.
 //!
-//! After want of memory the executor is spent. The step that was refused memory may have changed
-//! it, so the run ends there, and nothing is claimed of it.
+//! A step that gets no memory leaves all that can be seen as it was, but the executor is spent by it: no step may follow.
 
-use crate::place::Place;
-use crate::root::Root;
-use crate::sizes::{ring_size, wheel_slots};
+ghost use Rattle.std.specs.Prelude.{◌≡◌, ◌+◌, ◌<◌, true, false, length, slice_get, slice_set, slice_index_or, IfOk, OnOk, OnErr};
+ghost use Rattle.exec_machine.specs.{Callers.is_enabled, Progress.Plan};
+ghost use Rattle.exec_moves.specs.Plays.{Playing, first_playing};
+ghost use Rattle.exec_steps.specs.{Sound.Sound, declared.parts.worker.Worker.Worker as Party};
+ghost use Rattle.exec_core.specs.{Configs.configuration_of as configuration_told, Lift.{world, Stands, IsReady, Shows, Applies, Keeps, RootsPerform, Takes, IsPlanOf, IsAsBefore, WorkerSteps, WorkerStays, Sees, Lands, is_of_first_cut, may_take, may_work_in, may_land_in, has_begun}, Ranges.is_in_range};
+
+use crate::config::Config;
+use crate::setting_up::{configuration_of, first_shared, first_worker};
 use exec_base::limits::LAST_MOMENT;
-use exec_first_driver::driver::Driver;
-use exec_first_driver::sleepers::Timers;
-use exec_machine::config::{Configuration, Word};
-use exec_machine::event::{Event, Line, Said};
-use exec_machine::state::{Phase, Rest, TaskPhase, Waiting, WorkerPhase};
+use exec_credit::minded::{a_step_is_minded, minded_is_fair};
+use exec_machine::event::{Event, Line, StepResult};
 use exec_machine::step::Action;
 use exec_outcomes::outcome::OpResult;
+use exec_steps::parts::shared::Shared;
+use exec_steps::parts::worker::Worker;
+use exec_steps::scripted::Scripted;
 use std::alloc::{AllocError, Global};
 
-/// The wake word of a worker: in which of its two waits it is, and whether it was signalled.
-#[derive(Clone, Copy, Debug, PartialEq, Eq)]
-pub struct WakeWord {
-    /// It sleeps on this word.
-    pub sleeping: bool,
-    /// It waits on its ring.
-    pub on_ring: bool,
-    /// It was signalled: the latch.
-    pub signalled: bool,
-}
-
-/// A wake word of a worker that is in no wait and was not signalled.
-pub const NO_WAKE: WakeWord = WakeWord {
-    sleeping: false,
-    on_ring: false,
-    signalled: false,
-};
-
-/// The words that other parties look at.
-#[derive(Clone, Copy, Debug, PartialEq, Eq)]
-pub struct Words {
-    /// The wake word.
-    pub wake: WakeWord,
-    /// The set of idle workers, a bit for each.
-    pub idle: u64,
-    /// How many search counts are held or reserved.
-    pub searching: u64,
-    /// The length of the global queue.
-    pub mirror: u64,
-}
-
-/// One executor: its worker, its root task and its requests.
+/// One executor: its workers, and what they share.
 #[derive(Drop)]
-pub struct Core {
-    /// The configuration.
-    pub config: Configuration,
-    /// The clock, in nanoseconds.
-    pub clock: u64,
-    /// The next step of the worker.
-    pub place: Place,
-    /// How far the worker has come.
-    pub phase: WorkerPhase,
-    /// Whether it sleeps.
-    pub rest: Rest,
-    /// Whether it has passed the shutdown barrier.
-    pub left: bool,
-    /// The moment at which it began, in nanoseconds.
-    pub start: u64,
-    /// The moment that it last sampled, in nanoseconds.
-    pub sampled: u64,
-    /// The moment that it had sampled before that, in nanoseconds.
-    pub sampled_before: u64,
-    /// How many operations its ring holds.
-    pub ring: u64,
-    /// How many slots its timeout wheel has.
-    pub slots: u64,
-    /// So many picks are left to the next global look.
-    pub countdown: u64,
-    /// Whether the service of this turn was one that may be deferred.
-    pub defer: bool,
-    /// Whether its last enter was left out.
-    pub deferred: bool,
-    /// The root task.
-    pub root: Root,
-    /// The requests and the ring.
-    pub driver: Driver,
-    /// The sleepers.
-    pub timers: Timers,
-    /// The words.
-    pub words: Words,
-    /// Whether the task set is closed.
-    pub set_closed: bool,
-    /// Whether the global queue is closed.
-    pub queue_closed: bool,
-    /// Whether the pool is stopped.
-    pub stopped: bool,
+pub struct Core<B> {
+    workers: Vec<Worker>,
+    shared: Shared<B>,
+    // Whether a step got no memory.
+    spent: bool,
 }
 
-impl Core {
-    ghost use Rattle.std.specs.Prelude.{◌≡◌, not, ◌&&◌, true, false, None, IfOk, OnOk, OnErr};
-    ghost use Rattle.exec_machine.specs.declared.step.Action.TheVariants.{Land as landing, Clock as moving, Stir as stirring};
-    ghost use Rattle.exec_machine.specs.Allowed.{is_enabled, is_awake, has_ended, is_flying};
-    ghost use Rattle.exec_machine.specs.declared.event.Event.TheVariants.{Land as landed};
-    ghost use Rattle.exec_machine.specs.Run.{first_world};
-    ghost use Rattle.exec_machine.specs.Ranges.{first_out_of_range};
-    ghost use Rattle.exec_core.specs.View.{world};
-    ghost use Rattle.exec_core.specs.Sound.{SendsBytes, Sound, Applies, Lands, Moves, Stirs};
-    ghost use Rattle.exec_machine.specs.Progress.{quiet_bound};
-    ghost use Rattle.exec_core.specs.Credit.{credit};
-    ghost use Rattle.exec_core.specs.Minds.{Minds, IsAtRest, Stands, Goes};
-    ghost use Rattle.std.specs.Prelude.{◌<◌};
-
-    /// An executor whose root has this script, and is queued.
-    pub fn new(alloc: Global, config: Configuration, script: Vec<Word>) -> Self
-        requires config { first_out_of_range config ≡ None }
-        requires script { SendsBytes script.items }
-        ensures config { result.config ≡ config }
-        ensures begins { world result ≡ first_world script.items }
-        ensures stands { Stands result }
-        ensures bounded { credit result < quiet_bound config (world result) }
+impl<B: Scripted + Drop> Core<B> {
+    /// An executor of one worker, whose root runs this body, with so many open files and sockets, where so many looks of a
+    /// spinning worker take a microsecond. An `Err` comes only for want of memory. The caller must have a configuration
+    /// of one worker whose parts are in their ranges, and a plan that the body begins.
+    pub fn new(
+        alloc: Global,
+        config: &Config,
+        iters_per_us: u64,
+        files: usize,
+        sockets: usize,
+        root: B,
+    ) -> Result<Self, AllocError>
+        requires config { is_in_range (configuration_told config.now iters_per_us files sockets) ≡ true }
+        requires one_worker { config.now.worker_threads ≡ 1 }
+        requires plan { (p : Plan) × IsPlanOf B.left B.runs B.holds B.spot p (configuration_told config.now iters_per_us files sockets) root }
+        ensures begins { IfOk result (λ core. (p : Plan) → IsPlanOf B.left B.runs B.holds B.spot p (configuration_told config.now iters_per_us files sockets) root → Shows B.left B.runs B.holds B.spot p core (first_playing p)) }
+        ensures ready { IfOk result (λ core. IsReady B.left B.runs B.holds core) }
     {
-        Core {
-            config,
-            clock: 0,
-            place: Place::BeginTurn,
-            phase: WorkerPhase::Open,
-            rest: Rest::Awake,
-            left: false,
-            start: 0,
-            sampled: 0,
-            sampled_before: 0,
-            ring: ring_size(&config),
-            slots: wheel_slots(&config),
-            countdown: config.interval,
-            defer: false,
-            deferred: false,
-            root: Root {
-                script,
-                place: 0,
-                held: Vec::new(alloc),
-                phase: TaskPhase::Queued,
-                waiting: Waiting::Nothing,
-                fresh: false,
-                flag: true,
-            },
-            driver: Driver::new(alloc),
-            timers: Timers::new(alloc),
-            words: Words {
-                wake: NO_WAKE,
-                idle: 0,
-                searching: 0,
-                mirror: 0,
-            },
-            set_closed: false,
-            queue_closed: false,
-            stopped: false,
-        }
+        a_step_is_minded();
+        let configuration = configuration_of(config, iters_per_us, files, sockets);
+        let (mut shared, runnable) = first_shared(alloc, configuration, root)?;
+        let worker = first_worker(alloc, config, &configuration, runnable, &mut shared.store)?;
+        let mut workers = Vec::with_capacity(alloc, 1)?;
+        workers.push_reserved(worker);
+        Ok(Core {
+            workers,
+            shared,
+            spent: false,
+        })
     }
 
-    /// Whether the step may be taken.
+    /// Whether a step got no memory, so that none may follow.
+    pub fn is_spent(&self) -> bool
+        ensures { result ≡ self.now.spent }
+    {
+        self.spent
+    }
+
+    /// Whether the step may be taken. There are no outside callers yet.
+    #[tactic(auto, using(crate::proofs::Enabling::enabled_as))]
     pub fn enabled(&self, action: Action) -> bool
-        requires { Sound self.now }
-        ensures { result ≡ is_enabled (world self.now) action }
+        requires stands { Stands self.now }
+        requires known { is_of_first_cut action ≡ true }
+        ensures enabled { (p : Plan) → result ≡ is_enabled (world B.left B.spot p self.now).common action }
+    {
+        self.may_take(action)
+    }
+
+    /// The same, by what is shared.
+    fn may_take(&self, action: Action) -> bool
+        requires stands { Stands self.now }
+        ensures { result ≡ may_take self.now.shared action }
     {
         match action {
-            Action::Work { worker } => worker == 0 && self.is_running(),
-            Action::Clock { by } => by <= LAST_MOMENT - self.clock,
+            Action::Work { worker } => self.may_work(worker),
+            Action::Clock { by } => match self.shared.clock.checked_add(by) {
+                Some(moment) => moment <= LAST_MOMENT,
+                None => false,
+            },
             Action::Land { request, result } => self.may_land(request, result),
-            Action::Stir { worker } => worker == 0 && !self.is_awake(),
+            Action::Stir { worker } => match self.shared.seats.get(worker) {
+                Some(seat) => !seat.is_awake(),
+                None => false,
+            },
+            Action::SetBusy { worker } | Action::EndPoll { worker } => self.has_not_ended(worker),
+            Action::Peer { listener } => listener < self.shared.listeners.len(),
+            Action::Spawn { .. } | Action::Wake { .. } | Action::GoOn { .. } => false,
         }
     }
 
-    /// Whether the worker is awake and has not ended.
-    fn is_running(&self) -> bool
-        ensures { result ≡ (is_awake self.now.rest && not (has_ended self.now.phase)) }
+    /// Whether the worker is awake, has not ended, and isn't held at the shutdown barrier.
+    fn may_work(&self, worker: usize) -> bool
+        ensures { result ≡ may_work_in self.now.shared.seats.items (slice_get self.now.shared.seats.items worker) }
     {
-        self.is_awake() && !matches!(self.phase, WorkerPhase::Ended)
+        match self.shared.seats.get(worker) {
+            Some(seat) => seat.is_awake()
+                && !seat.has_ended()
+                && !(seat.pool && seat.left && !self.shared.all_left()),
+            None => false,
+        }
     }
 
-    /// Whether the worker doesn't sleep.
-    fn is_awake(&self) -> bool
-        ensures { result ≡ is_awake self.now.rest }
+    /// Whether there is such a worker that has not ended.
+    fn has_not_ended(&self, worker: usize) -> bool
+        ensures { result ≡ has_begun (slice_get self.now.shared.seats.items worker) }
     {
-        matches!(self.rest, Rest::Awake)
+        match self.shared.seats.get(worker) {
+            Some(seat) => !seat.has_ended(),
+            None => false,
+        }
     }
 
     /// Whether the kernel has the operation and may give this result.
     fn may_land(&self, request: usize, given: OpResult) -> bool
-        requires { Sound self.now }
-        ensures { result ≡ is_enabled (world self.now) (landing request given) }
+        requires stands { Stands self.now }
+        ensures { result ≡ may_land_in (slice_get self.now.shared.requests.items request) given }
     {
-        let (Some(entry), Some(asked)) = (
-            self.driver.requests.get(request),
-            self.driver.asked.get(request),
-        ) else {
-            return false;
-        };
-        matches!(entry.phase, Phase::Flying) && asked.may_give(given)
+        match self.shared.requests.get(request) {
+            Some(record) => record.may_land(given),
+            None => false,
+        }
     }
 
-    /// Takes the step if it may be taken, and answers its line. Only a step that may be taken can want memory.
-    /// After an `Err` the executor is spent: no step may follow.
+    /// Takes the step if it may be taken, and answers its line. Only a step that may be taken can want memory. After an
+    /// `Err` the executor stands as before the step, and is spent. The caller must know that it isn't spent, and that its root
+    /// performs a plan.
     pub fn apply(&mut self, alloc: Global, action: Action) -> Result<Line, AllocError>
-        requires { Stands self.old }
-        ensures applies { IfOk result (λ line. Applies self.old action line self.new) }
-        ensures goes { IfOk result (λ line. Goes self.old line self.new) }
-        ensures wants { OnErr result (is_enabled (world self.old) action ≡ true) }
+        requires ready { IsReady B.left B.runs B.holds self.old }
+        requires known { is_of_first_cut action ≡ true }
+        ensures applies { IfOk result (λ line. (p : Plan) (x : Playing) → Shows B.left B.runs B.holds B.spot p self.old x → Applies B.left B.runs B.holds B.spot p x action line self.new) }
+        ensures ready { OnOk result (IsReady B.left B.runs B.holds self.new) }
+        ensures wants { OnErr result ((p : Plan) → is_enabled (world B.left B.spot p self.old).common action ≡ true) }
+        ensures same { OnErr result (IsAsBefore B.left B.spot self.old self.new) }
+        ensures spent { OnErr result (self.new.spent ≡ true) }
     {
-        if !self.enabled(action) {
+        // Credit is counted along the moves of a worker.
+        a_step_is_minded();
+        minded_is_fair();
+        if !self.may_take(action) {
             return Ok(Line {
                 action,
-                said: Said::Refused,
+                said: StepResult::Refused,
             });
         }
-        let event = match action {
-            Action::Work { .. } => self.step(alloc)?,
-            Action::Clock { by } => self.move_clock(by),
-            Action::Land { request, result } => self.land(request, result)?,
-            Action::Stir { .. } => self.stir(),
-        };
+        let event = self.take(alloc, action)?;
         Ok(Line {
             action,
-            said: Said::Did(event),
+            said: StepResult::Did(event),
         })
     }
 
-    /// The operation of the request lands with this result, and rouses the worker.
-    fn land(&mut self, request: usize, given: OpResult) -> Result<Event, AllocError>
-        requires stands { Stands self.old }
-        requires enabled { is_enabled (world self.old) (landing request given) ≡ true }
-        ensures land { IfOk result (λ event. event ≡ landed) }
-        ensures steps { OnOk result (Lands self.old request given self.new) }
-        ensures minds { OnOk result (Minds self.new.place self.new) }
-        ensures rest { OnOk result (IsAtRest self.new) }
+    /// Takes a step that may be taken. Without memory for it the executor is spent.
+    fn take(&mut self, alloc: Global, action: Action) -> Result<Event, AllocError>
+        requires ready { IsReady B.left B.runs B.holds self.old }
+        requires known { is_of_first_cut action ≡ true }
+        requires enabled { may_take self.old.shared action ≡ true }
+        ensures takes { IfOk result (λ event. (p : Plan) → self.old.shared.config ≡ p.config → RootsPerform B.left B.runs B.holds p self.old → Takes B.left B.spot p self.old action event self.new) }
+        ensures keeps { OnOk result (Keeps B.left B.runs B.holds self.old self.new) }
+        ensures stands { OnOk result (Stands self.new × (self.new.spent ≡ false)) }
+        ensures same { OnErr result (IsAsBefore B.left B.spot self.old self.new) }
+        ensures spent { OnErr result (self.new.spent ≡ true) }
     {
-        self.driver.land(request, given)?;
-        self.rest = Rest::Awake;
-        Ok(Event::Land)
-    }
-
-    /// The clock moves, and rouses the worker where it slept until then.
-    fn move_clock(&mut self, by: u64) -> Event
-        requires stands { Stands self.old }
-        requires enabled { is_enabled (world self.old) (moving by) ≡ true }
-        ensures moved { result ≡ Event.Clock }
-        ensures steps { Moves self.old by self.new }
-        ensures minds { Minds self.new.place self.new }
-        ensures rest { IsAtRest self.new }
-    {
-        self.clock += by;
-        if let Rest::Until(moment) = self.rest {
-            if moment <= self.clock {
-                self.rest = Rest::Awake;
-            }
+        match action {
+            Action::Work { worker } => self.work(alloc, worker),
+            Action::Clock { by } => Ok(self.shared.move_clock(by)),
+            Action::Land { request, result } => Ok(self.land(request, result)),
+            Action::Stir { worker } => Ok(self.shared.stir(worker)),
+            Action::SetBusy { worker } => Ok(self.set_busy(worker)),
+            Action::EndPoll { worker } => Ok(self.end_poll(worker)),
+            Action::Peer { listener } => self.bring_peer(listener),
+            Action::Spawn { .. } | Action::Wake { .. } | Action::GoOn { .. } => unreachable!(),
         }
-        Event::Clock
     }
 
-    /// The wait of the worker returns for nothing.
-    fn stir(&mut self) -> Event
-        requires { Stands self.old }
-        ensures stirred { result ≡ Event.Stir }
-        ensures steps { Stirs self.old self.new }
-        ensures minds { Minds self.new.place self.new }
-        ensures rest { IsAtRest self.new }
+    /// A step of this worker, which may take one. Without memory for it the executor is spent.
+    fn work(&mut self, alloc: Global, worker: usize) -> Result<Event, AllocError>
+        requires ready { IsReady B.left B.runs B.holds self.old }
+        requires enabled { may_take self.old.shared (Action.Work worker) ≡ true }
+        ensures steps { IfOk result (λ event. WorkerSteps B.left B.runs B.holds B.spot worker self.old event self.new) }
+        ensures stays { OnErr result (WorkerStays B.left B.spot worker self.old self.new) }
+        ensures spent { OnErr result (self.new.spent ≡ true) }
     {
-        self.rest = Rest::Awake;
-        Event::Stir
+        let stepped = self.workers[worker].step(alloc, &mut self.shared);
+        self.spent = stepped.is_err();
+        stepped
+    }
+
+    /// The operation of a request, which the kernel has, lands with this result.
+    fn land(&mut self, request: usize, given: OpResult) -> Event
+        requires stands { Stands self.old }
+        requires enabled { may_take self.old.shared (Action.Land request given) ≡ true }
+        ensures event { result ≡ Event.Land }
+        ensures lands { Lands B.left B.spot request given self.old self.new }
+    {
+        let worker = self.shared.requests[request].shown.worker;
+        self.workers[worker].land(request, given, &mut self.shared)
+    }
+
+    /// The next enter of the ring of this worker takes nothing.
+    fn set_busy(&mut self, worker: usize) -> Event
+        requires stands { Stands self.old }
+        requires enabled { may_take self.old.shared (Action.SetBusy worker) ≡ true }
+        ensures event { result ≡ Event.Set }
+        ensures sees { Sees worker (λ seen. record seen { busy = true }) self.old self.new }
+    {
+        self.workers[worker].set_busy(&self.shared)
+    }
+
+    /// The next wake completion of the ring of this worker ends its wake poll.
+    fn end_poll(&mut self, worker: usize) -> Event
+        requires stands { Stands self.old }
+        requires enabled { may_take self.old.shared (Action.EndPoll worker) ≡ true }
+        ensures event { result ≡ Event.Set }
+        ensures sees { Sees worker (λ seen. seen) self.old self.new }
+    {
+        self.workers[worker].end_poll(&self.shared)
+    }
+
+    /// A peer comes to this listener. Where it can't be counted the executor is spent.
+    fn bring_peer(&mut self, listener: usize) -> Result<Event, AllocError>
+        requires there { listener < length self.old.shared.listeners.items }
+        ensures event { IfOk result (λ event. event ≡ Event.Peer) }
+        ensures one_more { OnOk result (self.new.shared.listeners.items ≡ slice_set self.old.shared.listeners.items listener (slice_index_or self.old.shared.listeners.items listener 0 + 1)) }
+        ensures workers { self.new.workers ≡ self.old.workers }
+        ensures listeners { self.new.shared ≡ record self.old.shared { listeners = self.new.shared.listeners } }
+        ensures same { OnErr result (self.new.shared ≡ self.old.shared) }
+        ensures spent { OnErr result (self.new.spent ≡ true) }
+        ensures unspent { OnOk result (self.new.spent ≡ false) }
+        ensures sound { (w : Party) → Sound w self.old.shared → Sound w self.new.shared }
+    {
+        let came = self.shared.bring_peer(listener);
+        self.spent = came.is_err();
+        came
     }
 }

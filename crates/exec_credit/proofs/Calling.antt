@@ -2,20 +2,11 @@
 use Rattle.std.proofs.Common.{◌≡◌, ℕ, ◌-◌, ◌<◌, ◌≤◌, true, false, List, [], ◌∷◌, refl, sym, subst, ap, arith, inl, inr}
 use Rattle.std.proofs.lemmas.Bool.{true≢false, false≢true, cases_Bool, ltb-true, ltb-false}
 use Rattle.std.specs.Prelude.{nat_lt}
-use Rattle.exec_abstract.specs.declared.config.Configuration.{Configuration}
-use Rattle.exec_abstract.specs.declared.event.Event.TheVariants.{Turn}
-use Rattle.exec_abstract.specs.Ranges.{ring_size}
-use Rattle.exec_abstract.specs.World.{Own as Books, Common, Task, task_of}
-use Rattle.exec_moves.specs.declared.place.AfterCallbacks.{AfterCallbacks}
+use Rattle.exec_machine.specs.{declared.{config.Configuration.Configuration, event.Event.TheVariants.Turn}, Ranges.ring_size, World.{Own as Books, Common, Task, task_of}}
+use Rattle.exec_moves.specs.{declared.place.{AfterCallbacks.AfterCallbacks, InCallbacks.InCallbacks, Place.Place}, Callback.{has_callbacks, after_callbacks, next_callback}, Credit.one_if, State.{Desk, Things, Own, turns, does}, Move.{aside, move_at}}
 use Rattle.exec_moves.specs.declared.place.AfterCallbacks.TheVariants as after
-use Rattle.exec_moves.specs.declared.place.InCallbacks.{InCallbacks}
 use Rattle.exec_moves.specs.declared.place.InCallbacks.TheVariants as callback
-use Rattle.exec_moves.specs.declared.place.Place.{Place}
 use Rattle.exec_moves.specs.declared.place.Place.TheVariants as at
-use Rattle.exec_moves.specs.Callback.{has_callbacks, after_callbacks, next_callback}
-use Rattle.exec_moves.specs.Credit.{one_if}
-use Rattle.exec_moves.specs.State.{Desk, Things, Own, turns, does}
-use Rattle.exec_moves.specs.Move.{aside, move_at}
 use Rattle.exec_credit.specs.Minds.{Falls, FallsAt, closes, seen, stands}
 use Rattle.exec_credit.proofs.Falling.{down, either, by_move}
 

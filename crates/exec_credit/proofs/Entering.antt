@@ -3,17 +3,11 @@ use Rattle.std.proofs.Common.{◌≡◌, ℕ, suc, ◌==◌, ◌&&◌, Bool, tru
 use Rattle.std.proofs.lemmas.Bool.{false≢true, and_parts}
 use Rattle.std.specs.Prelude.{nat_le}
 use Rattle.std.specs.List.{list_any}
-use Rattle.exec_abstract.specs.declared.state.Request.{Request}
-use Rattle.exec_abstract.specs.declared.state.RequestPhase.{RequestPhase}
-use Rattle.exec_abstract.specs.declared.state.RequestPhase.TheVariants as phase
-use Rattle.exec_abstract.specs.Deadlines.{is_due}
-use Rattle.exec_abstract.specs.Requests.{flown}
-use Rattle.exec_abstract.specs.Tests.{is_gated, is_staged}
-use Rattle.exec_abstract.specs.World.{Common, Open}
-use Rattle.exec_moves.specs.Credit.{count_numbered, gates_from}
-use Rattle.exec_moves.specs.Submit.{waits_at}
+use Rattle.exec_machine.specs.{declared.state.{Request.Request, RequestPhase.RequestPhase}, Deadlines.is_due, Requests.flown, Tests.{is_gated, is_staged}, World.{Common, Open}}
+use Rattle.exec_machine.specs.declared.state.RequestPhase.TheVariants as phase
+use Rattle.exec_moves.specs.{Credit.{count_numbered, gates_from}, Submit.waits_at}
 
-any_map : {X : Type 0} (test : X → Bool) (f : X → X) → ((x : X) → test (f x) ≡ test x) → (xs : List X) → list_any test (map f xs) ≡ list_any test xs
+pub any_map : {X : Type 0} (test : X → Bool) (f : X → X) → ((x : X) → test (f x) ≡ test x) → (xs : List X) → list_any test (map f xs) ≡ list_any test xs
 any_map test f same [] = refl
 any_map test f same (x ∷ xs) = rw (same x, any_map test f same xs) refl
 

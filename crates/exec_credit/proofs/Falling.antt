@@ -1,13 +1,7 @@
 -- What a move costs.
 use Rattle.std.proofs.Common.{◌≡◌, ℕ, ◌+◌, ◌*◌, ◌<◌, ◌≤◌, Bool, true, false, if◌then◌else◌, refl, sym, subst}
-use Rattle.exec_abstract.specs.declared.config.Configuration.{Configuration}
-use Rattle.exec_abstract.specs.World.{Own, Common}
-use Rattle.exec_abstract.specs.After.{own_after, common_after}
-use Rattle.exec_moves.specs.declared.place.Place.{Place}
-use Rattle.exec_moves.specs.Credit.{Signs, signs, in_turn, turn, turns_owed, spins_owed}
-use Rattle.exec_moves.specs.Heights.{height, level}
-use Rattle.exec_moves.specs.Move.{move_at}
-use Rattle.exec_moves.specs.State.{Desk, Things, Moved}
+use Rattle.exec_machine.specs.{declared.config.Configuration.Configuration, World.{Own, Common}, After.{own_after, common_after}}
+use Rattle.exec_moves.specs.{declared.place.Place.Place, Credit.{Signs, signs, in_turn, turn, turns_owed, spins_owed}, Heights.{height, level}, Move.move_at, State.{Desk, Things, Moved}}
 use Rattle.exec_credit.specs.Minds.{Falls, FallsAt, seen, stands}
 use Rattle.exec_credit.proofs.Sinking.{paid}
 

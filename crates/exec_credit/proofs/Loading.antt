@@ -1,22 +1,12 @@
 -- Loads, tests and mail.
 use Rattle.std.proofs.Common.{◌≡◌, ℕ, Bool, false, not, ◌||◌, List, [], ◌∷◌, refl, ap, arith}
 use Rattle.std.proofs.lemmas.Bool.{false≢true, or_from}
-use Rattle.exec_abstract.specs.declared.config.Configuration.{Configuration}
-use Rattle.exec_abstract.specs.declared.state.MailMessage.{MailMessage}
-use Rattle.exec_abstract.specs.Tests.{is_empty}
-use Rattle.exec_abstract.specs.World.{Own as Books, Common, seat_of}
-use Rattle.exec_moves.specs.declared.place.InLoads.{InLoads}
+use Rattle.exec_machine.specs.{declared.{config.Configuration.Configuration, state.MailMessage.MailMessage}, Tests.is_empty, World.{Own as Books, Common, seat_of}}
+use Rattle.exec_moves.specs.{declared.place.{InLoads.InLoads, InMail.InMail, Round.Round}, Credit.one_if, Load.has_mail, Mail.{to_callbacks, take_mail}, State.{Desk, Things, turns}, Move.{aside, with_word}}
 use Rattle.exec_moves.specs.declared.place.InLoads.TheVariants as load
-use Rattle.exec_moves.specs.declared.place.InMail.{InMail}
 use Rattle.exec_moves.specs.declared.place.InMail.TheVariants as mail
-use Rattle.exec_moves.specs.declared.place.Round.{Round}
 use Rattle.exec_moves.specs.declared.place.Round.TheVariants as round
 use Rattle.exec_moves.specs.declared.place.Place.TheVariants as at
-use Rattle.exec_moves.specs.Credit.{one_if}
-use Rattle.exec_moves.specs.Load.{has_mail}
-use Rattle.exec_moves.specs.Mail.{to_callbacks, take_mail}
-use Rattle.exec_moves.specs.State.{Desk, Things, turns}
-use Rattle.exec_moves.specs.Move.{aside, with_word}
 use Rattle.exec_credit.specs.Minds.{Falls, FallsAt, seen, stands}
 use Rattle.exec_credit.proofs.Falling.{sinks, down, either}
 

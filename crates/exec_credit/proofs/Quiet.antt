@@ -1,27 +1,14 @@
 -- Each quiet step costs credit, wherever it is made.
 use Rattle.std.proofs.Common.{◌≡◌, ℕ, refl, sym, ap, subst, ◌∙◌}
 use Rattle.std.proofs.lemmas.Bool.{true≢false, false≢true}
-use Rattle.exec_abstract.specs.declared.config.Configuration.{Configuration}
-use Rattle.exec_abstract.specs.declared.state.Next.TheVariants as next
-use Rattle.exec_abstract.specs.World.{Own as Books, Common}
-use Rattle.exec_moves.specs.declared.place.InLook.{InLook}
-use Rattle.exec_moves.specs.declared.place.InService.{InService}
+use Rattle.exec_machine.specs.{declared.config.Configuration.Configuration, World.{Own as Books, Common}}
+use Rattle.exec_machine.specs.declared.state.Next.TheVariants as next
+use Rattle.exec_moves.specs.{declared.place.{InLook.InLook, InService.InService, Place.Place, Service.Service}, Move.move, State.{Desk, Things}}
 use Rattle.exec_moves.specs.declared.place.InService.TheVariants as step
-use Rattle.exec_moves.specs.declared.place.Place.{Place}
 use Rattle.exec_moves.specs.declared.place.Place.TheVariants as at
-use Rattle.exec_moves.specs.declared.place.Service.{Service}
 use Rattle.exec_moves.specs.declared.place.Stay.TheVariants as stay
-use Rattle.exec_moves.specs.Move.{move}
-use Rattle.exec_moves.specs.State.{Desk, Things}
 use Rattle.exec_credit.specs.Minds.{Falls, FallsAt, Minds, seen, stands}
-use Rattle.exec_credit.proofs.Turning.{begin_turn, picks, take_root_flag}
-use Rattle.exec_credit.proofs.Loading.{loads, mails}
-use Rattle.exec_credit.proofs.Calling.{calls}
-use Rattle.exec_credit.proofs.Testing.{test_for_work, read_clock}
-use Rattle.exec_credit.proofs.Waiting.{looks, on_word, withdraws}
-use Rattle.exec_credit.proofs.Ringing.{on_ring}
-use Rattle.exec_credit.proofs.Serving.{samples, reaps, advances, enters_last, fires}
-use Rattle.exec_credit.proofs.Submitting.{submits}
+use Rattle.exec_credit.proofs.{Turning.{begin_turn, picks, take_root_flag}, Loading.{loads, mails}, Calling.calls, Testing.{test_for_work, read_clock}, Waiting.{looks, on_word, withdraws}, Ringing.on_ring, Serving.{samples, reaps, advances, enters_last, fires}, Submitting.submits}
 
 module _ (c : Configuration) (i : ℕ) (me : Books) (s : Common) (d : Desk) (x : Things) where
   abbrev MindsAt : Place → Type 0

@@ -5,30 +5,14 @@ use Rattle.std.proofs.lemmas.List.{get_or-set_same}
 use Rattle.std.specs.Prelude.{nat_lt}
 use Rattle.exec_words.specs.Word.{is_idle_at}
 use Rattle.exec_words.specs.declared.word.WaitTarget.TheVariants as target
-use Rattle.exec_abstract.specs.declared.config.Configuration.{Configuration}
-use Rattle.exec_abstract.specs.declared.event.Event.TheVariants.{Turn, Enter, Sleep}
-use Rattle.exec_abstract.specs.Deadlines.{next_due}
-use Rattle.exec_abstract.specs.Ranges.{ring_size}
-use Rattle.exec_abstract.specs.Tests.{is_empty, set_seat}
-use Rattle.exec_abstract.specs.World.{Own as Books, Common, no_seat, seat_of}
+use Rattle.exec_machine.specs.{declared.{config.Configuration.Configuration, event.Event.TheVariants.{Turn, Enter, Sleep}}, Deadlines.next_due, Ranges.ring_size, Tests.{is_empty, set_seat}, World.{Own as Books, Common, no_seat, seat_of}}
 use Rattle.exec_moves.specs.declared.place.AfterWait.TheVariants as next
-use Rattle.exec_moves.specs.declared.place.InRingWait.{InRingWait}
+use Rattle.exec_moves.specs.{declared.place.InRingWait.InRingWait, Callback.is_full, Credit.one_if, Load.{has_come, has_submissions}, Serve.entered as taken_in, State.{Desk, Things, Own, turns, does}, Submit.{one_more, with_poll}, Wait.{enter_full_ring, enter_ring, has_completion, sleep}, Move.{aside, with_word}}
 use Rattle.exec_moves.specs.declared.place.InRingWait.TheVariants as ring
 use Rattle.exec_moves.specs.declared.place.Place.TheVariants as at
 use Rattle.exec_moves.specs.declared.place.Stay.TheVariants as stay
-use Rattle.exec_moves.specs.Callback.{is_full}
-use Rattle.exec_moves.specs.Credit.{one_if}
-use Rattle.exec_moves.specs.Load.{has_come, has_submissions}
-use Rattle.exec_moves.specs.Serve.{entered as taken_in}
-use Rattle.exec_moves.specs.State.{Desk, Things, Own, turns, does}
-use Rattle.exec_moves.specs.Submit.{one_more, with_poll}
-use Rattle.exec_moves.specs.Wait.{enter_full_ring, enter_ring, has_completion, sleep}
-use Rattle.exec_moves.specs.Move.{aside, with_word}
 use Rattle.exec_credit.specs.Minds.{Falls, FallsAt, seen, stands}
-use Rattle.exec_credit.proofs.Falling.{sinks, pays, down, either}
-use Rattle.exec_credit.proofs.Testing.{due, on}
-use Rattle.exec_credit.proofs.Entering.{due_same, gates_same}
-use Rattle.exec_credit.proofs.Waiting.{stirred}
+use Rattle.exec_credit.proofs.{Falling.{sinks, pays, down, either}, Testing.{due, on}, Entering.{due_same, gates_same}, Waiting.stirred}
 
 pending : (work polled full : Bool) → (work || (not polled && full)) ≡ true → 1 ≤ one_if (work || not polled)
 pending true polled full h = omega arith

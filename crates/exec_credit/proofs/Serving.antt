@@ -3,28 +3,15 @@ use Rattle.std.proofs.Common.{◌≡◌, ℕ, suc, ◌<◌, ◌≤◌, Bool, tru
 use Rattle.std.proofs.lemmas.Bool.{true≢false, false≢true, cases_Bool, lt-leb, ltb-false}
 use Rattle.std.specs.Prelude.{nat_lt, nat_le}
 use Rattle.std.specs.List.{list_any}
-use Rattle.exec_abstract.specs.declared.config.Configuration.{Configuration}
-use Rattle.exec_abstract.specs.Ranges.{ring_size}
-use Rattle.exec_abstract.specs.Tests.{is_asleep, is_empty}
-use Rattle.exec_abstract.specs.World.{Own as Books, Common, seat_of}
-use Rattle.exec_moves.specs.declared.place.AfterService.{AfterService}
+use Rattle.exec_machine.specs.{declared.config.Configuration.Configuration, Ranges.ring_size, Tests.{is_asleep, is_empty}, World.{Own as Books, Common, seat_of}}
+use Rattle.exec_moves.specs.{declared.place.{AfterService.AfterService, Place.Place, Reaping.Reaping, Service.Service}, Credit.one_if, Serve.{after_service, enter_last, first_to_fire, reap}, State.{Desk, Things, Own, serves}, Move.{aside, move_at}}
 use Rattle.exec_moves.specs.declared.place.AfterService.TheVariants as back
 use Rattle.exec_moves.specs.declared.place.InMail.TheVariants as mail
 use Rattle.exec_moves.specs.declared.place.InService.TheVariants as step
-use Rattle.exec_moves.specs.declared.place.Place.{Place}
 use Rattle.exec_moves.specs.declared.place.Place.TheVariants as at
-use Rattle.exec_moves.specs.declared.place.Reaping.{Reaping}
 use Rattle.exec_moves.specs.declared.place.Reaping.TheVariants as reaping
-use Rattle.exec_moves.specs.declared.place.Service.{Service}
-use Rattle.exec_moves.specs.Credit.{one_if}
-use Rattle.exec_moves.specs.Serve.{after_service, enter_last, first_to_fire, reap}
-use Rattle.exec_moves.specs.State.{Desk, Things, Own, serves}
-use Rattle.exec_moves.specs.Move.{aside, move_at}
 use Rattle.exec_credit.specs.Minds.{Falls, FallsAt, ends, seen, stands}
-use Rattle.exec_credit.proofs.Falling.{sinks, down, either, by_move}
-use Rattle.exec_credit.proofs.Testing.{on}
-use Rattle.exec_credit.proofs.Entering.{due_same, gates_same}
-use Rattle.exec_credit.proofs.Ringing.{freed}
+use Rattle.exec_credit.proofs.{Falling.{sinks, down, either, by_move}, Testing.on, Entering.{due_same, gates_same}, Ringing.freed}
 
 pub one_at_most : (b : Bool) → one_if b ≤ 1
 one_at_most true = omega arith

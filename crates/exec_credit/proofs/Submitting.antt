@@ -3,33 +3,14 @@ use Rattle.std.proofs.Common.{◌≡◌, ℕ, ◌+◌, ◌<◌, ◌≤◌, Bool,
 use Rattle.std.proofs.lemmas.Bool.{true≢false, false≢true, and_left, and_right, or_from}
 use Rattle.std.specs.Prelude.{nat_lt, slice_get}
 use Rattle.std.specs.List.{list_any}
-use Rattle.exec_abstract.specs.declared.config.Configuration.{Configuration}
-use Rattle.exec_abstract.specs.declared.event.Event.TheVariants.{Serve, Busy}
-use Rattle.exec_abstract.specs.Deadlines.{is_due}
-use Rattle.exec_abstract.specs.Ranges.{ring_size}
-use Rattle.exec_abstract.specs.Tests.{is_empty}
-use Rattle.exec_abstract.specs.World.{Own as Books, Common, seat_of}
-use Rattle.exec_moves.specs.declared.place.AfterService.{AfterService}
+use Rattle.exec_machine.specs.{declared.{config.Configuration.Configuration, event.Event.TheVariants.{Serve, Busy}}, Deadlines.is_due, Ranges.ring_size, Tests.is_empty, World.{Own as Books, Common, seat_of}}
+use Rattle.exec_moves.specs.{declared.place.{AfterService.AfterService, InService.InService, Service.Service}, Callback.{has_requests, is_full}, Credit.one_if, Load.{has_submissions, may_stage}, Serve.enters, State.{Desk, Things, does}, Submit.{Due, first_due, next_gate, one_more, or_else, request_due, stage_next, staging_due, Due.{Expires, Enrols, AtGate, Flushes, Cancels, Stages, Ends}}, Move.{aside, move_submit}}
 use Rattle.exec_moves.specs.declared.place.AfterService.TheVariants as back
-use Rattle.exec_moves.specs.declared.place.InService.{InService}
 use Rattle.exec_moves.specs.declared.place.InService.TheVariants as step
 use Rattle.exec_moves.specs.declared.place.Place.TheVariants as at
 use Rattle.exec_moves.specs.declared.place.Reaping.TheVariants as reaping
-use Rattle.exec_moves.specs.declared.place.Service.{Service}
-use Rattle.exec_moves.specs.Callback.{has_requests, is_full}
-use Rattle.exec_moves.specs.Credit.{one_if}
-use Rattle.exec_moves.specs.Load.{has_submissions, may_stage}
-use Rattle.exec_moves.specs.Serve.{enters}
-use Rattle.exec_moves.specs.State.{Desk, Things, does}
-use Rattle.exec_moves.specs.Submit.{Due, first_due, next_gate, one_more, or_else, request_due, stage_next, staging_due}
-use Rattle.exec_moves.specs.Submit.Due.{Expires, Enrols, AtGate, Flushes, Cancels, Stages, Ends}
-use Rattle.exec_moves.specs.Move.{aside, move_submit}
 use Rattle.exec_credit.specs.Minds.{Falls, FallsAt, ends, seen, stands}
-use Rattle.exec_credit.proofs.Falling.{down, either}
-use Rattle.exec_credit.proofs.Testing.{on}
-use Rattle.exec_credit.proofs.Entering.{due_same, gates_same}
-use Rattle.exec_credit.proofs.Ringing.{freed}
-use Rattle.exec_credit.proofs.Serving.{if_stale, one_at_most}
+use Rattle.exec_credit.proofs.{Falling.{down, either}, Testing.on, Entering.{due_same, gates_same}, Ringing.freed, Serving.{if_stale, one_at_most}}
 
 no_first : (xs : List ℕ) → slice_get xs 0 ≡ None → not (is_empty xs) ≡ false
 no_first [] none = refl

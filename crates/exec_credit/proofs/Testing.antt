@@ -3,22 +3,11 @@ use Rattle.std.proofs.Common.{◌≡◌, ℕ, ◌+◌, ◌≤◌, Bool, true, fa
 use Rattle.std.proofs.lemmas.Bool.{true≢false, false≢true, and_from, or_cases, or_left, or_right}
 use Rattle.std.specs.Prelude.{nat_le}
 use Rattle.std.specs.List.{list_any}
-use Rattle.exec_abstract.specs.declared.config.Configuration.{Configuration}
-use Rattle.exec_abstract.specs.declared.state.Request.{Request}
-use Rattle.exec_abstract.specs.declared.state.Sleeper.{Sleeper}
-use Rattle.exec_abstract.specs.Deadlines.{earlier, first_timer, first_until, is_due, next_due}
-use Rattle.exec_abstract.specs.Tests.{is_asleep, is_empty, is_open}
-use Rattle.exec_abstract.specs.World.{Own as Books, Common, seat_of}
+use Rattle.exec_machine.specs.{declared.{config.Configuration.Configuration, state.{Request.Request, Sleeper.Sleeper}}, Deadlines.{earlier, first_timer, first_until, is_due, next_due}, Tests.{is_asleep, is_empty, is_open}, World.{Own as Books, Common, seat_of}}
 use Rattle.exec_moves.specs.declared.place.AfterService.TheVariants as back
-use Rattle.exec_moves.specs.declared.place.Found.{Found}
+use Rattle.exec_moves.specs.{declared.place.{Found.Found, Place.Place}, Callback.{has_callbacks, has_requests, serve}, Credit.one_if, Load.{has_come, has_submissions, is_ready, next_turn}, State.{Desk, Things, Own, turns}, Move.aside}
 use Rattle.exec_moves.specs.declared.place.InLook.TheVariants as look
-use Rattle.exec_moves.specs.declared.place.Place.{Place}
 use Rattle.exec_moves.specs.declared.place.Place.TheVariants as at
-use Rattle.exec_moves.specs.Callback.{has_callbacks, has_requests, serve}
-use Rattle.exec_moves.specs.Credit.{one_if}
-use Rattle.exec_moves.specs.Load.{has_come, has_submissions, is_ready, next_turn}
-use Rattle.exec_moves.specs.State.{Desk, Things, Own, turns}
-use Rattle.exec_moves.specs.Move.{aside}
 use Rattle.exec_credit.specs.Minds.{Falls, FallsAt, seen, stands}
 use Rattle.exec_credit.proofs.Falling.{pays, down, either}
 

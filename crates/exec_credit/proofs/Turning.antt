@@ -1,15 +1,11 @@
 -- From the beginning of a turn to its poll.
 use Rattle.std.proofs.Common.{ℕ, ◌-◌, Bool, true, false, List, [], ◌∷◌, refl, arith}
 use Rattle.std.specs.Prelude.{nat_le}
-use Rattle.exec_abstract.specs.declared.config.Configuration.{Configuration}
-use Rattle.exec_abstract.specs.World.{Own as Books, Common}
-use Rattle.exec_moves.specs.declared.place.First.{First}
+use Rattle.exec_machine.specs.{declared.config.Configuration.Configuration, World.{Own as Books, Common}}
+use Rattle.exec_moves.specs.{declared.place.{First.First, InPick.InPick}, State.{Desk, Things, Own, turns}, Move.aside}
 use Rattle.exec_moves.specs.declared.place.First.TheVariants as first
-use Rattle.exec_moves.specs.declared.place.InPick.{InPick}
 use Rattle.exec_moves.specs.declared.place.InPick.TheVariants as pick
 use Rattle.exec_moves.specs.declared.place.Place.TheVariants as at
-use Rattle.exec_moves.specs.State.{Desk, Things, Own, turns}
-use Rattle.exec_moves.specs.Move.{aside}
 use Rattle.exec_credit.specs.Minds.{FallsAt, seen, stands}
 use Rattle.exec_credit.proofs.Falling.{sinks, down, either}
 

@@ -2,35 +2,19 @@
 use Rattle.std.proofs.Common.{◌≡◌, ℕ, ◌+◌, ◌-◌, ◌<◌, ◌≤◌, Bool, true, false, not, if◌then◌else◌, ◌==◌, ◌&&◌, ◌||◌, [], Option, Some, None, refl, ap, ◌∙◌, arith}
 use Rattle.std.proofs.lemmas.Bool.{true≢false, false≢true, ltb-true}
 use Rattle.std.specs.Prelude.{nat_lt, slice_set}
-use Rattle.exec_words.specs.Word.{is_idle_at}
-use Rattle.exec_words.specs.declared.word.PureWord.{PureWord}
+use Rattle.exec_words.specs.{Word.is_idle_at, declared.word.PureWord.PureWord}
 use Rattle.exec_words.specs.declared.word.WaitTarget.TheVariants as target
-use Rattle.exec_abstract.specs.declared.config.Configuration.{Configuration}
-use Rattle.exec_abstract.specs.declared.event.Event.TheVariants.{Turn, Sleep}
-use Rattle.exec_abstract.specs.Deadlines.{next_due}
-use Rattle.exec_abstract.specs.Ranges.{ring_size, largest_spin}
-use Rattle.exec_abstract.specs.Tests.{is_empty}
-use Rattle.exec_abstract.specs.World.{Own as Books, Common}
+use Rattle.exec_machine.specs.{declared.{config.Configuration.Configuration, event.Event.TheVariants.{Turn, Sleep}}, Deadlines.next_due, Ranges.{ring_size, largest_spin}, Tests.is_empty, World.{Own as Books, Common}}
 use Rattle.exec_moves.specs.declared.place.AfterService.TheVariants as back
-use Rattle.exec_moves.specs.declared.place.AfterWait.{AfterWait}
+use Rattle.exec_moves.specs.{declared.place.{AfterWait.AfterWait, InLook.InLook, InWordWait.InWordWait, Place.Place}, Callback.{has_requests, is_full, ring_wait, serve}, Credit.one_if, Load.{has_come, has_mail, has_submissions}, State.{Desk, Things, Moved, turns, does}, Wait.{after_sleep, disarmed, hit, is_near, missed, noting_sleep, word_wait}, Move.{with_idle, with_word}}
 use Rattle.exec_moves.specs.declared.place.AfterWait.TheVariants as next
-use Rattle.exec_moves.specs.declared.place.InLook.{InLook}
 use Rattle.exec_moves.specs.declared.place.InLook.TheVariants as look
 use Rattle.exec_moves.specs.declared.place.InRingWait.TheVariants as ring
-use Rattle.exec_moves.specs.declared.place.InWordWait.{InWordWait}
 use Rattle.exec_moves.specs.declared.place.InWordWait.TheVariants as word
-use Rattle.exec_moves.specs.declared.place.Place.{Place}
 use Rattle.exec_moves.specs.declared.place.Place.TheVariants as at
 use Rattle.exec_moves.specs.declared.place.Stay.TheVariants as stay
-use Rattle.exec_moves.specs.Callback.{has_requests, is_full, ring_wait, serve}
-use Rattle.exec_moves.specs.Credit.{one_if}
-use Rattle.exec_moves.specs.Load.{has_come, has_mail, has_submissions}
-use Rattle.exec_moves.specs.State.{Desk, Things, Moved, turns, does}
-use Rattle.exec_moves.specs.Wait.{after_sleep, disarmed, hit, is_near, missed, noting_sleep, word_wait}
-use Rattle.exec_moves.specs.Move.{with_idle, with_word}
 use Rattle.exec_credit.specs.Minds.{Falls, FallsAt, HasLooks, seen, stands}
-use Rattle.exec_credit.proofs.Falling.{sinks, pays, down, either}
-use Rattle.exec_credit.proofs.Testing.{due, on, one_or}
+use Rattle.exec_credit.proofs.{Falling.{sinks, pays, down, either}, Testing.{due, on, one_or}}
 
 -- a word that a wait may not begin at has a latch or mail
 not_idle : (latch mail more : Bool) → (not latch && not mail) ≡ false → 1 ≤ one_if latch + one_if (mail || more)

@@ -1,1 +1,2 @@
 pub mod Minds
+pub mod Minded

@@ -1,31 +1,16 @@
 -- What holds so that each quiet step of a worker is paid for.
 use Rattle.std.specs.Prelude.{◌≡◌, ◌≤◌, ◌<◌, ℕ, Bool, true, false, ◌&&◌, [], length, nat_le, nat_lt, None}
 use Rattle.std.specs.List.{list_any}
-use Rattle.exec_abstract.specs.declared.config.Configuration.{Configuration}
-use Rattle.exec_abstract.specs.declared.state.Next.TheVariants as next
-use Rattle.exec_abstract.specs.Ranges.{largest_spin, ring_size}
-use Rattle.exec_abstract.specs.World.{Own, Common}
-use Rattle.exec_abstract.specs.Text.{is_quiet}
-use Rattle.exec_abstract.specs.After.{own_after, common_after}
+use Rattle.exec_machine.specs.{declared.config.Configuration.Configuration, Ranges.{largest_spin, ring_size}, World.{Own, Common}, Text.is_quiet, After.{own_after, common_after}, Deadlines.is_due, Tests.is_asleep}
+use Rattle.exec_machine.specs.declared.state.Next.TheVariants as next
 use Rattle.exec_moves.specs.declared.place.AfterCallbacks.TheVariants as after
-use Rattle.exec_moves.specs.declared.place.AfterService.{AfterService}
+use Rattle.exec_moves.specs.{declared.place.{AfterService.AfterService, InLoads.InLoads, Place.Place}, Credit.credit, Load.has_mail, Move.{move, move_at}, Seen.serves_at, Serve.first_to_fire, Submit.{first_due, next_gate}, State.{Desk, Things, Moved}}
 use Rattle.exec_moves.specs.declared.place.AfterService.TheVariants as back
-use Rattle.exec_moves.specs.declared.place.InLoads.{InLoads}
 use Rattle.exec_moves.specs.declared.place.InLoads.TheVariants as load
 use Rattle.exec_moves.specs.declared.place.InService.TheVariants as step
 use Rattle.exec_moves.specs.declared.place.InWordWait.TheVariants as word
-use Rattle.exec_moves.specs.declared.place.Place.{Place}
 use Rattle.exec_moves.specs.declared.place.Place.TheVariants as at
 use Rattle.exec_moves.specs.declared.place.Stay.TheVariants as stay
-use Rattle.exec_moves.specs.Credit.{credit}
-use Rattle.exec_moves.specs.Load.{has_mail}
-use Rattle.exec_moves.specs.Move.{move, move_at}
-use Rattle.exec_moves.specs.Seen.{serves_at}
-use Rattle.exec_moves.specs.Serve.{first_to_fire}
-use Rattle.exec_moves.specs.Submit.{first_due, next_gate}
-use Rattle.exec_abstract.specs.Deadlines.{is_due}
-use Rattle.exec_abstract.specs.Tests.{is_asleep}
-use Rattle.exec_moves.specs.State.{Desk, Things, Moved}
 
 -- where a closing worker is
 abbrev pub ends : AfterService → Bool

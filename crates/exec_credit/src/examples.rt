@@ -1,9 +1,9 @@
 //! Worked examples, proved by computation.
 
 ghost use Rattle.std.specs.Prelude.{◌≡◌, true, [], ◌∷◌};
-ghost use Rattle.exec_abstract.specs.declared.config.ScriptWord.TheVariants as word;
-ghost use Rattle.exec_abstract.specs.declared.step.Step.TheVariants as step;
-ghost use Rattle.exec_abstract.specs.Examples.{usual};
+ghost use Rattle.exec_machine.specs.declared.config.ScriptWord.TheVariants as word;
+ghost use Rattle.exec_machine.specs.declared.step.Step.TheVariants as step;
+ghost use Rattle.exec_machine.specs.Examples.{usual};
 ghost use Rattle.exec_moves.specs.Plays.{are_paid, first_playing};
 
 /// A root that waits for a wake, on a worker that looks at its wake word four times before it sleeps: each look is paid for.

@@ -1,34 +1,12 @@
 //! The law of credit, for every state.
 
 ghost use Rattle.std.specs.Prelude.{◌≡◌, ◌≤◌, ◌<◌, ℕ, length, true, false, nat_lt, [], ◌&&◌, nat_le, None};
-ghost use Rattle.exec_abstract.specs.declared.config.Configuration.{Configuration};
-ghost use Rattle.exec_abstract.specs.World.{Own, Common};
-ghost use Rattle.exec_moves.specs.declared.place.Found.{Found};
-ghost use Rattle.exec_moves.specs.declared.place.InPick.{InPick};
-ghost use Rattle.exec_moves.specs.declared.place.AfterCallbacks.{AfterCallbacks};
-ghost use Rattle.exec_moves.specs.declared.place.InCallbacks.{InCallbacks};
-ghost use Rattle.exec_moves.specs.declared.place.InLoads.{InLoads};
-ghost use Rattle.exec_moves.specs.declared.place.AfterWait.{AfterWait};
-ghost use Rattle.exec_moves.specs.declared.place.InLook.{InLook};
-ghost use Rattle.exec_moves.specs.declared.place.InWordWait.{InWordWait};
-ghost use Rattle.exec_abstract.specs.Ranges.{largest_spin, ring_size};
-ghost use Rattle.exec_moves.specs.declared.place.InRingWait.{InRingWait};
+ghost use Rattle.exec_machine.specs.{declared.config.Configuration.Configuration, World.{Own, Common}, Ranges.{largest_spin, ring_size}, Tests.is_asleep, Deadlines.is_due};
+ghost use Rattle.exec_moves.specs.{declared.place.{Found.Found, InPick.InPick, AfterCallbacks.AfterCallbacks, InCallbacks.InCallbacks, InLoads.InLoads, AfterWait.AfterWait, InLook.InLook, InWordWait.InWordWait, InRingWait.InRingWait, AfterService.AfterService, Reaping.Reaping, Service.Service, InMail.InMail, Round.Round}, Serve.first_to_fire, Submit.{first_due, next_gate}, Load.has_mail, Move.move, State.{Desk, Things}};
 ghost use Rattle.exec_moves.specs.declared.place.Stay.TheVariants as stay;
 ghost use Rattle.std.specs.List.{list_any};
-ghost use Rattle.exec_abstract.specs.Tests.{is_asleep};
-ghost use Rattle.exec_moves.specs.declared.place.AfterService.{AfterService};
 ghost use Rattle.exec_moves.specs.declared.place.InService.TheVariants as step;
-ghost use Rattle.exec_moves.specs.declared.place.Reaping.{Reaping};
-ghost use Rattle.exec_moves.specs.declared.place.Service.{Service};
-ghost use Rattle.exec_moves.specs.Serve.{first_to_fire};
-ghost use Rattle.exec_moves.specs.Submit.{first_due, next_gate};
-ghost use Rattle.exec_abstract.specs.Deadlines.{is_due};
-ghost use Rattle.exec_moves.specs.declared.place.InMail.{InMail};
-ghost use Rattle.exec_moves.specs.declared.place.Round.{Round};
-ghost use Rattle.exec_moves.specs.Load.{has_mail};
 ghost use Rattle.exec_moves.specs.declared.place.Place.TheVariants as at;
-ghost use Rattle.exec_moves.specs.Move.{move};
-ghost use Rattle.exec_moves.specs.State.{Desk, Things};
 ghost use Rattle.exec_credit.specs.Minds.{Falls, FallsAt, HasLooks, Minds, closes, ends};
 
 /// Each quiet step at the beginning of a turn costs credit, up to the poll or to the callbacks.

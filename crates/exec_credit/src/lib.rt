@@ -7,3 +7,4 @@
 
 pub mod examples;
 pub mod laws;
+pub mod minded;

@@ -1,4 +1,10 @@
-pub mod AtRest
-pub mod Credited
-pub mod NoLogs
-pub mod Results
+mod Computing
+mod Apart
+mod Paid
+mod SameIs
+mod Onward
+mod Lasting
+mod AllResults
+mod OnePoll
+mod Elsewhere
+mod Resting

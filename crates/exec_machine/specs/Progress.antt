@@ -1,75 +1,63 @@
--- That no worker turns for ever, and that none sleeps on work.
+-- That no party turns for ever, and that no worker sleeps on work.
 --
--- A line is quiet where only bookkeeping happened. Among so many lines of one worker alone, while none closes, one
--- is not quiet; and wherever all workers sleep nothing is left to do.
-use Rattle.std.specs.Prelude.{◌≡◌, ℕ, Bool, true, false, not, ◌+◌, ◌*◌, ◌==◌, ◌&&◌, ◌||◌, if◌then◌else◌, nat_lt, nat_le, List, [], ◌∷◌, Option, None, Some, length, slice_get}
+-- A line is quiet where only bookkeeping happened. Among so many lines of one worker or of one caller alone, while no
+-- worker closes, one is not quiet; and wherever all workers sleep nothing is unfinished.
+use Rattle.std.specs.Prelude.{◌≡◌, ℕ, Bool, true, false, not, ◌+◌, ◌*◌, ◌==◌, ◌&&◌, ◌||◌, if◌then◌else◌, nat_lt, nat_le, List, [], ◌∷◌, Some, length}
 use Rattle.std.specs.List.{list_any, list_all}
-use Rattle.exec_machine.specs.declared.config.Spin.{Spin}
-use Rattle.exec_machine.specs.declared.config.Configuration.{Configuration}
-use Rattle.exec_machine.specs.declared.step.Step.{Step}
-use Rattle.exec_machine.specs.declared.step.Action.{Action}
+use Rattle.exec_machine.specs.{declared.{config.{Configuration.Configuration, ScriptWord.ScriptWord}, step.{Step.Step, Action.Action}, event.{StepResult.{StepResult, TheVariants.{Refused, Did}}, Line.Line}, state.{TaskPhase.TaskPhase, Waiting.Waiting, Request.Request, Sleeper.Sleeper}}, Choice.Choice, Ranges.{ring_size, largest_spin}, Same.{is_none, is_number}, World.{World, Own, Seat, Task, Common, own_of, seat_of, task_of, request_of, sleeper_of, open_of}, Tests.{all_numbered, is_empty, is_open, is_closing, has_ended, is_awake, is_done, is_gated, is_queued, is_staged, is_landed, is_resolved, is_in_flight, is_asleep}, Deadlines.is_due, Callers.is_half_done, Run.{RunsBy, after_line, after_steps, first_world}, Text.is_quiet}
 use Rattle.exec_machine.specs.declared.step.Action.TheVariants as action
-use Rattle.exec_machine.specs.declared.event.Said.{Said}
-use Rattle.exec_machine.specs.declared.event.Said.TheVariants.{Refused, Did}
-use Rattle.exec_machine.specs.declared.event.Line.{Line}
-use Rattle.exec_machine.specs.declared.state.WorkerPhase.{WorkerPhase}
-use Rattle.exec_machine.specs.declared.state.WorkerPhase.TheVariants as worker
-use Rattle.exec_machine.specs.declared.state.TaskPhase.{TaskPhase}
 use Rattle.exec_machine.specs.declared.state.TaskPhase.TheVariants as task
-use Rattle.exec_machine.specs.declared.state.Waiting.{Waiting}
 use Rattle.exec_machine.specs.declared.state.Waiting.TheVariants as waiting
-use Rattle.exec_machine.specs.declared.state.Phase.{Phase}
-use Rattle.exec_machine.specs.declared.state.Phase.TheVariants as phase
-use Rattle.exec_machine.specs.declared.state.Call.{Call}
-use Rattle.exec_machine.specs.declared.state.Call.TheVariants as call
-use Rattle.exec_machine.specs.declared.state.Request.{Request}
-use Rattle.exec_machine.specs.declared.state.Sleeper.{Sleeper}
-use Rattle.exec_machine.specs.Choice.{Choice}
-use Rattle.exec_machine.specs.Ranges.{ring_size}
-use Rattle.exec_machine.specs.World.{World, Worker, Task, Operation, Open, worker_of, task_of, operation_of, request_of, sleeper_of}
-use Rattle.exec_machine.specs.Allowed.{is_awake, has_ended, is_done, is_queued, is_staged, is_landed, is_resolved, is_in_flight, is_none, in_flight, is_due, is_asleep}
-use Rattle.exec_machine.specs.Run.{RunsBy, after_line, after_steps, first_world}
-use Rattle.exec_machine.specs.Grammar.{Plan}
-use Rattle.exec_machine.specs.Text.{is_quiet}
 
--- quiet lines
+-- QUIET LINES
 
--- the largest spin budget, in iterations: a budget that is 0 at first stays so
-abbrev pub largest_spin : Spin → ℕ
-largest_spin spin = if spin.budget * spin.iterations == 0 then 0 else spin.most * spin.iterations
-
--- So many lines of one worker alone have one that is not quiet: by the workers, the largest spin budget, and the
--- requests and sleepers made so far.
+-- So many lines of one party alone have one that is not quiet: by the workers of the pool, the largest spin budget,
+-- and the requests and sleepers made so far.
 abbrev pub quiet_bound : Configuration → World → ℕ
-quiet_bound c w = 128 * c.workers + 16 * largest_spin c.spin + 4 * (length w.requests + length w.sleepers) + 2048
+quiet_bound c w = 128 * c.workers + 16 * largest_spin c.spin + 4 * (length w.common.requests + length w.common.sleepers) + 2048
 
-abbrev pub is_closing : WorkerPhase → Bool
-is_closing worker.Open = false
-is_closing worker.Closing = true
-is_closing worker.Ended = false
+-- who takes a step: the clock, the kernel and the peers are nobody
+pub data Party : Type 0 where
+  Nobody : Party
+  Worker : ℕ → Party
+  Caller : ℕ → Party
 
--- a worker took a step, only bookkeeping happened, and no worker was closing
-abbrev pub is_quiet_step : World → Action → Said → Bool
-is_quiet_step w (action.Work i) (Did e) = is_quiet e && not (list_any (λ me. is_closing me.phase) w.workers)
-is_quiet_step w _ _ = false
+abbrev pub party_of : Action → Party
+party_of (action.Work i) = Worker i
+party_of (action.Spawn j k) = Caller j
+party_of (action.Wake j t) = Caller j
+party_of (action.GoOn j) = Caller j
+party_of _ = Nobody
 
--- quiet lines one after another, all of one worker: whose they are, and how many so far
+abbrev pub same_party : Party → Party → Bool
+same_party (Worker i) (Worker j) = i == j
+same_party (Caller i) (Caller j) = i == j
+same_party _ _ = false
+
+abbrev pub is_anyone_closing : World → Bool
+is_anyone_closing w = list_any (λ seat. is_closing seat.phase) w.common.seats
+
+-- a step was taken, only bookkeeping happened, and no worker was closing
+abbrev pub is_quiet_step : World → StepResult → Bool
+is_quiet_step w Refused = false
+is_quiet_step w (Did e) = is_quiet e && not (is_anyone_closing w)
+
+-- quiet lines one after another, all of one party: whose they are, and how many so far
 pub record Stretch : Type 0 where
-  pub party : ℕ
+  pub party : Party
   pub count : ℕ
 
 abbrev pub no_stretch : Stretch
-no_stretch = record { party = 0; count = 0 }
+no_stretch = record { party = Nobody; count = 0 }
 
-abbrev pub one_more : ℕ → Stretch → Stretch
-one_more i s = if i == s.party then record s { count = s.count + 1 } else record { party = i; count = 1 }
+abbrev pub one_more : Party → Stretch → Stretch
+one_more p s = if same_party p s.party then record s { count = s.count + 1 } else record { party = p; count = 1 }
 
--- The stretch after one more line. A refused one doesn't count; a quiet one of the same worker makes it longer; any
+-- The stretch after one more line. A refused one doesn't count; a quiet one of the same party makes it longer; any
 -- other ends it.
-abbrev pub longer : World → Action → Said → Stretch → Stretch
+abbrev pub longer : World → Action → StepResult → Stretch → Stretch
 longer w a Refused s = s
-longer w (action.Work i) (Did e) s = if is_quiet_step w (action.Work i) (Did e) then one_more i s else no_stretch
-longer w _ (Did e) s = no_stretch
+longer w a (Did e) s = if is_quiet_step w (Did e) then one_more (party_of a) s else no_stretch
 
 -- From this state on, after this stretch, no stretch of quiet lines is as long as the bound.
 abbrev pub is_solo : Configuration → World → Stretch → List Line → List Choice → Bool
@@ -79,89 +67,122 @@ is_solo c w s (l ∷ ls) (choice ∷ choices) =
     nat_lt (longer w l.action l.said s).count (quiet_bound c w)
     && is_solo c (after_line c w l.action l.said choice) (longer w l.action l.said s) ls choices
 
--- rest
-
-abbrev pub is_no_call : Call → Bool
-is_no_call call.Nothing = true
-is_no_call (call.Spawn k) = false
-is_no_call (call.Wake t) = false
-is_no_call call.Returning = false
+-- ALL ASLEEP
 
 -- it has ended, or it sleeps and isn't closing
-abbrev pub is_down : Worker → Bool
-is_down me = has_ended me.phase || (not (is_awake me.rest) && not (is_closing me.phase))
+abbrev pub is_down : Seat → Bool
+is_down seat = has_ended seat.phase || (is_open seat.phase && not (is_awake seat.rest))
 
 -- Each worker that has not ended sleeps, none is closing, and no call is half done.
 abbrev pub all_asleep : World → Bool
-all_asleep w = list_all is_down w.workers && list_all is_no_call w.callers
+all_asleep w = list_all is_down w.common.seats && list_all (λ call. not (is_half_done call)) w.common.callers
 
--- what is left to do
+-- WHAT IS UNFINISHED
 
 -- a task to be polled, or in a poll
 abbrev pub is_runnable : TaskPhase → Bool
 is_runnable task.Idle = false
-is_runnable task.Queued = true
-is_runnable (task.Running i) = true
-is_runnable (task.Noted i) = true
 is_runnable task.Done = false
+is_runnable _ = true
 
 -- what the task waits for has come
-abbrev pub has_come : World → Waiting → Bool
-has_come w (waiting.Request r) = is_resolved (request_of w r).phase
-has_come w (waiting.Timer z) = (sleeper_of w z).fired
-has_come w _ = false
+abbrev pub has_come : Common → Waiting → Bool
+has_come s (waiting.Request r) = is_resolved (request_of s r).phase
+has_come s (waiting.Timer z) = (sleeper_of s z).fired
+has_come s _ = false
 
 -- a task that is to be polled or in a poll, or that was woken since its last poll began, or whose wait is over
-abbrev pub is_task_left : World → Task → Bool
-is_task_left w t = is_runnable t.phase || (not (is_done t.phase) && (not t.fresh || has_come w t.waiting))
+abbrev pub is_task_unfinished : Common → Task → Bool
+is_task_unfinished s t = is_runnable t.phase || (not (is_done t.phase) && (not t.fresh || has_come s t.waiting))
 
-abbrev pub is_gated : Phase → Bool
-is_gated phase.Gated = true
-is_gated _ = false
-
--- nobody holds the permit of this open
-abbrev pub is_free : Option Open → Bool
-is_free None = true
-is_free (Some o) = is_none o.holder
-
--- A request whose permit is free, that may be staged, that is staged or landed, whose deadline isn't on the wheel yet,
--- whose cancel the kernel wasn't told, whose owner wasn't let go, or whose deadline is due by the clock.
-abbrev pub is_request_left : Configuration → World → Operation → Request → Bool
-is_request_left c w o r =
-    (is_gated r.phase && is_free (slice_get w.opens o.target))
-    || (is_queued r.phase && not r.cancelled && nat_lt (in_flight w r.worker) (ring_size c))
+-- The request holds a permit that it wasn't granted, may be staged, is staged or landed, has a deadline that isn't on
+-- the wheel, has a cancel that isn't staged, has an owner that isn't released, or is due by the clock.
+abbrev pub is_request_unfinished : Configuration → World → ℕ → Request → Bool
+is_request_unfinished c w n r =
+    (is_gated r.phase && is_number n (open_of w.common r.operation.target).holder)
+    || (is_queued r.phase && not r.cancelled && nat_lt (own_of w r.worker).in_flight (ring_size c))
     || is_staged r.phase || is_landed r.phase
-    || (not (is_resolved r.phase) && not r.cancelled && is_none r.timer && not (is_none o.deadline))
+    || (not (is_resolved r.phase) && not r.cancelled && is_none r.timer && not (is_none r.operation.deadline))
     || (is_in_flight r.phase && r.cancelled && not r.cancel_staged)
     || (is_resolved r.phase && not r.released)
-    || is_due r.worker w.clock r
+    || is_due r.worker w.common.clock r
 
 -- a sleeper whose moment has come by the clock and wasn't told
-abbrev pub is_sleeper_left : World → Sleeper → Bool
-is_sleeper_left w z = is_asleep z.worker z && nat_le z.until w.clock
+abbrev pub is_sleeper_unfinished : Common → Sleeper → Bool
+is_sleeper_unfinished s z = is_asleep z.worker z && nat_le z.until s.clock
 
--- Nothing is left to do: no task, no message, no request and no sleeper.
-pub record NothingLeft (c : Configuration) (w : World) : Type 0 where
-  pub tasks : (t : ℕ) → is_task_left w (task_of w t) ≡ false
-  pub messages : (i : ℕ) → (worker_of w i).inbox ≡ []
-  pub requests : (r : ℕ) → is_request_left c w (operation_of w r) (request_of w r) ≡ false
-  pub sleepers : (z : ℕ) → is_sleeper_left w (sleeper_of w z) ≡ false
+-- a cancel that the kernel wasn't told, of a request that isn't over
+abbrev pub is_cancel_untold : Common → Own → Bool
+is_cancel_untold s me = list_any (λ r. not (is_resolved (request_of s r).phase)) me.untold
 
--- Where all workers sleep nothing is left to do.
-abbrev pub IsRested : Configuration → World → Type 0
-IsRested c w = all_asleep w ≡ true → NothingLeft c w
+-- a worker that is open though its root is over: it has to close
+abbrev pub has_to_close : World → ℕ → Seat → Bool
+has_to_close w i seat = is_open seat.phase && is_done (task_of w.common (own_of w i).root).phase
+
+-- Nothing is left to do.
+pub record NothingUnfinished (c : Configuration) (w : World) : Type 0 where
+  pub tasks : (t : ℕ) → is_task_unfinished w.common (task_of w.common t) ≡ false
+  pub messages : (i : ℕ) → (seat_of w.common i).inbox ≡ []
+  pub requests : (r : ℕ) → is_request_unfinished c w r (request_of w.common r) ≡ false
+  pub sleepers : (z : ℕ) → is_sleeper_unfinished w.common (sleeper_of w.common z) ≡ false
+  pub cancels : (i : ℕ) → is_cancel_untold w.common (own_of w i) ≡ false
+  pub workers : (i : ℕ) → has_to_close w i (seat_of w.common i) ≡ false
+
+-- a closing worker that sleeps, though each of its requests is over
+abbrev pub sleeps_for_nothing : Common → ℕ → Seat → Bool
+sleeps_for_nothing s i seat =
+    is_closing seat.phase && not (is_awake seat.rest) && list_all (λ r. not (r.worker == i) || is_resolved r.phase) s.requests
+
+-- Where all workers sleep nothing is unfinished; and wherever a closing worker sleeps, it has a request that isn't over.
+pub record IsRightlyAsleep (c : Configuration) (w : World) : Type 0 where
+  pub asleep : all_asleep w ≡ true → NothingUnfinished c w
+  pub closing : (i : ℕ) → sleeps_for_nothing w.common i (seat_of w.common i) ≡ false
 
 -- So it is in each state of the run.
-abbrev pub RestsBy : Configuration → World → List Line → List Choice → Type 0
-RestsBy c w [] choices = IsRested c w
-RestsBy c w (l ∷ ls) [] = IsRested c w
-RestsBy c w (l ∷ ls) (choice ∷ choices) = IsRested c w × RestsBy c (after_line c w l.action l.said choice) ls choices
+abbrev pub RightlyAsleepBy : Configuration → World → List Line → List Choice → Type 0
+RightlyAsleepBy c w [] choices = IsRightlyAsleep c w
+RightlyAsleepBy c w (l ∷ ls) [] = IsRightlyAsleep c w
+RightlyAsleepBy c w (l ∷ ls) (choice ∷ choices) =
+    IsRightlyAsleep c w × RightlyAsleepBy c (after_line c w l.action l.said choice) ls choices
 
--- The lines are a log of the plan: each of its steps has its lines, they are a run, no worker turns for ever, and none
--- sleeps on work.
+-- THE SAME AS TESTS THAT COMPUTE
+
+abbrev pub is_nothing_unfinished : Configuration → World → Bool
+is_nothing_unfinished c w =
+    list_all (λ t. not (is_task_unfinished w.common t)) w.common.tasks
+    && list_all (λ seat. is_empty seat.inbox) w.common.seats
+    && all_numbered (λ r it. not (is_request_unfinished c w r it)) 0 w.common.requests
+    && list_all (λ z. not (is_sleeper_unfinished w.common z)) w.common.sleepers
+    && list_all (λ me. not (is_cancel_untold w.common me)) w.workers
+    && all_numbered (λ i seat. not (has_to_close w i seat)) 0 w.common.seats
+
+abbrev pub is_rightly_asleep : Configuration → World → Bool
+is_rightly_asleep c w =
+    (not (all_asleep w) || is_nothing_unfinished c w)
+    && all_numbered (λ i seat. not (sleeps_for_nothing w.common i seat)) 0 w.common.seats
+
+abbrev pub is_always_rightly_asleep : Configuration → World → List Line → List Choice → Bool
+is_always_rightly_asleep c w [] choices = is_rightly_asleep c w
+is_always_rightly_asleep c w (l ∷ ls) [] = is_rightly_asleep c w
+is_always_rightly_asleep c w (l ∷ ls) (choice ∷ choices) =
+    is_rightly_asleep c w && is_always_rightly_asleep c (after_line c w l.action l.said choice) ls choices
+
+-- A GOOD LOG
+
+-- what a trace sets up: its configuration, its scripts by number, and the script of the root
+pub record Plan : Type 0 where
+  pub config : Configuration
+  pub scripts : List (List ScriptWord)
+  pub root : List ScriptWord
+
+abbrev pub begin : Plan → World
+begin p = first_world p.config p.scripts p.root
+
+-- The lines are a log of the plan: each of its steps has its lines, they are a run, no party turns for ever, and no
+-- worker sleeps on work.
 pub record IsLogOf (p : Plan) (steps : List Step) (lines : List Line) : Type 0 where
   pub has_lines : after_steps steps lines ≡ Some []
   pub choices : List Choice
-  pub runs : RunsBy p.config (first_world p.root) lines choices
-  pub solo : is_solo p.config (first_world p.root) no_stretch lines choices ≡ true
-  pub rests : RestsBy p.config (first_world p.root) lines choices
+  pub runs : RunsBy p.config (begin p) lines choices
+  pub solo : is_solo p.config (begin p) no_stretch lines choices ≡ true
+  pub asleep : RightlyAsleepBy p.config (begin p) lines choices

@@ -1,35 +1,21 @@
--- The results of a request that a log shows.
-use Rattle.std.specs.Prelude.{ℕ, false, ◌==◌, if◌then◌else◌, List, [], ◌∷◌, Option, Some, None}
-use Rattle.std.specs.List.{flat_map}
-use Rattle.exec_outcomes.specs.declared.outcome.Judged.{Judged}
-use Rattle.exec_outcomes.specs.declared.outcome.Kind.TheVariants as kind
-use Rattle.exec_outcomes.specs.declared.outcome.OpResult.{OpResult}
-use Rattle.exec_outcomes.specs.declared.outcome.OpResult.TheVariants.{Count}
-use Rattle.exec_outcomes.specs.declared.outcome.Outcome.{Outcome}
-use Rattle.exec_outcomes.specs.declared.outcome.Outcome.TheVariants.{Success}
+-- The results of a request that a run shows.
+use Rattle.std.specs.Prelude.{ℕ, ◌==◌, if◌then◌else◌, List, [], ◌∷◌, ◌++◌, Option}
+use Rattle.exec_outcomes.specs.declared.outcome.{Judged.Judged, OpResult.OpResult, Outcome.Outcome}
+use Rattle.exec_machine.specs.{declared.{config.Configuration.Configuration, event.{Event.TheVariants.Reap, StepResult.{StepResult, TheVariants.Did}, Line.Line}}, Choice.Choice, World.{World, request_of}, Requests.judged_of, Run.after_line}
 use Rattle.exec_machine.specs.declared.step.Action.TheVariants as action
-use Rattle.exec_machine.specs.declared.event.Event.TheVariants.{Begin, Pend, Admit, Wait, Enrol, Stage, Enter, Reap, Land}
-use Rattle.exec_machine.specs.declared.event.Said.{Said}
-use Rattle.exec_machine.specs.declared.event.Said.TheVariants.{Did}
-use Rattle.exec_machine.specs.declared.event.Line.{Line}
-use Rattle.exec_machine.specs.Examples.{does}
 
--- the result of request r after which it needed another operation, where this says one: it came uncancelled
-abbrev pub result_in : ℕ → Said → List Judged
-result_in r (Did (Reap q n None)) = if q == r then record { result = n; hinted = false; cancelled = false } ∷ [] else []
-result_in r _ = []
+-- the result of request r that is judged at this line, with the hint of its operation and whether the request's
+-- cancellation had been asked for
+abbrev pub result_in : World → ℕ → StepResult → List Judged
+result_in w r (Did (Reap q n outcome)) = if q == r then judged_of (request_of w.common r) n ∷ [] else []
+result_in w r _ = []
 
--- all of them, in order
-abbrev pub results_of : ℕ → List Line → List Judged
-results_of r lines = flat_map (λ l. result_in r l.said) lines
+-- all of them in a run from this state on, in order
+abbrev pub results_of : Configuration → World → ℕ → List Line → List Choice → List Judged
+results_of c w r [] choices = []
+results_of c w r (l ∷ ls) [] = []
+results_of c w r (l ∷ ls) (choice ∷ choices) = result_in w r l.said ++ results_of c (after_line c w l.action l.said choice) r ls choices
 
 -- the line at which worker i judges a result of request r
 abbrev pub reaps : ℕ → ℕ → OpResult → Option Outcome → Line
 reaps i r n outcome = record { action = action.Work i; said = Did (Reap r n outcome) }
-
--- To look at: ten bytes are sent by two operations.
-abbrev pub sent_in_two : List Line
-sent_in_two =
-    does (Begin 0) ∷ does (Admit 0 kind.Send None) ∷ does (Wait (Some 0)) ∷ does (Pend 0) ∷ does (Enrol 0 None) ∷ does (Stage 0)
-    ∷ does Enter ∷ record { action = action.Land 0 (Count 4); said = Did Land } ∷ does (Reap 0 (Count 4) None) ∷ does (Stage 0)
-    ∷ does Enter ∷ record { action = action.Land 0 (Count 6); said = Did Land } ∷ does (Reap 0 (Count 6) (Some Success)) ∷ []

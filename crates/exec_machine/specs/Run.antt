@@ -1,49 +1,56 @@
 -- Which list of lines is the log of a run.
-use Rattle.std.specs.Prelude.{◌≡◌, ℕ, zero, suc, Bool, true, false, ◌==◌, ◌&&◌, if◌then◌else◌, List, [], ◌∷◌, Option, Some, None, option_and_then, replicate}
-use Rattle.exec_outcomes.specs.declared.outcome.OpResult.{OpResult}
-use Rattle.exec_outcomes.specs.declared.outcome.OpResult.TheVariants.{Count, Errno}
-use Rattle.exec_machine.specs.declared.config.Configuration.{Configuration}
-use Rattle.exec_machine.specs.declared.config.Word.{Word}
-use Rattle.exec_machine.specs.declared.step.Step.{Step}
+use Rattle.std.specs.Prelude.{ℕ, zero, suc, Bool, true, false, not, ◌==◌, ◌&&◌, if◌then◌else◌, List, [], ◌∷◌, Option, Some, None, option_and_then, replicate}
+use Rattle.std.specs.List.{list_all}
+use Rattle.exec_machine.specs.{declared.{config.{Configuration.Configuration, ScriptWord.ScriptWord}, step.{Step.Step, Action.Action}, event.{Event.Event, StepResult.{StepResult, TheVariants.{Refused, Did}}, Line.Line}, state.Code.Code}, Choice.Choice, Same.same_result, World.{World, Own, Task, Common, no_open, own_of}, Tests.AllTrue, Tasks.{new_task, new_own, new_seat}, Allowed.allowed, After.after, Callers.{is_enabled, may_spawn_by_call, may_wake_by_call, may_go_on_by, is_told_as, common_by}}
 use Rattle.exec_machine.specs.declared.step.Step.TheVariants as step
-use Rattle.exec_machine.specs.declared.step.Action.{Action}
 use Rattle.exec_machine.specs.declared.step.Action.TheVariants as action
-use Rattle.exec_machine.specs.declared.event.Event.TheVariants as event
-use Rattle.exec_machine.specs.declared.event.Said.{Said}
-use Rattle.exec_machine.specs.declared.event.Said.TheVariants.{Refused, Did}
-use Rattle.exec_machine.specs.declared.event.Line.{Line}
-use Rattle.exec_machine.specs.declared.state.WorkerPhase.TheVariants as worker
-use Rattle.exec_machine.specs.declared.state.Rest.TheVariants as rest
-use Rattle.exec_machine.specs.declared.state.TaskPhase.TheVariants as task
-use Rattle.exec_machine.specs.declared.state.Waiting.TheVariants as waiting
+use Rattle.exec_machine.specs.declared.state.Code.TheVariants as code
 use Rattle.exec_machine.specs.declared.state.Call.TheVariants as call
-use Rattle.exec_machine.specs.World.{World, Worker, Task}
-use Rattle.exec_machine.specs.Choice.{Choice}
-use Rattle.exec_machine.specs.Allowed.{Allowed, is_enabled}
-use Rattle.exec_machine.specs.After.{after, after_landing, after_clock, after_stir}
 
--- One line: a step that is not enabled is refused and changes nothing; a worker's has an event that may
--- come; the clock's moves it; the kernel's lands a result; a stray wake rouses a worker.
-abbrev pub Follows : Configuration → World → Action → Said → Choice → Type 0
-Follows c w a Refused choice = is_enabled w a ≡ false
-Follows c w (action.Work i) (Did e) choice = (is_enabled w (action.Work i) ≡ true) × Allowed c w i e choice
-Follows c w (action.Clock d) (Did e) choice = (is_enabled w (action.Clock d) ≡ true) × (e ≡ event.Clock)
-Follows c w (action.Land r n) (Did e) choice = (is_enabled w (action.Land r n) ≡ true) × (e ≡ event.Land)
-Follows c w (action.Stir i) (Did e) choice = (is_enabled w (action.Stir i) ≡ true) × (e ≡ event.Stir)
+-- LINES
 
-abbrev pub after_line : Configuration → World → Action → Said → Choice → World
+-- what an event of an enabled step has to pass
+abbrev pub tests_of_event : Configuration → World → Action → Event → Choice → List Bool
+tests_of_event c w (action.Work i) e choice = allowed c (own_of w i) w.common i e choice
+tests_of_event c w (action.Spawn j k) e choice = may_spawn_by_call w.common k e
+tests_of_event c w (action.Wake j t) e choice = may_wake_by_call w.common t e choice
+tests_of_event c w (action.GoOn j) e choice = may_go_on_by w.common e
+tests_of_event c w a e choice = is_told_as a e ∷ []
+
+-- A step that is not enabled is refused; any other has an event that may come.
+abbrev pub tests_of_line : Configuration → World → Action → StepResult → Choice → List Bool
+tests_of_line c w a Refused choice = not (is_enabled w.common a) ∷ []
+tests_of_line c w a (Did e) choice = is_enabled w.common a ∷ tests_of_event c w a e choice
+
+abbrev pub Follows : Configuration → World → Action → StepResult → Choice → Type 0
+Follows c w a said choice = AllTrue (tests_of_line c w a said choice)
+
+abbrev pub after_event : Configuration → World → Action → Event → Choice → World
+after_event c w (action.Work i) e choice = after c w i e choice
+after_event c w a e choice = record w { common = common_by w.common a e choice }
+
+-- A refused step changes nothing.
+abbrev pub after_line : Configuration → World → Action → StepResult → Choice → World
 after_line c w a Refused choice = w
-after_line c w (action.Work i) (Did e) choice = after c w i e choice
-after_line c w (action.Clock d) (Did e) choice = after_clock w d
-after_line c w (action.Land r n) (Did e) choice = after_landing w r n
-after_line c w (action.Stir i) (Did e) choice = after_stir w i
+after_line c w a (Did e) choice = after_event c w a e choice
+
+-- RUNS
 
 -- The lines are a run from this state on, by these choices, one for each line.
 abbrev pub RunsBy : Configuration → World → List Line → List Choice → Type 0
 RunsBy c w [] [] = Unit {0}
-RunsBy c w (l ∷ ls) (choice ∷ choices) = Follows c w l.action l.said choice × RunsBy c (after_line c w l.action l.said choice) ls choices
+RunsBy c w (l ∷ ls) (choice ∷ choices) =
+    Follows c w l.action l.said choice × RunsBy c (after_line c w l.action l.said choice) ls choices
 RunsBy c w [] (choice ∷ choices) = ⊥
 RunsBy c w (l ∷ ls) [] = ⊥
+
+-- the same as a test that computes
+abbrev pub is_run : Configuration → World → List Line → List Choice → Bool
+is_run c w [] [] = true
+is_run c w (l ∷ ls) (choice ∷ choices) =
+    list_all (λ test. test) (tests_of_line c w l.action l.said choice) && is_run c (after_line c w l.action l.said choice) ls choices
+is_run c w [] (choice ∷ choices) = false
+is_run c w (l ∷ ls) [] = false
 
 -- the state after such a run
 abbrev pub world_after : Configuration → World → List Line → List Choice → World
@@ -51,29 +58,22 @@ world_after c w [] choices = w
 world_after c w (l ∷ ls) [] = w
 world_after c w (l ∷ ls) (choice ∷ choices) = world_after c (after_line c w l.action l.said choice) ls choices
 
-abbrev pub same_result : OpResult → OpResult → Bool
-same_result (Count m) (Count n) = m == n
-same_result (Count m) (Errno d) = false
-same_result (Errno c) (Count n) = false
-same_result (Errno c) (Errno d) = c == d
+-- THE LINES OF A STEP
 
-abbrev pub is_work : ℕ → Action → Bool
-is_work i (action.Work j) = i == j
-is_work i _ = false
+abbrev pub same_action : Action → Action → Bool
+same_action (action.Work i) (action.Work j) = i == j
+same_action (action.Spawn i k) (action.Spawn j n) = (i == j) && (k == n)
+same_action (action.Wake i t) (action.Wake j n) = (i == j) && (t == n)
+same_action (action.GoOn i) (action.GoOn j) = i == j
+same_action (action.Clock i) (action.Clock j) = i == j
+same_action (action.Land r m) (action.Land q n) = (r == q) && same_result m n
+same_action (action.SetBusy i) (action.SetBusy j) = i == j
+same_action (action.EndPoll i) (action.EndPoll j) = i == j
+same_action (action.Stir i) (action.Stir j) = i == j
+same_action (action.Peer i) (action.Peer j) = i == j
+same_action _ _ = false
 
-abbrev pub is_landing : ℕ → OpResult → Action → Bool
-is_landing r n (action.Land q m) = (r == q) && same_result n m
-is_landing r n _ = false
-
-abbrev pub is_clock : ℕ → Action → Bool
-is_clock d (action.Clock e) = d == e
-is_clock d _ = false
-
-abbrev pub is_stir : ℕ → Action → Bool
-is_stir i (action.Stir j) = i == j
-is_stir i _ = false
-
-abbrev pub is_refused : Said → Bool
+abbrev pub is_refused : StepResult → Bool
 is_refused Refused = true
 is_refused (Did e) = false
 
@@ -81,47 +81,58 @@ is_refused (Did e) = false
 abbrev pub after_work : ℕ → ℕ → List Line → Option (List Line)
 after_work i zero ls = Some ls
 after_work i (suc n) [] = None
-after_work i (suc n) (l ∷ ls) = if is_work i l.action then (if is_refused l.said then Some ls else after_work i n ls) else None
+after_work i (suc n) (l ∷ ls) =
+    if same_action (action.Work i) l.action then (if is_refused l.said then Some ls else after_work i n ls) else None
 
--- what comes after the one line of a step that passes the test
-abbrev pub after_one : (Action → Bool) → List Line → Option (List Line)
-after_one test [] = None
-after_one test (l ∷ ls) = if test l.action then Some ls else None
+-- what comes after the one line of this action
+abbrev pub after_one : Action → List Line → Option (List Line)
+after_one a [] = None
+after_one a (l ∷ ls) = if same_action a l.action then Some ls else None
 
 -- what comes after the lines of a step
 abbrev pub after_step : Step → List Line → Option (List Line)
 after_step (step.Work i n) ls = after_work i n ls
-after_step (step.Clock d) ls = after_one (is_clock d) ls
-after_step (step.Land r n) ls = after_one (is_landing r n) ls
-after_step (step.Stir i) ls = after_one (is_stir i) ls
+after_step (step.One a) ls = after_one a ls
 
 -- what comes after the lines of the steps, in order
 abbrev pub after_steps : List Step → List Line → Option (List Line)
 after_steps [] ls = Some ls
 after_steps (s ∷ ss) ls = option_and_then (after_steps ss) (after_step s ls)
 
--- the root of a pool worker
-abbrev pub root_task : ℕ → List Word → Task
-root_task i script =
-    record { script = script; place = 0; adapters = []; held = []; phase = task.Queued; cleared = false; home = Some i; waiting = waiting.Nothing; fresh = false }
+-- THE FIRST STATE
 
-abbrev pub new_worker : Worker
-new_worker = record { phase = worker.Open; left = false; rest = rest.Awake; start = 0; sampled = 0; sampled_before = 0; busy = false; inbox = []; ready = []; landed = [] }
+-- so many workers of the pool, from this number on, with their roots: task zero runs the root line, each other waits
+abbrev pub first_owns : ℕ → ℕ → List Own
+first_owns zero i = []
+first_owns (suc more) i = new_own 0 i ∷ first_owns more (suc i)
 
--- the state in which a run begins: one worker, and its root with this script, which is queued
-abbrev pub first_world : List Word → World
-first_world script =
+abbrev pub first_tasks : ℕ → ℕ → List Task
+first_tasks zero i = []
+first_tasks (suc more) i = new_task (code_of i) (Some i) ∷ first_tasks more (suc i)
+  where
+    code_of : ℕ → Code
+    code_of zero = code.Root
+    code_of (suc i) = code.Waits
+
+abbrev pub first_common : Configuration → List (List ScriptWord) → List ScriptWord → Common
+first_common c scripts root =
     record {
       clock = 0;
-      workers = new_worker ∷ [];
-      tasks = root_task 0 script ∷ [];
-      operations = [];
+      seats = replicate c.workers (new_seat true);
+      scripts = scripts;
+      root = root;
+      tasks = first_tasks c.workers 0;
       requests = [];
       sleepers = [];
-      opens = [];
-      listeners = [];
+      opens = replicate c.files no_open;
+      listeners = replicate c.sockets 0;
+      next_socket = c.sockets;
       callers = replicate 16 call.Nothing;
       set_closed = false;
       queue_closed = false;
       stopped = false;
     }
+
+-- the state in which a run of these scripts begins
+abbrev pub first_world : Configuration → List (List ScriptWord) → List ScriptWord → World
+first_world c scripts root = record { workers = first_owns c.workers 0; common = first_common c scripts root }

@@ -2,37 +2,31 @@
 use Rattle.std.specs.Prelude.{ℕ, Bool, true, false, not, List, [], ◌∷◌, ◌++◌, Option, Some, None, codes, filter, if◌then◌else◌}
 use Rattle.std.specs.Fmt.{decimal}
 use Rattle.std.specs.List.{flat_map}
-use Rattle.exec_outcomes.specs.declared.outcome.Outcome.{Outcome}
-use Rattle.exec_outcomes.specs.Text.{text_of_result, text_of_outcome, text_of_kind}
-use Rattle.exec_machine.specs.declared.config.Field.{Field}
-use Rattle.exec_machine.specs.declared.config.Field.TheVariants as field
-use Rattle.exec_machine.specs.declared.step.Action.{Action}
+use Rattle.exec_outcomes.specs.{declared.outcome.Outcome.Outcome, Text.{text_of_result, text_of_outcome, text_of_kind}}
+use Rattle.exec_machine.specs.declared.{state.MailMessage.MailMessage, step.Action.Action, event.{Event.Event, StepResult.{StepResult, TheVariants.{Refused, Did}}, Line.Line}}
+use Rattle.exec_machine.specs.declared.state.MailMessage.TheVariants as message
 use Rattle.exec_machine.specs.declared.step.Action.TheVariants as action
-use Rattle.exec_machine.specs.declared.event.Event.{Event}
-use Rattle.exec_machine.specs.declared.event.Event.TheVariants.{Turn, Serve, Begin, Pend, Done, Fault, Admit, Wait, Got, Drop, Timer, GotTimer, Pass, Wake, Enrol, Stage, Enter, Reap, Expire, Cancel, Release, Fire, Sleep, Close, Stop, End, Land, Clock, Stir}
-use Rattle.exec_machine.specs.declared.event.Said.{Said}
-use Rattle.exec_machine.specs.declared.event.Said.TheVariants.{Refused, Did}
-use Rattle.exec_machine.specs.declared.event.Line.{Line}
-
--- the name of a part of a configuration
-abbrev pub text_of_field : Field → List ℕ
-text_of_field field.Workers = codes "workers"
-text_of_field field.Interval = codes "interval"
-text_of_field field.Ring = codes "ring"
-text_of_field field.Tick = codes "tick"
-text_of_field field.Connect = codes "connect"
-text_of_field field.Rw = codes "rw"
-text_of_field field.Spin = codes "spin"
-text_of_field field.Files = codes "files"
-text_of_field field.Sockets = codes "sockets"
-text_of_field field.Layout = codes "layout"
+use Rattle.exec_machine.specs.declared.event.Event.TheVariants as event
 
 -- a step of a log line
 abbrev pub text_of_action : Action → List ℕ
 text_of_action (action.Work worker) = codes "w " ++ decimal worker
+text_of_action (action.Spawn caller script) = codes "x " ++ decimal caller ++ codes " spawn " ++ decimal script
+text_of_action (action.Wake caller task) = codes "x " ++ decimal caller ++ codes " wake " ++ decimal task
+text_of_action (action.GoOn caller) = codes "x " ++ decimal caller
 text_of_action (action.Clock by) = codes "c " ++ decimal by
 text_of_action (action.Land request result) = codes "k " ++ decimal request ++ 32 ∷ text_of_result result
+text_of_action (action.SetBusy worker) = codes "b " ++ decimal worker
+text_of_action (action.EndPoll worker) = codes "m " ++ decimal worker
 text_of_action (action.Stir worker) = codes "e " ++ decimal worker
+text_of_action (action.Peer listener) = codes "l " ++ decimal listener
+
+abbrev pub text_of_message : MailMessage → List ℕ
+text_of_message message.Root = codes "root"
+text_of_message (message.ForwardRequest request) = codes "forward " ++ decimal request
+text_of_message (message.ForwardTimer timer) = codes "forward timer " ++ decimal timer
+text_of_message (message.CancelRequest request) = codes "cancel " ++ decimal request
+text_of_message (message.CancelTimer timer) = codes "cancel timer " ++ decimal timer
 
 -- a space and the outcome, where there is one
 abbrev pub text_of_end : Option Outcome → List ℕ
@@ -45,39 +39,52 @@ text_of_verdict None = codes "more"
 text_of_verdict (Some outcome) = text_of_outcome outcome
 
 abbrev pub text_of_event : Event → List ℕ
-text_of_event Turn = codes "turn"
-text_of_event Serve = codes "serve"
-text_of_event (Begin task) = codes "begin " ++ decimal task
-text_of_event (Pend task) = codes "pend " ++ decimal task
-text_of_event (Done task) = codes "done " ++ decimal task
-text_of_event (Fault task code) = codes "fault " ++ decimal task ++ 32 ∷ decimal code
-text_of_event (Admit request kind outcome) = codes "admit " ++ decimal request ++ 32 ∷ text_of_kind kind ++ text_of_end outcome
-text_of_event (Wait None) = codes "wait none"
-text_of_event (Wait (Some request)) = codes "wait " ++ decimal request
-text_of_event (Got request outcome) = codes "got " ++ decimal request ++ 32 ∷ text_of_outcome outcome
-text_of_event (Drop request) = codes "drop " ++ decimal request
-text_of_event (Timer timer until) = codes "timer " ++ decimal timer ++ 32 ∷ decimal until
-text_of_event (GotTimer timer) = codes "got timer " ++ decimal timer
-text_of_event Pass = codes "got pass"
-text_of_event (Wake task) = codes "wake " ++ decimal task
-text_of_event (Enrol request outcome) = codes "enrol " ++ decimal request ++ text_of_end outcome
-text_of_event (Stage request) = codes "stage " ++ decimal request
-text_of_event Enter = codes "enter"
-text_of_event (Reap request result outcome) = codes "reap " ++ decimal request ++ 32 ∷ text_of_result result ++ 32 ∷ text_of_verdict outcome
-text_of_event (Expire request outcome) = codes "expire " ++ decimal request ++ text_of_end outcome
-text_of_event (Cancel request) = codes "cancel " ++ decimal request
-text_of_event (Release request) = codes "release " ++ decimal request
-text_of_event (Fire timer) = codes "fire " ++ decimal timer
-text_of_event (Sleep None) = codes "sleep ever"
-text_of_event (Sleep (Some until)) = codes "sleep " ++ decimal until
-text_of_event Close = codes "close"
-text_of_event Stop = codes "stop"
-text_of_event End = codes "end"
-text_of_event Land = codes "land"
-text_of_event Clock = codes "clock"
-text_of_event Stir = codes "stir"
+text_of_event event.Turn = codes "turn"
+text_of_event event.Serve = codes "serve"
+text_of_event (event.Begin task) = codes "begin " ++ decimal task
+text_of_event (event.Pend task) = codes "pend " ++ decimal task
+text_of_event (event.Done task) = codes "done " ++ decimal task
+text_of_event (event.Fault task code) = codes "fault " ++ decimal task ++ 32 ∷ decimal code
+text_of_event (event.Spawn task script) = codes "spawn " ++ decimal task ++ 32 ∷ decimal script
+text_of_event (event.Dedicated task worker) = codes "dedicated " ++ decimal task ++ 32 ∷ decimal worker
+text_of_event event.Closed = codes "closed"
+text_of_event (event.Clear task) = codes "clear " ++ decimal task
+text_of_event (event.Admit request kind outcome) = codes "admit " ++ decimal request ++ 32 ∷ text_of_kind kind ++ text_of_end outcome
+text_of_event (event.Wait None) = codes "wait none"
+text_of_event (event.Wait (Some request)) = codes "wait " ++ decimal request
+text_of_event (event.Got request outcome) = codes "got " ++ decimal request ++ 32 ∷ text_of_outcome outcome
+text_of_event (event.Drop request) = codes "drop " ++ decimal request
+text_of_event (event.Timer timer until) = codes "timer " ++ decimal timer ++ 32 ∷ decimal until
+text_of_event (event.GotTimer timer) = codes "got timer " ++ decimal timer
+text_of_event event.Pass = codes "got pass"
+text_of_event (event.Wake task) = codes "wake " ++ decimal task
+text_of_event (event.Grant request outcome) = codes "grant " ++ decimal request ++ text_of_end outcome
+text_of_event (event.Enrol request outcome) = codes "enrol " ++ decimal request ++ text_of_end outcome
+text_of_event (event.Stage request) = codes "stage " ++ decimal request
+text_of_event event.Enter = codes "enter"
+text_of_event event.Busy = codes "busy"
+text_of_event (event.Reap request result outcome) = codes "reap " ++ decimal request ++ 32 ∷ text_of_result result ++ 32 ∷ text_of_verdict outcome
+text_of_event (event.Expire request outcome) = codes "expire " ++ decimal request ++ text_of_end outcome
+text_of_event (event.Cancel request) = codes "cancel " ++ decimal request
+text_of_event (event.Orphan request outcome) = codes "orphan " ++ decimal request ++ text_of_end outcome
+text_of_event (event.Release request) = codes "release " ++ decimal request
+text_of_event (event.Fire timer) = codes "fire " ++ decimal timer
+text_of_event (event.Send worker message) = codes "send " ++ decimal worker ++ 32 ∷ text_of_message message
+text_of_event (event.Apply message) = codes "apply " ++ text_of_message message
+text_of_event (event.Rouse worker) = codes "rouse " ++ decimal worker
+text_of_event (event.Sleep None) = codes "sleep ever"
+text_of_event (event.Sleep (Some until)) = codes "sleep " ++ decimal until
+text_of_event event.Close = codes "close"
+text_of_event event.Stop = codes "stop"
+text_of_event event.End = codes "end"
+text_of_event event.Return = codes "return"
+text_of_event event.Land = codes "land"
+text_of_event event.Clock = codes "clock"
+text_of_event event.Set = codes "set"
+text_of_event event.Stir = codes "stir"
+text_of_event event.Peer = codes "peer"
 
-abbrev pub text_of_said : Said → List ℕ
+abbrev pub text_of_said : StepResult → List ℕ
 text_of_said Refused = codes "refused"
 text_of_said (Did event) = text_of_event event
 
@@ -90,15 +97,16 @@ text_of_log lines = flat_map (λ l. text_of_line l ++ 10 ∷ []) lines
 
 -- Bookkeeping alone: nothing that others could see has happened.
 abbrev pub is_quiet : Event → Bool
-is_quiet Turn = true
-is_quiet Serve = true
-is_quiet Enter = true
+is_quiet event.Turn = true
+is_quiet event.Serve = true
+is_quiet event.Enter = true
+is_quiet event.Busy = true
 is_quiet _ = false
 
 abbrev pub is_quiet_line : Line → Bool
 is_quiet_line l = is_quiet_said l.said
   where
-    is_quiet_said : Said → Bool
+    is_quiet_said : StepResult → Bool
     is_quiet_said Refused = false
     is_quiet_said (Did event) = is_quiet event
 

@@ -1,45 +1,56 @@
--- The state of the abstract machine. All lists are by number. What stands past the end of a list is over.
+-- The state of the abstract machine.
+--
+-- Each worker has its own part, which no other party reads or changes. All else is common: the seats, which are what
+-- several parties read or change of a worker; the tasks, requests, sleepers and opens, by number; the clock. What stands
+-- past the end of a list is over.
 use Rattle.std.specs.Prelude.{ℕ, Bool, true, false, List, [], Option, None, slice_index_or}
-use Rattle.exec_base.specs.declared.error.Error.{Error}
 use Rattle.exec_base.specs.declared.error.Error.TheVariants.{Timeout}
-use Rattle.exec_outcomes.specs.declared.outcome.Kind.{Kind}
-use Rattle.exec_outcomes.specs.declared.outcome.Kind.TheVariants.{Send}
-use Rattle.exec_outcomes.specs.declared.outcome.OpResult.{OpResult}
-use Rattle.exec_outcomes.specs.declared.outcome.Judged.{Judged}
-use Rattle.exec_outcomes.specs.declared.outcome.Outcome.TheVariants.{Failure}
-use Rattle.exec_outcomes.specs.Outcomes.{Asked, Cursor}
-use Rattle.exec_machine.specs.declared.config.Word.{Word}
-use Rattle.exec_machine.specs.declared.state.Message.{Message}
-use Rattle.exec_machine.specs.declared.state.Call.{Call}
-use Rattle.exec_machine.specs.declared.state.WorkerPhase.{WorkerPhase}
-use Rattle.exec_machine.specs.declared.state.WorkerPhase.TheVariants.{Ended}
-use Rattle.exec_machine.specs.declared.state.Rest.{Rest}
-use Rattle.exec_machine.specs.declared.state.Rest.TheVariants.{Awake}
-use Rattle.exec_machine.specs.declared.state.TaskPhase.{TaskPhase}
-use Rattle.exec_machine.specs.declared.state.TaskPhase.TheVariants.{Done}
-use Rattle.exec_machine.specs.declared.state.Waiting.{Waiting}
-use Rattle.exec_machine.specs.declared.state.Waiting.TheVariants.{Nothing}
-use Rattle.exec_machine.specs.declared.state.Forwarding.TheVariants.{Unsent}
-use Rattle.exec_machine.specs.declared.state.Phase.TheVariants.{Resolved}
-use Rattle.exec_machine.specs.declared.state.Request.{Request}
-use Rattle.exec_machine.specs.declared.state.Sleeper.{Sleeper}
+use Rattle.exec_outcomes.specs.{declared.outcome.{Kind.TheVariants.Send, Outcome.TheVariants.Failure}, Accounts.{Account, fresh_account}}
+use Rattle.exec_machine.specs.declared.{config.ScriptWord.ScriptWord, state.{WorkerPhase.{WorkerPhase, TheVariants.Ended}, Rest.{Rest, TheVariants.Awake}, Next.{Next, TheVariants.Free}, Code.{Code, TheVariants.Waits}, TaskPhase.{TaskPhase, TheVariants.Done}, Waiting.{Waiting, TheVariants.Nothing}, Forwarding.TheVariants.Unsent, RequestPhase.TheVariants.Resolved, Operation.Operation, Request.Request, Sleeper.Sleeper, MailMessage.MailMessage, Letter.Letter, Call.Call}}
 
-pub record Worker : Type 0 where
+-- a worker's own part
+pub record Own : Type 0 where
+  -- the number of its root
+  pub root : ℕ
+  -- the moment at which it began, the one that it last sampled, and the one that it had sampled before that, in
+  -- nanoseconds
+  pub start : ℕ
+  pub sampled : ℕ
+  pub sampled_before : ℕ
+  -- it is within a service
+  pub serving : Bool
+  -- the task that it polls
+  pub polls : Option ℕ
+  -- what its next line has to do
+  pub next : Next
+  -- the messages that it has to send, in order
+  pub owed : List Letter
+  -- Requests of its own, each list in order of coming: those that are Queued; those whose deadline isn't enrolled; and
+  -- those that were cancelled in flight, and whose cancel isn't staged. What is over stands in none of them.
+  pub ready : List ℕ
+  pub unenrolled : List ℕ
+  pub cancels : List ℕ
+  -- those whose cancel is staged, and the kernel wasn't told
+  pub untold : List ℕ
+  -- those that are over and not released, in the order in which they ended
+  pub ended : List ℕ
+  -- how many are Staged, Flying or Landed, and how many are not released
+  pub in_flight : ℕ
+  pub unreleased : ℕ
+
+-- what several parties read or change of a worker
+pub record Seat : Type 0 where
   pub phase : WorkerPhase
+  -- it is of the pool, and so polls all tasks that are no roots
+  pub pool : Bool
   -- it has passed the shutdown barrier
   pub left : Bool
   pub rest : Rest
-  -- the moment at which it began, and the one that it last sampled, in nanoseconds
-  pub start : ℕ
-  pub sampled : ℕ
-  -- the moment that it had sampled before that one
-  pub sampled_before : ℕ
   -- its next enter takes nothing
   pub busy : Bool
-  pub inbox : List Message
-  -- its requests as they were Queued, without those that were staged since (what was resolved meanwhile still
-  -- stands there and is passed over), and those that are Landed, each in order of coming
-  pub ready : List ℕ
+  pub inbox : List MailMessage
+  pub mailbox_closed : Bool
+  -- its requests that are Landed, in order of landing
   pub landed : List ℕ
 
 -- what a task keeps of a socket
@@ -49,11 +60,17 @@ pub record Adapter : Type 0 where
   pub poisoned : Bool
   pub buffered : ℕ
 
+-- the call of an adapter that a task is in: its one deadline, and the bytes that it has so far
+pub record AdapterCall : Type 0 where
+  pub deadline : Option ℕ
+  pub gathered : ℕ
+
 pub record Task : Type 0 where
-  pub script : List Word
+  pub code : Code
   -- the number of the next word
   pub place : ℕ
   pub adapters : List Adapter
+  pub call : Option AdapterCall
   -- the requests that it has neither taken nor dropped, the oldest first
   pub held : List ℕ
   pub phase : TaskPhase
@@ -64,76 +81,96 @@ pub record Task : Type 0 where
   -- its last poll began after its last wake
   pub fresh : Bool
 
--- what a request asks for, and how much of it is done
-pub record Operation : Type 0 where
-  pub kind : Kind
-  pub target : ℕ
-  pub offset : ℕ
-  pub length : ℕ
-  pub skip : ℕ
-  pub deadline : Option ℕ
-  -- the mutations of its open that were seen at admission
-  pub seen : ℕ
-  pub moved : ℕ
-  pub hinted : Bool
-  pub switched : Bool
-
+-- an open file: its account, the request that holds its permit, and those that wait for it, in order
 pub record Open : Type 0 where
-  pub mutations : ℕ
-  pub frontier : ℕ
-  pub failure : Option Error
-  pub hint : Bool
-  -- the request that holds its permit, and those that wait for it
+  pub account : Account
   pub holder : Option ℕ
   pub waiting : List ℕ
 
-pub record World : Type 0 where
+pub record Common : Type 0 where
   -- in nanoseconds
   pub clock : ℕ
-  pub workers : List Worker
+  pub seats : List Seat
+  pub scripts : List (List ScriptWord)
+  pub root : List ScriptWord
   pub tasks : List Task
-  -- a request is its operation and how it stands, under one number
-  pub operations : List Operation
   pub requests : List Request
   pub sleepers : List Sleeper
   pub opens : List Open
   -- for each listener how many peers wait
   pub listeners : List ℕ
+  pub next_socket : ℕ
   pub callers : List Call
   pub set_closed : Bool
   pub queue_closed : Bool
   pub stopped : Bool
 
--- a worker that has ended
-abbrev pub nobody : Worker
-nobody = record { phase = Ended; left = true; rest = Awake; start = 0; sampled = 0; sampled_before = 0; busy = false; inbox = []; ready = []; landed = [] }
+pub record World : Type 0 where
+  pub workers : List Own
+  pub common : Common
 
--- a task that is over
+-- what stands past the end of a list: a worker that has nothing and has ended, a task that is over, a request that is
+-- resolved and released, a sleeper that is over and owes nothing, an open that nobody uses
+
+abbrev pub no_own : Own
+no_own =
+    record {
+      root = 0;
+      start = 0;
+      sampled = 0;
+      sampled_before = 0;
+      serving = false;
+      polls = None;
+      next = Free;
+      owed = [];
+      ready = [];
+      unenrolled = [];
+      cancels = [];
+      untold = [];
+      ended = [];
+      in_flight = 0;
+      unreleased = 0;
+    }
+
+abbrev pub no_seat : Seat
+no_seat =
+    record { phase = Ended; pool = false; left = true; rest = Awake; busy = false; inbox = []; mailbox_closed = true; landed = [] }
+
 abbrev pub no_task : Task
-no_task = record { script = []; place = 0; adapters = []; held = []; phase = Done; cleared = false; home = None; waiting = Nothing; fresh = false }
+no_task =
+    record {
+      code = Waits;
+      place = 0;
+      adapters = [];
+      call = None;
+      held = [];
+      phase = Done;
+      cleared = true;
+      home = None;
+      waiting = Nothing;
+      fresh = false;
+    }
 
--- what it asks for as far as its results go, how far it has come, and one more result of it
-abbrev pub asked_of : Operation → Asked
-asked_of o = record { kind = o.kind; length = o.length; skip = o.skip }
-
-abbrev pub cursor_of : Operation → Cursor
-cursor_of o = record { moved = o.moved; switched = o.switched; hinted = o.hinted }
-
-abbrev pub judged_of : Operation → OpResult → Bool → Judged
-judged_of o n cancelled = record { result = n; hinted = o.hinted; cancelled = cancelled }
-
--- an operation of nothing
 abbrev pub no_operation : Operation
-no_operation = record { kind = Send; target = 0; offset = 0; length = 0; skip = 0; deadline = None; seen = 0; moved = 0; hinted = false; switched = false }
+no_operation =
+    record {
+      kind = Send;
+      target = 0;
+      offset = 0;
+      length = 0;
+      skip = 0;
+      deadline = None;
+      seen = 0;
+      moved = 0;
+      switched = false;
+      unrefused = true;
+      hinted = false;
+    }
 
--- a sleeper that is over and owes nothing
-abbrev pub no_sleeper : Sleeper
-no_sleeper = record { until = 0; worker = 0; task = 0; fired = true; removed = true; forwarding = Unsent; wakes_paid = 1 }
-
--- a request that is resolved and released
 abbrev pub no_request : Request
 no_request =
     record {
+      operation = no_operation;
       worker = 0;
       phase = Resolved (Failure Timeout);
       timer = None;
@@ -146,17 +183,26 @@ no_request =
       forwarding = Unsent;
     }
 
-abbrev pub worker_of : World → ℕ → Worker
-worker_of w i = slice_index_or w.workers i nobody
+abbrev pub no_sleeper : Sleeper
+no_sleeper = record { until = 0; worker = 0; task = 0; fired = true; removed = true; wakes_paid = 2; forwarding = Unsent }
 
-abbrev pub task_of : World → ℕ → Task
-task_of w t = slice_index_or w.tasks t no_task
+abbrev pub no_open : Open
+no_open = record { account = fresh_account; holder = None; waiting = [] }
 
-abbrev pub operation_of : World → ℕ → Operation
-operation_of w r = slice_index_or w.operations r no_operation
+abbrev pub own_of : World → ℕ → Own
+own_of w i = slice_index_or w.workers i no_own
 
-abbrev pub request_of : World → ℕ → Request
-request_of w r = slice_index_or w.requests r no_request
+abbrev pub seat_of : Common → ℕ → Seat
+seat_of s i = slice_index_or s.seats i no_seat
 
-abbrev pub sleeper_of : World → ℕ → Sleeper
-sleeper_of w z = slice_index_or w.sleepers z no_sleeper
+abbrev pub task_of : Common → ℕ → Task
+task_of s t = slice_index_or s.tasks t no_task
+
+abbrev pub request_of : Common → ℕ → Request
+request_of s r = slice_index_or s.requests r no_request
+
+abbrev pub sleeper_of : Common → ℕ → Sleeper
+sleeper_of s z = slice_index_or s.sleepers z no_sleeper
+
+abbrev pub open_of : Common → ℕ → Open
+open_of s f = slice_index_or s.opens f no_open

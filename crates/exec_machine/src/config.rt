@@ -1,13 +1,7 @@
-//! What a trace sets up: the configuration, the scripts, and the steps.
+//! What a trace sets up: the configuration and the words of scripts.
 
-ghost use Rattle.std.specs.Prelude.{◌≡◌, ◌≤◌, length};
-ghost use Rattle.exec_machine.specs.Text.{text_of_field};
-
-use crate::step::Step;
-use std::fmt;
-
-/// How long a worker without work looks for some before it sleeps. All four are 0 where it doesn't.
-#[derive(Clone, Copy, Debug, PartialEq, Eq)]
+/// How long a worker without work looks for some before it sleeps.
+#[derive(Clone, Copy, Debug)]
 pub struct Spin {
     /// The budget at first, in microseconds.
     pub budget: u64,
@@ -20,7 +14,7 @@ pub struct Spin {
 }
 
 /// The header of a trace. Ports `Config` and `RingConfig`.
-#[derive(Clone, Copy, Debug, PartialEq, Eq)]
+#[derive(Clone, Copy, Debug)]
 pub struct Configuration {
     /// How many workers the pool has.
     pub workers: usize,
@@ -38,105 +32,102 @@ pub struct Configuration {
     pub spin: Spin,
     /// How many files are open.
     pub files: usize,
-    /// How many sockets there are.
+    /// How many sockets there are, and as many listeners.
     pub sockets: usize,
 }
 
 /// One word of a script: what a task does next.
-#[derive(Clone, Copy, Debug, PartialEq, Eq)]
-pub enum Word {
-    /// Registers a send to this socket of so many bytes.
-    Send { socket: usize, length: u64 },
+#[derive(Clone, Copy, Debug)]
+pub enum ScriptWord {
     /// Registers a readiness poll of this listener.
-    Poll { listener: usize },
+    Poll {
+        listener: usize,
+    },
+    /// Registers a send to this socket of so many bytes.
+    Send {
+        socket: usize,
+        length: u64,
+    },
+    /// Registers a receive from this socket of at most so many bytes.
+    Recv {
+        socket: usize,
+        length: u64,
+    },
+    /// Registers a receive from this socket of exactly so many bytes.
+    Fill {
+        socket: usize,
+        length: u64,
+    },
+    /// Registers a connect of this socket.
+    Connect {
+        socket: usize,
+    },
+    /// Registers a buffered read of so many bytes of this file.
+    Read {
+        file: usize,
+        offset: u64,
+        length: u64,
+    },
+    /// The same, with the hint to keep them out of the page cache.
+    Hint {
+        file: usize,
+        offset: u64,
+        length: u64,
+    },
+    /// The same, past the page cache.
+    Direct {
+        file: usize,
+        offset: u64,
+        length: u64,
+    },
+    /// Registers a write of so many bytes to this file.
+    Write {
+        file: usize,
+        offset: u64,
+        length: u64,
+    },
+    /// The same, each operation durable by itself.
+    Dsync {
+        file: usize,
+        offset: u64,
+        length: u64,
+    },
+    /// The same, made durable by one sync after all operations.
+    Many {
+        file: usize,
+        offset: u64,
+        length: u64,
+    },
+    /// Registers a sync of this file.
+    Sync {
+        file: usize,
+    },
     /// Waits for the newest held request, or with none held for a wake.
     Await,
     /// Lets the newest held request go. With none held it asks for nothing.
     Drop,
     /// Sleeps so many nanoseconds.
-    Sleep { time: u64 },
+    Sleep {
+        time: u64,
+    },
+    /// Spawns a task of this script.
+    Spawn {
+        script: usize,
+    },
+    /// Spawns a task of this script with a worker of its own.
+    Dedicated {
+        script: usize,
+    },
+    /// Wakes this task. Where there is none it asks for nothing.
+    Wake {
+        task: usize,
+    },
     /// Wakes the task itself, and lets others go first.
     Yield,
     /// Ends the task.
     End,
     /// Ends the task with a fault.
-    Fault { code: u64 },
-}
-
-/// A part of a configuration that has a range.
-#[derive(Clone, Copy, Debug, PartialEq, Eq)]
-pub enum Field {
-    /// How many workers there are.
-    Workers,
-    /// Every how many picks the global queue is looked at first.
-    Interval,
-    /// How many operations a ring can hold.
-    Ring,
-    /// The tick of the timeout wheel.
-    Tick,
-    /// How long a connect may take.
-    Connect,
-    /// How long another request of a socket may take.
-    Rw,
-    /// The four numbers of the spin.
-    Spin,
-    /// How many files are open.
-    Files,
-    /// How many sockets there are.
-    Sockets,
-    /// The slots of the timeout wheel, by its tick and its longest deadline.
-    Layout,
-}
-
-/// A part of a configuration that is out of its range.
-#[derive(Clone, Copy, Debug, PartialEq, Eq)]
-pub struct OutOfRange {
-    /// Which part it is.
-    pub field: Field,
-    /// What it says: of the spin its first number, of the layout the tick.
-    pub value: u64,
-}
-
-/// A whole trace.
-#[derive(Debug, Drop)]
-pub struct Trace {
-    /// The configuration.
-    pub config: Configuration,
-    /// The scripts, by number.
-    pub scripts: Vec<Vec<Word>>,
-    /// The script of the root task.
-    pub root: Vec<Word>,
-    /// The steps, in order.
-    pub steps: Vec<Step>,
-}
-
-impl Field {
-    /// The name that it has in a header and in an error.
-    pub fn name(self) -> &'static str
-        ensures text { result.now ≡ text_of_field self }
-        ensures short { length result.now ≤ 8 }
-    {
-        match self {
-            Field::Workers => "workers",
-            Field::Interval => "interval",
-            Field::Ring => "ring",
-            Field::Tick => "tick",
-            Field::Connect => "connect",
-            Field::Rw => "rw",
-            Field::Spin => "spin",
-            Field::Files => "files",
-            Field::Sockets => "sockets",
-            Field::Layout => "layout",
-        }
-    }
-}
-
-impl fmt::Display for Field {
-    ghost use Rattle.std.specs.Prelude.{Some};
-
-    ghost output = { λ f. Some (text_of_field f) };
-
-    fn fmt<W: fmt::Write>(&self, f: &mut fmt::Formatter<W>) -> fmt::Result {
-        f.write_str(self.name())
-    }
+    Fault {
+        code: u64,
+    },
 }

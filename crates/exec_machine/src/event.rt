@@ -1,13 +1,15 @@
 //! The events of the abstract machine, and the lines of a log.
 
+use crate::state::MailMessage;
 use crate::step::Action;
 use exec_outcomes::outcome::{Kind, OpResult, Outcome};
 use std::fmt;
 
 /// What happens in one step of a party. Tasks, requests and workers go by number.
-#[derive(Clone, Copy, Debug, PartialEq, Eq)]
+#[derive(Clone, Copy, Debug)]
 pub enum Event {
-    /// A step that changes nothing, or by which a closing worker passes the shutdown barrier.
+    /// A step that changes nothing, or does what the worker's next line had to do, or by which a
+    /// closing worker passes the shutdown barrier.
     Turn,
     /// A step inside a service that changes nothing but the sampled moment.
     Serve,
@@ -27,6 +29,22 @@ pub enum Event {
     Fault {
         task: usize,
         code: u64,
+    },
+    /// A task of the script is made.
+    Spawn {
+        task: usize,
+        script: usize,
+    },
+    /// A task is made that has a worker of its own.
+    Dedicated {
+        task: usize,
+        worker: usize,
+    },
+    /// What an act, a call or a message met was closed.
+    Closed,
+    /// A task that the closing pool drains is over, or ends with its poll.
+    Clear {
+        task: usize,
     },
     /// The polled task makes a request. With an outcome where its deadline had passed.
     Admit {
@@ -62,6 +80,11 @@ pub enum Event {
     Wake {
         task: usize,
     },
+    /// The request has the permit of its open, or is over by what is known of the open.
+    Grant {
+        request: usize,
+        outcome: Option<Outcome>,
+    },
     /// The deadline of the request is on the wheel, or the request is resolved.
     Enrol {
         request: usize,
@@ -73,13 +96,16 @@ pub enum Event {
     },
     /// The kernel takes all that is staged.
     Enter,
+    /// The kernel takes nothing.
+    Busy,
     /// A landed result is judged. Without an outcome another operation is needed.
     Reap {
         request: usize,
         result: OpResult,
         outcome: Option<Outcome>,
     },
-    /// The deadline of the request has come. It is over where the kernel doesn't have it, else cancelled.
+    /// The deadline of the request has come. It is over where the kernel doesn't have it, else
+    /// cancelled.
     Expire {
         request: usize,
         outcome: Option<Outcome>,
@@ -88,6 +114,11 @@ pub enum Event {
     Cancel {
         request: usize,
     },
+    /// A closing worker lets go of the request in place of the task that holds it.
+    Orphan {
+        request: usize,
+        outcome: Option<Outcome>,
+    },
     /// What the request owned is let go.
     Release {
         request: usize,
@@ -95,6 +126,19 @@ pub enum Event {
     /// The moment of the sleeper has come.
     Fire {
         timer: usize,
+    },
+    /// The message goes to the worker.
+    Send {
+        worker: usize,
+        message: MailMessage,
+    },
+    /// The worker acts by the first message of its inbox.
+    Apply {
+        message: MailMessage,
+    },
+    /// The sleeping worker is woken.
+    Rouse {
+        worker: usize,
     },
     /// The worker sleeps until a moment in nanoseconds, or without end.
     Sleep {
@@ -106,17 +150,23 @@ pub enum Event {
     Stop,
     /// The worker has ended.
     End,
+    /// The caller's call is over.
+    Return,
     /// The operation has landed.
     Land,
     /// The clock has moved.
     Clock,
+    /// A ring was set busy, or its wake poll to end.
+    Set,
     /// The wait of a worker has returned for nothing.
     Stir,
+    /// A peer has come.
+    Peer,
 }
 
 /// What became of a step.
-#[derive(Clone, Copy, Debug, PartialEq, Eq)]
-pub enum Said {
+#[derive(Clone, Copy, Debug)]
+pub enum StepResult {
     /// The step was not enabled, and nothing changed.
     Refused,
     /// This happened.
@@ -124,12 +174,12 @@ pub enum Said {
 }
 
 /// A line of a log.
-#[derive(Clone, Copy, Debug, PartialEq, Eq)]
+#[derive(Clone, Copy, Debug)]
 pub struct Line {
     /// The step.
     pub action: Action,
     /// What became of it.
-    pub said: Said,
+    pub said: StepResult,
 }
 
 impl fmt::Display for Event {
@@ -146,6 +196,10 @@ impl fmt::Display for Event {
             Event::Pend { task } => write!(f, "pend {task}"),
             Event::Done { task } => write!(f, "done {task}"),
             Event::Fault { task, code } => write!(f, "fault {task} {code}"),
+            Event::Spawn { task, script } => write!(f, "spawn {task} {script}"),
+            Event::Dedicated { task, worker } => write!(f, "dedicated {task} {worker}"),
+            Event::Closed => write!(f, "closed"),
+            Event::Clear { task } => write!(f, "clear {task}"),
             Event::Admit {
                 request,
                 kind,
@@ -166,6 +220,14 @@ impl fmt::Display for Event {
             Event::GotTimer { timer } => write!(f, "got timer {timer}"),
             Event::Pass => write!(f, "got pass"),
             Event::Wake { task } => write!(f, "wake {task}"),
+            Event::Grant {
+                request,
+                outcome: None,
+            } => write!(f, "grant {request}"),
+            Event::Grant {
+                request,
+                outcome: Some(outcome),
+            } => write!(f, "grant {request} {outcome}"),
             Event::Enrol {
                 request,
                 outcome: None,
@@ -176,6 +238,7 @@ impl fmt::Display for Event {
             } => write!(f, "enrol {request} {outcome}"),
             Event::Stage { request } => write!(f, "stage {request}"),
             Event::Enter => write!(f, "enter"),
+            Event::Busy => write!(f, "busy"),
             Event::Reap {
                 request,
                 result,
@@ -195,16 +258,30 @@ impl fmt::Display for Event {
                 outcome: Some(outcome),
             } => write!(f, "expire {request} {outcome}"),
             Event::Cancel { request } => write!(f, "cancel {request}"),
+            Event::Orphan {
+                request,
+                outcome: None,
+            } => write!(f, "orphan {request}"),
+            Event::Orphan {
+                request,
+                outcome: Some(outcome),
+            } => write!(f, "orphan {request} {outcome}"),
             Event::Release { request } => write!(f, "release {request}"),
             Event::Fire { timer } => write!(f, "fire {timer}"),
+            Event::Send { worker, message } => write!(f, "send {worker} {message}"),
+            Event::Apply { message } => write!(f, "apply {message}"),
+            Event::Rouse { worker } => write!(f, "rouse {worker}"),
             Event::Sleep { until: None } => write!(f, "sleep ever"),
             Event::Sleep { until: Some(until) } => write!(f, "sleep {until}"),
             Event::Close => write!(f, "close"),
             Event::Stop => write!(f, "stop"),
             Event::End => write!(f, "end"),
+            Event::Return => write!(f, "return"),
             Event::Land => write!(f, "land"),
             Event::Clock => write!(f, "clock"),
+            Event::Set => write!(f, "set"),
             Event::Stir => write!(f, "stir"),
+            Event::Peer => write!(f, "peer"),
         }
     }
 }
@@ -218,8 +295,8 @@ impl fmt::Display for Line {
     fn fmt<W: fmt::Write>(&self, f: &mut fmt::Formatter<W>) -> fmt::Result {
         let action = self.action;
         match self.said {
-            Said::Refused => write!(f, "{action} refused"),
-            Said::Did(event) => write!(f, "{action} {event}"),
+            StepResult::Refused => write!(f, "{action} refused"),
+            StepResult::Did(event) => write!(f, "{action} {event}"),
         }
     }
 }

@@ -1,82 +1,77 @@
-//! Worked examples of runs, proved by computation: good logs and refused ones.
+//! Worked examples of whole logs, proved by computation: good ones, and lines that may not come.
 
-ghost use Rattle.std.specs.Prelude.{◌≡◌, ◌≢◌, true, false, [], ◌∷◌, ◌++◌, Some, None, replicate};
-ghost use Rattle.exec_machine.specs.Allowed.{is_first_due, round_from};
-ghost use Rattle.exec_machine.specs.Choice.Choice.{Plain, ByTask};
-ghost use Rattle.exec_machine.specs.Ranges.{ring_size, wheel_slots, first_out_of_range};
-ghost use Rattle.exec_machine.specs.Run.{RunsBy, first_world, after_step, after_steps};
-ghost use Rattle.exec_machine.specs.Examples.{the_config, with_deadlines, with_ring, with_workers, one_send, its_steps, refused, lands, until_asleep, until_ended, all_choices, first_ten, their_choices, begun_twice, released_early, wrong_outcome, until_flying, flying_choices, too_late, late_choices, expired_early, cancelled_twice, released_at_cancel, one_sleep, its_sleep, sleep_choices, fired_early, early_choices, not_slept, timed, sampling};
-ghost use Rattle.exec_machine.specs.declared.step.Step.TheVariants as step;
-ghost use Rattle.exec_machine.specs.declared.config.Field.TheVariants as field;
+ghost use Rattle.std.specs.Prelude.{true, false, [], ◌∷◌};
+ghost use Rattle.exec_machine.specs.{declared.event.Event.TheVariants.{Turn, Enter}, Examples.{IsGood, does}, Refusals.{AreRefused, Sleeps, sleeps_on}, Logs.{a_send, durable_writes, a_stolen_task, a_forward, a_sleeper_elsewhere, the_barrier}, MoreLogs.{a_busy_ring, a_deadline, a_late_enrolment, deadlines_in_order, the_wheel_goes_round, a_clock_in_a_service, a_clock_between_samples, a_cancel_in_time, parts, sleepers, wakes_of_roots, closed, two_kinds, what_a_task_held}, RefusedLines.{refused_in_a_send, refused_in_durable_writes, refused_in_a_stolen_task, refused_in_a_forward}, MoreRefusedLines.{refused_in_a_sleeper_elsewhere, refused_in_the_barrier, refused_in_a_busy_ring, refused_in_a_deadline, refused_in_a_late_enrolment, refused_in_deadlines_in_order, refused_in_the_wheel_goes_round, refused_in_a_clock_in_a_service, refused_in_a_clock_between_samples, refused_in_a_cancel_in_time, refused_in_parts, refused_in_sleepers, refused_in_wakes_of_roots, refused_in_closed, refused_in_two_kinds, refused_in_what_a_task_held}};
 
-/// A root sends ten bytes, waits, is woken and ends; and the first ten lines of its whole log.
-pub fn a_send_and_its_end()
-    ensures whole { RunsBy the_config (first_world one_send) (until_asleep ++ until_ended) all_choices }
-    ensures first { RunsBy the_config (first_world one_send) first_ten their_choices }
+/// Good logs: tasks, requests and messages of several workers, from a send to the barrier.
+pub fn good_logs()
+    ensures of_a_send { IsGood a_send }
+    ensures of_durable_writes { IsGood durable_writes }
+    ensures of_a_stolen_task { IsGood a_stolen_task }
+    ensures of_a_forward { IsGood a_forward }
+    ensures of_a_sleeper_elsewhere { IsGood a_sleeper_elsewhere }
+    ensures of_the_barrier { IsGood the_barrier }
 {}
 
-/// A deadline comes in flight, and the send is over once its operation has landed.
-pub fn a_send_too_late()
-    ensures run { RunsBy the_config (first_world one_send) (until_flying ++ too_late) (flying_choices ++ late_choices) }
+/// Good logs: rings, deadlines, sleepers, requests in parts, roots, and what is closed.
+pub fn more_good_logs()
+    ensures of_a_busy_ring { IsGood a_busy_ring }
+    ensures of_a_deadline { IsGood a_deadline }
+    ensures of_a_late_enrolment { IsGood a_late_enrolment }
+    ensures of_deadlines_in_order { IsGood deadlines_in_order }
+    ensures of_the_wheel_goes_round { IsGood the_wheel_goes_round }
+    ensures of_a_clock_in_a_service { IsGood a_clock_in_a_service }
+    ensures of_a_clock_between_samples { IsGood a_clock_between_samples }
+    ensures of_a_cancel_in_time { IsGood a_cancel_in_time }
+    ensures of_parts { IsGood parts }
+    ensures of_sleepers { IsGood sleepers }
+    ensures of_wakes_of_roots { IsGood wakes_of_roots }
+    ensures of_closed { IsGood closed }
+    ensures of_two_kinds { IsGood two_kinds }
+    ensures of_what_a_task_held { IsGood what_a_task_held }
 {}
 
-/// A root sleeps, yields, lets go of a poll, and is woken for nothing.
-pub fn a_sleep()
-    ensures run { RunsBy the_config (first_world one_sleep) its_sleep sleep_choices }
+/// Lines that may not come, each for what is said above it: of tasks and requests of several
+/// workers.
+pub fn refused_lines()
+    ensures in_a_send { AreRefused a_send refused_in_a_send }
+    ensures in_durable_writes { AreRefused durable_writes refused_in_durable_writes }
+    ensures in_a_stolen_task { AreRefused a_stolen_task refused_in_a_stolen_task }
+    ensures in_a_forward { AreRefused a_forward refused_in_a_forward }
 {}
 
-/// No run polls a task twice, lets a buffer go too early, or tells an outcome that the results don't give.
-pub fn no_runs()
-    ensures begun { RunsBy the_config (first_world one_send) begun_twice (Plain ∷ Plain ∷ []) → ⊥ }
-    ensures released { RunsBy the_config (first_world one_send) released_early (flying_choices ++ Plain ∷ []) → ⊥ }
-    ensures outcome { RunsBy the_config (first_world one_send) wrong_outcome (flying_choices ++ Plain ∷ Plain ∷ []) → ⊥ }
+/// Of rings, deadlines, sleepers, and requests in parts.
+pub fn refused_deadlines()
+    ensures in_a_sleeper_elsewhere { AreRefused a_sleeper_elsewhere refused_in_a_sleeper_elsewhere }
+    ensures in_a_busy_ring { AreRefused a_busy_ring refused_in_a_busy_ring }
+    ensures in_a_deadline { AreRefused a_deadline refused_in_a_deadline }
+    ensures in_a_late_enrolment { AreRefused a_late_enrolment refused_in_a_late_enrolment }
+    ensures in_deadlines_in_order { AreRefused deadlines_in_order refused_in_deadlines_in_order }
+    ensures in_the_wheel_goes_round { AreRefused the_wheel_goes_round
+        refused_in_the_wheel_goes_round }
+    ensures in_a_clock_in_a_service { AreRefused a_clock_in_a_service
+        refused_in_a_clock_in_a_service }
+    ensures in_a_clock_between_samples { AreRefused a_clock_between_samples
+        refused_in_a_clock_between_samples }
+    ensures in_a_cancel_in_time { AreRefused a_cancel_in_time refused_in_a_cancel_in_time }
+    ensures in_parts { AreRefused parts refused_in_parts }
+    ensures in_sleepers { AreRefused sleepers refused_in_sleepers }
 {}
 
-/// No run tells a deadline early, cancels twice, or lets a buffer go when the cancel was taken.
-pub fn no_runs_past_a_deadline()
-    ensures early { RunsBy the_config (first_world one_send) (until_flying ++ expired_early) (flying_choices ++ late_choices) → ⊥ }
-    ensures twice { RunsBy the_config (first_world one_send) (until_flying ++ cancelled_twice) (flying_choices ++ late_choices) → ⊥ }
-    ensures released { RunsBy the_config (first_world one_send) (until_flying ++ released_at_cancel) (flying_choices ++ late_choices) → ⊥ }
+/// Of closing, roots and callers.
+pub fn refused_closings()
+    ensures in_the_barrier { AreRefused the_barrier refused_in_the_barrier }
+    ensures in_wakes_of_roots { AreRefused wakes_of_roots refused_in_wakes_of_roots }
+    ensures in_closed { AreRefused closed refused_in_closed }
+    ensures in_two_kinds { AreRefused two_kinds refused_in_two_kinds }
+    ensures in_what_a_task_held { AreRefused what_a_task_held refused_in_what_a_task_held }
 {}
 
-/// No run ends a sleep early.
-pub fn no_short_sleeps()
-    ensures fired { RunsBy the_config (first_world one_sleep) fired_early early_choices → ⊥ }
-    ensures taken { RunsBy the_config (first_world one_sleep) not_slept (Plain ∷ ByTask 0 ∷ ByTask 0 ∷ []) → ⊥ }
-{}
-
-/// Each step has its lines: as many as it asks for, or fewer up to the first refused one.
-pub fn lines_of_steps()
-    ensures all { after_steps its_steps (until_asleep ++ until_ended) ≡ Some [] }
-    ensures too_few { after_steps its_steps until_asleep ≡ None }
-    ensures too_many { after_steps its_steps (until_asleep ++ until_ended ++ refused ∷ []) ≢ Some [] }
-    ensures two { after_step (step.Work 0 2) (first_ten) ≢ Some [] }
-{}
-
-/// The sizes of ring and wheel, and parts that are out of their range: the first in order counts.
-pub fn ranges()
-    ensures ring { ring_size (with_ring 5) ≡ 8 }
-    ensures largest_ring { ring_size (with_ring 32768) ≡ 32768 }
-    ensures slots { wheel_slots the_config ≡ 4 }
-    ensures a_minute { wheel_slots (with_deadlines 5000000 60000000000) ≡ 16384 }
-    ensures none { first_out_of_range the_config ≡ None }
-    ensures workers { first_out_of_range (with_workers 65) ≡ Some (record { field = field.Workers; value = 65 }) }
-    ensures no_ring { first_out_of_range (with_ring 0) ≡ Some (record { field = field.Ring; value = 0 }) }
-    ensures too_many_slots { first_out_of_range (with_deadlines 1 1048575) ≡ Some (record { field = field.Layout; value = 1 }) }
-    ensures just_enough { first_out_of_range (with_deadlines 1 1048574) ≡ None }
-    ensures not_the_next { first_out_of_range (with_workers 65) ≢ Some (record { field = field.Interval; value = 0 }) }
-{}
-
-/// The order in which due deadlines are told, on a wheel of 32 slots of 5 ms: by their ticks; and where the wheel
-/// went all the way round since it was at tick 30, slot 0 and what follows come before slot 31.
-pub fn order_of_deadlines()
-    ensures earlier_first { is_first_due None 200000000 0 (timed 100000000 ∷ timed 25000000 ∷ []) 1 ≡ true }
-    ensures later_waits { is_first_due None 200000000 0 (timed 100000000 ∷ timed 25000000 ∷ []) 0 ≡ false }
-    ensures in_order_of_making { is_first_due None 25000000 0 (timed 25000000 ∷ timed 25000000 ∷ []) 0 ≡ true }
-    ensures not_the_second { is_first_due None 25000000 0 (timed 25000000 ∷ timed 25000000 ∷ []) 1 ≡ false }
-    ensures not_yet { is_first_due None 24999999 0 (timed 100000000 ∷ timed 25000000 ∷ []) 1 ≡ false }
-    ensures round { round_from (with_deadlines 5000000 100000000) (sampling 150000000 310000000) ≡ Some 160000000 }
-    ensures not_round { round_from (with_deadlines 5000000 100000000) (sampling 150000000 309999999) ≡ None }
-    ensures slot_zero_first { is_first_due (Some 160000000) 310000000 0 (timed 155000000 ∷ timed 165000000 ∷ []) 1 ≡ true }
-    ensures slot_31_waits { is_first_due (Some 160000000) 310000000 0 (timed 155000000 ∷ timed 165000000 ∷ []) 0 ≡ false }
+/// A worker doesn't sleep rightly where a cancel was staged and the kernel wasn't told of it, where
+/// its root is over and it is still open, and where it closes and each of its requests is over.
+pub fn sleeps_on_work()
+    ensures untold { Sleeps a_deadline 52 (sleeps_on ∷ []) false }
+    ensures told { Sleeps a_deadline 52 (does 0 Enter ∷ sleeps_on ∷ []) true }
+    ensures still_open { Sleeps a_send 70 (sleeps_on ∷ []) false }
+    ensures closing { Sleeps a_send 71 (does 0 Turn ∷ sleeps_on ∷ []) false }
 {}

@@ -1,11 +1,7 @@
 //! The parts of the abstract machine's state that code keeps as they are.
-//!
-//! The timer of a request is the moment at which its deadline fires, while it is on the wheel:
-//! one field in place of "enrolled" and a wheel beside it. A request that is resolved or
-//! cancelled has none. A wake is paid by a request that the task has waited for; one that was let
-//! go while a task waited for it would still owe the wake, which no script can do.
 
-use exec_outcomes::outcome::{OpResult, Outcome};
+use exec_outcomes::outcome::{Kind, OpResult, Outcome};
+use std::fmt;
 
 /// How far a worker has come.
 #[derive(Clone, Copy, Debug, PartialEq, Eq)]
@@ -27,6 +23,30 @@ pub enum Rest {
     Until(u64),
     /// Until something wakes it.
     Forever,
+}
+
+/// What the next line of a worker has to do. Where it has to do something, that line is a turn.
+#[derive(Clone, Copy, Debug, PartialEq, Eq)]
+pub enum Next {
+    /// Nothing that is settled.
+    Free,
+    /// The durable request that it has just made joins the gate of its open.
+    Joins(usize),
+    /// The global queue closes.
+    ClosesQueue,
+    /// Its mailbox closes.
+    ClosesMailbox,
+}
+
+/// What a task runs.
+#[derive(Clone, Copy, Debug, PartialEq, Eq)]
+pub enum Code {
+    /// The script of the root line.
+    Root,
+    /// The script of this number.
+    Script(usize),
+    /// It waits for a wake again and again until the pool is stopped, and then ends.
+    Waits,
 }
 
 /// How a task stands.
@@ -73,8 +93,8 @@ pub enum Forwarding {
 }
 
 /// How far an operation of a request has come.
-#[derive(Clone, Copy, Debug, PartialEq, Eq)]
-pub enum Phase {
+#[derive(Clone, Copy, Debug)]
+pub enum RequestPhase {
     /// The request waits for the permit of its open.
     Gated,
     /// It waits for a place in the submission queue.
@@ -89,13 +109,42 @@ pub enum Phase {
     Resolved(Outcome),
 }
 
-/// How a request stands. What it asks for, and how much of it is done, is its operation.
-#[derive(Clone, Copy, Debug, PartialEq, Eq)]
+/// What a request asks for, and how much of it is done.
+#[derive(Clone, Copy, Debug)]
+pub struct Operation {
+    /// What it asks for.
+    pub kind: Kind,
+    /// The number of its socket, listener or open.
+    pub target: usize,
+    /// Where in the file it begins, in bytes.
+    pub offset: u64,
+    /// How many bytes it moves. A poll, a connect and a sync count as 1.
+    pub length: u64,
+    /// How many bytes lie before them in the aligned range of a direct read.
+    pub skip: u64,
+    /// The moment from which it is too late, in nanoseconds.
+    pub deadline: Option<u64>,
+    /// The mutations of its open that were seen when it was made.
+    pub seen: u64,
+    /// How many bytes its present part has moved.
+    pub moved: u64,
+    /// Whether it has passed on to its second part.
+    pub switched: bool,
+    /// Whether no hint of its operations was refused.
+    pub unrefused: bool,
+    /// Whether its last operation had the hint.
+    pub hinted: bool,
+}
+
+/// How a request stands.
+#[derive(Clone, Copy, Debug)]
 pub struct Request {
+    /// What it asks for, and how much of it is done.
+    pub operation: Operation,
     /// The worker that made it.
     pub worker: usize,
     /// How far it has come.
-    pub phase: Phase,
+    pub phase: RequestPhase,
     /// The moment at which its deadline fires, in nanoseconds, while that is on the wheel.
     pub timer: Option<u64>,
     /// Whether a task still holds it.
@@ -115,7 +164,7 @@ pub struct Request {
 }
 
 /// How a sleeper stands: a task waits for its moment.
-#[derive(Clone, Copy, Debug, PartialEq, Eq)]
+#[derive(Clone, Copy, Debug)]
 pub struct Sleeper {
     /// Its moment, in nanoseconds.
     pub until: u64,
@@ -127,15 +176,15 @@ pub struct Sleeper {
     pub fired: bool,
     /// Whether it was taken away before that.
     pub removed: bool,
-    /// How far it was handed to its own worker.
-    pub forwarding: Forwarding,
     /// How many wakes it has paid.
     pub wakes_paid: u64,
+    /// How far it was handed to its own worker.
+    pub forwarding: Forwarding,
 }
 
 /// What a worker is told through its inbox.
 #[derive(Clone, Copy, Debug, PartialEq, Eq)]
-pub enum Message {
+pub enum MailMessage {
     /// Its root is woken.
     Root,
     /// A task of another worker waits for this request.
@@ -148,15 +197,37 @@ pub enum Message {
     CancelTimer(usize),
 }
 
-/// What an outside caller is in the middle of.
+/// A message with the worker that it goes to.
+#[derive(Clone, Copy, Debug, PartialEq, Eq)]
+pub struct Letter {
+    /// The worker that it goes to.
+    pub to: usize,
+    /// What that worker is told.
+    pub message: MailMessage,
+}
+
+/// How an outside caller stands. What it does was told by the first step of its call.
 #[derive(Clone, Copy, Debug, PartialEq, Eq)]
 pub enum Call {
-    /// Nothing.
+    /// It has no call half done.
     Nothing,
-    /// A spawn of this script.
-    Spawn(usize),
-    /// A wake of this task.
-    Wake(usize),
-    /// A call whose effect has come.
-    Returning,
+    /// It has.
+    HalfDone,
+}
+
+impl fmt::Display for MailMessage {
+    ghost use Rattle.std.specs.Prelude.{Some};
+    ghost use Rattle.exec_machine.specs.Text.{text_of_message};
+
+    ghost output = { λ m. Some (text_of_message m) };
+
+    fn fmt<W: fmt::Write>(&self, f: &mut fmt::Formatter<W>) -> fmt::Result {
+        match self {
+            MailMessage::Root => write!(f, "root"),
+            MailMessage::ForwardRequest(request) => write!(f, "forward {request}"),
+            MailMessage::ForwardTimer(timer) => write!(f, "forward timer {timer}"),
+            MailMessage::CancelRequest(request) => write!(f, "cancel {request}"),
+            MailMessage::CancelTimer(timer) => write!(f, "cancel timer {timer}"),
+        }
+    }
 }

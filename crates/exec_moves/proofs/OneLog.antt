@@ -2,24 +2,11 @@
 use Rattle.std.proofs.Common.{◌≡◌, ℕ, zero, suc, Bool, true, false, ◌==◌, if◌then◌else◌, List, [], ◌∷◌, ◌++◌, Option, Some, None, refl, sym, ◌∙◌, ap, subst, inl, inr}
 use Rattle.std.proofs.lemmas.Bool.{true≢false, cases_Bool, and_parts, eqb-true, eq-eqb}
 use Rattle.std.specs.Prelude.{option_and_then}
-use Rattle.exec_outcomes.specs.declared.outcome.OpResult.{OpResult}
-use Rattle.exec_outcomes.specs.declared.outcome.OpResult.TheVariants.{Count, Errno}
-use Rattle.exec_abstract.specs.declared.config.Configuration.{Configuration}
-use Rattle.exec_abstract.specs.declared.event.Line.{Line}
-use Rattle.exec_abstract.specs.declared.step.Action.{Action}
-use Rattle.exec_abstract.specs.declared.step.Action.TheVariants as action
-use Rattle.exec_abstract.specs.declared.step.Step.{Step}
-use Rattle.exec_abstract.specs.declared.step.Step.TheVariants as step
-use Rattle.exec_abstract.specs.Same.{same_result}
-use Rattle.exec_abstract.specs.World.{own_of}
-use Rattle.exec_abstract.specs.Callers.{is_enabled}
-use Rattle.exec_abstract.specs.Run.{same_action, is_refused, after_work, after_steps}
-use Rattle.exec_abstract.specs.Progress.{Plan}
-use Rattle.exec_abstract.specs.Examples.{Told, refuses, lines_of}
-use Rattle.exec_moves.specs.State.{Things, Moved}
-use Rattle.exec_moves.specs.Move.{move}
-use Rattle.exec_moves.specs.Plays.{Playing, Played, first_playing, by_move, by_action, by_step, GoesByMoves, Plays, told_with, told_of_work, told_of, log_by_moves}
-use Rattle.exec_moves.specs.Departures.{played, Departs}
+use Rattle.exec_outcomes.specs.declared.outcome.OpResult.{OpResult, TheVariants.{Count, Errno}}
+use Rattle.exec_machine.specs.{declared.{config.Configuration.Configuration, event.Line.Line, step.{Action.Action, Step.Step}}, Same.same_result, World.own_of, Callers.is_enabled, Run.{same_action, is_refused, after_work, after_steps}, Progress.Plan, Examples.{Told, refuses, lines_of}}
+use Rattle.exec_machine.specs.declared.step.Action.TheVariants as action
+use Rattle.exec_machine.specs.declared.step.Step.TheVariants as step
+use Rattle.exec_moves.specs.{State.{Things, Moved}, Move.move, Plays.{Playing, Played, first_playing, by_move, by_action, by_step, GoesByMoves, Plays, told_with, told_of_work, told_of, log_by_moves}, Departures.{played, Departs}}
 
 -- ACTIONS
 

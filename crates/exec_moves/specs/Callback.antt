@@ -1,20 +1,10 @@
 -- Moves of the callbacks: what is left to be told and let go, one item a step.
 use Rattle.std.specs.Prelude.{ℕ, Bool, true, false, not, ◌+◌, ◌-◌, ◌==◌, ◌&&◌, ◌||◌, List, [], ◌∷◌, ◌++◌, nat_lt, Option, Some, None, if◌then◌else◌}
 use Rattle.std.specs.List.{list_any}
-use Rattle.exec_abstract.specs.declared.event.Event.TheVariants.{Turn, Wake, Release}
-use Rattle.exec_abstract.specs.declared.state.Request.{Request}
-use Rattle.exec_abstract.specs.declared.state.Waiting.{Waiting}
-use Rattle.exec_abstract.specs.declared.state.Waiting.TheVariants as waiting
-use Rattle.exec_abstract.specs.Choice.{Choice}
-use Rattle.exec_abstract.specs.Choice.Choice.{Plain, Pays}
-use Rattle.exec_abstract.specs.Choice.Payer.{ByRequest, BySleeper}
-use Rattle.exec_abstract.specs.World.{Task, Common}
-use Rattle.exec_abstract.specs.World.{Own as Books}
-use Rattle.exec_abstract.specs.Tests.{is_empty, is_idle, is_resolved}
-use Rattle.exec_abstract.specs.Requests.{ends_by_drop}
-use Rattle.exec_moves.specs.declared.place.AfterCallbacks.{AfterCallbacks}
+use Rattle.exec_machine.specs.{declared.{event.Event.TheVariants.{Turn, Wake, Release}, state.{Request.Request, Waiting.Waiting}}, Choice.{Choice, Choice.{Plain, Pays}, Payer.{ByRequest, BySleeper}}, World.{Task, Common, Own as Books}, Tests.{is_empty, is_idle, is_resolved}, Requests.ends_by_drop}
+use Rattle.exec_machine.specs.declared.state.Waiting.TheVariants as waiting
+use Rattle.exec_moves.specs.{declared.place.{AfterCallbacks.AfterCallbacks, AfterService.AfterService, Stay.Stay, Place.Place}, State.{Desk, Moved, Own, turns, does}}
 use Rattle.exec_moves.specs.declared.place.AfterCallbacks.TheVariants as after
-use Rattle.exec_moves.specs.declared.place.AfterService.{AfterService}
 use Rattle.exec_moves.specs.declared.place.AfterService.TheVariants as back
 use Rattle.exec_moves.specs.declared.place.InCallbacks.TheVariants as callback
 use Rattle.exec_moves.specs.declared.place.InClosing.TheVariants as closing
@@ -22,11 +12,8 @@ use Rattle.exec_moves.specs.declared.place.InLoads.TheVariants as load
 use Rattle.exec_moves.specs.declared.place.InRingWait.TheVariants as ring
 use Rattle.exec_moves.specs.declared.place.InService.TheVariants as service
 use Rattle.exec_moves.specs.declared.place.Round.TheVariants as round
-use Rattle.exec_moves.specs.declared.place.Stay.{Stay}
 use Rattle.exec_moves.specs.declared.place.Stay.TheVariants as stay
-use Rattle.exec_moves.specs.declared.place.Place.{Place}
 use Rattle.exec_moves.specs.declared.place.Place.TheVariants as at
-use Rattle.exec_moves.specs.State.{Desk, Moved, Own, turns, does}
 
 -- WHAT IS LEFT TO BE TOLD
 

@@ -1,24 +1,13 @@
 -- Moves of a closing, beside its callbacks, services and waits.
 use Rattle.std.specs.Prelude.{ℕ, Bool, true, not, ◌+◌, ◌*◌, ◌%◌, ◌==◌, ◌&&◌, List, [], ◌∷◌, ◌++◌, Option, Some, None, if◌then◌else◌}
 use Rattle.exec_words.specs.Queue.{Queue, popped}
-use Rattle.exec_task.specs.declared.drain.Drain.{Drain}
-use Rattle.exec_task.specs.TaskSet.{passed}
-use Rattle.exec_abstract.specs.declared.event.Event.TheVariants.{Turn, Close, Stop, Orphan, End}
-use Rattle.exec_abstract.specs.declared.state.MailMessage.{MailMessage}
-use Rattle.exec_abstract.specs.declared.state.Request.{Request}
-use Rattle.exec_abstract.specs.Choice.Choice.{Passes}
-use Rattle.exec_abstract.specs.World.{Common, request_of, sleeper_of}
-use Rattle.exec_abstract.specs.Tests.{is_asleep}
-use Rattle.exec_abstract.specs.Requests.{outcome_of_drop}
+use Rattle.exec_task.specs.{declared.drain.Drain.Drain, TaskSet.passed}
+use Rattle.exec_machine.specs.{declared.{event.Event.TheVariants.{Turn, Close, Stop, Orphan, End}, state.{MailMessage.MailMessage, Request.Request}}, Choice.Choice.Passes, World.{Common, request_of, sleeper_of}, Tests.is_asleep, Requests.outcome_of_drop}
 use Rattle.exec_moves.specs.declared.place.AfterCallbacks.TheVariants as after
 use Rattle.exec_moves.specs.declared.place.InCallbacks.TheVariants as callback
-use Rattle.exec_moves.specs.declared.place.InClosing.{InClosing}
+use Rattle.exec_moves.specs.{declared.place.{InClosing.InClosing, Place.Place}, State.{Desk, Moved, Own, turns, does, goes}, Callback.{told_of_drop, waker_of}, Serve.first_numbered}
 use Rattle.exec_moves.specs.declared.place.InClosing.TheVariants as closing
-use Rattle.exec_moves.specs.declared.place.Place.{Place}
 use Rattle.exec_moves.specs.declared.place.Place.TheVariants as at
-use Rattle.exec_moves.specs.State.{Desk, Moved, Own, turns, does, goes}
-use Rattle.exec_moves.specs.Callback.{told_of_drop, waker_of}
-use Rattle.exec_moves.specs.Serve.{first_numbered}
 
 abbrev pub close : Desk → Moved Own
 close d = does Close (goes (at.Closing closing.CloseQueue) d) tt

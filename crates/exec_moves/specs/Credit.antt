@@ -5,23 +5,12 @@
 -- quiet, or the sign is gone. A sign counts from the height on at which it was taken up last, down to the sleep.
 use Rattle.std.specs.Prelude.{ℕ, suc, Bool, true, false, not, ◌+◌, ◌*◌, ◌==◌, ◌&&◌, ◌||◌, List, [], ◌∷◌, nat_lt, nat_le, if◌then◌else◌}
 use Rattle.std.specs.List.{list_any}
-use Rattle.exec_abstract.specs.declared.config.Configuration.{Configuration}
-use Rattle.exec_abstract.specs.Ranges.{ring_size, largest_spin}
-use Rattle.exec_abstract.specs.World.{Common, seat_of}
-use Rattle.exec_abstract.specs.World.{Own as Books}
-use Rattle.exec_abstract.specs.Tests.{is_empty, is_asleep}
-use Rattle.exec_abstract.specs.Deadlines.{is_due}
+use Rattle.exec_machine.specs.{declared.config.Configuration.Configuration, Ranges.{ring_size, largest_spin}, World.{Common, seat_of, Own as Books}, Tests.{is_empty, is_asleep}, Deadlines.is_due}
 use Rattle.exec_moves.specs.declared.place.AfterPermit.TheVariants as permit
 use Rattle.exec_moves.specs.declared.place.InService.TheVariants as step
 use Rattle.exec_moves.specs.declared.place.InWordWait.TheVariants as word
-use Rattle.exec_moves.specs.declared.place.Place.{Place}
+use Rattle.exec_moves.specs.{declared.place.Place.Place, State.{Desk, Things}, Callback.{has_callbacks, is_full}, Load.{has_mail, has_submissions}, Submit.waits_at, Wait.has_completion, Heights.{height, level, take_root_flag, callback_after_mail, load_mail_word, apply, sample, reap_last, end_service, submit, made_up}}
 use Rattle.exec_moves.specs.declared.place.Place.TheVariants as at
-use Rattle.exec_moves.specs.State.{Desk, Things}
-use Rattle.exec_moves.specs.Callback.{has_callbacks, is_full}
-use Rattle.exec_moves.specs.Load.{has_mail, has_submissions}
-use Rattle.exec_moves.specs.Submit.{waits_at}
-use Rattle.exec_moves.specs.Wait.{has_completion}
-use Rattle.exec_moves.specs.Heights.{height, level, take_root_flag, callback_after_mail, load_mail_word, apply, sample, reap_last, end_service, submit, made_up}
 
 abbrev pub one_if : Bool → ℕ
 one_if true = 1

@@ -1,10 +1,7 @@
 -- Lines that no log by moves has, though the machine may allow them.
 use Rattle.std.specs.Prelude.{◌≡◌, List, [], ◌∷◌, ◌++◌}
-use Rattle.exec_abstract.specs.declared.config.Configuration.{Configuration}
-use Rattle.exec_abstract.specs.declared.config.ScriptWord.TheVariants as word
-use Rattle.exec_abstract.specs.declared.step.Step.{Step}
-use Rattle.exec_abstract.specs.Progress.{Plan}
-use Rattle.exec_abstract.specs.Examples.{Told, usual}
+use Rattle.exec_machine.specs.{declared.{config.Configuration.Configuration, step.Step.Step}, Progress.Plan, Examples.{Told, usual}}
+use Rattle.exec_machine.specs.declared.config.ScriptWord.TheVariants as word
 use Rattle.exec_moves.specs.Plays.{Playing, first_playing, by_step, Plays, log_by_moves}
 
 -- where the executor is after these lines

@@ -2,37 +2,22 @@
 --
 -- Each place stands one above the one that follows it, by name: a place that is put in between changes one line here.
 use Rattle.std.specs.Prelude.{ℕ, suc, ◌+◌, ◌-◌, ◌*◌}
-use Rattle.exec_moves.specs.declared.place.First.{First}
+use Rattle.exec_moves.specs.declared.place.{First.First, InPick.InPick, InPoll.InPoll, InCallbacks.InCallbacks, AfterCallbacks.AfterCallbacks, AfterPermit.AfterPermit, AfterService.AfterService, InLoads.InLoads, InLook.InLook, InMail.InMail, InRingWait.InRingWait, InWordWait.InWordWait, InService.InService, Reaping.Reaping, Round.Round, Place.Place}
 use Rattle.exec_moves.specs.declared.place.First.TheVariants as first
-use Rattle.exec_moves.specs.declared.place.InPick.{InPick}
 use Rattle.exec_moves.specs.declared.place.InPick.TheVariants as pick
-use Rattle.exec_moves.specs.declared.place.InPoll.{InPoll}
 use Rattle.exec_moves.specs.declared.place.InPoll.TheVariants as poll
-use Rattle.exec_moves.specs.declared.place.InCallbacks.{InCallbacks}
 use Rattle.exec_moves.specs.declared.place.InCallbacks.TheVariants as callback
-use Rattle.exec_moves.specs.declared.place.AfterCallbacks.{AfterCallbacks}
 use Rattle.exec_moves.specs.declared.place.AfterCallbacks.TheVariants as after
-use Rattle.exec_moves.specs.declared.place.AfterPermit.{AfterPermit}
 use Rattle.exec_moves.specs.declared.place.AfterPermit.TheVariants as permit
-use Rattle.exec_moves.specs.declared.place.AfterService.{AfterService}
 use Rattle.exec_moves.specs.declared.place.AfterService.TheVariants as back
-use Rattle.exec_moves.specs.declared.place.InLoads.{InLoads}
 use Rattle.exec_moves.specs.declared.place.InLoads.TheVariants as load
-use Rattle.exec_moves.specs.declared.place.InLook.{InLook}
 use Rattle.exec_moves.specs.declared.place.InLook.TheVariants as look
-use Rattle.exec_moves.specs.declared.place.InMail.{InMail}
 use Rattle.exec_moves.specs.declared.place.InMail.TheVariants as mail
-use Rattle.exec_moves.specs.declared.place.InRingWait.{InRingWait}
 use Rattle.exec_moves.specs.declared.place.InRingWait.TheVariants as ring
-use Rattle.exec_moves.specs.declared.place.InWordWait.{InWordWait}
 use Rattle.exec_moves.specs.declared.place.InWordWait.TheVariants as word
-use Rattle.exec_moves.specs.declared.place.InService.{InService}
 use Rattle.exec_moves.specs.declared.place.InService.TheVariants as step
-use Rattle.exec_moves.specs.declared.place.Reaping.{Reaping}
 use Rattle.exec_moves.specs.declared.place.Reaping.TheVariants as reaping
-use Rattle.exec_moves.specs.declared.place.Round.{Round}
 use Rattle.exec_moves.specs.declared.place.Round.TheVariants as round
-use Rattle.exec_moves.specs.declared.place.Place.{Place}
 use Rattle.exec_moves.specs.declared.place.Place.TheVariants as at
 
 -- THE WAITS, from the sleep up

@@ -1,24 +1,14 @@
 -- Moves of the loads of the own words, and of the tests that follow.
 use Rattle.std.specs.Prelude.{ℕ, Bool, false, not, ◌==◌, ◌&&◌, ◌||◌, List, nat_le, nat_lt, Option, Some, None, if◌then◌else◌}
-use Rattle.exec_words.specs.Queue.{Queue}
-use Rattle.exec_words.specs.declared.word.PureWord.{PureWord}
-use Rattle.exec_abstract.specs.declared.config.Configuration.{Configuration}
-use Rattle.exec_abstract.specs.Ranges.{ring_size}
-use Rattle.exec_abstract.specs.Tests.{is_empty}
-use Rattle.exec_abstract.specs.World.{Common}
-use Rattle.exec_abstract.specs.World.{Own as Books}
-use Rattle.exec_abstract.specs.Deadlines.{next_due}
-use Rattle.exec_moves.specs.declared.place.Found.{Found}
+use Rattle.exec_words.specs.{Queue.Queue, declared.word.PureWord.PureWord}
+use Rattle.exec_machine.specs.{declared.config.Configuration.Configuration, Ranges.ring_size, Tests.is_empty, World.{Common, Own as Books}, Deadlines.next_due}
+use Rattle.exec_moves.specs.{declared.place.{Found.Found, Round.Round, Place.Place}, State.{Desk, Moved, Own, turns}, Callback.{has_callbacks, has_requests, serve}}
 use Rattle.exec_moves.specs.declared.place.AfterService.TheVariants as back
 use Rattle.exec_moves.specs.declared.place.InLoads.TheVariants as load
 use Rattle.exec_moves.specs.declared.place.InLook.TheVariants as look
 use Rattle.exec_moves.specs.declared.place.InService.TheVariants as service
-use Rattle.exec_moves.specs.declared.place.Round.{Round}
 use Rattle.exec_moves.specs.declared.place.Round.TheVariants as round
-use Rattle.exec_moves.specs.declared.place.Place.{Place}
 use Rattle.exec_moves.specs.declared.place.Place.TheVariants as at
-use Rattle.exec_moves.specs.State.{Desk, Moved, Own, turns}
-use Rattle.exec_moves.specs.Callback.{has_callbacks, has_requests, serve}
 
 -- with one more thing that may be ready
 abbrev pub found_also : Found → Bool → Found

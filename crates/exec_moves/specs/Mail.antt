@@ -1,20 +1,13 @@
 -- Moves at the mailbox.
 use Rattle.std.specs.Prelude.{ℕ, true, ◌+◌, ◌||◌, List, [], ◌∷◌, nat_le, if◌then◌else◌}
-use Rattle.exec_words.specs.Word.{next_batch}
-use Rattle.exec_words.specs.declared.word.PureWord.{PureWord}
-use Rattle.exec_abstract.specs.declared.event.Event.TheVariants.{Apply}
-use Rattle.exec_abstract.specs.declared.state.MailMessage.{MailMessage}
-use Rattle.exec_abstract.specs.declared.state.MailMessage.TheVariants as message
-use Rattle.exec_abstract.specs.World.{Task}
-use Rattle.exec_abstract.specs.Tests.{is_empty}
+use Rattle.exec_words.specs.{Word.next_batch, declared.word.PureWord.PureWord}
+use Rattle.exec_machine.specs.{declared.{event.Event.TheVariants.Apply, state.MailMessage.MailMessage}, World.Task, Tests.is_empty}
+use Rattle.exec_machine.specs.declared.state.MailMessage.TheVariants as message
 use Rattle.exec_moves.specs.declared.place.AfterCallbacks.TheVariants as after
 use Rattle.exec_moves.specs.declared.place.InCallbacks.TheVariants as callback
 use Rattle.exec_moves.specs.declared.place.InMail.TheVariants as mail
-use Rattle.exec_moves.specs.declared.place.Place.{Place}
+use Rattle.exec_moves.specs.{declared.place.Place.Place, State.{Desk, Moved, Own, turns, does}, Load.has_mail, Callback.flagged_by}
 use Rattle.exec_moves.specs.declared.place.Place.TheVariants as at
-use Rattle.exec_moves.specs.State.{Desk, Moved, Own, turns, does}
-use Rattle.exec_moves.specs.Load.{has_mail}
-use Rattle.exec_moves.specs.Callback.{flagged_by}
 
 abbrev pub to_callbacks : Place
 to_callbacks = at.Callbacks callback.TakeBatch after.Test

@@ -1,49 +1,19 @@
 -- The move of a worker at each place.
 use Rattle.std.specs.Prelude.{ℕ, Bool, List, [], ◌∷◌, length, slice_index_or, slice_set}
-use Rattle.exec_words.specs.Idle.{Idle}
-use Rattle.exec_words.specs.Queue.{Queue}
-use Rattle.exec_words.specs.declared.word.PureWord.{PureWord}
-use Rattle.exec_abstract.specs.declared.config.Configuration.{Configuration}
-use Rattle.exec_abstract.specs.Ranges.{ring_size}
-use Rattle.exec_abstract.specs.World.{Common, seat_of, task_of, open_of, request_of}
-use Rattle.exec_abstract.specs.World.{Own as Books}
-use Rattle.exec_moves.specs.declared.place.AfterCallbacks.{AfterCallbacks}
-use Rattle.exec_moves.specs.declared.place.InPick.{InPick}
+use Rattle.exec_words.specs.{Idle.Idle, Queue.Queue, declared.word.PureWord.PureWord}
+use Rattle.exec_machine.specs.{declared.config.Configuration.Configuration, Ranges.ring_size, World.{Common, seat_of, task_of, open_of, request_of, Own as Books}}
+use Rattle.exec_moves.specs.{declared.place.{AfterCallbacks.AfterCallbacks, InPick.InPick, InPoll.InPoll, InCallbacks.InCallbacks, InLoads.InLoads, InService.InService, InMail.InMail, InLook.InLook, InRingWait.InRingWait, InWordWait.InWordWait, InClosing.InClosing, Round.Round, Service.Service, Stay.Stay, Place.Place}, State.{Desk, Things, Moved}, Pick.{begin_turn, count_down, pop, load_mirror, load_head, Queues, take_share, take_root_flag}, Callback.{take_batch, call_back}, Load.{load_own_head, load_own_mirror, load_own_word, test_for_work, read_clock}, Serve.{sample, reap, pass_permit, signal, advance_wheel, enter_last, end_service}, Submit.{Due, due_next, expire, enrol, try_gate, stage_next, Due.{Expires, Enrols, AtGate}}, Mail.{load_mail_word, take_mail, apply}, Wait.{publish, look_at_mirror, look_at_count, withdraw, enter_full_ring, test_ring, arm_ring, enter_ring, sleep_on_ring, disarm_ring, spin_on_batch, spin_on_latch, take_latch, arm_word, sleep_on_word, disarm_word}, Poll.{begin_poll, resume, act, join_gate, pend}, Close.{close, close_queue, open_barrier, stop, discard, visit, leave_barrier, close_mailbox, orphan, close_sleeper, end}}
 use Rattle.exec_moves.specs.declared.place.InPick.TheVariants as pick
-use Rattle.exec_moves.specs.declared.place.InPoll.{InPoll}
 use Rattle.exec_moves.specs.declared.place.InPoll.TheVariants as poll
-use Rattle.exec_moves.specs.declared.place.InCallbacks.{InCallbacks}
 use Rattle.exec_moves.specs.declared.place.InCallbacks.TheVariants as callback
-use Rattle.exec_moves.specs.declared.place.InLoads.{InLoads}
 use Rattle.exec_moves.specs.declared.place.InLoads.TheVariants as load
-use Rattle.exec_moves.specs.declared.place.InService.{InService}
 use Rattle.exec_moves.specs.declared.place.InService.TheVariants as step
-use Rattle.exec_moves.specs.declared.place.InMail.{InMail}
 use Rattle.exec_moves.specs.declared.place.InMail.TheVariants as mail
-use Rattle.exec_moves.specs.declared.place.InLook.{InLook}
 use Rattle.exec_moves.specs.declared.place.InLook.TheVariants as look
-use Rattle.exec_moves.specs.declared.place.InRingWait.{InRingWait}
 use Rattle.exec_moves.specs.declared.place.InRingWait.TheVariants as ring
-use Rattle.exec_moves.specs.declared.place.InWordWait.{InWordWait}
 use Rattle.exec_moves.specs.declared.place.InWordWait.TheVariants as word
-use Rattle.exec_moves.specs.declared.place.InClosing.{InClosing}
 use Rattle.exec_moves.specs.declared.place.InClosing.TheVariants as closing
-use Rattle.exec_moves.specs.declared.place.Round.{Round}
-use Rattle.exec_moves.specs.declared.place.Service.{Service}
-use Rattle.exec_moves.specs.declared.place.Stay.{Stay}
-use Rattle.exec_moves.specs.declared.place.Place.{Place}
 use Rattle.exec_moves.specs.declared.place.Place.TheVariants as at
-use Rattle.exec_moves.specs.State.{Desk, Things, Moved}
-use Rattle.exec_moves.specs.Pick.{begin_turn, count_down, pop, load_mirror, load_head, Queues, take_share, take_root_flag}
-use Rattle.exec_moves.specs.Callback.{take_batch, call_back}
-use Rattle.exec_moves.specs.Load.{load_own_head, load_own_mirror, load_own_word, test_for_work, read_clock}
-use Rattle.exec_moves.specs.Serve.{sample, reap, pass_permit, signal, advance_wheel, enter_last, end_service}
-use Rattle.exec_moves.specs.Submit.{Due, due_next, expire, enrol, try_gate, stage_next}
-use Rattle.exec_moves.specs.Submit.Due.{Expires, Enrols, AtGate}
-use Rattle.exec_moves.specs.Mail.{load_mail_word, take_mail, apply}
-use Rattle.exec_moves.specs.Wait.{publish, look_at_mirror, look_at_count, withdraw, enter_full_ring, test_ring, arm_ring, enter_ring, sleep_on_ring, disarm_ring, spin_on_batch, spin_on_latch, take_latch, arm_word, sleep_on_word, disarm_word}
-use Rattle.exec_moves.specs.Poll.{begin_poll, resume, act, join_gate, pend}
-use Rattle.exec_moves.specs.Close.{close, close_queue, open_barrier, stop, discard, visit, leave_barrier, close_mailbox, orphan, close_sleeper, end}
 
 -- EACH MOVE GETS ITS ONE THING, and puts it back
 

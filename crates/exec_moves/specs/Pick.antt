@@ -1,16 +1,13 @@
 -- Moves at the beginning of a turn: the picks from the queues, and the root flag.
 use Rattle.std.specs.Prelude.{ℕ, false, ◌-◌, List, [], ◌∷◌, length, take, drop, nat_le, if◌then◌else◌}
-use Rattle.exec_words.specs.Queue.{Queue, popped, published, room_of}
-use Rattle.exec_words.specs.Global.{share_of}
-use Rattle.exec_moves.specs.declared.place.First.{First}
+use Rattle.exec_words.specs.{Queue.{Queue, popped, published, room_of}, Global.share_of}
+use Rattle.exec_moves.specs.{declared.place.{First.First, Place.Place}, State.{Desk, Moved, Own, turns}}
 use Rattle.exec_moves.specs.declared.place.First.TheVariants as first
 use Rattle.exec_moves.specs.declared.place.InPick.TheVariants as pick
 use Rattle.exec_moves.specs.declared.place.InPoll.TheVariants as poll
 use Rattle.exec_moves.specs.declared.place.InCallbacks.TheVariants as callback
 use Rattle.exec_moves.specs.declared.place.AfterCallbacks.TheVariants as after
-use Rattle.exec_moves.specs.declared.place.Place.{Place}
 use Rattle.exec_moves.specs.declared.place.Place.TheVariants as at
-use Rattle.exec_moves.specs.State.{Desk, Moved, Own, turns}
 
 abbrev pub begin_turn : Desk → Moved Own
 begin_turn d = turns (at.Pick pick.CountDown) d tt

@@ -5,28 +5,12 @@
 use Rattle.std.specs.Prelude.{◌≡◌, ℕ, zero, suc, Bool, true, false, not, ◌==◌, ◌&&◌, List, [], ◌∷◌, replicate, Some, None, if◌then◌else◌, ◌||◌, nat_lt}
 use Rattle.exec_base.specs.Spinner.{begun}
 use Rattle.exec_words.specs.declared.word.WaitTarget.TheVariants as target
-use Rattle.exec_abstract.specs.declared.config.Configuration.{Configuration}
-use Rattle.exec_abstract.specs.declared.event.Event.TheVariants.{Land, Clock, Set, Stir, Peer, Turn}
-use Rattle.exec_abstract.specs.declared.event.Event.{Event}
-use Rattle.exec_abstract.specs.declared.event.StepResult.TheVariants.{Did}
-use Rattle.exec_abstract.specs.declared.step.Action.{Action}
-use Rattle.exec_abstract.specs.declared.step.Action.TheVariants as action
-use Rattle.exec_abstract.specs.declared.step.Step.{Step}
-use Rattle.exec_abstract.specs.declared.step.Step.TheVariants as step
-use Rattle.exec_abstract.specs.Choice.Choice.{Plain}
-use Rattle.exec_abstract.specs.World.{World, own_of}
-use Rattle.exec_abstract.specs.declared.state.Next.{Next}
-use Rattle.exec_abstract.specs.declared.state.Next.TheVariants as next
-use Rattle.exec_abstract.specs.Same.{same_number}
-use Rattle.exec_abstract.specs.Callers.{is_enabled}
-use Rattle.exec_abstract.specs.Run.{after_event, after_steps, is_run}
-use Rattle.exec_abstract.specs.Progress.{Plan, begin, is_quiet_step, quiet_bound}
-use Rattle.exec_abstract.specs.Examples.{Example, Told, says, refuses, lines_of, choices_of}
+use Rattle.exec_machine.specs.{declared.{config.Configuration.Configuration, event.{Event.{TheVariants.{Land, Clock, Set, Stir, Peer, Turn}, Event}, StepResult.TheVariants.Did}, step.{Action.Action, Step.Step}, state.Next.Next}, Choice.Choice.Plain, World.{World, own_of}, Same.same_number, Callers.is_enabled, Run.{after_event, after_steps, is_run}, Progress.{Plan, begin, is_quiet_step, quiet_bound}, Examples.{Example, Told, says, refuses, lines_of, choices_of}}
+use Rattle.exec_machine.specs.declared.step.Action.TheVariants as action
+use Rattle.exec_machine.specs.declared.step.Step.TheVariants as step
+use Rattle.exec_machine.specs.declared.state.Next.TheVariants as next
 use Rattle.exec_moves.specs.declared.place.Place.TheVariants as at
-use Rattle.exec_moves.specs.State.{Desk, Things, Moved}
-use Rattle.exec_moves.specs.Move.{move}
-use Rattle.exec_moves.specs.Seen.{polls_at, next_at, serves_at}
-use Rattle.exec_moves.specs.Credit.{credit}
+use Rattle.exec_moves.specs.{State.{Desk, Things, Moved}, Move.move, Seen.{polls_at, next_at, serves_at}, Credit.credit}
 
 -- an executor of one worker: what the machine knows of it, and the rest
 pub record Playing : Type 0 where

@@ -1,32 +1,17 @@
 -- Moves of a poll: its beginning, the acts of the task, and its end where it waits.
 use Rattle.std.specs.Prelude.{ℕ, Bool, true, false, ◌||◌, List, [], ◌∷◌, length, Option, Some, None, if◌then◌else◌}
 use Rattle.exec_outcomes.specs.Accounts.{is_durable}
-use Rattle.exec_abstract.specs.declared.config.Configuration.{Configuration}
-use Rattle.exec_abstract.specs.declared.config.ScriptWord.{ScriptWord}
-use Rattle.exec_abstract.specs.declared.config.ScriptWord.TheVariants as word
-use Rattle.exec_abstract.specs.declared.event.Event.TheVariants.{Turn, Begin, Pend, Done, Fault, Admit, Wait, Got, Drop, Timer, GotTimer, Pass, Wake}
-use Rattle.exec_abstract.specs.declared.state.Operation.{Operation}
-use Rattle.exec_abstract.specs.declared.state.RequestPhase.{RequestPhase}
-use Rattle.exec_abstract.specs.declared.state.RequestPhase.TheVariants as phase
-use Rattle.exec_abstract.specs.declared.state.TaskPhase.{TaskPhase}
-use Rattle.exec_abstract.specs.declared.state.TaskPhase.TheVariants as task
-use Rattle.exec_abstract.specs.declared.state.Waiting.{Waiting}
-use Rattle.exec_abstract.specs.declared.state.Waiting.TheVariants as waiting
-use Rattle.exec_abstract.specs.Choice.Choice.{Pays}
-use Rattle.exec_abstract.specs.Choice.Payer.{ByAct}
-use Rattle.exec_abstract.specs.World.{Task, Open, Common, request_of, sleeper_of}
-use Rattle.exec_abstract.specs.World.{Own as Books}
-use Rattle.exec_abstract.specs.Words.{next_word, newest_held, sleep_asked}
-use Rattle.exec_abstract.specs.Requests.{operation_asked, outcome_if_late}
-use Rattle.exec_abstract.specs.Tasks.{begun_waiting}
+use Rattle.exec_machine.specs.{declared.{config.{Configuration.Configuration, ScriptWord.ScriptWord}, event.Event.TheVariants.{Turn, Begin, Pend, Done, Fault, Admit, Wait, Got, Drop, Timer, GotTimer, Pass, Wake}, state.{Operation.Operation, RequestPhase.RequestPhase, TaskPhase.TaskPhase, Waiting.Waiting}}, Choice.{Choice.Pays, Payer.ByAct}, World.{Task, Open, Common, request_of, sleeper_of, Own as Books}, Words.{next_word, newest_held, sleep_asked}, Requests.{operation_asked, outcome_if_late}, Tasks.begun_waiting}
+use Rattle.exec_machine.specs.declared.config.ScriptWord.TheVariants as word
+use Rattle.exec_machine.specs.declared.state.RequestPhase.TheVariants as phase
+use Rattle.exec_machine.specs.declared.state.TaskPhase.TheVariants as task
+use Rattle.exec_machine.specs.declared.state.Waiting.TheVariants as waiting
 use Rattle.exec_moves.specs.declared.place.AfterCallbacks.TheVariants as after
 use Rattle.exec_moves.specs.declared.place.InCallbacks.TheVariants as callback
 use Rattle.exec_moves.specs.declared.place.InClosing.TheVariants as closing
-use Rattle.exec_moves.specs.declared.place.InPoll.{InPoll}
+use Rattle.exec_moves.specs.{declared.place.InPoll.InPoll, State.{Desk, Moved, does, goes}, Callback.told_of_drop}
 use Rattle.exec_moves.specs.declared.place.InPoll.TheVariants as poll
 use Rattle.exec_moves.specs.declared.place.Place.TheVariants as at
-use Rattle.exec_moves.specs.State.{Desk, Moved, does, goes}
-use Rattle.exec_moves.specs.Callback.{told_of_drop}
 
 -- BEGIN, PEND
 

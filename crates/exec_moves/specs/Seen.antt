@@ -1,20 +1,14 @@
 -- What a place says of its worker: what of the machine's own part is read off it.
 use Rattle.std.specs.Prelude.{ℕ, Bool, true, false, not, ◌==◌, ◌&&◌, Option, Some, None}
-use Rattle.exec_abstract.specs.declared.state.Next.{Next}
-use Rattle.exec_abstract.specs.declared.state.Next.TheVariants as next
-use Rattle.exec_moves.specs.declared.place.InPoll.{InPoll}
+use Rattle.exec_machine.specs.declared.state.Next.{Next}
+use Rattle.exec_machine.specs.declared.state.Next.TheVariants as next
+use Rattle.exec_moves.specs.declared.place.{InPoll.InPoll, InCallbacks.InCallbacks, AfterCallbacks.AfterCallbacks, InService.InService, InMail.InMail, InClosing.InClosing, Place.Place}
 use Rattle.exec_moves.specs.declared.place.InPoll.TheVariants as poll
-use Rattle.exec_moves.specs.declared.place.InCallbacks.{InCallbacks}
 use Rattle.exec_moves.specs.declared.place.InCallbacks.TheVariants as callback
-use Rattle.exec_moves.specs.declared.place.AfterCallbacks.{AfterCallbacks}
 use Rattle.exec_moves.specs.declared.place.AfterCallbacks.TheVariants as after
-use Rattle.exec_moves.specs.declared.place.InService.{InService}
 use Rattle.exec_moves.specs.declared.place.InService.TheVariants as step
-use Rattle.exec_moves.specs.declared.place.InMail.{InMail}
 use Rattle.exec_moves.specs.declared.place.InMail.TheVariants as mail
-use Rattle.exec_moves.specs.declared.place.InClosing.{InClosing}
 use Rattle.exec_moves.specs.declared.place.InClosing.TheVariants as closing
-use Rattle.exec_moves.specs.declared.place.Place.{Place}
 use Rattle.exec_moves.specs.declared.place.Place.TheVariants as at
 
 -- the task that it polls

@@ -1,37 +1,18 @@
 -- Moves of a service, but for its middle: sampling, completions, permits, the last enter, sleepers.
 use Rattle.std.specs.Prelude.{ℕ, suc, Bool, true, false, not, ◌+◌, ◌&&◌, ◌||◌, List, [], ◌∷◌, ◌++◌, length, nat_le, Option, Some, None, if◌then◌else◌}
-use Rattle.exec_outcomes.specs.declared.outcome.OpResult.{OpResult}
-use Rattle.exec_outcomes.specs.declared.outcome.OpResult.TheVariants.{Count}
-use Rattle.exec_outcomes.specs.declared.outcome.Outcome.{Outcome}
-use Rattle.exec_outcomes.specs.Accounts.{is_durable}
+use Rattle.exec_outcomes.specs.{declared.outcome.{OpResult.{OpResult, TheVariants.Count}, Outcome.Outcome}, Accounts.is_durable}
 use Rattle.exec_words.specs.declared.word.PureWord.{PureWord}
-use Rattle.exec_abstract.specs.declared.config.Configuration.{Configuration}
-use Rattle.exec_abstract.specs.declared.event.Event.TheVariants.{Enter, Busy, Reap, Fire}
-use Rattle.exec_abstract.specs.declared.state.RequestPhase.{RequestPhase}
-use Rattle.exec_abstract.specs.declared.state.RequestPhase.TheVariants as phase
-use Rattle.exec_abstract.specs.declared.state.Request.{Request}
-use Rattle.exec_abstract.specs.World.{Common, Open, request_of, sleeper_of, seat_of}
-use Rattle.exec_abstract.specs.World.{Own as Books}
-use Rattle.exec_abstract.specs.Tests.{is_empty, is_asleep, is_open}
-use Rattle.exec_abstract.specs.Requests.{outcome_given, outcome_shown, account_of_open}
-use Rattle.exec_abstract.specs.Deadlines.{is_none_earlier}
-use Rattle.exec_moves.specs.declared.place.AfterPermit.{AfterPermit}
+use Rattle.exec_machine.specs.{declared.{config.Configuration.Configuration, event.Event.TheVariants.{Enter, Busy, Reap, Fire}, state.{RequestPhase.RequestPhase, Request.Request}}, World.{Common, Open, request_of, sleeper_of, seat_of, Own as Books}, Tests.{is_empty, is_asleep, is_open}, Requests.{outcome_given, outcome_shown, account_of_open}, Deadlines.is_none_earlier}
+use Rattle.exec_machine.specs.declared.state.RequestPhase.TheVariants as phase
+use Rattle.exec_moves.specs.{declared.place.{AfterPermit.AfterPermit, AfterService.AfterService, InService.InService, Reaping.Reaping, Service.Service, Place.Place}, State.{Desk, Moved, Own, does, serves}, Callback.{has_callbacks, has_requests, told_if_ended}, Load.has_submissions}
 use Rattle.exec_moves.specs.declared.place.AfterPermit.TheVariants as permit
-use Rattle.exec_moves.specs.declared.place.AfterService.{AfterService}
 use Rattle.exec_moves.specs.declared.place.AfterService.TheVariants as back
 use Rattle.exec_moves.specs.declared.place.AfterCallbacks.TheVariants as after
 use Rattle.exec_moves.specs.declared.place.InCallbacks.TheVariants as callback
 use Rattle.exec_moves.specs.declared.place.InMail.TheVariants as mail
-use Rattle.exec_moves.specs.declared.place.InService.{InService}
 use Rattle.exec_moves.specs.declared.place.InService.TheVariants as step
-use Rattle.exec_moves.specs.declared.place.Reaping.{Reaping}
 use Rattle.exec_moves.specs.declared.place.Reaping.TheVariants as reaping
-use Rattle.exec_moves.specs.declared.place.Service.{Service}
-use Rattle.exec_moves.specs.declared.place.Place.{Place}
 use Rattle.exec_moves.specs.declared.place.Place.TheVariants as at
-use Rattle.exec_moves.specs.State.{Desk, Moved, Own, does, serves}
-use Rattle.exec_moves.specs.Callback.{has_callbacks, has_requests, told_if_ended}
-use Rattle.exec_moves.specs.Load.{has_submissions}
 
 -- the latch goes out of the wake word, and a sleeper's wake comes into the callbacks
 abbrev pub unlatched : PureWord → PureWord

@@ -1,14 +1,8 @@
 -- What a worker has and shares beside what the abstract machine knows of it.
 use Rattle.std.specs.Prelude.{ℕ, Bool, List, Option}
 use Rattle.exec_base.specs.Spinner.{Spinner}
-use Rattle.exec_words.specs.Idle.{Idle}
-use Rattle.exec_words.specs.Queue.{Queue}
-use Rattle.exec_words.specs.declared.word.PureWord.{PureWord}
-use Rattle.exec_abstract.specs.declared.event.Event.{Event}
-use Rattle.exec_abstract.specs.declared.event.Event.TheVariants.{Turn, Serve}
-use Rattle.exec_abstract.specs.declared.state.MailMessage.{MailMessage}
-use Rattle.exec_abstract.specs.Choice.{Choice}
-use Rattle.exec_abstract.specs.Choice.Choice.{Plain}
+use Rattle.exec_words.specs.{Idle.Idle, Queue.Queue, declared.word.PureWord.PureWord}
+use Rattle.exec_machine.specs.{declared.{event.Event.{Event, TheVariants.{Turn, Serve}}, state.MailMessage.MailMessage}, Choice.{Choice, Choice.Plain}}
 use Rattle.exec_moves.specs.declared.place.Place.{Place}
 
 -- what only the worker touches

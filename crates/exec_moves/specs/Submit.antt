@@ -1,27 +1,13 @@
 -- Moves of the middle of a service: deadlines, gates and stagings, which share one place.
 use Rattle.std.specs.Prelude.{ℕ, suc, Bool, true, not, ◌+◌, ◌==◌, ◌&&◌, ◌||◌, nat_lt, nat_le, slice_get, Option, Some, None, if◌then◌else◌}
 use Rattle.std.specs.List.{list_any}
-use Rattle.exec_outcomes.specs.declared.outcome.Outcome.{Outcome}
-use Rattle.exec_outcomes.specs.Accounts.{outcome_at_grant}
-use Rattle.exec_abstract.specs.declared.config.Configuration.{Configuration}
-use Rattle.exec_abstract.specs.declared.event.Event.TheVariants.{Serve, Expire, Enrol, Grant, Cancel, Stage}
-use Rattle.exec_abstract.specs.declared.event.Event.{Event}
-use Rattle.exec_abstract.specs.declared.event.Event.TheVariants as event
-use Rattle.exec_abstract.specs.declared.state.Request.{Request}
-use Rattle.exec_abstract.specs.Ranges.{ring_size}
-use Rattle.exec_abstract.specs.World.{Common, Open, request_of}
-use Rattle.exec_abstract.specs.World.{Own as Books}
-use Rattle.exec_abstract.specs.Tests.{is_empty, is_gated}
-use Rattle.exec_abstract.specs.Requests.{account_of_open}
-use Rattle.exec_abstract.specs.Deadlines.{outcome_at_enrol, is_first_due, outcome_at_expiry}
+use Rattle.exec_outcomes.specs.{declared.outcome.Outcome.Outcome, Accounts.outcome_at_grant}
+use Rattle.exec_machine.specs.{declared.{config.Configuration.Configuration, event.Event.{TheVariants.{Serve, Expire, Enrol, Grant, Cancel, Stage}, Event}, state.Request.Request}, Ranges.ring_size, World.{Common, Open, request_of, Own as Books}, Tests.{is_empty, is_gated}, Requests.account_of_open, Deadlines.{outcome_at_enrol, is_first_due, outcome_at_expiry}}
+use Rattle.exec_machine.specs.declared.event.Event.TheVariants as event
 use Rattle.exec_moves.specs.declared.place.AfterPermit.TheVariants as permit
 use Rattle.exec_moves.specs.declared.place.InService.TheVariants as step
-use Rattle.exec_moves.specs.declared.place.Service.{Service}
+use Rattle.exec_moves.specs.{declared.place.Service.Service, State.{Desk, Moved, Own, does}, Callback.{told_if_ended, is_full}, Load.may_stage, Serve.{after_staging, enter, first_numbered}}
 use Rattle.exec_moves.specs.declared.place.Place.TheVariants as at
-use Rattle.exec_moves.specs.State.{Desk, Moved, Own, does}
-use Rattle.exec_moves.specs.Callback.{told_if_ended, is_full}
-use Rattle.exec_moves.specs.Load.{may_stage}
-use Rattle.exec_moves.specs.Serve.{after_staging, enter, first_numbered}
 
 -- WHAT IS NEXT
 

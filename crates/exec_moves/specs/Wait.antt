@@ -1,33 +1,17 @@
 -- Moves of the look before a wait, of the two waits, and of the withdrawal after them.
 use Rattle.std.specs.Prelude.{ℕ, Bool, true, false, not, ◌-◌, ◌*◌, ◌&&◌, ◌||◌, List, [], ◌∷◌, nat_lt, nat_le, slice_set, Option, Some, None, if◌then◌else◌}
 use Rattle.exec_base.specs.Spinner.{after_hit, after_miss, after_wake}
-use Rattle.exec_words.specs.Idle.{Idle}
-use Rattle.exec_words.specs.Word.{is_idle_at}
-use Rattle.exec_words.specs.declared.word.PureWord.{PureWord}
+use Rattle.exec_words.specs.{Idle.Idle, Word.is_idle_at, declared.word.PureWord.PureWord}
 use Rattle.exec_words.specs.declared.word.WaitTarget.TheVariants as target
-use Rattle.exec_abstract.specs.declared.config.Configuration.{Configuration}
-use Rattle.exec_abstract.specs.declared.event.Event.{Event}
-use Rattle.exec_abstract.specs.declared.event.Event.TheVariants.{Turn, Sleep, Enter}
-use Rattle.exec_abstract.specs.Ranges.{ring_size}
-use Rattle.exec_abstract.specs.Tests.{is_empty}
-use Rattle.exec_abstract.specs.World.{Common}
-use Rattle.exec_abstract.specs.World.{Own as Books}
-use Rattle.exec_abstract.specs.Deadlines.{next_due}
+use Rattle.exec_machine.specs.{declared.{config.Configuration.Configuration, event.Event.{Event, TheVariants.{Turn, Sleep, Enter}}}, Ranges.ring_size, Tests.is_empty, World.{Common, Own as Books}, Deadlines.next_due}
 use Rattle.exec_moves.specs.declared.place.AfterService.TheVariants as back
-use Rattle.exec_moves.specs.declared.place.AfterWait.{AfterWait}
+use Rattle.exec_moves.specs.{declared.place.{AfterWait.AfterWait, Stay.Stay, Place.Place}, State.{Desk, Moved, Own, turns, does}, Callback.{has_requests, serve, ring_wait, is_full}, Load.{has_mail, has_submissions, has_come, next_turn}, Submit.with_poll, Serve.enter}
 use Rattle.exec_moves.specs.declared.place.AfterWait.TheVariants as next
 use Rattle.exec_moves.specs.declared.place.InLook.TheVariants as look
 use Rattle.exec_moves.specs.declared.place.InRingWait.TheVariants as ring
 use Rattle.exec_moves.specs.declared.place.InWordWait.TheVariants as word
-use Rattle.exec_moves.specs.declared.place.Stay.{Stay}
 use Rattle.exec_moves.specs.declared.place.Stay.TheVariants as stay
-use Rattle.exec_moves.specs.declared.place.Place.{Place}
 use Rattle.exec_moves.specs.declared.place.Place.TheVariants as at
-use Rattle.exec_moves.specs.State.{Desk, Moved, Own, turns, does}
-use Rattle.exec_moves.specs.Callback.{has_requests, serve, ring_wait, is_full}
-use Rattle.exec_moves.specs.Load.{has_mail, has_submissions, has_come, next_turn}
-use Rattle.exec_moves.specs.Submit.{with_poll}
-use Rattle.exec_moves.specs.Serve.{enter}
 
 -- THE LOOK
 

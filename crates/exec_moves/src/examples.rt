@@ -1,24 +1,14 @@
 //! Worked examples, proved by computation: single moves, and whole logs.
 
 ghost use Rattle.std.specs.Prelude.{◌≡◌, [], ◌∷◌, Some};
-ghost use Rattle.exec_outcomes.specs.declared.outcome.OpResult.TheVariants.{Count};
-ghost use Rattle.exec_outcomes.specs.declared.outcome.Outcome.TheVariants.{Success};
-ghost use Rattle.exec_abstract.specs.declared.event.Event.TheVariants.{Turn, Serve, Enter, Reap, Sleep, Close, Stop};
-ghost use Rattle.exec_abstract.specs.declared.step.Action.TheVariants as action;
-ghost use Rattle.exec_abstract.specs.declared.step.Step.TheVariants as step;
-ghost use Rattle.exec_abstract.specs.Choice.Payer.{ByRequest};
-ghost use Rattle.exec_abstract.specs.Examples.{usual, does, pays};
-ghost use Rattle.exec_abstract.specs.Logs.{a_send};
-ghost use Rattle.exec_abstract.specs.MoreLogs.{a_deadline, a_late_enrolment};
-ghost use Rattle.exec_abstract.specs.MoreLogs.{deadlines_in_order, the_wheel_goes_round};
-ghost use Rattle.exec_abstract.specs.MoreLogs.{a_clock_in_a_service, a_clock_between_samples};
-ghost use Rattle.exec_abstract.specs.MoreLogs.{a_cancel_in_time, parts, what_a_task_held};
+ghost use Rattle.exec_outcomes.specs.declared.outcome.{OpResult.TheVariants.Count, Outcome.TheVariants.Success};
+ghost use Rattle.exec_machine.specs.{declared.event.Event.TheVariants.{Turn, Serve, Enter, Reap, Sleep, Close, Stop}, Choice.Payer.ByRequest, Examples.{usual, does, pays}, Logs.a_send, MoreLogs.{a_deadline, a_late_enrolment, deadlines_in_order, the_wheel_goes_round, a_clock_in_a_service, a_clock_between_samples, a_cancel_in_time, parts, what_a_task_held}};
+ghost use Rattle.exec_machine.specs.declared.step.Action.TheVariants as action;
+ghost use Rattle.exec_machine.specs.declared.step.Step.TheVariants as step;
 ghost use Rattle.exec_moves.specs.declared.place.First.TheVariants as first;
 ghost use Rattle.exec_moves.specs.declared.place.InPick.TheVariants as pick;
 ghost use Rattle.exec_moves.specs.declared.place.Place.TheVariants as at;
-ghost use Rattle.exec_moves.specs.Pick.{count_down};
-ghost use Rattle.exec_moves.specs.Plays.{first_desk, IsPlayed, IsPaidFor};
-ghost use Rattle.exec_moves.specs.Departures.{Departs, two_sends};
+ghost use Rattle.exec_moves.specs.{Pick.count_down, Plays.{first_desk, IsPlayed, IsPaidFor}, Departures.{Departs, two_sends}};
 
 /// The pick that brings the countdown to its end looks at the global queue first.
 pub fn the_global_look()

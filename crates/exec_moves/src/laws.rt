@@ -1,9 +1,7 @@
 //! The law of moves, for every trace.
 
 ghost use Rattle.std.specs.Prelude.{◌≡◌, List};
-ghost use Rattle.exec_abstract.specs.declared.step.Step.{Step};
-ghost use Rattle.exec_abstract.specs.Progress.{Plan};
-ghost use Rattle.exec_abstract.specs.Examples.{Told};
+ghost use Rattle.exec_machine.specs.{declared.step.Step.Step, Progress.Plan, Examples.Told};
 ghost use Rattle.exec_moves.specs.Plays.{Plays, log_by_moves};
 
 /// A trace has one log by moves: what the moves make is one, and so two of one trace are the same,

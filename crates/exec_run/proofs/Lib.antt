@@ -1,4 +1,10 @@
-pub mod Completeness
+pub mod Told
 pub mod StepLemmas
+pub mod Logs
 pub mod RunLemmas
 pub mod ReadLemmas
+pub mod Completeness
+pub mod InRange
+pub mod Words
+pub mod Acts
+pub mod First

@@ -1,10 +1,7 @@
 -- How the text is read: what an error of a piece says of the whole, and a text that is too long.
 use Rattle.std.proofs.Common.{◌≡◌, ℕ, ◌+◌, ◌<◌, ◌≤◌, List, Option, Some, None, ap, subst, ◌∙◌, arith, length, length-append}
 use Rattle.exec_base.specs.Io.{Rose}
-use Rattle.exec_run.specs.declared.trace_error.TraceError.{TraceError}
-use Rattle.exec_run.specs.declared.trace_error.TraceError.TheVariants.{ReadFault, TooLong, Syntax, Config, WriteFault, NoMemory}
-use Rattle.exec_run.specs.Reading.{HasRead, CannotTake, CannotRead}
-use Rattle.exec_run.specs.Refusal.{most_bytes, HasTooManyBytes}
+use Rattle.exec_run.specs.{declared.trace_error.TraceError.{TraceError, TheVariants.{ReadFault, TooLong, Syntax, Config, WriteFault, NoMemory}}, Reading.{HasRead, CannotTake, CannotRead}, Refusal.{most_bytes, HasTooManyBytes}}
 
 -- a piece that was not read, after pieces that were read well
 pub not_read : (e : TraceError) (source : Option (List ℕ)) (old mid new : ℕ) → mid ≡ old → CannotTake e mid new → CannotRead e source old new

@@ -2,12 +2,8 @@
 use Rattle.std.specs.Prelude.{◌≡◌, ℕ, Bool, ◌⊎◌, List, [], ◌∷◌, ◌++◌, Option, IsSome, String}
 use Rattle.std.specs.declared.alloc.Global.{Global}
 use Rattle.exec_base.specs.Io.{Rose}
-use Rattle.exec_machine.specs.Grammar.{Plan}
-use Rattle.exec_run.specs.declared.complaint.Complaint.{Complaint}
-use Rattle.exec_run.specs.declared.trace_error.TraceError.{TraceError}
-use Rattle.exec_run.specs.declared.trace_error.TraceError.TheVariants.{ReadFault, TooLong, Syntax, Config, WriteFault, NoMemory}
-use Rattle.exec_run.specs.Refusal.{IsTooLong, HasFault, HasOutOfRange, HasCause, AskForTrace, status_of, text_of_complaint}
-use Rattle.exec_run.specs.Log.{HasPlan, Gave, GaveFront, GaveLog, BrokeOff}
+use Rattle.exec_text.specs.Grammar.{Meaning}
+use Rattle.exec_run.specs.{declared.{complaint.Complaint.Complaint, trace_error.TraceError.{TraceError, TheVariants.{ReadFault, TooLong, Syntax, Config, WriteFault, NoMemory}}}, Refusal.{IsTooLong, HasFault, HasOutOfRange, HasCause, AskForTrace, status_of, text_of_complaint}, Log.{HasTrace, Gave, GaveFront, GaveLog, BrokeOff}}
 
 -- neither the count of faults of the source rose nor that of the sink
 abbrev pub NoneRose : ℕ → ℕ → ℕ → ℕ → Type 0
@@ -72,5 +68,5 @@ Explains status words source read read' old new passed written written' =
 -- the sink rose, its whole log was given and passed on with status 0, or there was no memory, by status 7. There is no
 -- other answer.
 pub record Completes (status : ℕ) (words : List (String Global)) (source : Option (List ℕ)) (read read' : ℕ) (old new passed : Option (List ℕ)) (written written' : ℕ) : Type 0 where
-  pub no_other : (quiet : Bool) (p : Plan) → AskForTrace quiet words → IsSome source → HasPlan source p → (Rose read read' → ⊥) → (Rose written written' → ⊥)
-      → ((status ≡ 0) × (log : GaveLog quiet source old new) × (log.plan ≡ p) × (passed ≡ new)) ⊎ (status ≡ 7)
+  pub no_other : (quiet : Bool) (m : Meaning) → AskForTrace quiet words → IsSome source → HasTrace source m → (Rose read read' → ⊥) → (Rose written written' → ⊥)
+      → ((status ≡ 0) × (log : GaveLog quiet source old new) × (log.meaning ≡ m) × (passed ≡ new)) ⊎ (status ≡ 7)

@@ -2,22 +2,28 @@
 use Rattle.std.specs.Prelude.{◌≡◌, ℕ, Bool, ◌≤◌, ◌⊎◌, List, [], ◌∷◌, ◌++◌, Option, None, sum_by}
 use Rattle.std.specs.Io.KnownBytes.{append_known}
 use Rattle.exec_base.specs.declared.limits.TheConstants.{MOST_STEPS}
-use Rattle.exec_machine.specs.declared.event.Line.{Line}
-use Rattle.exec_machine.specs.declared.step.Step.{Step}
-use Rattle.exec_machine.specs.declared.step.Step.TheVariants.{Work}
-use Rattle.exec_machine.specs.Grammar.{Plan, IsTraceOf, count_of}
-use Rattle.exec_machine.specs.Ranges.{first_out_of_range}
-use Rattle.exec_machine.specs.Progress.{IsLogOf}
-use Rattle.exec_machine.specs.Text.{text_of_log, told_lines}
-use Rattle.exec_run.specs.Refusal.{IsTextIn}
+use Rattle.exec_machine.specs.{declared.step.Step.{Step, TheVariants.Work}, Progress.{Plan, IsLogOf}, Text.{text_of_log, told_lines}, Examples.{Told, lines_of}}
+use Rattle.exec_text.specs.Grammar.{Meaning, IsTraceOf, count_of}
+use Rattle.exec_run.specs.{Ranges.first_out_of_range, Refusal.IsTextIn}
+use Rattle.exec_moves.specs.Plays.{Plays}
 
--- The source held a trace of this plan, which is not too long and whose configuration is in its ranges.
-pub record HasPlan (source : Option (List ℕ)) (p : Plan) : Type 0 where
+-- The source held a trace that says this, which is not too long and whose configuration is in its ranges.
+pub record HasTrace (source : Option (List ℕ)) (m : Meaning) : Type 0 where
   pub text : List ℕ
   pub read : IsTextIn source text
-  pub spelled : IsTraceOf text p
-  pub few : sum_by count_of p.steps ≤ MOST_STEPS
-  pub in_range : first_out_of_range p.config ≡ None
+  pub spelled : IsTraceOf text m
+  pub few : sum_by count_of m.steps ≤ MOST_STEPS
+  pub in_range : first_out_of_range m.plan.config ≡ None
+
+-- The lines, each with what it leaves open, are the log of these steps: a run of the machine in which no party turns for
+-- ever and no worker sleeps on work; and each line is what the step tells by its move, so that there is no other log.
+pub record IsTheLogOf (p : Plan) (steps : List Step) (told : List Told) : Type 0 where
+  pub log : IsLogOf p steps (lines_of told)
+  pub plays : Plays p steps told
+
+-- what is told of such lines
+abbrev pub told_text : Bool → List Told → List ℕ
+told_text quiet told = text_of_log (told_lines quiet (lines_of told))
 
 -- The sink was given these bytes, where it is known what it was given.
 abbrev pub Gave : Option (List ℕ) → Option (List ℕ) → List ℕ → Type 0
@@ -30,13 +36,13 @@ pub record GaveFront (old new : Option (List ℕ)) (bytes : List ℕ) : Type 0 w
   pub begins : bytes ≡ out ++ rest
   pub gave : Gave old new out
 
--- The source held a trace, and the sink was given a log of all its steps: the lines of it that are told.
+-- The source held a trace, and the sink was given the log of all its steps: the lines of it that are told.
 pub record GaveLog (quiet : Bool) (source old new : Option (List ℕ)) : Type 0 where
-  pub plan : Plan
-  pub held : HasPlan source plan
-  pub lines : List Line
-  pub log : IsLogOf plan plan.steps lines
-  pub gave : Gave old new (text_of_log (told_lines quiet lines))
+  pub meaning : Meaning
+  pub held : HasTrace source meaning
+  pub told : List Told
+  pub log : IsTheLogOf meaning.plan meaning.steps told
+  pub gave : Gave old new (told_text quiet told)
 
 -- some of the steps of the line of a worker at the front
 pub record IsBegun (some line : List Step) : Type 0 where
@@ -57,16 +63,16 @@ pub record AreTaken (taken steps : List Step) : Type 0 where
   pub first : steps ≡ whole ++ rest
   pub next : (some ≡ []) ⊎ IsBegun some rest
 
--- The steps taken so far have a log, and of its lines that are told the sink was given a front.
-pub record GaveFrontOfLog (quiet : Bool) (p : Plan) (old new : Option (List ℕ)) : Type 0 where
+-- The steps taken so far have their log, and of its lines that are told the sink was given a front.
+pub record GaveFrontOfLog (quiet : Bool) (m : Meaning) (old new : Option (List ℕ)) : Type 0 where
   pub taken : List Step
-  pub are_taken : AreTaken taken p.steps
-  pub lines : List Line
-  pub log : IsLogOf p taken lines
-  pub gave : GaveFront old new (text_of_log (told_lines quiet lines))
+  pub are_taken : AreTaken taken m.steps
+  pub told : List Told
+  pub log : IsTheLogOf m.plan taken told
+  pub gave : GaveFront old new (told_text quiet told)
 
--- The source held a trace, whose run broke off: what the sink was given is a front of a log so far.
+-- The source held a trace, whose run broke off: what the sink was given is a front of its log so far.
 pub record BrokeOff (quiet : Bool) (source old new : Option (List ℕ)) : Type 0 where
-  pub plan : Plan
-  pub held : HasPlan source plan
-  pub gave : GaveFrontOfLog quiet plan old new
+  pub meaning : Meaning
+  pub held : HasTrace source meaning
+  pub gave : GaveFrontOfLog quiet meaning old new

@@ -1,13 +1,8 @@
 -- What the functions that read and check a trace do.
 use Rattle.std.specs.Prelude.{◌≡◌, ℕ, ◌+◌, ◌<◌, ◌≤◌, List, [], ◌++◌, Option, Some, None, IfSome, length, sum_by}
-use Rattle.exec_machine.specs.declared.config.Trace.{Trace}
-use Rattle.exec_machine.specs.Grammar.{Plan, IsTraceOf, IsTrace, IsFirstFault, count_of, plan_of}
-use Rattle.exec_machine.specs.Ranges.{first_out_of_range}
-use Rattle.exec_base.specs.declared.limits.TheConstants.{MOST_STEPS}
-use Rattle.exec_base.specs.Io.{Rose}
-use Rattle.exec_run.specs.declared.trace_error.TraceError.{TraceError}
-use Rattle.exec_run.specs.declared.trace_error.TraceError.TheVariants.{ReadFault, TooLong, Syntax, Config, WriteFault, NoMemory}
-use Rattle.exec_run.specs.Refusal.{HasTooManyBytes, IsOutOfRange}
+use Rattle.exec_text.specs.{declared.trace.Trace.Trace, Grammar.{Meaning, IsTraceOf, IsTrace, IsFirstFault, count_of, meaning_of}}
+use Rattle.exec_run.specs.{Ranges.first_out_of_range, declared.trace_error.TraceError.{TraceError, TheVariants.{ReadFault, TooLong, Syntax, Config, WriteFault, NoMemory}}, Refusal.{HasTooManyBytes, IsOutOfRange}}
+use Rattle.exec_base.specs.{declared.limits.TheConstants.MOST_STEPS, Io.Rose}
 
 -- what a source had left is what it has left behind these bytes
 abbrev pub HasRead : Option (List ℕ) → Option (List ℕ) → List ℕ → Type 0
@@ -41,14 +36,14 @@ CannotRead WriteFault source old new = ⊥
 
 -- the trace is that of the text, doesn't ask for too many steps, and its configuration is in its ranges
 pub record IsChecked (text : List ℕ) (t : Trace) : Type 0 where
-  pub spelled : IsTraceOf text (plan_of t)
+  pub spelled : IsTraceOf text (meaning_of t)
   pub few : sum_by count_of t.steps.items ≤ MOST_STEPS
   pub in_range : first_out_of_range t.config ≡ None
 
 -- why the text is not run
 abbrev pub CannotRun : TraceError → List ℕ → Type 0
 CannotRun (Syntax line) text = IsFirstFault text line
-CannotRun (TooLong count) text = (p : Plan) × IsTraceOf text p × (count ≡ sum_by count_of p.steps) × (MOST_STEPS < count)
+CannotRun (TooLong count) text = (m : Meaning) × IsTraceOf text m × (count ≡ sum_by count_of m.steps) × (MOST_STEPS < count)
 CannotRun (Config it) text = IsOutOfRange text it
 CannotRun NoMemory text = IsTrace text
 CannotRun ReadFault text = ⊥

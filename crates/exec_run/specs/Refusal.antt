@@ -2,14 +2,9 @@
 use Rattle.std.specs.Prelude.{◌≡◌, ℕ, Bool, true, false, ◌+◌, ◌^◌, ◌<◌, ◌≤◌, ◌⊎◌, List, [], ◌∷◌, ◌++◌, Option, Some, IfSome, String, string_bytes, map, length, sum_by, codes}
 use Rattle.std.specs.Fmt.{decimal}
 use Rattle.std.specs.declared.alloc.Global.{Global}
-use Rattle.exec_base.specs.declared.limits.TheConstants.{MOST_STEPS}
-use Rattle.exec_base.specs.Io.{Rose}
-use Rattle.exec_machine.specs.declared.config.OutOfRange.{OutOfRange}
-use Rattle.exec_machine.specs.Grammar.{Plan, IsTraceOf, IsFirstFault, count_of}
-use Rattle.exec_machine.specs.Ranges.{first_out_of_range}
-use Rattle.exec_machine.specs.Text.{text_of_field}
-use Rattle.exec_run.specs.declared.complaint.Complaint.{Complaint}
-use Rattle.exec_run.specs.declared.complaint.Complaint.TheVariants.{Usage, ReadFault, TooLong, Syntax, Config}
+use Rattle.exec_base.specs.{declared.limits.TheConstants.MOST_STEPS, Io.Rose}
+use Rattle.exec_run.specs.{declared.{field.OutOfRange.OutOfRange, complaint.Complaint.{Complaint, TheVariants.{Usage, ReadFault, TooLong, Syntax, Config}}}, Ranges.{first_out_of_range, text_of_field}}
+use Rattle.exec_text.specs.Grammar.{Meaning, IsTraceOf, IsFirstFault, count_of}
 
 -- the most bytes that a trace may have
 abbrev pub most_bytes : ℕ
@@ -29,9 +24,9 @@ pub record HasTooManyBytes (source : Option (List ℕ)) (count : ℕ) : Type 0 w
 pub record HasTooManySteps (source : Option (List ℕ)) (count : ℕ) : Type 0 where
   pub text : List ℕ
   pub read : IsTextIn source text
-  pub plan : Plan
-  pub spelled : IsTraceOf text plan
-  pub counted : count ≡ sum_by count_of plan.steps
+  pub meaning : Meaning
+  pub spelled : IsTraceOf text meaning
+  pub counted : count ≡ sum_by count_of meaning.steps
   pub more : MOST_STEPS < count
 
 -- The source held a text, and this line is the first at which it is no trace.
@@ -46,10 +41,10 @@ IsTooLong source count = HasTooManyBytes source count ⊎ HasTooManySteps source
 -- The text is a trace that doesn't ask for too many steps, and this is the first part of its configuration
 -- that is out of its range.
 pub record IsOutOfRange (text : List ℕ) (it : OutOfRange) : Type 0 where
-  pub plan : Plan
-  pub spelled : IsTraceOf text plan
-  pub few : sum_by count_of plan.steps ≤ MOST_STEPS
-  pub first : first_out_of_range plan.config ≡ Some it
+  pub meaning : Meaning
+  pub spelled : IsTraceOf text meaning
+  pub few : sum_by count_of meaning.steps ≤ MOST_STEPS
+  pub first : first_out_of_range meaning.plan.config ≡ Some it
 
 -- The source held such a text.
 pub record HasOutOfRange (source : Option (List ℕ)) (it : OutOfRange) : Type 0 where

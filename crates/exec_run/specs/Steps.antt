@@ -1,23 +1,13 @@
 -- What the functions that take the steps of a trace do.
-use Rattle.std.specs.Prelude.{◌≡◌, ℕ, Bool, ◌+◌, ◌⊎◌, List, [], ◌∷◌, ◌++◌, Option, Some}
+use Rattle.std.specs.Prelude.{◌≡◌, ℕ, Bool, true, ◌+◌, ◌<◌, ◌⊎◌, List, [], ◌∷◌, ◌++◌, Option, Some}
 use Rattle.exec_base.specs.Io.{Rose}
-use Rattle.exec_machine.specs.declared.config.Configuration.{Configuration}
-use Rattle.exec_machine.specs.declared.event.Line.{Line}
-use Rattle.exec_machine.specs.declared.step.Step.{Step}
-use Rattle.exec_machine.specs.declared.step.Action.{Action}
-use Rattle.exec_machine.specs.Run.{after_work, after_steps}
-use Rattle.exec_machine.specs.Credited.{Standing, Account, GoesBy}
-use Rattle.exec_machine.specs.Text.{text_of_line, text_of_log, told_lines}
-use Rattle.exec_core.specs.declared.executor.Core.{Core}
-use Rattle.exec_core.specs.View.{world}
-use Rattle.exec_core.specs.Credit.{credit}
-use Rattle.exec_core.specs.Minds.{Stands}
-use Rattle.exec_run.specs.declared.trace_error.TraceError.{TraceError}
-use Rattle.exec_run.specs.declared.trace_error.TraceError.TheVariants.{ReadFault, TooLong, Syntax, Config, WriteFault, NoMemory}
-use Rattle.exec_run.specs.declared.complaint.Complaint.{Complaint}
-use Rattle.exec_run.specs.Refusal.{status_of}
-use Rattle.exec_run.specs.Explains.{complaint_line}
-use Rattle.exec_run.specs.Log.{Gave, GaveFront, AreTaken}
+use Rattle.exec_task.specs.declared.body.Said.{Said}
+use Rattle.exec_machine.specs.{declared.{config.Configuration.Configuration, event.Line.Line, step.{Step.Step, Action.Action}}, Run.{Follows, after_work, after_steps}, Progress.{Plan, is_quiet_step}, Credited.{Standing, Account}, Examples.{Told, lines_of}, Text.{text_of_line, text_of_log, told_lines}}
+use Rattle.exec_moves.specs.{Plays.{Playing, by_step, credit_of}, Departures.played}
+use Rattle.exec_steps.specs.Spots.{Spot}
+use Rattle.exec_core.specs.{declared.executor.Core.Core, Lift.{IsFair, Shows}}
+use Rattle.exec_text.specs.Grammar.{Meaning}
+use Rattle.exec_run.specs.{declared.{trace_error.TraceError.{TraceError, TheVariants.{ReadFault, TooLong, Syntax, Config, WriteFault, NoMemory}}, complaint.Complaint.Complaint}, Refusal.status_of, Explains.complaint_line, Log.{Gave, GaveFront, GaveFrontOfLog, AreTaken, told_text}}
 
 -- why a run broke off: the sink failed, or it did not and there was no memory
 abbrev pub BrokeBy : TraceError → ℕ → ℕ → Type 0
@@ -28,67 +18,82 @@ BrokeBy (TooLong count) old new = ⊥
 BrokeBy (Syntax line) old new = ⊥
 BrokeBy (Config it) old new = ⊥
 
+-- What was given where a run broke off: nothing, where there was no memory for the executor, or a front of a log.
+abbrev pub GaveUpTo : TraceError → Bool → Meaning → Option (List ℕ) → Option (List ℕ) → Type 0
+GaveUpTo e quiet m old new = ((e ≡ NoMemory) × (new ≡ old)) ⊎ GaveFrontOfLog quiet m old new
+
 -- a line and its line feed
 abbrev pub whole_line : Line → List ℕ
 whole_line l = text_of_line l ++ 10 ∷ []
 
--- what is given of these lines
-abbrev pub told_text : Bool → List Line → List ℕ
-told_text quiet lines = text_of_log (told_lines quiet lines)
+-- what is given of this line
+abbrev pub told_of_line : Bool → Line → List ℕ
+told_of_line quiet l = text_of_log (told_lines quiet (l ∷ []))
 
--- the state that an executor stands for, and its credit
-abbrev pub standing : Core → Standing
-standing core = record { world = world core; credit = credit core }
+-- A line, with what it leaves open, is what its step tells: it follows in the machine, a quiet one costs credit, and then
+-- there is less credit than the bound and no worker sleeps on work.
+pub record IsStep (c : Configuration) (x : Playing) (it : Told) : Type 0 where
+  pub tells : it ≡ (by_step c x it.0.action).told
+  pub follows : Follows c x.world it.0.action it.0.said it.1
+  pub falls : is_quiet_step x.world it.0.said ≡ true → credit_of c (by_step c x it.0.action).next < credit_of c x
+  pub fair : IsFair c (by_step c x it.0.action).next
 
--- The lines are a run between two standings: what is a run from the second goes on behind them.
-abbrev pub GoesTo : Configuration → Standing → List Line → List Account → Standing → Type 0
-GoesTo c from lines accounts to = (ls : List Line) (xs : List Account) → GoesBy c to ls xs → GoesBy c from (lines ++ ls) (accounts ++ xs)
+-- so is each of these, one after another
+abbrev pub Goes : Configuration → Playing → List Told → Type 0
+Goes c x [] = Unit {0}
+Goes c x (it ∷ told) = IsStep c x it × Goes c (by_step c x it.0.action).next told
 
--- One line was taken from a standing on to another, and told.
-pub record TakesLine (quiet : Bool) (c : Configuration) (from : Standing) (a : Action) (l : Line) (to : Standing) (old new : Option (List ℕ)) : Type 0 where
-  pub action : l.action ≡ a
-  pub account : Account
-  pub goes : GoesTo c from (l ∷ []) (account ∷ []) to
-  pub gave : Gave old new (told_text quiet (l ∷ []))
+-- where lines are paid from, and what each of them leaves to pay with
+abbrev pub standing : Configuration → Playing → Standing
+standing c x = record { world = x.world; credit = λ party. credit_of c x }
+
+abbrev pub accounts_of : Configuration → Playing → List Told → List Account
+accounts_of c x [] = []
+accounts_of c x (it ∷ told) =
+    let next = (by_step c x it.0.action).next in record { choice = it.1; credit = λ party. credit_of c next } ∷ accounts_of c next told
 
 -- A line could not be taken, or not be told as a whole.
-pub record BreaksLine (quiet : Bool) (c : Configuration) (from : Standing) (a : Action) (old new : Option (List ℕ)) : Type 0 where
-  pub line : Line
-  pub action : line.action ≡ a
-  pub account : Account
-  pub goes : GoesBy c from (line ∷ []) (account ∷ [])
-  pub gave : GaveFront old new (told_text quiet (line ∷ []))
-
--- So many lines of a worker were taken and told, and none was refused.
-pub record Works (quiet : Bool) (c : Configuration) (from : Standing) (worker count : ℕ) (to : Standing) (old new : Option (List ℕ)) : Type 0 where
-  pub lines : List Line
-  pub accounts : List Account
-  pub accepted : (n : ℕ) (ls : List Line) → after_work worker (count + n) (lines ++ ls) ≡ after_work worker n ls
-  pub goes : GoesTo c from lines accounts to
-  pub gave : Gave old new (told_text quiet lines)
-
--- The lines of the steps were taken and told.
-pub record Leads (quiet : Bool) (c : Configuration) (from : Standing) (steps : List Step) (to : Standing) (old new : Option (List ℕ)) : Type 0 where
-  pub lines : List Line
-  pub accounts : List Account
-  pub has_lines : (ss : List Step) (ls : List Line) → after_steps (steps ++ ss) (lines ++ ls) ≡ after_steps ss ls
-  pub goes : GoesTo c from lines accounts to
-  pub gave : Gave old new (told_text quiet lines)
+pub record BreaksLine (quiet : Bool) (c : Configuration) (x : Playing) (a : Action) (old new : Option (List ℕ)) : Type 0 where
+  pub it : Told
+  pub action : it.0.action ≡ a
+  pub step : IsStep c x it
+  pub gave : GaveFront old new (told_of_line quiet it.0)
 
 -- The steps were not all taken, or the last line not told as a whole.
-pub record Breaks (quiet : Bool) (c : Configuration) (from : Standing) (steps : List Step) (old new : Option (List ℕ)) : Type 0 where
+pub record Breaks (quiet : Bool) (c : Configuration) (x : Playing) (steps : List Step) (old new : Option (List ℕ)) : Type 0 where
   pub taken : List Step
   pub are_taken : AreTaken taken steps
-  pub lines : List Line
-  pub accounts : List Account
-  pub has_lines : after_steps taken lines ≡ Some []
-  pub goes : GoesBy c from lines accounts
-  pub gave : GaveFront old new (told_text quiet lines)
+  pub told : List Told
+  pub has_lines : after_steps taken (lines_of told) ≡ Some []
+  pub goes : Goes c x told
+  pub gave : GaveFront old new (told_text quiet told)
 
--- the executor is as it was made, and can go on
-pub record GoesOn (old new : Core) : Type 0 where
-  pub config : new.config ≡ old.config
-  pub stands : Stands new
+-- from what an executor showed, what it shows then
+module _ {B L : Type 0} (left : B → L) (runs : L → Plan → Type 0) (holds : L → Option Said → List ℕ) (spot : L → Option Said → Spot) where
+  -- One line was taken and told.
+  pub record TakesLine (quiet : Bool) (p : Plan) (x : Playing) (a : Action) (l : Line) (core : Core B) (old new : Option (List ℕ)) : Type 0 where
+    pub it : Told
+    pub line : it.0 ≡ l
+    pub action : it.0.action ≡ a
+    pub step : IsStep p.config x it
+    pub shows : Shows left runs holds spot p core (by_step p.config x it.0.action).next
+    pub gave : Gave old new (told_of_line quiet it.0)
+
+  -- So many lines of a worker were taken and told, and none was refused.
+  pub record Works (quiet : Bool) (p : Plan) (x : Playing) (worker count : ℕ) (core : Core B) (old new : Option (List ℕ)) : Type 0 where
+    pub told : List Told
+    pub accepted : (n : ℕ) (ls : List Line) → after_work worker (count + n) (lines_of told ++ ls) ≡ after_work worker n ls
+    pub goes : Goes p.config x told
+    pub shows : Shows left runs holds spot p core (played p.config x told)
+    pub gave : Gave old new (told_text quiet told)
+
+  -- The lines of the steps were taken and told.
+  pub record Leads (quiet : Bool) (p : Plan) (x : Playing) (steps : List Step) (core : Core B) (old new : Option (List ℕ)) : Type 0 where
+    pub told : List Told
+    pub has_lines : (ss : List Step) (ls : List Line) → after_steps (steps ++ ss) (lines_of told ++ ls) ≡ after_steps ss ls
+    pub goes : Goes p.config x told
+    pub shows : Shows left runs holds spot p core (played p.config x told)
+    pub gave : Gave old new (told_text quiet told)
 
 -- A complaint was written and passed on, or broke off where the sink failed.
 abbrev pub Complains : Complaint → ℕ → Option (List ℕ) → Option (List ℕ) → Option (List ℕ) → ℕ → ℕ → Type 0

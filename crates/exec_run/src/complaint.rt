@@ -1,11 +1,10 @@
 //! What the program says where it doesn't run a trace.
 
 ghost use Rattle.std.specs.Prelude.{◌≡◌, ◌<◌, ◌≤◌, ◌^◌, ◌++◌, Some, length, decimal};
-ghost use Rattle.exec_run.specs.Explains.{complaint_line};
-ghost use Rattle.exec_run.specs.Refusal.{status_of, text_of_complaint};
+ghost use Rattle.exec_run.specs.{Explains.complaint_line, Refusal.{status_of, text_of_complaint}};
 
+use crate::field::OutOfRange;
 use arrayvec::ArrayString;
-use exec_machine::config::OutOfRange;
 use itoa::Buffer;
 use std::fmt;
 

@@ -2,14 +2,8 @@
 
 ghost use Rattle.std.specs.Prelude.{◌≡◌, ◌≢◌, true, false, [], ◌∷◌, ◌++◌, codes};
 ghost use Rattle.std.specs.Fmt.{decimal};
-ghost use Rattle.exec_machine.specs.declared.config.Field.TheVariants.{Workers, Layout};
-ghost use Rattle.exec_machine.specs.declared.event.Event.TheVariants.{Enter, Stage};
-ghost use Rattle.exec_machine.specs.declared.event.Said.TheVariants.{Refused, Did};
-ghost use Rattle.exec_machine.specs.declared.step.Action.TheVariants.{Work};
-ghost use Rattle.exec_machine.specs.Text.{told_lines};
-ghost use Rattle.exec_run.specs.declared.complaint.Complaint.TheVariants.{Usage, Syntax, Config, TooLong};
-ghost use Rattle.exec_run.specs.Explains.{complaint_line};
-ghost use Rattle.exec_run.specs.Refusal.{status_of, text_of_complaint, words_of_trace};
+ghost use Rattle.exec_run.specs.{declared.{field.Field.TheVariants.{Workers, Layout}, complaint.Complaint.TheVariants.{Usage, Syntax, Config, TooLong}}, Explains.complaint_line, Refusal.{status_of, text_of_complaint, words_of_trace}};
+ghost use Rattle.exec_machine.specs.{declared.{event.{Event.TheVariants.{Enter, Stage}, StepResult.TheVariants.{Refused, Did}}, step.Action.TheVariants.Work}, Text.told_lines};
 
 /// Complaints, and the status that each ends with.
 pub fn complaints()

@@ -2,15 +2,18 @@
 //!
 //! `run_trace` does this for a text, and `run` is the whole program between its words and its status.
 //! What they ensure is said in `specs/`: `Log.antt` says what a log or a front of one is, `Refusal.antt` why
-//! a text is not run, and `Explains.antt` what an error or a status says. Which lines a quiet log has stands
-//! in `Text.antt` of `exec_machine`, and the ranges of a configuration in its `Ranges.antt`.
+//! a text is not run, `Ranges.antt` which configurations may be run, and `Explains.antt` what an error or a status
+//! says. `script.rt` is the body that the root runs.
 #![tactic(auto)]
 
 mod complaint;
 pub mod examples;
+pub mod field;
 mod ranges;
 mod reading;
 mod running;
+pub mod script;
+mod setting_up;
 mod stepping;
 mod trace_error;
 mod writing;

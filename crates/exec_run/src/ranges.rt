@@ -1,10 +1,12 @@
 //! The ranges of a configuration.
 
 ghost use Rattle.std.specs.Prelude.{◌≡◌, ◌==◌, ◌&&◌, ◌^◌, ◌-◌, nat_le};
-ghost use Rattle.exec_machine.specs.Ranges.{first_out_of_range, tested_parts, ticks_needed, is_within};
+ghost use Rattle.exec_machine.specs.Ranges.{ticks_needed};
+ghost use Rattle.exec_run.specs.Ranges.{first_out_of_range, tested_parts, is_within};
 
+use crate::field::{Field, OutOfRange};
 use exec_base::limits::LONGEST_TIMEOUT;
-use exec_machine::config::{Configuration, Field, OutOfRange, Spin};
+use exec_machine::config::{Configuration, Spin};
 
 /// The most that a count of 32 bits can be.
 const MOST_COUNT: u64 = 4_294_967_295;

@@ -8,14 +8,13 @@
 //! comes in the reading of the grammar, only of a text that is a trace.
 
 ghost use Rattle.std.specs.Prelude.{◌≡◌, ◌<◌, ◌≤◌, [], Some, IfOk, IfErr, IfSome, OnOk, length};
-ghost use Rattle.exec_run.specs.Refusal.{IsTextIn};
-ghost use Rattle.exec_run.specs.Reading.{ReadsPiece, CannotTake, CannotRead, IsChecked, CannotRun};
+ghost use Rattle.exec_run.specs.{Refusal.IsTextIn, Reading.{ReadsPiece, CannotTake, CannotRead, IsChecked, CannotRun}};
 
 use crate::ranges::first_out_of_range;
 use crate::trace_error::TraceError;
 use exec_base::io::{Failed, Input};
 use exec_base::limits::MOST_STEPS;
-use exec_machine::config::Trace;
+use exec_text::trace::Trace;
 use exec_text::{ReadError, read_trace, total_steps};
 use std::alloc::Global;
 

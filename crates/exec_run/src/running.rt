@@ -9,10 +9,7 @@
 //! that of the sink, and with 7 neither did.
 
 ghost use Rattle.std.specs.Prelude.{◌≡◌, Bool, ◌≤◌, [], Some, IfErr, IfSome, IfNone, OnOk};
-ghost use Rattle.exec_run.specs.Refusal.{AskForTrace, AskForSomeTrace};
-ghost use Rattle.exec_run.specs.Log.{GaveLog};
-ghost use Rattle.exec_run.specs.Explains.{NoneRose, IsCauseOf, IsGivenAt, Explains, Completes};
-ghost use Rattle.exec_run.specs.Steps.{Complains};
+ghost use Rattle.exec_run.specs.{Refusal.{AskForTrace, AskForSomeTrace}, Log.GaveLog, Explains.{NoneRose, IsCauseOf, IsGivenAt, Explains, Completes}, Steps.Complains};
 
 use crate::complaint::Complaint;
 use crate::reading::{check, read_all};
@@ -28,7 +25,7 @@ const WRITE_FAULT: u8 = 6;
 const NO_MEMORY: u8 = 7;
 
 /// Reads a trace from the source, runs it, and gives its log to the sink, line by line. A quiet log is the same
-/// without the lines whose event is `turn`, `serve` or `enter`.
+/// without the lines whose event is `turn`, `serve`, `enter` or `busy`.
 ///
 /// Nothing is given before the whole text is read and checked. The errors, in this order: `ReadFault` where
 /// the source fails, `TooLong` where the text has too many bytes, `Syntax` where it is no trace, `TooLong`

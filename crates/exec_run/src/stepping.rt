@@ -6,153 +6,126 @@
 //! executor is spent, and no further step is taken. What was given is a front of the log up to there, and all
 //! lines of the steps before are whole.
 
-ghost use Rattle.std.specs.Prelude.{◌≡◌, ◌≤◌, ◌⊎◌, List, [], ◌∷◌, None, IfOk, IfErr, OnOk, OnErr};
-ghost use Rattle.exec_machine.specs.declared.event.Line.{Line};
+ghost use Rattle.std.specs.Prelude.{◌≡◌, ◌≤◌, ◌⊎◌, List, ◌∷◌, [], All, None, true, IfOk, IfErr, OnOk, OnErr};
 ghost use Rattle.exec_machine.specs.declared.step.Step.TheVariants as step;
-ghost use Rattle.exec_machine.specs.declared.step.Action.TheVariants as action;
-ghost use Rattle.exec_machine.specs.Grammar.{Plan, IsPlan, plan_of};
-ghost use Rattle.exec_machine.specs.Ranges.{first_out_of_range};
-ghost use Rattle.exec_machine.specs.Progress.{IsLogOf};
-ghost use Rattle.exec_machine.specs.Text.{text_of_log, told_lines};
-ghost use Rattle.exec_core.specs.Minds.{Stands};
-ghost use Rattle.exec_run.specs.Log.{Gave, GaveFrontOfLog};
-ghost use Rattle.exec_run.specs.Steps.{BrokeBy, TakesLine, BreaksLine, Leads, Breaks, GoesOn, standing};
+ghost use Rattle.exec_machine.specs.{Progress.Plan, Examples.Told};
+ghost use Rattle.exec_moves.specs.Plays.{Playing};
+ghost use Rattle.exec_core.specs.Lift.{IsReady, Shows, is_of_first_cut};
+ghost use Rattle.exec_text.specs.Grammar.{MeaningFits, meaning_of, StepFits};
+ghost use Rattle.exec_run.specs.{Ranges.first_out_of_range, Log.{Gave, IsTheLogOf, told_text}, Steps.{BrokeBy, GaveUpTo, TakesLine, BreaksLine, Leads, Breaks}};
 
+use crate::script::Script;
+use crate::setting_up::config_of;
 use crate::trace_error::TraceError;
 use crate::writing::{flush_all, tell_line};
 use exec_base::io::Output;
 use exec_core::executor::Core;
-use exec_machine::config::Trace;
-use exec_machine::event::{Line, Said};
+use exec_machine::config::Configuration;
+use exec_machine::event::{Line, StepResult};
+use exec_machine::laws::paid_lines_are_runs;
 use exec_machine::step::{Action, Step};
+use exec_steps::scripted::Scripted;
+use exec_text::trace::Trace;
 use std::alloc::Global;
 
 /// Takes one step of one party, and tells its line.
-#[tactic(auto, using(crate::proofs::StepLemmas::line_taken, crate::proofs::StepLemmas::line_broken))]
-fn take_line<O: Output>(
+fn take_line<B: Scripted + Drop, O: Output>(
     alloc: Global,
-    core: &mut Core,
+    core: &mut Core<B>,
     sink: &mut O,
     quiet: bool,
     action: Action,
 ) -> Result<Line, TraceError>
-    requires { Stands core.old }
+    requires ready { IsReady B.left B.runs B.holds core.old }
+    requires known { is_of_first_cut action ≡ true }
     ensures count { O.faults sink.old ≤ O.faults sink.new }
     ensures well { OnOk result (O.faults sink.new ≡ O.faults sink.old) }
-    ensures goes_on { OnOk result (GoesOn core.old core.new) }
-    ensures takes { IfOk result (λ line. TakesLine quiet core.old.config (standing core.old) action line
-        (standing core.new) (O.given sink.old) (O.given sink.new)) }
+    ensures ready { OnOk result (IsReady B.left B.runs B.holds core.new) }
+    ensures takes { IfOk result (λ line. (p : Plan) (x : Playing) → Shows B.left B.runs B.holds B.spot p core.old x →
+        TakesLine B.left B.runs B.holds B.spot quiet p x action line core.new (O.given sink.old) (O.given sink.new)) }
     ensures why { IfErr result (λ e. BrokeBy e (O.faults sink.old) (O.faults sink.new)) }
-    ensures breaks { OnErr result ((O.given sink.new ≡ O.given sink.old)
-        ⊎ BreaksLine quiet core.old.config (standing core.old) action (O.given sink.old) (O.given sink.new)) }
+    ensures breaks { OnErr result ((p : Plan) (x : Playing) → Shows B.left B.runs B.holds B.spot p core.old x →
+        (O.given sink.new ≡ O.given sink.old) ⊎ BreaksLine quiet p.config x action (O.given sink.old) (O.given sink.new)) }
 {
     let line = core.apply(alloc, action)?;
     tell_line(alloc, sink, quiet, line)?;
     Ok(line)
 }
 
-/// Takes one step of a party that takes one alone, and tells its line.
-fn take_one<O: Output>(
-    alloc: Global,
-    core: &mut Core,
-    sink: &mut O,
-    quiet: bool,
-    action: Action,
-) -> Result<(), TraceError>
-    requires { Stands core.old }
-    ensures count { O.faults sink.old ≤ O.faults sink.new }
-    ensures well { OnOk result (O.faults sink.new ≡ O.faults sink.old) }
-    ensures goes_on { OnOk result (GoesOn core.old core.new) }
-    ensures takes { OnOk result ((l : Line) × TakesLine quiet core.old.config (standing core.old) action l
-        (standing core.new) (O.given sink.old) (O.given sink.new)) }
-    ensures why { IfErr result (λ e. BrokeBy e (O.faults sink.old) (O.faults sink.new)) }
-    ensures breaks { OnErr result ((O.given sink.new ≡ O.given sink.old)
-        ⊎ BreaksLine quiet core.old.config (standing core.old) action (O.given sink.old) (O.given sink.new)) }
-{
-    take_line(alloc, core, sink, quiet, action)?;
-    Ok(())
-}
-
 /// Takes so many steps of the worker, or as many as there are up to the first that is refused.
-fn take_work<O: Output>(
+fn take_work<B: Scripted + Drop, O: Output>(
     alloc: Global,
-    core: &mut Core,
+    core: &mut Core<B>,
     sink: &mut O,
     quiet: bool,
     worker: usize,
     count: u64,
 ) -> Result<(), TraceError>
-    requires { Stands core.old }
+    requires { IsReady B.left B.runs B.holds core.old }
     ensures count { O.faults sink.old ≤ O.faults sink.new }
     ensures well { OnOk result (O.faults sink.new ≡ O.faults sink.old) }
-    ensures goes_on { OnOk result (GoesOn core.old core.new) }
-    ensures leads { OnOk result (Leads quiet core.old.config (standing core.old) (step.Work worker count ∷ [])
-        (standing core.new) (O.given sink.old) (O.given sink.new)) }
+    ensures ready { OnOk result (IsReady B.left B.runs B.holds core.new) }
+    ensures leads { OnOk result ((p : Plan) (x : Playing) → Shows B.left B.runs B.holds B.spot p core.old x →
+        Leads B.left B.runs B.holds B.spot quiet p x (step.Work worker count ∷ []) core.new (O.given sink.old) (O.given sink.new)) }
     ensures why { IfErr result (λ e. BrokeBy e (O.faults sink.old) (O.faults sink.new)) }
-    ensures breaks { OnErr result (Breaks quiet core.old.config (standing core.old)
-        (step.Work worker count ∷ []) (O.given sink.old) (O.given sink.new)) }
+    ensures breaks { OnErr result ((p : Plan) (x : Playing) → Shows B.left B.runs B.holds B.spot p core.old x →
+        Breaks quiet p.config x (step.Work worker count ∷ []) (O.given sink.old) (O.given sink.new)) }
 {
     for _ in 0..count {
         let line = take_line(alloc, core, sink, quiet, Action::Work { worker })?;
         match line.said {
-            Said::Refused => return Ok(()),
-            Said::Did(_) => {}
+            StepResult::Refused => return Ok(()),
+            StepResult::Did(_) => {}
         }
     }
     Ok(())
 }
 
 /// Takes the steps of one line of the trace.
-fn take_step<O: Output>(
+fn take_step<B: Scripted + Drop, O: Output>(
     alloc: Global,
-    core: &mut Core,
+    core: &mut Core<B>,
     sink: &mut O,
     quiet: bool,
     step: Step,
 ) -> Result<(), TraceError>
-    requires { Stands core.old }
+    requires ready { IsReady B.left B.runs B.holds core.old }
+    requires fits { StepFits step }
     ensures count { O.faults sink.old ≤ O.faults sink.new }
     ensures well { OnOk result (O.faults sink.new ≡ O.faults sink.old) }
-    ensures goes_on { OnOk result (GoesOn core.old core.new) }
-    ensures leads { OnOk result (Leads quiet core.old.config (standing core.old) (step ∷ [])
-        (standing core.new) (O.given sink.old) (O.given sink.new)) }
+    ensures ready { OnOk result (IsReady B.left B.runs B.holds core.new) }
+    ensures leads { OnOk result ((p : Plan) (x : Playing) → Shows B.left B.runs B.holds B.spot p core.old x →
+        Leads B.left B.runs B.holds B.spot quiet p x (step ∷ []) core.new (O.given sink.old) (O.given sink.new)) }
     ensures why { IfErr result (λ e. BrokeBy e (O.faults sink.old) (O.faults sink.new)) }
-    ensures breaks { OnErr result (Breaks quiet core.old.config (standing core.old) (step ∷ [])
-        (O.given sink.old) (O.given sink.new)) }
+    ensures breaks { OnErr result ((p : Plan) (x : Playing) → Shows B.left B.runs B.holds B.spot p core.old x →
+        Breaks quiet p.config x (step ∷ []) (O.given sink.old) (O.given sink.new)) }
 {
     match step {
         Step::Work { worker, count } => take_work(alloc, core, sink, quiet, worker, count),
-        Step::Clock { by } => take_one(alloc, core, sink, quiet, Action::Clock { by }),
-        Step::Land {
-            request,
-            result: landed,
-        } => {
-            let action = Action::Land {
-                request,
-                result: landed,
-            };
-            take_one(alloc, core, sink, quiet, action)
+        Step::One { action } => {
+            take_line(alloc, core, sink, quiet, action)?;
+            Ok(())
         }
-        Step::Stir { worker } => take_one(alloc, core, sink, quiet, Action::Stir { worker }),
     }
 }
 
 /// Takes the steps of all lines, in order.
-fn take_steps<O: Output>(
+fn take_steps<B: Scripted + Drop, O: Output>(
     alloc: Global,
-    core: &mut Core,
+    core: &mut Core<B>,
     sink: &mut O,
     quiet: bool,
     steps: &[Step],
 ) -> Result<(), TraceError>
-    requires { Stands core.old }
+    requires ready { IsReady B.left B.runs B.holds core.old }
+    requires fit { All StepFits steps.now }
     ensures count { O.faults sink.old ≤ O.faults sink.new }
     ensures well { OnOk result (O.faults sink.new ≡ O.faults sink.old) }
-    ensures leads { OnOk result (Leads quiet core.old.config (standing core.old) steps.now
-        (standing core.new) (O.given sink.old) (O.given sink.new)) }
+    ensures leads { OnOk result ((p : Plan) (x : Playing) → Shows B.left B.runs B.holds B.spot p core.old x →
+        Leads B.left B.runs B.holds B.spot quiet p x steps.now core.new (O.given sink.old) (O.given sink.new)) }
     ensures why { IfErr result (λ e. BrokeBy e (O.faults sink.old) (O.faults sink.new)) }
-    ensures breaks { OnErr result (Breaks quiet core.old.config (standing core.old) steps.now
-        (O.given sink.old) (O.given sink.new)) }
+    ensures breaks { OnErr result ((p : Plan) (x : Playing) → Shows B.left B.runs B.holds B.spot p core.old x →
+        Breaks quiet p.config x steps.now (O.given sink.old) (O.given sink.new)) }
 {
     for step in steps {
         take_step(alloc, core, sink, quiet, *step)?;
@@ -167,18 +140,28 @@ pub fn log_trace<O: Output>(
     quiet: bool,
     trace: Trace,
 ) -> Result<(), TraceError>
-    requires plan { IsPlan (plan_of trace) }
+    requires fits { MeaningFits (meaning_of trace) }
     requires in_range { first_out_of_range trace.config ≡ None }
     ensures count { O.faults sink.old ≤ O.faults sink.new }
     ensures well { OnOk result (O.faults sink.new ≡ O.faults sink.old) }
     ensures passes { OnOk result (O.passed sink.new ≡ O.given sink.new) }
-    ensures ok { OnOk result ((lines : List Line) × IsLogOf (plan_of trace) trace.steps.items lines
-        × Gave (O.given sink.old) (O.given sink.new) (text_of_log (told_lines quiet lines))) }
+    ensures ok { OnOk result ((told : List Told) × IsTheLogOf (meaning_of trace).plan trace.steps.items told
+        × Gave (O.given sink.old) (O.given sink.new) (told_text quiet told)) }
     ensures why { IfErr result (λ e. BrokeBy e (O.faults sink.old) (O.faults sink.new)) }
-    ensures front { OnErr result (GaveFrontOfLog quiet (plan_of trace)
-        (O.given sink.old) (O.given sink.new)) }
+    ensures front { IfErr result (λ e. GaveUpTo e quiet (meaning_of trace) (O.given sink.old) (O.given sink.new)) }
 {
-    let mut core = Core::new(alloc, trace.config, trace.root);
+    // What is paid for, line by line, is a run.
+    paid_lines_are_runs();
+    let config = config_of(&trace.config);
+    let Configuration {
+        spin,
+        files,
+        sockets,
+        rw,
+        ..
+    } = trace.config;
+    let root = Script::new(alloc, trace.root, rw);
+    let mut core = Core::new(alloc, &config, spin.iterations, files, sockets, root)?;
     take_steps(alloc, &mut core, sink, quiet, trace.steps.as_slice())?;
     flush_all(sink)
 }

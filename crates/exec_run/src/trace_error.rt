@@ -3,7 +3,7 @@
 ghost use Rattle.std.specs.Prelude.{◌≡◌};
 ghost use Rattle.exec_run.specs.declared.trace_error.TraceError.TheVariants.{NoMemory};
 
-use exec_machine::config::OutOfRange;
+use crate::field::OutOfRange;
 use std::alloc::AllocError;
 
 /// Why a trace was not run, or not to its end.

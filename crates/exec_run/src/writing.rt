@@ -8,17 +8,15 @@
 //! text, before a byte of it is given; the line of a complaint doesn't, so that a fault is told also where there
 //! is no memory.
 
-ghost use Rattle.std.specs.Prelude.{◌≡◌, ◌≤◌, [], ◌∷◌, IfErr, OnOk, OnErr};
+ghost use Rattle.std.specs.Prelude.{◌≡◌, ◌≤◌, IfErr, OnOk, OnErr};
 ghost use Rattle.exec_base.specs.Io.{Rose};
 ghost use Rattle.exec_machine.specs.Text.{is_quiet_line};
-ghost use Rattle.exec_run.specs.Log.{Gave, GaveFront};
-ghost use Rattle.exec_run.specs.Explains.{complaint_line};
-ghost use Rattle.exec_run.specs.Steps.{BrokeBy, whole_line, told_text};
+ghost use Rattle.exec_run.specs.{Log.{Gave, GaveFront}, Explains.complaint_line, Steps.{BrokeBy, whole_line, told_of_line}};
 
 use crate::complaint::Complaint;
 use crate::trace_error::TraceError;
 use exec_base::io::{Failed, Output};
-use exec_machine::event::{Event, Line, Said};
+use exec_machine::event::{Event, Line, StepResult};
 use std::alloc::Global;
 
 /// Gives the bytes, again and again while less than the rest of them is taken.
@@ -60,7 +58,7 @@ fn is_quiet(line: Line) -> bool
 {
     matches!(
         line.said,
-        Said::Did(Event::Turn | Event::Serve | Event::Enter)
+        StepResult::Did(Event::Turn | Event::Serve | Event::Enter | Event::Busy)
     )
 }
 
@@ -74,10 +72,10 @@ pub fn tell_line<O: Output>(
     ensures count { O.faults sink.old ≤ O.faults sink.new }
     ensures well { OnOk result (O.faults sink.new ≡ O.faults sink.old) }
     ensures ok { OnOk result
-        (Gave (O.given sink.old) (O.given sink.new) (told_text quiet (line ∷ []))) }
+        (Gave (O.given sink.old) (O.given sink.new) (told_of_line quiet line)) }
     ensures why { IfErr result (λ e. BrokeBy e (O.faults sink.old) (O.faults sink.new)) }
     ensures front { OnErr result
-        (GaveFront (O.given sink.old) (O.given sink.new) (told_text quiet (line ∷ []))) }
+        (GaveFront (O.given sink.old) (O.given sink.new) (told_of_line quiet line)) }
 {
     if quiet && is_quiet(line) {
         return Ok(());

@@ -1,9 +1,5 @@
-//! Tests of the public calls of other crates, so that those are proved once.
+//! Tests of whole runs, apart from their crate, so that it is proved once.
 #![tactic(auto)]
 
-#[cfg(test)]
-mod read_trace;
-#[cfg(test)]
-mod request;
 #[cfg(test)]
 mod run;

@@ -1,7 +1,7 @@
 //! Whole runs: a trace or a text that is none, between ends that fail or don't, with the log or the complaint.
 
 use exec_base::io::{MemInput, MemOutput};
-use exec_machine::config::{Field, OutOfRange};
+use exec_run::field::{Field, OutOfRange};
 use exec_run::{Complaint, TraceError, run, run_trace};
 use std::alloc::Global;
 use std::test::Fail;

@@ -3,16 +3,9 @@ use Rattle.std.proofs.Common.{◌≡◌, ◌≢◌, ℕ, ◌+◌, ◌-◌, ◌<�
 use Rattle.std.specs.Str.Lines.{lines}
 use Rattle.std.proofs.lemmas.List.{take_all, take-append-drop, take-take, append-nil, map_push}
 use Rattle.std.proofs.lemmas.List.Elements.{filter-append}
-use Rattle.exec_machine.specs.declared.config.Configuration.{Configuration}
-use Rattle.exec_machine.specs.declared.config.Word.{Word}
-use Rattle.exec_machine.specs.declared.step.Step.{Step}
-use Rattle.exec_machine.specs.Grammar.{Plan, HeaderFits, IsPlan, plan_lines, says_something, CanGoOn, IsTrace, IsFirstFault, text_of_step, StepFits}
-use Rattle.exec_text.specs.Reading.{said_before, IsNextSaid, IsLastSaid, IsMissing, IsStuck, header, IsRoot, IsTop, IsMarkedTop, all_said}
-use Rattle.exec_text.specs.Laws.{TraceHasNoFault, FaultIsOne}
-use Rattle.exec_text.proofs.Said.{said_all}
-use Rattle.exec_text.proofs.Headers.{header_length, config_of, config_fits}
-use Rattle.exec_text.proofs.Numbers.{AllSmall}
-use Rattle.exec_text.proofs.Begins.{Begins, header_front, header_next, header_short, root_next, top_begins, top_short, mark_next, steps_begin, steps_next}
+use Rattle.exec_machine.specs.declared.{config.{Configuration.Configuration, ScriptWord.ScriptWord}, step.Step.Step}
+use Rattle.exec_text.specs.{Grammar.{Meaning, HeaderFits, MeaningFits, trace_lines, says_something, CanGoOn, IsTrace, IsFirstFault, text_of_step, StepFits}, Reading.{said_before, IsNextSaid, IsLastSaid, IsMissing, IsStuck, header, IsRoot, IsTop, IsMarkedTop, all_said}, Laws.{TraceHasNoFault, FaultIsOne}}
+use Rattle.exec_text.proofs.{Said.said_all, Headers.{header_length, config_of, config_fits}, Numbers.AllSmall, Begins.{Begins, header_front, header_next, header_short, root_next, top_begins, top_short, mark_next, steps_begin, steps_next}}
 
 pub fault_at : (text : List ℕ) (old next : ℕ) (line : List ℕ) → IsNextSaid text old next line → Begins (said_before text old) → (Begins (said_before text old ++ line ∷ []) → ⊥) → IsFirstFault text next
 unfolding said_before
@@ -20,12 +13,12 @@ fault_at text old next line n begun over =
     let m : old < next = n.more in
     inl (omega arith, n.counted, subst Begins (sym n.front) begun, λ b. over (subst Begins n.said b))
 
-pub fault_end : (text : List ℕ) (old next : ℕ) → IsLastSaid text old next → Begins (said_before text old) → ((p : Plan) → IsPlan p → plan_lines p ≢ said_before text old) → IsFirstFault text (next + 1)
+pub fault_end : (text : List ℕ) (old next : ℕ) → IsLastSaid text old next → Begins (said_before text old) → ((p : Meaning) → MeaningFits p → trace_lines p ≢ said_before text old) → IsFirstFault text (next + 1)
 unfolding said_before
 fault_end text old next n begun over =
     let a : take next (lines text) ≡ lines text = take_all next (lines text) (omega (arith, n.all)) in
     let e : filter says_something (lines text) ≡ said_before text old = sym (ap (filter says_something) a) ∙ n.said in
-    inr (ap (λ (k : ℕ). k + 1) n.all, subst Begins (sym e) begun, λ t. over t.0 t.1.plan (sym t.1.spelled ∙ e))
+    inr (ap (λ (k : ℕ). k + 1) n.all, subst Begins (sym e) begun, λ t. over t.0 t.1.fits (sym t.1.spelled ∙ e))
 
 -- what goes on went on before
 earlier : (xs : List (List ℕ)) (n : ℕ) → CanGoOn xs → CanGoOn (take n xs)
@@ -41,7 +34,7 @@ earlier_take : (xs : List (List ℕ)) (m n : ℕ) → m ≤ n → CanGoOn (take 
 earlier_take xs m n h c = subst CanGoOn (take-take m n xs h) (earlier (take n xs) m c)
 
 trace_goes_on : (text : List ℕ) → IsTrace text → CanGoOn (lines text)
-trace_goes_on text t = (t.0, t.1.plan, [], append-nil (filter says_something (lines text)) ∙ t.1.spelled)
+trace_goes_on text t = (t.0, t.1.fits, [], append-nil (filter says_something (lines text)) ∙ t.1.spelled)
 
 pub no_fault : TraceHasNoFault
 no_fault text line t f =
@@ -66,7 +59,7 @@ fault_is_one text m n f g =
     let b : n < m → ⊥ = order text n m g f in omega (arith, a, b)
 
 -- where a line is missing
-fault_missing : (text : List ℕ) (old number : ℕ) → IsMissing text old number → Begins (said_before text old) → ((p : Plan) → IsPlan p → plan_lines p ≢ said_before text old) → IsFirstFault text number
+fault_missing : (text : List ℕ) (old number : ℕ) → IsMissing text old number → Begins (said_before text old) → ((p : Meaning) → MeaningFits p → trace_lines p ≢ said_before text old) → IsFirstFault text number
 fault_missing text old number m begun over = subst (IsFirstFault text) (sym m.2) (fault_end text old m.0 m.1 begun over)
 
 -- at the header, of which so many lines were read
@@ -75,7 +68,7 @@ stuck_at text old k line c Wrong fits small s over h =
     let begun = subst Begins (sym s) (header_front c k fits) in
     elim h [
       | inl a ↦ fault_at text old line a.0 a.1 begun (λ b. let r = header_next c k a.0 small (subst (λ (x : List (List ℕ)). Begins (x ++ a.0 ∷ [])) s b) in over a.0 a.2 r.0 r.1 r.2)
-      | inr a ↦ fault_missing text old line a begun (λ p plan q. header_short c k p (omega arith) plan (q ∙ s))
+      | inr a ↦ fault_missing text old line a begun (λ p fits q. header_short c k p (omega arith) fits (q ∙ s))
     ]
 
 -- and these are its numbers so far
@@ -93,25 +86,25 @@ pub root_missing : (text : List ℕ) (old : ℕ) (c : Configuration) (line : ℕ
 root_missing text old c line h s m =
     fault_missing text old line m (subst Begins (sym s) (header_begins c h)) (λ p f q. header_short c 9 p (omega arith) f (q ∙ s ∙ sym (header_all c)))
 
-pub root_wrong : (text : List ℕ) (old next : ℕ) (line : List ℕ) (c : Configuration) → HeaderFits c → said_before text old ≡ header c → IsNextSaid text old next line → ((root : List Word) → IsRoot c line root → ⊥) → IsFirstFault text next
+pub root_wrong : (text : List ℕ) (old next : ℕ) (line : List ℕ) (c : Configuration) → HeaderFits c → said_before text old ≡ header c → IsNextSaid text old next line → ((root : List ScriptWord) → IsRoot c line root → ⊥) → IsFirstFault text next
 root_wrong text old next line c h s n over =
     fault_at text old next line n (subst Begins (sym s) (header_begins c h))
     (λ b. let r = root_next c line h (subst (λ (x : List (List ℕ)). Begins (x ++ line ∷ [])) s b) in over r.0 r.1)
 
-pub root_right : (text : List ℕ) (old next : ℕ) (line : List ℕ) (c : Configuration) (root : List Word) → HeaderFits c → said_before text old ≡ header c → IsNextSaid text old next line → IsRoot c line root → IsTop c (said_before text next) root
+pub root_right : (text : List ℕ) (old next : ℕ) (line : List ℕ) (c : Configuration) (root : List ScriptWord) → HeaderFits c → said_before text old ≡ header c → IsNextSaid text old next line → IsRoot c line root → IsTop c (said_before text next) root
 root_right text old next line c root h s n r = record { header_fits = h; line = line; spelled = n.said ∙ ap (λ (x : List (List ℕ)). x ++ line ∷ []) s; root_line = r }
 
 -- at the line `steps`
-pub mark_missing : (text : List ℕ) (old : ℕ) (c : Configuration) (root : List Word) (line : ℕ) → IsTop c (said_before text old) root → IsMissing text old line → IsFirstFault text line
+pub mark_missing : (text : List ℕ) (old : ℕ) (c : Configuration) (root : List ScriptWord) (line : ℕ) → IsTop c (said_before text old) root → IsMissing text old line → IsFirstFault text line
 mark_missing text old c root line t m =
     fault_missing text old line m (top_begins c (said_before text old) root t) (λ p h q. top_short c (said_before text old) root p t h q)
 
-pub mark_wrong : (text : List ℕ) (old next : ℕ) (line : List ℕ) (c : Configuration) (root : List Word) → IsTop c (said_before text old) root → IsNextSaid text old next line → line ≢ codes "steps" → IsFirstFault text next
+pub mark_wrong : (text : List ℕ) (old next : ℕ) (line : List ℕ) (c : Configuration) (root : List ScriptWord) → IsTop c (said_before text old) root → IsNextSaid text old next line → line ≢ codes "steps" → IsFirstFault text next
 mark_wrong text old next line c root t n other =
     fault_at text old next line n (top_begins c (said_before text old) root t) (λ b. other (mark_next c (said_before text old) root line t b))
 
 -- at the steps
-pub step_wrong : (text t : List ℕ) (first old next : ℕ) (line : List ℕ) (c : Configuration) (root : List Word) (steps : List Step) → t ≡ text → IsMarkedTop c (said_before text first) root → All StepFits steps → said_before text old ≡ said_before text first ++ map text_of_step steps → IsNextSaid t old next line → ((s : Step) → StepFits s → line ≢ text_of_step s) → IsFirstFault text next
+pub step_wrong : (text t : List ℕ) (first old next : ℕ) (line : List ℕ) (c : Configuration) (root : List ScriptWord) (steps : List Step) → t ≡ text → IsMarkedTop c (said_before text first) root → All StepFits steps → said_before text old ≡ said_before text first ++ map text_of_step steps → IsNextSaid t old next line → ((s : Step) → StepFits s → line ≢ text_of_step s) → IsFirstFault text next
 step_wrong text t first old next line c root steps e m fit s n over =
     fault_at text old next line (subst (λ (x : List ℕ). IsNextSaid x old next line) e n) (subst Begins (sym s) (steps_begin c (said_before text first) root steps m fit))
     (λ b. let r = steps_next c (said_before text first) root steps line m (subst (λ (x : List (List ℕ)). Begins (x ++ line ∷ [])) s b) in over r.0 r.1 r.2)
@@ -121,12 +114,6 @@ step_right text t first old next line steps step e s n same =
     let m = subst (λ (x : List ℕ). IsNextSaid x old next line) e n in
     m.said ∙ ap (λ (x : List (List ℕ)). x ++ line ∷ []) s ∙ append_assoc (said_before text first) (map text_of_step steps) (line ∷ [])
     ∙ ap (λ (x : List ℕ). said_before text first ++ (map text_of_step steps ++ x ∷ [])) same ∙ ap (λ (x : List (List ℕ)). said_before text first ++ x) (sym (map_push text_of_step steps step))
-
-pub lines_left_fall : (text t : List ℕ) (old next : ℕ) (line : List ℕ) → t ≡ text → IsNextSaid t old next line → length (lines text) - next < length (lines text) - old
-lines_left_fall text t old next line e n =
-    let m = subst (λ (x : List ℕ). IsNextSaid x old next line) e n in
-    let a : old < next = m.more in
-    let b : next ≤ length (lines text) = m.counted in omega arith
 
 pub steps_all : (text t : List ℕ) (old next : ℕ) (more : List (List ℕ)) → t ≡ text → said_before text old ≡ more → IsLastSaid t old next → all_said text ≡ more
 steps_all text t old next more e s n =

@@ -2,10 +2,8 @@
 use Rattle.std.proofs.Common.{◌≡◌, ◌≢◌, ℕ, zero, suc, ◌<◌, ◌≤◌, ◌^◌, List, [], ◌∷◌, ◌++◌, codes, decimal, refl, sym, ap, ◌∙◌, arith, length, get_or, drop, append_assoc}
 use Rattle.std.proofs.lemmas.List.{append-nil}
 use Rattle.std.proofs.lemmas.Fmt.{decimal_injective}
-use Rattle.exec_machine.specs.declared.config.Configuration.{Configuration}
-use Rattle.exec_machine.specs.declared.config.Spin.{Spin}
-use Rattle.exec_machine.specs.Grammar.{HeaderFits}
-use Rattle.exec_text.specs.Reading.{header, text_of_spin, SpinFits, IsCut, IsNumber}
+use Rattle.exec_machine.specs.declared.config.{Configuration.Configuration, Spin.Spin}
+use Rattle.exec_text.specs.{Grammar.HeaderFits, Reading.{header, text_of_spin, SpinFits, IsCut, IsNumber}}
 use Rattle.exec_text.proofs.Numbers.{spaced, AllSmall, spaced_same, spaced_left, spaced_more, front_number}
 
 -- the header is nine lines

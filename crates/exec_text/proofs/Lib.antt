@@ -6,4 +6,4 @@ pub mod Faults
 pub mod Said
 pub mod Steps
 pub mod Words
-pub mod Plans
+pub mod Meanings

@@ -7,8 +7,7 @@ use Rattle.std.proofs.lemmas.List.Sums.{position_or_len_is}
 use Rattle.std.proofs.lemmas.List.{get_or_default, drop_all, drop_more, drop-drop, length-drop, append-nil, nil_from_length, take_all}
 use Rattle.std.proofs.lemmas.List.Elements.{filter_more}
 use Rattle.std.proofs.lemmas.List.Splits.{slice_split_first, slice_split_none, length-slice_split}
-use Rattle.exec_machine.specs.Grammar.{says_something}
-use Rattle.exec_text.specs.Reading.{said_before, IsBeforeLine, IsNextSaid, IsLastSaid}
+use Rattle.exec_text.specs.{Grammar.says_something, Reading.{said_before, IsBeforeLine, IsNextSaid, IsLastSaid}}
 
 abbrev newline : ℕ → Bool
 newline b = b == 10

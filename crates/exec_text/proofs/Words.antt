@@ -3,16 +3,12 @@ use Rattle.std.proofs.Common.{◌≡◌, ◌≢◌, ℕ, ◌<◌, ◌≤◌, ◌
 use Rattle.std.proofs.Common.{Option, Some, None, IfSome, IfNone}
 use Rattle.std.proofs.lemmas.List.{flat_map_more, append-nil, append_cancel_left}
 use Rattle.std.proofs.lemmas.Fmt.{decimal_injective}
-use Rattle.exec_machine.specs.declared.config.Configuration.{Configuration}
-use Rattle.exec_machine.specs.declared.config.Word.{Word}
-use Rattle.exec_machine.specs.declared.config.Word.TheVariants.{Send, Poll, Await, Drop, Sleep, Yield, End, Fault}
-use Rattle.exec_machine.specs.Grammar.{text_of_word, text_of_words, WordFits}
-use Rattle.exec_text.specs.Reading.{IsCut, NoSpace, IsField, IsNumber, IsWord, IsRoot}
-use Rattle.exec_text.proofs.Fields.{cut_same, field_same}
-use Rattle.exec_text.proofs.Numbers.{spaced, AllSmall, spaced_cut, spaced_same, front_number, number_one, no_space_decimal}
+use Rattle.exec_machine.specs.declared.config.{Configuration.Configuration, ScriptWord.{ScriptWord, TheVariants.{Send, Poll, Await, Drop, Sleep, Yield, End, Fault}}}
+use Rattle.exec_text.specs.{Grammar.{text_of_word, text_of_words, WordFits}, Reading.{IsCut, NoSpace, IsField, IsNumber, IsWord, IsRoot}}
+use Rattle.exec_text.proofs.{Fields.{cut_same, field_same}, Numbers.{spaced, AllSmall, spaced_cut, spaced_same, front_number, number_one, no_space_decimal}}
 
 -- a word is a name and numbers
-abbrev pub name_of : Word → List ℕ
+abbrev pub name_of : ScriptWord → List ℕ
 name_of (Send socket size) = codes "send"
 name_of (Poll listener) = codes "poll"
 name_of Await = codes "await"
@@ -21,61 +17,58 @@ name_of (Sleep time) = codes "sleep"
 name_of Yield = codes "yield"
 name_of End = codes "end"
 name_of (Fault code) = codes "fault"
+name_of _ = []
 
-abbrev pub numbers_of : Word → List ℕ
+abbrev pub numbers_of : ScriptWord → List ℕ
 numbers_of (Send socket size) = socket ∷ size ∷ []
 numbers_of (Poll listener) = listener ∷ []
 numbers_of (Sleep time) = time ∷ []
 numbers_of (Fault code) = code ∷ []
-numbers_of Await = []
-numbers_of Drop = []
-numbers_of Yield = []
-numbers_of End = []
+numbers_of _ = []
 
-pub word_is : (word : Word) (rest : List ℕ) → text_of_word word ++ rest ≡ name_of word ++ spaced (numbers_of word) rest
+pub word_is : (word : ScriptWord) (rest : List ℕ) → text_of_word word ++ rest ≡ name_of word ++ spaced (numbers_of word) rest
 word_is (Send socket size) rest = ap (λ (t : List ℕ). codes "send " ++ t) (append_assoc (decimal socket) (32 ∷ decimal size) rest)
-word_is (Poll listener) rest = refl
-word_is Await rest = refl
-word_is Drop rest = refl
-word_is (Sleep time) rest = refl
-word_is Yield rest = refl
-word_is End rest = refl
-word_is (Fault code) rest = refl
+word_is _ rest = refl
 
 -- which are its own: the second letters of the names differ
-abbrev pub word_from : List ℕ → List ℕ → Word
+abbrev pub word_from : List ℕ → List ℕ → ScriptWord
 word_from name ns = by_letter (get_or name 1 0) (get_or ns 0 0) (get_or ns 1 0)
   where
-    by_letter : ℕ → ℕ → ℕ → Word
+    by_letter : ℕ → ℕ → ℕ → ScriptWord
     by_letter l a b =
         cond (l == 101) (Send a b)
         (cond (l == 111) (Poll a) (cond (l == 119) Await (cond (l == 114) Drop (cond (l == 108) (Sleep a) (cond (l == 105) Yield (cond (l == 110) End (Fault a)))))))
 
-pub word_again : (word : Word) → word_from (name_of word) (numbers_of word) ≡ word
-word_again (Send socket size) = refl
-word_again (Poll listener) = refl
-word_again Await = refl
-word_again Drop = refl
-word_again (Sleep time) = refl
-word_again Yield = refl
-word_again End = refl
-word_again (Fault code) = refl
+pub word_again : (c : Configuration) (word : ScriptWord) → WordFits c word → word_from (name_of word) (numbers_of word) ≡ word
+word_again c (Send socket size) h = refl
+word_again c (Poll listener) h = refl
+word_again c Await h = refl
+word_again c Drop h = refl
+word_again c (Sleep time) h = refl
+word_again c Yield h = refl
+word_again c End h = refl
+word_again c (Fault code) h = refl
+word_again c _ h = absurd h
 
 -- a name says how many numbers come
-count_again : (word : Word) → length (numbers_of (word_from (name_of word) [])) ≡ length (numbers_of word)
-count_again (Send socket size) = refl
-count_again (Poll listener) = refl
-count_again Await = refl
-count_again Drop = refl
-count_again (Sleep time) = refl
-count_again Yield = refl
-count_again End = refl
-count_again (Fault code) = refl
+abbrev count_from : List ℕ → ℕ
+count_from name = length (numbers_of (word_from name []))
 
-same_count : (v w : Word) → name_of v ≡ name_of w → length (numbers_of v) ≡ length (numbers_of w)
-same_count v w e = sym (count_again v) ∙ ap (λ (n : List ℕ). length (numbers_of (word_from n []))) e ∙ count_again w
+count_again : (c : Configuration) (word : ScriptWord) → WordFits c word → count_from (name_of word) ≡ length (numbers_of word)
+count_again c (Send socket size) h = refl
+count_again c (Poll listener) h = refl
+count_again c Await h = refl
+count_again c Drop h = refl
+count_again c (Sleep time) h = refl
+count_again c Yield h = refl
+count_again c End h = refl
+count_again c (Fault code) h = refl
+count_again c _ h = absurd h
 
-name_clean : (word : Word) → NoSpace (name_of word)
+same_count : (c : Configuration) (v w : ScriptWord) → WordFits c v → WordFits c w → name_of v ≡ name_of w → length (numbers_of v) ≡ length (numbers_of w)
+same_count c v w f g e = sym (count_again c v f) ∙ ap count_from e ∙ count_again c w g
+
+name_clean : (word : ScriptWord) → NoSpace (name_of word)
 name_clean (Send socket size) = (λ e. omega arith, (λ e. omega arith, (λ e. omega arith, (λ e. omega arith, tt))))
 name_clean (Poll listener) = (λ e. omega arith, (λ e. omega arith, (λ e. omega arith, (λ e. omega arith, tt))))
 name_clean Await = (λ e. omega arith, (λ e. omega arith, (λ e. omega arith, (λ e. omega arith, (λ e. omega arith, tt)))))
@@ -84,81 +77,81 @@ name_clean (Sleep time) = (λ e. omega arith, (λ e. omega arith, (λ e. omega a
 name_clean Yield = (λ e. omega arith, (λ e. omega arith, (λ e. omega arith, (λ e. omega arith, (λ e. omega arith, tt)))))
 name_clean End = (λ e. omega arith, (λ e. omega arith, (λ e. omega arith, tt)))
 name_clean (Fault code) = (λ e. omega arith, (λ e. omega arith, (λ e. omega arith, (λ e. omega arith, (λ e. omega arith, tt)))))
+name_clean _ = tt
 
-numbers_small : (c : Configuration) (word : Word) → c.sockets < 2 ^ 64 → WordFits c word → AllSmall (numbers_of word)
+numbers_small : (c : Configuration) (word : ScriptWord) → c.sockets < 2 ^ 64 → WordFits c word → AllSmall (numbers_of word)
 numbers_small c (Send socket size) s h =
     let l : socket < c.sockets = h.0 in
     let m : size ≤ 1048576 = h.2 in (omega arith, (omega arith, tt))
 numbers_small c (Poll listener) s h = (omega arith, tt)
-numbers_small c Await s h = tt
-numbers_small c Drop s h = tt
 numbers_small c (Sleep time) s h = (h, tt)
-numbers_small c Yield s h = tt
-numbers_small c End s h = tt
 numbers_small c (Fault code) s h = (h, tt)
+numbers_small c _ s h = tt
 
 -- the name of the word at the front
-pub name_is : (c : Configuration) (bs behind name rest r : List ℕ) (word : Word) → bs ≡ 32 ∷ behind → IsField behind name rest → IsWord c bs word r → (name ≡ name_of word) × (rest ≡ spaced (numbers_of word) r)
+pub name_is : (c : Configuration) (bs behind name rest r : List ℕ) (word : ScriptWord) → bs ≡ 32 ∷ behind → IsField behind name rest → IsWord c bs word r → (name ≡ name_of word) × (rest ≡ spaced (numbers_of word) r)
 name_is c bs behind name rest r word space f w =
     let t : 32 ∷ behind ≡ 32 ∷ (text_of_word word ++ r) = sym space ∙ w.spelled in
     field_same behind name (name_of word) rest (spaced (numbers_of word) r) f
     (record { spelled = ap (drop 1) t ∙ word_is word r; no_space = name_clean word; cut = spaced_cut (numbers_of word) r w.cut })
 
-pub word_moved : (c : Configuration) (a b r : List ℕ) (word : Word) → a ≡ b → IsWord c a word r → IsWord c b word r
+pub word_moved : (c : Configuration) (a b r : List ℕ) (word : ScriptWord) → a ≡ b → IsWord c a word r → IsWord c b word r
 word_moved c a b r word e w = record { spelled = sym e ∙ w.spelled; fits = w.fits; cut = w.cut }
 
+-- a name alone at the front
+pub plain_read : (c : Configuration) (bs behind name rest : List ℕ) (w : ScriptWord) → bs ≡ 32 ∷ behind → IsField behind name rest → name ≡ text_of_word w → WordFits c w → IsWord c bs w rest
+plain_read c bs behind name rest w space f named fits = record {
+  spelled = space ∙ ap (λ (t : List ℕ). 32 ∷ t) (f.spelled ∙ ap (λ (n : List ℕ). n ++ rest) named);
+  fits = fits;
+  cut = f.cut;
+}
+
 -- a word of a name alone
-plain_is : (w : Word) → numbers_of w ≡ [] → text_of_word w ≡ name_of w
+plain_is : (w : ScriptWord) → numbers_of w ≡ [] → text_of_word w ≡ name_of w
 plain_is w e = sym (append-nil (text_of_word w)) ∙ word_is w [] ∙ ap (λ (ns : List ℕ). name_of w ++ spaced ns []) e ∙ append-nil (name_of w)
 
 -- a word of a name and one number
-one_is : (w : Word) (n : ℕ) → numbers_of w ≡ n ∷ [] → text_of_word w ≡ name_of w ++ 32 ∷ decimal n
+one_is : (w : ScriptWord) (n : ℕ) → numbers_of w ≡ n ∷ [] → text_of_word w ≡ name_of w ++ 32 ∷ decimal n
 one_is w n e =
     sym (append-nil (text_of_word w)) ∙ word_is w [] ∙ ap (λ (ns : List ℕ). name_of w ++ spaced ns []) e
     ∙ ap (λ (t : List ℕ). name_of w ++ 32 ∷ t) (append-nil (decimal n))
 
-two_is : (w : Word) → 2 ≤ length (numbers_of w) → name_of w ≡ codes "send"
+two_is : (w : ScriptWord) → 2 ≤ length (numbers_of w) → name_of w ≡ codes "send"
 two_is (Send s n) h = refl
-two_is (Poll l) h = absurd (omega arith)
-two_is Await h = absurd (omega arith)
-two_is Drop h = absurd (omega arith)
-two_is (Sleep d) h = absurd (omega arith)
-two_is Yield h = absurd (omega arith)
-two_is End h = absurd (omega arith)
-two_is (Fault n) h = absurd (omega arith)
+two_is _ h = absurd (omega arith)
 
-send_named : (w : Word) → name_of w ≡ codes "send" → w ≡ Send (get_or (numbers_of w) 0 0) (get_or (numbers_of w) 1 0)
-send_named w e = sym (word_again w) ∙ ap (λ (n : List ℕ). word_from n (numbers_of w)) e
+send_named : (c : Configuration) (w : ScriptWord) → WordFits c w → name_of w ≡ codes "send" → w ≡ Send (get_or (numbers_of w) 0 0) (get_or (numbers_of w) 1 0)
+send_named c w h e = sym (word_again c w h) ∙ ap (λ (n : List ℕ). word_from n (numbers_of w)) e
 
 -- no word at the front: no name alone, and no number behind it
-pub no_first : (c : Configuration) (bs behind name rest r : List ℕ) (w : Word) → c.sockets < 2 ^ 64 → bs ≡ 32 ∷ behind → IsField behind name rest → ((v : Word) → name ≢ text_of_word v) → ((n : ℕ) (t : List ℕ) → IsNumber rest n t → ⊥) → IsWord c bs w r → ⊥
+pub no_first : (c : Configuration) (bs behind name rest r : List ℕ) (w : ScriptWord) → c.sockets < 2 ^ 64 → bs ≡ 32 ∷ behind → IsField behind name rest → ((c : Configuration) (v : ScriptWord) → WordFits c v → name ≢ text_of_word v) → ((n : ℕ) (t : List ℕ) → IsNumber rest n t → ⊥) → IsWord c bs w r → ⊥
 no_first c bs behind name rest r w small space f plain over h =
     let n = name_is c bs behind name rest r w space f h in
     go (numbers_of w) refl n.0 n.1 (numbers_small c w small h.fits)
   where
     go : (ns : List ℕ) → numbers_of w ≡ ns → name ≡ name_of w → rest ≡ spaced (numbers_of w) r → AllSmall (numbers_of w) → ⊥
-    go [] e a b s = plain w (a ∙ sym (plain_is w e))
+    go [] e a b s = plain c w h.fits (a ∙ sym (plain_is w e))
     go (m ∷ ms) e a b s = over m (spaced ms r) (front_number rest m ms r (b ∙ ap (λ (x : List ℕ). spaced x r) e) (subst AllSmall e s).0 h.cut)
 
 -- no word at the front: neither a name alone nor one with the number behind it, nor a send
-pub no_numbered : (c : Configuration) (bs behind name rest t r : List ℕ) (n : ℕ) (w : Word) → c.sockets < 2 ^ 64 → bs ≡ 32 ∷ behind → IsField behind name rest → ((v : Word) → name ≢ text_of_word v) → IsNumber rest n t → name ≢ codes "send" → ((v : Word) → WordFits c v → name ++ 32 ∷ decimal n ≢ text_of_word v) → IsWord c bs w r → ⊥
+pub no_numbered : (c : Configuration) (bs behind name rest t r : List ℕ) (n : ℕ) (w : ScriptWord) → c.sockets < 2 ^ 64 → bs ≡ 32 ∷ behind → IsField behind name rest → ((c : Configuration) (v : ScriptWord) → WordFits c v → name ≢ text_of_word v) → IsNumber rest n t → name ≢ codes "send" → ((v : ScriptWord) → WordFits c v → name ++ 32 ∷ decimal n ≢ text_of_word v) → IsWord c bs w r → ⊥
 no_numbered c bs behind name rest t r n w small space f plain number send over h =
     let k = name_is c bs behind name rest r w space f h in
     go (numbers_of w) refl k.0 k.1 (numbers_small c w small h.fits)
   where
     go : (ns : List ℕ) → numbers_of w ≡ ns → name ≡ name_of w → rest ≡ spaced (numbers_of w) r → AllSmall (numbers_of w) → ⊥
-    go [] e a b s = plain w (a ∙ sym (plain_is w e))
+    go [] e a b s = plain c w h.fits (a ∙ sym (plain_is w e))
     go (m ∷ []) e a b s =
         let i = number_one rest t r n m number (front_number rest m [] r (b ∙ ap (λ (x : List ℕ). spaced x r) e) (subst AllSmall e s).0 h.cut) in
         over w h.fits (ap (λ (x : List ℕ). x ++ 32 ∷ decimal n) a ∙ ap (λ (x : ℕ). name_of w ++ 32 ∷ decimal x) i.0 ∙ sym (one_is w m e))
     go (m ∷ k ∷ ms) e a b s = send (a ∙ two_is w (omega (arith, ap length e)))
 
 -- no word at the front: its name is that of a send, and its first number was read
-pub no_send : (c : Configuration) (bs behind name rest t r : List ℕ) (n : ℕ) (w : Word) → c.sockets < 2 ^ 64 → bs ≡ 32 ∷ behind → IsField behind name rest → IsNumber rest n t → name ≡ codes "send" → ((size : ℕ) (u : List ℕ) → IsWord c (32 ∷ codes "send " ++ decimal n ++ t) (Send n size) u → ⊥) → IsWord c bs w r → ⊥
+pub no_send : (c : Configuration) (bs behind name rest t r : List ℕ) (n : ℕ) (w : ScriptWord) → c.sockets < 2 ^ 64 → bs ≡ 32 ∷ behind → IsField behind name rest → IsNumber rest n t → name ≡ codes "send" → ((size : ℕ) (u : List ℕ) → IsWord c (32 ∷ codes "send " ++ decimal n ++ t) (Send n size) u → ⊥) → IsWord c bs w r → ⊥
 no_send c bs behind name rest t r n w small space f number e over h =
     let a = get_or (numbers_of w) 0 0 in
     let b = get_or (numbers_of w) 1 0 in
-    let g : IsWord c bs (Send a b) r = subst (λ (x : Word). IsWord c bs x r) (send_named w (sym (name_is c bs behind name rest r w space f h).0 ∙ e)) h in
+    let g : IsWord c bs (Send a b) r = subst (λ (x : ScriptWord). IsWord c bs x r) (send_named c w h.fits (sym (name_is c bs behind name rest r w space f h).0 ∙ e)) h in
     let k = name_is c bs behind name rest r (Send a b) space f g in
     let i = number_one rest t (spaced (b ∷ []) r) n a number (front_number rest a (b ∷ []) r k.1 (numbers_small c (Send a b) small g.fits).0 g.cut) in
     over b r (record {
@@ -178,7 +171,7 @@ send_length c bs r s n w =
     }
 
 -- a name and one number
-numbered_is : (name : List ℕ) (n : ℕ) (w : Word) → NoSpace name → name ++ 32 ∷ decimal n ≡ text_of_word w → (name ≡ name_of w) × (32 ∷ decimal n ≡ spaced (numbers_of w) [])
+numbered_is : (name : List ℕ) (n : ℕ) (w : ScriptWord) → NoSpace name → name ++ 32 ∷ decimal n ≡ text_of_word w → (name ≡ name_of w) × (32 ∷ decimal n ≡ spaced (numbers_of w) [])
 numbered_is name n w clean e =
     field_same (text_of_word w) name (name_of w) (32 ∷ decimal n) (spaced (numbers_of w) [])
     (record { spelled = sym e; no_space = clean; cut = refl })
@@ -191,105 +184,102 @@ two_numbers : (n a b : ℕ) → n < 2 ^ 64 → a < 2 ^ 64 → 32 ∷ decimal n �
 two_numbers n a b x y e =
     let k = (cut_same (decimal n) (decimal a) [] (spaced (b ∷ []) []) (no_space_decimal n x) (no_space_decimal a y) tt refl (append-nil (decimal n) ∙ ap (drop 1) e)).1 in cc
 
-pub no_one_number : (c : Configuration) (name : List ℕ) (n : ℕ) → NoSpace name → n < 2 ^ 64 → c.sockets < 2 ^ 64 → name ≢ codes "sleep" → name ≢ codes "fault" → (name ≡ codes "poll" → c.sockets ≤ n) → (w : Word) → WordFits c w → name ++ 32 ∷ decimal n ≢ text_of_word w
+pub no_one_number : (c : Configuration) (name : List ℕ) (n : ℕ) → NoSpace name → n < 2 ^ 64 → c.sockets < 2 ^ 64 → name ≢ codes "sleep" → name ≢ codes "fault" → (name ≡ codes "poll" → c.sockets ≤ n) → (w : ScriptWord) → WordFits c w → name ++ 32 ∷ decimal n ≢ text_of_word w
 no_one_number c name n clean small sockets sleep fault poll (Send s k) h e =
     let l : s < c.sockets = h.0 in two_numbers n s k small (omega arith) (numbered_is name n (Send s k) clean e).1
 no_one_number c name n clean small sockets sleep fault poll (Poll l) h e =
     let i = numbered_is name n (Poll l) clean e in
     let j : n ≡ l = same_number n l small (omega arith) i.1 in
     let k : c.sockets ≤ n = poll i.0 in omega arith
-no_one_number c name n clean small sockets sleep fault poll Await h e = let i = (numbered_is name n Await clean e).1 in cc
-no_one_number c name n clean small sockets sleep fault poll Drop h e = let i = (numbered_is name n Drop clean e).1 in cc
 no_one_number c name n clean small sockets sleep fault poll (Sleep d) h e = sleep (numbered_is name n (Sleep d) clean e).0
-no_one_number c name n clean small sockets sleep fault poll Yield h e = let i = (numbered_is name n Yield clean e).1 in cc
-no_one_number c name n clean small sockets sleep fault poll End h e = let i = (numbered_is name n End clean e).1 in cc
 no_one_number c name n clean small sockets sleep fault poll (Fault k) h e = fault (numbered_is name n (Fault k) clean e).0
+no_one_number c name n clean small sockets sleep fault poll w h e = let i = (numbered_is name n w clean e).1 in cc
 
 -- A word at the front leaves one rest.
-pub rest_same : (c : Configuration) (bs r t : List ℕ) (v w : Word) → c.sockets < 2 ^ 64 → IsWord c bs v r → IsWord c bs w t → (v ≡ w) × (r ≡ t)
+pub rest_same : (c : Configuration) (bs r t : List ℕ) (v w : ScriptWord) → c.sockets < 2 ^ 64 → IsWord c bs v r → IsWord c bs w t → (v ≡ w) × (r ≡ t)
 rest_same c bs r t v w small a b =
     let f : IsField (text_of_word v ++ r) (name_of v) (spaced (numbers_of v) r) = record { spelled = word_is v r; no_space = name_clean v; cut = spaced_cut (numbers_of v) r a.cut } in
     let n = name_is c bs (text_of_word v ++ r) (name_of v) (spaced (numbers_of v) r) t w a.spelled f b in
-    let s = spaced_same (numbers_of v) (numbers_of w) r t (same_count v w n.0) (numbers_small c v small a.fits) (numbers_small c w small b.fits) a.cut b.cut n.1 in
-    (sym (word_again v) ∙ ap (λ (x : List ℕ). word_from x (numbers_of v)) n.0 ∙ ap (λ (x : List ℕ). word_from (name_of w) x) s.0 ∙ word_again w, s.1)
+    let s = spaced_same (numbers_of v) (numbers_of w) r t (same_count c v w a.fits b.fits n.0) (numbers_small c v small a.fits) (numbers_small c w small b.fits) a.cut b.cut n.1 in
+    (sym (word_again c v a.fits) ∙ ap (λ (x : List ℕ). word_from x (numbers_of v)) n.0 ∙ ap (λ (x : List ℕ). word_from (name_of w) x) s.0 ∙ word_again c w b.fits, s.1)
 
-pub words_cut : (ws : List Word) → IsCut (text_of_words ws)
+pub words_cut : (ws : List ScriptWord) → IsCut (text_of_words ws)
 words_cut [] = tt
 words_cut (w ∷ ws) = refl
 
-abbrev pub AllFit : Configuration → List Word → Type 0
+abbrev pub AllFit : Configuration → List ScriptWord → Type 0
 AllFit c ws = All (WordFits c) ws
 
-head_fits : (c : Configuration) (w : Word) (ws : List Word) → AllFit c (w ∷ ws) → WordFits c w
+head_fits : (c : Configuration) (w : ScriptWord) (ws : List ScriptWord) → AllFit c (w ∷ ws) → WordFits c w
 head_fits c w ws h = h 0 w (omega arith)
 
-tail_fits : (c : Configuration) (w : Word) (ws : List Word) → AllFit c (w ∷ ws) → AllFit c ws
+tail_fits : (c : Configuration) (w : ScriptWord) (ws : List ScriptWord) → AllFit c (w ∷ ws) → AllFit c ws
 tail_fits c w ws h = λ k d l. h (suc k) d (omega arith)
 
-pub front_word : (c : Configuration) (w : Word) (ws : List Word) → AllFit c (w ∷ ws) → IsWord c (text_of_words (w ∷ ws)) w (text_of_words ws)
+pub front_word : (c : Configuration) (w : ScriptWord) (ws : List ScriptWord) → AllFit c (w ∷ ws) → IsWord c (text_of_words (w ∷ ws)) w (text_of_words ws)
 front_word c w ws h = record { spelled = refl; fits = head_fits c w ws h; cut = words_cut ws }
 
 -- Words that fit and spell the rest.
 abbrev pub HasWords : Configuration → List ℕ → Type 0
-HasWords c rest = (ws : List Word) × AllFit c ws × (rest ≡ text_of_words ws)
+HasWords c rest = (ws : List ScriptWord) × AllFit c ws × (rest ≡ text_of_words ws)
 
-pub words_past : (c : Configuration) (rest after : List ℕ) (w : Word) → c.sockets < 2 ^ 64 → IsWord c rest w after → HasWords c rest → HasWords c after
+pub words_past : (c : Configuration) (rest after : List ℕ) (w : ScriptWord) → c.sockets < 2 ^ 64 → IsWord c rest w after → HasWords c rest → HasWords c after
 words_past c rest after w small h x = past x.0 x.1 x.2
   where
-    past : (ws : List Word) → AllFit c ws → rest ≡ text_of_words ws → HasWords c after
+    past : (ws : List ScriptWord) → AllFit c ws → rest ≡ text_of_words ws → HasWords c after
     past [] fit e = let k : [] ≡ 32 ∷ (text_of_word w ++ after) = sym e ∙ h.spelled in cc
     past (v ∷ vs) fit e = (vs, tail_fits c v vs fit, (rest_same c rest after (text_of_words vs) w v small h (word_moved c (text_of_words (v ∷ vs)) rest (text_of_words vs) v (sym e) (front_word c v vs fit))).1)
 
-pub no_words : (c : Configuration) (rest : List ℕ) → 0 < length rest → ((w : Word) (r : List ℕ) → IsWord c rest w r → ⊥) → HasWords c rest → ⊥
+pub no_words : (c : Configuration) (rest : List ℕ) → 0 < length rest → ((w : ScriptWord) (r : List ℕ) → IsWord c rest w r → ⊥) → HasWords c rest → ⊥
 no_words c rest some over x = none x.0 x.1 x.2
   where
-    none : (ws : List Word) → AllFit c ws → rest ≡ text_of_words ws → ⊥
+    none : (ws : List ScriptWord) → AllFit c ws → rest ≡ text_of_words ws → ⊥
     none [] fit e = omega (arith, ap length e)
     none (v ∷ vs) fit e = over v (text_of_words vs) (word_moved c (text_of_words (v ∷ vs)) rest (text_of_words vs) v (sym e) (front_word c v vs fit))
 
-pub words_more : (c : Configuration) (bs rest after : List ℕ) (ws : List Word) (w : Word) → bs ≡ text_of_words ws ++ rest → IsWord c rest w after → bs ≡ text_of_words (ws ++ w ∷ []) ++ after
+pub words_more : (c : Configuration) (bs rest after : List ℕ) (ws : List ScriptWord) (w : ScriptWord) → bs ≡ text_of_words ws ++ rest → IsWord c rest w after → bs ≡ text_of_words (ws ++ w ∷ []) ++ after
 words_more c bs rest after ws w e h =
     e ∙ ap (λ (t : List ℕ). text_of_words ws ++ t) h.spelled ∙ sym (append_assoc (text_of_words ws) (32 ∷ text_of_word w) after)
-    ∙ ap (λ (t : List ℕ). t ++ after) (flat_map_more (λ (v : Word). 32 ∷ text_of_word v) [] ws w)
+    ∙ ap (λ (t : List ℕ). t ++ after) (flat_map_more (λ (v : ScriptWord). 32 ∷ text_of_word v) [] ws w)
 
 -- Two scripts that fit and read the same are the same.
-pub words_same : (c : Configuration) (ws vs : List Word) → c.sockets < 2 ^ 64 → AllFit c ws → AllFit c vs → text_of_words ws ≡ text_of_words vs → ws ≡ vs
+pub words_same : (c : Configuration) (ws vs : List ScriptWord) → c.sockets < 2 ^ 64 → AllFit c ws → AllFit c vs → text_of_words ws ≡ text_of_words vs → ws ≡ vs
 words_same c [] [] small f g e = refl
 words_same c [] (v ∷ vs) small f g e = let k : 0 ≡ length (text_of_words (v ∷ vs)) = ap length e in absurd (omega arith)
 words_same c (w ∷ ws) [] small f g e = let k : length (text_of_words (w ∷ ws)) ≡ 0 = ap length e in absurd (omega arith)
 words_same c (w ∷ ws) (v ∷ vs) small f g e =
     let s = rest_same c (text_of_words (w ∷ ws)) (text_of_words ws) (text_of_words vs) w v small (front_word c w ws f) (word_moved c (text_of_words (v ∷ vs)) (text_of_words (w ∷ ws)) (text_of_words vs) v (sym e) (front_word c v vs g)) in
-    ap (λ (x : Word). x ∷ ws) s.0 ∙ ap (λ (x : List Word). v ∷ x) (words_same c ws vs small (tail_fits c w ws f) (tail_fits c v vs g) s.1)
+    ap (λ (x : ScriptWord). x ∷ ws) s.0 ∙ ap (λ (x : List ScriptWord). v ∷ x) (words_same c ws vs small (tail_fits c w ws f) (tail_fits c v vs g) s.1)
 
 -- the root line
 root_clean : NoSpace (codes "root")
 root_clean = (λ e. omega arith, (λ e. omega arith, (λ e. omega arith, (λ e. omega arith, tt))))
 
-pub root_fields : (c : Configuration) (line name rest : List ℕ) (root : List Word) → IsField line name rest → IsRoot c line root → (name ≡ codes "root") × (rest ≡ text_of_words root)
+pub root_fields : (c : Configuration) (line name rest : List ℕ) (root : List ScriptWord) → IsField line name rest → IsRoot c line root → (name ≡ codes "root") × (rest ≡ text_of_words root)
 root_fields c line name rest root f h = field_same line name (codes "root") rest (text_of_words root) f (record { spelled = h.spelled; no_space = root_clean; cut = words_cut root })
 
-some_text : (ws : List Word) → 0 < length ws → 0 < length (text_of_words ws)
+some_text : (ws : List ScriptWord) → 0 < length ws → 0 < length (text_of_words ws)
 some_text [] h = absurd (omega arith)
 some_text (w ∷ ws) h = omega arith
 
-pub root_some : (c : Configuration) (line name rest : List ℕ) (root : List Word) → IsField line name rest → IsRoot c line root → 0 < length rest
+pub root_some : (c : Configuration) (line name rest : List ℕ) (root : List ScriptWord) → IsField line name rest → IsRoot c line root → 0 < length rest
 root_some c line name rest root f h = subst (λ (r : List ℕ). 0 < length r) (sym (root_fields c line name rest root f h).1) (some_text root h.some)
 
-some_words : (ws : List Word) → 0 < length (text_of_words ws) → 0 < length ws
+some_words : (ws : List ScriptWord) → 0 < length (text_of_words ws) → 0 < length ws
 some_words [] h = absurd (omega arith)
 some_words (w ∷ ws) h = omega arith
 
-pub root_is : (c : Configuration) (line name rest : List ℕ) (root : List Word) → IsField line name rest → name ≡ codes "root" → 0 < length rest → rest ≡ text_of_words root → AllFit c root → IsRoot c line root
+pub root_is : (c : Configuration) (line name rest : List ℕ) (root : List ScriptWord) → IsField line name rest → name ≡ codes "root" → 0 < length rest → rest ≡ text_of_words root → AllFit c root → IsRoot c line root
 root_is c line name rest root f e some s fit = record {
   spelled = f.spelled ∙ ap (λ (n : List ℕ). n ++ rest) e ∙ ap (λ (t : List ℕ). codes "root" ++ t) s;
   some = some_words root (subst (λ (r : List ℕ). 0 < length r) s some);
   fit = fit;
 }
 
-pub root_read : {V : Type 0} (c : Configuration) (Keeps : V → List Word → Type 0) (r : Option V) (line name rest : List ℕ) → IsField line name rest → name ≡ codes "root" → 0 < length rest → IfSome r (λ v. (words : List Word) × (rest ≡ text_of_words words) × AllFit c words × Keeps v words) → IfSome r (λ v. (root : List Word) × IsRoot c line root × Keeps v root)
+pub root_read : {V : Type 0} (c : Configuration) (Keeps : V → List ScriptWord → Type 0) (r : Option V) (line name rest : List ℕ) → IsField line name rest → name ≡ codes "root" → 0 < length rest → IfSome r (λ v. (words : List ScriptWord) × (rest ≡ text_of_words words) × AllFit c words × Keeps v words) → IfSome r (λ v. (root : List ScriptWord) × IsRoot c line root × Keeps v root)
 root_read c Keeps (Some v) line name rest f e some h = (h.0, root_is c line name rest h.0 f e some h.1 h.2, h.3)
 root_read c Keeps None line name rest f e some h = tt
 
-pub root_unread : {V : Type 0} (c : Configuration) (r : Option V) (line name rest : List ℕ) → IsField line name rest → IfNone r ((words : List Word) → AllFit c words → rest ≢ text_of_words words) → IfNone r ((root : List Word) → IsRoot c line root → ⊥)
+pub root_unread : {V : Type 0} (c : Configuration) (r : Option V) (line name rest : List ℕ) → IsField line name rest → IfNone r ((words : List ScriptWord) → AllFit c words → rest ≢ text_of_words words) → IfNone r ((root : List ScriptWord) → IsRoot c line root → ⊥)
 root_unread c (Some v) line name rest f h = tt
 root_unread c None line name rest f h = λ root r. h root r.fit (root_fields c line name rest root f r).1

@@ -1,7 +1,6 @@
 -- What a list that may be lost stands for.
 use Rattle.std.specs.Prelude.{◌≡◌, List}
-use Rattle.exec_text.specs.declared.kept.Kept.{Kept}
-use Rattle.exec_text.specs.declared.kept.Kept.TheVariants.{All, Lost}
+use Rattle.exec_text.specs.declared.kept.Kept.{Kept, TheVariants.{All, Lost}}
 
 -- it has all of these elements, or they are lost
 abbrev pub Keeps : {T : Type 0} → Kept T → List T → Type 0

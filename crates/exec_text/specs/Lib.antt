@@ -1,3 +1,4 @@
+pub mod Grammar
 pub mod Kept
 pub mod Reading
 pub mod Laws

@@ -3,12 +3,8 @@ use Rattle.std.specs.Prelude.{◌≡◌, ◌≢◌, ℕ, ◌+◌, ◌-◌, ◌^�
 use Rattle.std.specs.Fmt.{decimal}
 use Rattle.std.specs.List.{AllByRecursion}
 use Rattle.std.specs.Str.Lines.{lines}
-use Rattle.exec_machine.specs.declared.config.Configuration.{Configuration}
-use Rattle.exec_machine.specs.declared.config.Spin.{Spin}
-use Rattle.exec_machine.specs.declared.config.Word.{Word}
-use Rattle.exec_machine.specs.Grammar.{says_something, header_lines, HeaderFits, text_of_word, text_of_words, WordFits, IsTrace, IsFirstFault}
-use Rattle.exec_text.specs.declared.read_error.ReadError.{ReadError}
-use Rattle.exec_text.specs.declared.read_error.ReadError.TheVariants.{Syntax, NoMemory}
+use Rattle.exec_machine.specs.declared.config.{Configuration.Configuration, Spin.Spin, ScriptWord.ScriptWord}
+use Rattle.exec_text.specs.{Grammar.{says_something, header_lines, HeaderFits, text_of_word, text_of_words, WordFits, IsTrace, IsFirstFault}, declared.read_error.ReadError.{ReadError, TheVariants.{Syntax, NoMemory}}}
 
 -- Why a text was not read: the line is the first at which it is no trace, or it is one, and there was no memory.
 abbrev pub IsUnread : ReadError → List ℕ → Type 0
@@ -78,7 +74,7 @@ pub record IsNumber (bytes : List ℕ) (number : ℕ) (rest : List ℕ) : Type 0
   pub cut : IsCut rest
 
 -- a word at the front, behind a space, and the rest
-pub record IsWord (c : Configuration) (bytes : List ℕ) (word : Word) (rest : List ℕ) : Type 0 where
+pub record IsWord (c : Configuration) (bytes : List ℕ) (word : ScriptWord) (rest : List ℕ) : Type 0 where
   pub spelled : bytes ≡ 32 ∷ text_of_word word ++ rest
   pub fits : WordFits c word
   pub cut : IsCut rest
@@ -98,20 +94,20 @@ pub record SpinFits (s : Spin) : Type 0 where
   pub iterations : s.iterations < 2 ^ 64
 
 -- the line spells these words, which can be the root's
-pub record IsRoot (c : Configuration) (line : List ℕ) (root : List Word) : Type 0 where
+pub record IsRoot (c : Configuration) (line : List ℕ) (root : List ScriptWord) : Type 0 where
   pub spelled : line ≡ codes "root" ++ text_of_words root
   pub some : 0 < length root
   pub fit : All (WordFits c) root
 
 -- the lines are the header and the line of the root
-pub record IsTop (c : Configuration) (said : List (List ℕ)) (root : List Word) : Type 0 where
+pub record IsTop (c : Configuration) (said : List (List ℕ)) (root : List ScriptWord) : Type 0 where
   pub header_fits : HeaderFits c
   pub line : List ℕ
   pub spelled : said ≡ header c ++ line ∷ []
   pub root_line : IsRoot c line root
 
 -- the lines are the header, the line of the root, and `steps`
-pub record IsMarkedTop (c : Configuration) (said : List (List ℕ)) (root : List Word) : Type 0 where
+pub record IsMarkedTop (c : Configuration) (said : List (List ℕ)) (root : List ScriptWord) : Type 0 where
   pub header_fits : HeaderFits c
   pub line : List ℕ
   pub spelled : said ≡ header c ++ line ∷ codes "steps" ∷ []

@@ -2,8 +2,7 @@
 
 ghost use Rattle.std.specs.Prelude.{◌≡◌, ◌≢◌, ℕ, ◌<◌, ◌^◌, [], ◌∷◌, ◌++◌, decimal, IfOk, IfErr, IfSome, IfNone};
 ghost use Rattle.exec_machine.specs.declared.config.Spin.{Spin};
-ghost use Rattle.exec_machine.specs.Grammar.{HeaderFits, IsFirstFault};
-ghost use Rattle.exec_text.specs.Reading.{IsStuck, said_before, header, text_of_spin, SpinFits};
+ghost use Rattle.exec_text.specs.{Grammar.{HeaderFits, IsFirstFault}, Reading.{IsStuck, said_before, header, text_of_spin, SpinFits}};
 
 use crate::line::Lines;
 use crate::number::{next_number, number};

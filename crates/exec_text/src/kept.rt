@@ -6,8 +6,7 @@
 //! judged and not kept.
 
 ghost use Rattle.std.specs.Prelude.{◌≡◌, List, [], ◌∷◌, ◌++◌, IfOk, IfErr};
-ghost use Rattle.exec_text.specs.declared.read_error.ReadError.TheVariants.{NoMemory};
-ghost use Rattle.exec_text.specs.Kept.{Keeps};
+ghost use Rattle.exec_text.specs.{declared.read_error.ReadError.TheVariants.NoMemory, Kept.Keeps};
 
 use crate::read_error::ReadError;
 use std::alloc::Global;

@@ -1,7 +1,7 @@
 //! The reader of traces.
 //!
-//! `exec_machine/specs/Grammar.antt` says which texts are traces and of which plan. [`read_trace`] gives the
-//! trace that a text spells, or the first line at which the text is no trace. Want of memory is told only of a
+//! `specs/Grammar.antt` says which texts are traces, and what each says. [`read_trace`] gives the trace that a text
+//! spells, or the first line at which the text is no trace. Want of memory is told only of a
 //! text that is a trace: `kept.rt` says how.
 //!
 //! The lines are read one after another (`line.rt`): the header by a table (`header.rt`), the root's words
@@ -17,7 +17,8 @@ mod number;
 mod read;
 mod read_error;
 mod step;
+pub mod trace;
 mod word;
 
-pub use read::{one_fault, one_plan, read_trace, total_steps};
+pub use read::{one_fault, one_meaning, read_trace, total_steps};
 pub use read_error::ReadError;

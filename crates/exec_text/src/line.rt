@@ -2,8 +2,7 @@
 
 ghost use Rattle.std.specs.Prelude.{◌≡◌, ◌≢◌, ℕ, ◌+◌, ◌-◌, ◌<◌, ◌≤◌, [], ◌∷◌, ◌==◌, not, length, drop, slice_index, slice_index_or, IfOk, IfErr, IfSome, IfNone};
 ghost use Rattle.std.specs.Str.Lines.{lines, strip_carriage_return};
-ghost use Rattle.exec_machine.specs.Grammar.{says_something};
-ghost use Rattle.exec_text.specs.Reading.{IsBeforeLine, IsNextSaid, IsLastSaid, IsMissing};
+ghost use Rattle.exec_text.specs.{Grammar.says_something, Reading.{IsBeforeLine, IsNextSaid, IsLastSaid, IsMissing}};
 
 use crate::read_error::FaultyLine;
 

@@ -1,28 +1,24 @@
 //! A trace is read from its text.
 
 ghost use Rattle.std.specs.Prelude.{◌≡◌, List, [], ◌∷◌, ◌++◌, All, codes, map, sum_by, OnOk, IfOk, IfErr};
-ghost use Rattle.exec_machine.specs.declared.config.Configuration.{Configuration};
-ghost use Rattle.exec_machine.specs.declared.config.Word.{Word};
-ghost use Rattle.exec_machine.specs.declared.step.Step.{Step};
-ghost use Rattle.exec_machine.specs.Grammar.{HeaderFits, text_of_step, StepFits, plan_of, IsTraceOf, IsFirstFault, count_of};
-ghost use Rattle.exec_text.specs.Reading.{IsUnread, said_before, all_said, header, IsTop, IsMarkedTop};
-ghost use Rattle.exec_text.specs.Kept.{Keeps};
-ghost use Rattle.exec_text.specs.Laws.{TraceHasNoFault, FaultIsOne, PlanIsOne};
+ghost use Rattle.exec_machine.specs.declared.{config.{Configuration.Configuration, ScriptWord.ScriptWord}, step.Step.Step};
+ghost use Rattle.exec_text.specs.{Grammar.{HeaderFits, text_of_step, StepFits, meaning_of, IsTraceOf, IsFirstFault, count_of}, Reading.{IsUnread, said_before, all_said, header, IsTop, IsMarkedTop}, Kept.Keeps, Laws.{TraceHasNoFault, FaultIsOne, MeaningIsOne}};
 
 use crate::header::read_header;
 use crate::kept::Kept;
 use crate::line::Lines;
 use crate::read_error::{FaultyLine, ReadError};
 use crate::step::step_of;
+use crate::trace::Trace;
 use crate::word::root_of;
-use exec_machine::config::{Configuration, Trace, Word};
+use exec_machine::config::{Configuration, ScriptWord};
 use exec_machine::step::Step;
 use std::alloc::Global;
 
 /// The trace that the text spells.
 pub fn read_trace(alloc: Global, text: &[u8]) -> Result<Trace, ReadError>
     // What is read is what the text spells.
-    ensures ok { IfOk result (λ t. IsTraceOf text.now (plan_of t)) }
+    ensures ok { IfOk result (λ t. IsTraceOf text.now (meaning_of t)) }
     // A syntax error names the first line at which the text is no trace, and memory is wanted only of a trace.
     ensures unread { IfErr result (λ e. IsUnread e text.now) }
 {
@@ -46,11 +42,11 @@ fn read_root(
     alloc: Global,
     config: &Configuration,
     lines: &mut Lines,
-) -> Result<Kept<Word>, FaultyLine>
+) -> Result<Kept<ScriptWord>, FaultyLine>
     requires said { said_before lines.old.text.now lines.old.number ≡ header config.now }
     requires fits { HeaderFits config.now }
     ensures text { lines.new.text.now ≡ lines.old.text.now }
-    ensures ok { IfOk result (λ kept. (root : List Word)
+    ensures ok { IfOk result (λ kept. (root : List ScriptWord)
         × IsTop config.now (said_before lines.new.text.now lines.new.number) root × Keeps kept root) }
     ensures fault { IfErr result (λ e. IsFirstFault lines.old.text.now e.number) }
 {
@@ -63,7 +59,7 @@ fn read_root(
 
 /// Reads the line `steps`.
 fn read_mark(lines: &mut Lines) -> Result<(), FaultyLine>
-    requires { (c : Configuration) × (root : List Word) × IsTop c (said_before lines.old.text.now lines.old.number) root }
+    requires { (c : Configuration) × (root : List ScriptWord) × IsTop c (said_before lines.old.text.now lines.old.number) root }
     ensures text { lines.new.text.now ≡ lines.old.text.now }
     ensures ok { OnOk result (said_before lines.new.text.now lines.new.number ≡ said_before lines.old.text.now lines.old.number ++ codes "steps" ∷ []) }
     ensures fault { IfErr result (λ e. IsFirstFault lines.old.text.now e.number) }
@@ -77,7 +73,7 @@ fn read_mark(lines: &mut Lines) -> Result<(), FaultyLine>
 
 /// Reads the lines below `steps`.
 fn read_steps(alloc: Global, lines: &mut Lines) -> Result<Kept<Step>, FaultyLine>
-    requires { (c : Configuration) × (root : List Word) × IsMarkedTop c (said_before lines.old.text.now lines.old.number) root }
+    requires { (c : Configuration) × (root : List ScriptWord) × IsMarkedTop c (said_before lines.old.text.now lines.old.number) root }
     ensures ok { IfOk result (λ kept. (steps : List Step)
         × (all_said lines.old.text.now ≡ said_before lines.old.text.now lines.old.number ++ map text_of_step steps)
         × All StepFits steps × Keeps kept steps) }
@@ -101,7 +97,7 @@ pub fn total_steps(steps: &[Step]) -> u128
     for step in steps {
         total += match step {
             Step::Work { count, .. } => u128::from(*count),
-            Step::Clock { .. } | Step::Land { .. } | Step::Stir { .. } => 1,
+            Step::One { .. } => 1,
         };
     }
     total
@@ -113,7 +109,7 @@ pub fn one_fault()
     ensures same { FaultIsOne }
 {}
 
-/// A text is a trace of one plan at most.
-pub fn one_plan()
-    ensures { PlanIsOne }
+/// A text has one meaning at most.
+pub fn one_meaning()
+    ensures { MeaningIsOne }
 {}

@@ -1,14 +1,13 @@
 //! The lines below `steps`.
 
 ghost use Rattle.std.specs.Prelude.{◌≡◌, ◌≢◌, ℕ, ◌<◌, ◌^◌, ◌∷◌, ◌++◌, codes, decimal, IfSome, IfNone};
-ghost use Rattle.exec_outcomes.specs.declared.outcome.OpResult.{OpResult};
-ghost use Rattle.exec_outcomes.specs.Text.{text_of_result};
+ghost use Rattle.exec_outcomes.specs.{declared.outcome.OpResult.OpResult, Text.text_of_result};
 ghost use Rattle.exec_machine.specs.declared.step.Step.{Step};
-ghost use Rattle.exec_machine.specs.Grammar.{text_of_step, StepFits, ResultFits};
+ghost use Rattle.exec_text.specs.Grammar.{text_of_step, StepFits, ResultFits};
 
 use crate::field::first_field;
 use crate::number::{next_number, number, positive};
-use exec_machine::step::Step;
+use exec_machine::step::{Action, Step};
 use exec_outcomes::outcome::OpResult;
 
 /// The step that the line spells.
@@ -29,11 +28,14 @@ pub(crate) fn step_of(line: &[u8]) -> Option<Step>
         return None;
     }
     if kind == b"c".as_slice() {
-        return Some(Step::Clock { by: first });
+        return Some(Step::One {
+            action: Action::Clock { by: first },
+        });
     }
     if kind == b"e".as_slice() {
-        return Some(Step::Stir {
-            worker: first as usize,
+        let worker = first as usize;
+        return Some(Step::One {
+            action: Action::Stir { worker },
         });
     }
     None
@@ -62,7 +64,9 @@ fn landing_of(request: usize, bytes: &[u8]) -> Option<Step>
         return None;
     };
     let result = result_of(outcome)?;
-    Some(Step::Land { request, result })
+    Some(Step::One {
+        action: Action::Land { request, result },
+    })
 }
 
 /// The result that the bytes spell: a count, or an error number behind a minus sign.

@@ -1,26 +1,27 @@
 //! The words of a script.
 
 ghost use Rattle.std.specs.Prelude.{◌≡◌, ◌≢◌, ℕ, ◌<◌, ◌^◌, List, ◌∷◌, ◌++◌, All, codes, decimal, IfSome, IfNone};
-ghost use Rattle.exec_machine.specs.declared.config.Configuration.{Configuration};
-ghost use Rattle.exec_machine.specs.declared.config.Word.{Word};
-ghost use Rattle.exec_machine.specs.Grammar.{text_of_word, text_of_words, WordFits};
-ghost use Rattle.exec_text.specs.Kept.{Keeps};
-ghost use Rattle.exec_text.specs.Reading.{NoSpace, IsRoot, IsWord};
+ghost use Rattle.exec_machine.specs.declared.config.{Configuration.Configuration, ScriptWord.ScriptWord};
+ghost use Rattle.exec_text.specs.{Grammar.{text_of_word, text_of_words, WordFits}, Kept.Keeps, Reading.{NoSpace, IsRoot, IsWord}};
 
 use crate::field::{first_field, next_field};
 use crate::kept::Kept;
 use crate::number::next_number;
-use exec_machine::config::{Configuration, Word};
+use exec_machine::config::{Configuration, ScriptWord};
 use std::alloc::Global;
 
 /// The longest send.
 const MOST: u64 = 1048576;
 
 /// The words of the root line, of which there is at least one.
-pub(crate) fn root_of(alloc: Global, config: &Configuration, line: &[u8]) -> Option<Kept<Word>>
+pub(crate) fn root_of(
+    alloc: Global,
+    config: &Configuration,
+    line: &[u8],
+) -> Option<Kept<ScriptWord>>
     requires { config.now.sockets < 2 ^ 64 }
-    ensures found { IfSome result (λ kept. (root : List Word) × IsRoot config.now line.now root × Keeps kept root) }
-    ensures none { IfNone result ((root : List Word) → IsRoot config.now line.now root → ⊥) }
+    ensures found { IfSome result (λ kept. (root : List ScriptWord) × IsRoot config.now line.now root × Keeps kept root) }
+    ensures none { IfNone result ((root : List ScriptWord) → IsRoot config.now line.now root → ⊥) }
 {
     let (name, rest) = first_field(line);
     if name != b"root".as_slice() || rest.is_empty() {
@@ -30,10 +31,10 @@ pub(crate) fn root_of(alloc: Global, config: &Configuration, line: &[u8]) -> Opt
 }
 
 /// The words that the bytes spell, a space before each.
-fn words_of(alloc: Global, config: &Configuration, bytes: &[u8]) -> Option<Kept<Word>>
+fn words_of(alloc: Global, config: &Configuration, bytes: &[u8]) -> Option<Kept<ScriptWord>>
     requires { config.now.sockets < 2 ^ 64 }
-    ensures found { IfSome result (λ kept. (words : List Word) × (bytes.now ≡ text_of_words words) × All (WordFits config.now) words × Keeps kept words) }
-    ensures none { IfNone result ((words : List Word) → All (WordFits config.now) words → bytes.now ≢ text_of_words words) }
+    ensures found { IfSome result (λ kept. (words : List ScriptWord) × (bytes.now ≡ text_of_words words) × All (WordFits config.now) words × Keeps kept words) }
+    ensures none { IfNone result ((words : List ScriptWord) → All (WordFits config.now) words → bytes.now ≢ text_of_words words) }
 {
     let mut words = Kept::new(alloc);
     let mut rest = bytes;
@@ -46,10 +47,10 @@ fn words_of(alloc: Global, config: &Configuration, bytes: &[u8]) -> Option<Kept<
 }
 
 /// The word behind the space at the front, and the rest.
-fn next_word<'a>(config: &Configuration, bytes: &'a [u8]) -> Option<(Word, &'a [u8])>
+fn next_word<'a>(config: &Configuration, bytes: &'a [u8]) -> Option<(ScriptWord, &'a [u8])>
     requires { config.now.sockets < 2 ^ 64 }
     ensures found { IfSome result (λ x. IsWord config.now bytes.now x.0 x.1.now) }
-    ensures none { IfNone result ((word : Word) (rest : List ℕ) → IsWord config.now bytes.now word rest → ⊥) }
+    ensures none { IfNone result ((word : ScriptWord) (rest : List ℕ) → IsWord config.now bytes.now word rest → ⊥) }
 {
     let (name, rest) = next_field(bytes)?;
     if let Some(word) = plain_word(name) {
@@ -64,57 +65,61 @@ fn next_word<'a>(config: &Configuration, bytes: &'a [u8]) -> Option<(Word, &'a [
 }
 
 /// The word that is this name alone.
-fn plain_word(name: &[u8]) -> Option<Word>
+fn plain_word(name: &[u8]) -> Option<ScriptWord>
     requires { NoSpace name.now }
     ensures found { IfSome result (λ word. name.now ≡ text_of_word word) }
     ensures fits { IfSome result (λ word. (config : Configuration) → WordFits config word) }
-    ensures none { IfNone result ((word : Word) → name.now ≢ text_of_word word) }
+    ensures none { IfNone result ((config : Configuration) (word : ScriptWord) → WordFits config word → name.now ≢ text_of_word word) }
 {
     if name == b"await".as_slice() {
-        return Some(Word::Await);
+        return Some(ScriptWord::Await);
     }
     if name == b"drop".as_slice() {
-        return Some(Word::Drop);
+        return Some(ScriptWord::Drop);
     }
     if name == b"yield".as_slice() {
-        return Some(Word::Yield);
+        return Some(ScriptWord::Yield);
     }
     if name == b"end".as_slice() {
-        return Some(Word::End);
+        return Some(ScriptWord::End);
     }
     None
 }
 
 /// The word that is this name and this number.
-fn numbered_word(config: &Configuration, name: &[u8], number: u64) -> Option<Word>
+fn numbered_word(config: &Configuration, name: &[u8], number: u64) -> Option<ScriptWord>
     requires name { NoSpace name.now }
     requires sockets { config.now.sockets < 2 ^ 64 }
     ensures found { IfSome result (λ word. name.now ++ 32 ∷ decimal number ≡ text_of_word word) }
     ensures fits { IfSome result (WordFits config.now) }
-    ensures none { IfNone result ((word : Word) → WordFits config.now word → name.now ++ 32 ∷ decimal number ≢ text_of_word word) }
+    ensures none { IfNone result ((word : ScriptWord) → WordFits config.now word → name.now ++ 32 ∷ decimal number ≢ text_of_word word) }
 {
     if name == b"sleep".as_slice() {
-        return Some(Word::Sleep { time: number });
+        return Some(ScriptWord::Sleep { time: number });
     }
     if name == b"fault".as_slice() {
-        return Some(Word::Fault { code: number });
+        return Some(ScriptWord::Fault { code: number });
     }
     let listener = number as usize;
     if name == b"poll".as_slice() && listener < config.sockets {
-        return Some(Word::Poll { listener });
+        return Some(ScriptWord::Poll { listener });
     }
     None
 }
 
 /// The send to the socket of which the length stands at the front, and the rest.
-fn send_of<'a>(config: &Configuration, socket: u64, bytes: &'a [u8]) -> Option<(Word, &'a [u8])>
+fn send_of<'a>(
+    config: &Configuration,
+    socket: u64,
+    bytes: &'a [u8],
+) -> Option<(ScriptWord, &'a [u8])>
     ensures found { IfSome result (λ x. IsWord config.now (32 ∷ codes "send " ++ decimal socket ++ bytes.now) x.0 x.1.now) }
-    ensures none { IfNone result ((length : ℕ) (rest : List ℕ) → IsWord config.now (32 ∷ codes "send " ++ decimal socket ++ bytes.now) (Word.Send socket length) rest → ⊥) }
+    ensures none { IfNone result ((length : ℕ) (rest : List ℕ) → IsWord config.now (32 ∷ codes "send " ++ decimal socket ++ bytes.now) (ScriptWord.Send socket length) rest → ⊥) }
 {
     let (length, rest) = next_number(bytes)?;
     let socket = socket as usize;
     if socket >= config.sockets || length == 0 || length > MOST {
         return None;
     }
-    Some((Word::Send { socket, length }, rest))
+    Some((ScriptWord::Send { socket, length }, rest))
 }

@@ -1,5 +1,5 @@
-use Rattle.exec_machine.proofs.Results.{come, judged, more}
+use Rattle.exec_machine.proofs.AllResults.{come, judged}
 use Rattle.exec_machine.proofs.laws.outcomes_are_of_all_results.Goals as goal
 
 pub returns : goal.returns
-returns c = record { come = come; judged = judged; more = more }
+returns c = record { come = come; judged = judged }

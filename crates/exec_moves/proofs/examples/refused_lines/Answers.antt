@@ -1,7 +1,5 @@
 use Rattle.std.specs.Prelude.{Bool, true, false, refl}
-use Rattle.exec_abstract.specs.declared.event.StepResult.{StepResult}
-use Rattle.exec_abstract.specs.declared.event.StepResult.TheVariants.{Did}
-use Rattle.exec_abstract.specs.declared.event.Event.TheVariants.{Turn, Serve}
+use Rattle.exec_machine.specs.declared.event.{StepResult.{StepResult, TheVariants.Did}, Event.TheVariants.{Turn, Serve}}
 use Rattle.exec_moves.proofs.OneLog.{departs}
 use Rattle.exec_moves.proofs.examples.refused_lines.Goals as goal
 

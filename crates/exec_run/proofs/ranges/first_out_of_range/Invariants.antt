@@ -1,5 +1,5 @@
 use Rattle.std.proofs.Common.{◌≡◌, drop}
-use Rattle.exec_machine.specs.Ranges.{first_out_of_range, first_out_of}
+use Rattle.exec_run.specs.Ranges.{first_out_of_range, first_out_of}
 use Rattle.exec_run.proofs.ranges.first_out_of_range.Given as goal
 
 -- the parts so far are in their ranges

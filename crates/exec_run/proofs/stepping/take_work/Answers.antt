@@ -1,37 +1,36 @@
 use Rattle.std.proofs.Common.{◌≡◌, ◌∙◌, refl, arith}
-use Rattle.exec_run.specs.Steps.{standing}
-use Rattle.exec_run.proofs.StepLemmas.{on_err, works_none, works_more, works_all, works_refused, works_stopped, takes_under}
+use Rattle.exec_moves.specs.Departures.{played}
+use Rattle.exec_run.proofs.{Told.on_err, StepLemmas.{works_none, works_more, works_all, works_refused, works_stopped}}
 use Rattle.exec_run.proofs.stepping.take_work.Goals as goal
 
 pub loop-init : goal.loop-init
-loop-init g c =
-    record {
-      well = refl;
-      goes_on = record { config = refl; stands = c.requires };
-      works = works_none c.args.quiet c.args.core.now.config (standing c.args.core.now) c.args.worker (g.O.Output.given c.args.sink.now);
-    }
+loop-init g c = record {
+  well = refl;
+  ready = c.requires;
+  works = λ p x shows. works_none _ _ _ _ c.args.quiet p x c.args.worker c.args.core.now (g.O.Output.given c.args.sink.now) shows;
+}
 
 pub returns-in_err-line-clause-breaks : goal.returns-in_err-line-clause-breaks
 returns-in_err-line-clause-breaks g c =
     on_err c.from_residual.result
-    (works_stopped c.args.quiet c.args.core.now.config c.loop.core.config (standing c.args.core.now) (standing c.loop.core) c.args.worker c.loop.counter c.args.count _ _ _
-    c.loop.invariant.goes_on.config c.loop.invariant.works c.loop-test.true c.in_err-line.ensures.breaks)
+    (λ p x shows. let works = c.loop.invariant.works p x shows in
+    works_stopped _ _ _ _ c.args.quiet p x c.args.worker c.loop.counter c.args.count c.loop.core _ _ _ works c.loop-test.true
+    (c.in_err-line.ensures.breaks p (played p.config x works.told) works.shows))
 
 pub returns-in-Refused-clause-leads : goal.returns-in-Refused-clause-leads
 returns-in-Refused-clause-leads g c =
-    works_refused c.args.quiet c.args.core.now.config (standing c.args.core.now) (standing c.loop.core) (standing c.take_line.new.core) c.args.worker c.loop.counter c.args.count c.in_ok-line.line _ _ _
-    c.loop.invariant.works (takes_under c.args.quiet _ _ _ _ _ _ _ _ c.loop.invariant.goes_on.config c.in_ok-line.ensures.takes) c.in-Refused.is c.loop-test.true
+    λ p x shows. works_refused _ _ _ _ c.args.quiet p x c.args.worker c.loop.counter c.args.count c.in_ok-line.line c.loop.core c.take_line.new.core _ _ _
+    (c.loop.invariant.works p x shows) (c.in_ok-line.ensures.takes p) c.in-Refused.is c.loop-test.true
 
 pub loop-preserved : goal.loop-preserved
-loop-preserved g c =
-    record {
-      well = c.in_ok-line.ensures.well ∙ c.loop.invariant.well;
-      goes_on = record { config = c.in_ok-line.ensures.goes_on.config ∙ c.loop.invariant.goes_on.config; stands = c.in_ok-line.ensures.goes_on.stands };
-      works = works_more c.args.quiet c.args.core.now.config (standing c.args.core.now) (standing c.loop.core) (standing c.take_line.new.core) c.args.worker c.loop.counter c.in_ok-line.line c.in-Did.field-0 _ _ _
-          c.loop.invariant.works (takes_under c.args.quiet _ _ _ _ _ _ _ _ c.loop.invariant.goes_on.config c.in_ok-line.ensures.takes) c.in-Did.is;
-    }
+loop-preserved g c = record {
+  well = c.in_ok-line.ensures.well ∙ c.loop.invariant.well;
+  ready = c.in_ok-line.ensures.ready;
+  works = λ p x shows. works_more _ _ _ _ c.args.quiet p x c.args.worker c.loop.counter c.in_ok-line.line c.in-Did.field-0 c.loop.core c.take_line.new.core _ _ _
+      (c.loop.invariant.works p x shows) (c.in_ok-line.ensures.takes p) c.in-Did.is;
+}
 
 pub returns-clause-leads : goal.returns-clause-leads
 returns-clause-leads g c =
     let all : c.loop.counter ≡ c.args.count = omega arith in
-    works_all c.args.quiet c.args.core.now.config (standing c.args.core.now) (standing c.loop.core) c.args.worker c.loop.counter c.args.count _ _ all c.loop.invariant.works
+    λ p x shows. works_all _ _ _ _ c.args.quiet p x c.args.worker c.loop.counter c.args.count c.loop.core _ _ all (c.loop.invariant.works p x shows)

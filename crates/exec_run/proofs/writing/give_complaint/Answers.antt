@@ -1,7 +1,6 @@
 use Rattle.std.proofs.Common.{◌∙◌, List, ℕ, subst}
-use Rattle.exec_run.specs.Explains.{complaint_line}
-use Rattle.exec_run.specs.Log.{Gave}
-use Rattle.exec_run.proofs.StepLemmas.{on_err, whole_front}
+use Rattle.exec_run.specs.{Explains.complaint_line, Log.Gave}
+use Rattle.exec_run.proofs.Told.{on_err, whole_front}
 use Rattle.exec_run.proofs.writing.give_complaint.Goals as goal
 
 pub returns-clause-front : goal.returns-clause-front

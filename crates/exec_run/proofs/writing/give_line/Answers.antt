@@ -1,5 +1,5 @@
 use Rattle.exec_run.specs.Steps.{whole_line}
-use Rattle.exec_run.proofs.StepLemmas.{on_err, no_front}
+use Rattle.exec_run.proofs.Told.{on_err, no_front}
 use Rattle.exec_run.proofs.writing.give_line.Goals as goal
 
 pub returns-in_err-text-clause-front : goal.returns-in_err-text-clause-front

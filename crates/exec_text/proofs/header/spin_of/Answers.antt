@@ -1,6 +1,5 @@
 use Rattle.std.proofs.Common.{◌≡◌, ◌++◌, ◌∷◌, [], codes, refl, arith}
-use Rattle.exec_text.proofs.Fields.{stripped, told_some}
-use Rattle.exec_text.proofs.Headers.{no_more_spin, spin_more, spin_ended}
+use Rattle.exec_text.proofs.{Fields.{stripped, told_some}, Headers.{no_more_spin, spin_more, spin_ended}}
 use Rattle.exec_text.proofs.header.spin_of.Goals as goal
 
 pub returns-in_err-most-clause-none : goal.returns-in_err-most-clause-none

@@ -1,7 +1,7 @@
 use Rattle.std.proofs.Common.{◌∷◌, [], ◌++◌, refl, sym, ◌∙◌, arith}
 use Rattle.std.proofs.lemmas.List.{append-nil}
 use Rattle.std.proofs.lemmas.List.Elements.{All-push}
-use Rattle.exec_machine.specs.Grammar.{StepFits}
+use Rattle.exec_text.specs.Grammar.{StepFits}
 use Rattle.exec_text.proofs.Faults.{step_wrong, step_right, steps_all}
 use Rattle.exec_text.proofs.read.read_steps.Goals as goal
 

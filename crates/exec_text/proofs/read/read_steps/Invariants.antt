@@ -1,9 +1,7 @@
 use Rattle.std.proofs.Common.{◌≡◌, ◌++◌, ◌-◌, All, List, length, map}
 use Rattle.std.specs.Str.Lines.{lines}
 use Rattle.exec_machine.specs.declared.step.Step.{Step}
-use Rattle.exec_machine.specs.Grammar.{text_of_step, StepFits}
-use Rattle.exec_text.specs.Kept.{Keeps}
-use Rattle.exec_text.specs.Reading.{said_before}
+use Rattle.exec_text.specs.{Grammar.{text_of_step, StepFits}, Kept.Keeps, Reading.said_before}
 use Rattle.exec_text.proofs.read.read_steps.Given as goal
 
 abbrev pub invariant-loop-line : goal.invariant-loop-line

@@ -1,7 +1,7 @@
 use Rattle.std.proofs.Common.{◌≡◌, ℕ, List, [], map, refl, ap, ◌∙◌, subst}
 use Rattle.std.proofs.lemmas.Result.{err_from_is_err_and}
-use Rattle.exec_machine.specs.Grammar.{IsFirstFault}
-use Rattle.exec_text.proofs.Begins.{plan_from, spelled_trace}
+use Rattle.exec_text.specs.Grammar.{IsFirstFault}
+use Rattle.exec_text.proofs.Begins.{meaning_from, spelled_trace}
 use Rattle.exec_text.proofs.read.read_trace.Goals as goal
 
 pub returns-in_err-config-clause-unread : goal.returns-in_err-config-clause-unread
@@ -35,7 +35,7 @@ returns-in_err-root-clause-unread c =
     let text : c.read_mark.new.lines.text.now ≡ c.args.text.now = c.in_ok-read_mark.ensures.text ∙ c.in_ok-kept_root.ensures.text ∙ c.in_ok-config.ensures.text ∙ c.new-lines.ensures.text in
     let p = err_from_is_err_and c.from_residual-in_err-root.result c.from_residual-in_err-root.ensures.1 in
     rw (p.1, p.2, c.in_err-root.ensures.err)
-    (plan_from c.in_ok-config.config r.0 s.0, spelled_trace c.args.text.now _ _ _ c.in_ok-config.config [] r.0 s.0 refl text r.1 c.in_ok-read_mark.ensures.ok s.2 s.1)
+    (meaning_from c.in_ok-config.config r.0 s.0, spelled_trace c.args.text.now _ _ _ c.in_ok-config.config [] r.0 s.0 refl text r.1 c.in_ok-read_mark.ensures.ok s.2 s.1)
 
 pub returns-in_err-steps-clause-unread : goal.returns-in_err-steps-clause-unread
 returns-in_err-steps-clause-unread c =
@@ -44,7 +44,7 @@ returns-in_err-steps-clause-unread c =
     let text : c.read_mark.new.lines.text.now ≡ c.args.text.now = c.in_ok-read_mark.ensures.text ∙ c.in_ok-kept_root.ensures.text ∙ c.in_ok-config.ensures.text ∙ c.new-lines.ensures.text in
     let p = err_from_is_err_and c.from_residual-in_err-steps.result c.from_residual-in_err-steps.ensures.1 in
     rw (p.1, p.2, c.in_err-steps.ensures.err)
-    (plan_from c.in_ok-config.config r.0 s.0, spelled_trace c.args.text.now _ _ _ c.in_ok-config.config [] r.0 s.0 refl text r.1 c.in_ok-read_mark.ensures.ok s.2 s.1)
+    (meaning_from c.in_ok-config.config r.0 s.0, spelled_trace c.args.text.now _ _ _ c.in_ok-config.config [] r.0 s.0 refl text r.1 c.in_ok-read_mark.ensures.ok s.2 s.1)
 
 pub returns-clause-ok : goal.returns-clause-ok
 returns-clause-ok c =

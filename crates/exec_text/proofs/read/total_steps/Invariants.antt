@@ -1,5 +1,5 @@
 use Rattle.std.proofs.Common.{◌≡◌, ◌≤◌, ◌*◌, take, sum_by}
-use Rattle.exec_machine.specs.Grammar.{count_of}
+use Rattle.exec_text.specs.Grammar.{count_of}
 use Rattle.exec_text.proofs.read.total_steps.Given as goal
 
 abbrev pub invariant-loop-step : goal.invariant-loop-step

@@ -1,6 +1,5 @@
 use Rattle.std.proofs.Common.{ℕ, ◌∷◌, ◌++◌, List, codes, decimal, ap, ◌∙◌}
-use Rattle.exec_text.proofs.Fields.{told_equal, told_unequal, told_some, none_then, some_then}
-use Rattle.exec_text.proofs.Steps.{IsCutAt, cut_spelled, first_is, first_of, more_of, no_work, no_landing, no_more, no_letter, no_step}
+use Rattle.exec_text.proofs.{Fields.{told_equal, told_unequal, told_some, none_then, some_then}, Steps.{IsCutAt, cut_spelled, first_is, first_of, more_of, no_work, no_landing, no_more, no_letter, no_step}}
 use Rattle.exec_text.proofs.step.step_of.Goals as goal
 
 pub returns-in_err-first-clause-none : goal.returns-in_err-first-clause-none
@@ -41,4 +40,4 @@ pub returns-clause-none : goal.returns-clause-none
 returns-clause-none c =
     let q = c.in_ok-first in
     let cut : IsCutAt c.args.line.now c.first_field.result.0.now q.first q.rest.now = record { tail = c.first_field.result.1.now; field = c.first_field.ensures; number = q.ensures.found } in
-    λ s. no_step c.args.line.now c.first_field.result.0.now q.rest.now q.first s cut (λ h l. absurd (no_letter c.first_field.result.0.now s (told_unequal c.first_field.result.0.now c.as_slice.result.now (codes "w") c.eq.result c.eq.ensures c.as_slice.ensures c.if-eq.false) (told_unequal c.first_field.result.0.now c.as_slice-2.result.now (codes "k") c.eq-2.result c.eq-2.ensures c.as_slice-2.ensures c.if-eq-2.false) (told_unequal c.first_field.result.0.now c.as_slice-3.result.now (codes "c") c.eq-3.result c.eq-3.ensures c.as_slice-3.ensures c.if-eq-3.false) (told_unequal c.first_field.result.0.now c.as_slice-4.result.now (codes "e") c.eq-4.result c.eq-4.ensures c.as_slice-4.ensures c.if-eq-4.false) l))
+    λ s. no_step c.args.line.now c.first_field.result.0.now q.rest.now q.first s cut (λ h l. absurd (no_letter c.first_field.result.0.now s h (told_unequal c.first_field.result.0.now c.as_slice.result.now (codes "w") c.eq.result c.eq.ensures c.as_slice.ensures c.if-eq.false) (told_unequal c.first_field.result.0.now c.as_slice-2.result.now (codes "k") c.eq-2.result c.eq-2.ensures c.as_slice-2.ensures c.if-eq-2.false) (told_unequal c.first_field.result.0.now c.as_slice-3.result.now (codes "c") c.eq-3.result c.eq-3.ensures c.as_slice-3.ensures c.if-eq-3.false) (told_unequal c.first_field.result.0.now c.as_slice-4.result.now (codes "e") c.eq-4.result c.eq-4.ensures c.as_slice-4.ensures c.if-eq-4.false) l))

@@ -1,7 +1,12 @@
 use Rattle.std.proofs.Common.{codes}
-use Rattle.exec_text.proofs.Fields.{told_equal, told_unequal, none_then}
-use Rattle.exec_text.proofs.Words.{no_first, no_numbered, no_send}
+use Rattle.exec_text.proofs.{Fields.{told_equal, told_unequal, none_then}, Words.{plain_read, no_first, no_numbered, no_send}}
 use Rattle.exec_text.proofs.word.next_word.Goals as goal
+
+pub returns-in-Some-clause-found : goal.returns-in-Some-clause-found
+returns-in-Some-clause-found c =
+    let p = c.in_ok-name in
+    let f = p.ensures.found in
+    plain_read c.args.config.now c.args.bytes.now f.0 p.name.now p.rest.now c.in-Some.word f.1 f.2 c.in-Some.ensures.found (c.in-Some.ensures.fits c.args.config.now)
 
 pub returns-in_err-number-clause-none : goal.returns-in_err-number-clause-none
 returns-in_err-number-clause-none c =

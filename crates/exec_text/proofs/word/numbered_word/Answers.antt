@@ -1,7 +1,5 @@
 use Rattle.std.proofs.Common.{codes, arith}
-use Rattle.exec_text.proofs.Fields.{told_unequal}
-use Rattle.exec_text.proofs.Words.{no_one_number}
-use Rattle.exec_text.proofs.word.numbered_word.Goals.{else-eq-3-via-then-eq-3+else-listener-config, else-eq-3-via-else-eq-3}
+use Rattle.exec_text.proofs.{Fields.told_unequal, Words.no_one_number, word.numbered_word.Goals.{else-eq-3-via-then-eq-3+else-listener-config, else-eq-3-via-else-eq-3}}
 use Rattle.exec_text.proofs.word.numbered_word.Goals as goal
 
 pub returns-clause-none : goal.returns-clause-none

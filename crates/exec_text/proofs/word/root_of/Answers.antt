@@ -1,8 +1,6 @@
 use Rattle.std.proofs.Common.{codes, length, ap, arith}
 use Rattle.exec_text.specs.Kept.{Keeps}
-use Rattle.exec_text.proofs.Words.{root_fields, root_some, root_read, root_unread}
-use Rattle.exec_text.proofs.Fields.{told_same, told_other, told_some, told_none}
-use Rattle.exec_text.proofs.word.root_of.Goals.{then-ne-via-then-ne, then-ne-via-else-ne+then-is_empty}
+use Rattle.exec_text.proofs.{Words.{root_fields, root_some, root_read, root_unread}, Fields.{told_same, told_other, told_some, told_none}, word.root_of.Goals.{then-ne-via-then-ne, then-ne-via-else-ne+then-is_empty}}
 use Rattle.exec_text.proofs.word.root_of.Goals as goal
 
 pub returns-then-ne-clause-none : goal.returns-then-ne-clause-none

@@ -1,6 +1,5 @@
 use Rattle.std.proofs.Common.{◌≡◌, arith}
-use Rattle.exec_text.proofs.Numbers.{number_one}
-use Rattle.exec_text.proofs.Words.{send_length}
+use Rattle.exec_text.proofs.{Numbers.number_one, Words.send_length}
 use Rattle.exec_text.proofs.word.send_of.Goals as goal
 
 pub returns-in_err-length-clause-none : goal.returns-in_err-length-clause-none

@@ -1,9 +1,8 @@
 use Rattle.std.proofs.Common.{◌∷◌, [], ◌++◌, List, ℕ, refl, ap, ◌∙◌, arith}
 use Rattle.std.proofs.lemmas.List.{append-nil}
 use Rattle.std.proofs.lemmas.List.Elements.{All-push}
-use Rattle.exec_machine.specs.Grammar.{text_of_words, WordFits}
-use Rattle.exec_text.proofs.Fields.{told_some, told_none}
-use Rattle.exec_text.proofs.Words.{words_past, words_more, no_words}
+use Rattle.exec_text.specs.Grammar.{text_of_words, WordFits}
+use Rattle.exec_text.proofs.{Fields.{told_some, told_none}, Words.{words_past, words_more, no_words}}
 use Rattle.exec_text.proofs.word.words_of.Goals as goal
 
 pub loop-rest-init : goal.loop-rest-init

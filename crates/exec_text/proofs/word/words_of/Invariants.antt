@@ -1,13 +1,12 @@
 use Rattle.std.proofs.Common.{◌≡◌, ◌++◌, List, length}
-use Rattle.exec_machine.specs.declared.config.Word.{Word}
-use Rattle.exec_machine.specs.Grammar.{text_of_words}
-use Rattle.exec_text.specs.Kept.{Keeps}
+use Rattle.exec_machine.specs.declared.config.ScriptWord.{ScriptWord}
+use Rattle.exec_text.specs.{Grammar.text_of_words, Kept.Keeps}
 use Rattle.exec_text.proofs.Words.{AllFit, HasWords}
 use Rattle.exec_text.proofs.word.words_of.Given as goal
 
 abbrev pub invariant-loop-rest : goal.invariant-loop-rest
 invariant-loop-rest l = record {
-  so_far : (words : List Word) × (l.fn.bytes ≡ text_of_words words ++ l.rest) × AllFit l.fn.config words × Keeps l.words words;
+  so_far : (words : List ScriptWord) × (l.fn.bytes ≡ text_of_words words ++ l.rest) × AllFit l.fn.config words × Keeps l.words words;
   tails : HasWords l.fn.config l.fn.bytes → HasWords l.fn.config l.rest;
 }
 

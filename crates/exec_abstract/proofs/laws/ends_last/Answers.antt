@@ -1,5 +1,0 @@
-use Rattle.exec_abstract.proofs.Lasting.{over, released}
-use Rattle.exec_abstract.proofs.laws.ends_last.Goals as goal
-
-pub returns : goal.returns
-returns c = record { over = over; released = released }

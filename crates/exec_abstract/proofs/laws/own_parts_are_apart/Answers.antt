@@ -1,5 +1,0 @@
-use Rattle.exec_abstract.proofs.Apart.{events, lines}
-use Rattle.exec_abstract.proofs.laws.own_parts_are_apart.Goals as goal
-
-pub returns : goal.returns
-returns c = record { events = events; lines = lines }

@@ -1,5 +1,0 @@
-use Rattle.exec_abstract.proofs.Resting.{sound, complete, always}
-use Rattle.exec_abstract.proofs.laws.rest_computes.Goals as goal
-
-pub returns : goal.returns
-returns c = record { sound = sound; complete = complete; runs = always }

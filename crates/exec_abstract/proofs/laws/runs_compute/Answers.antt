@@ -1,5 +1,0 @@
-use Rattle.exec_abstract.proofs.Computing.{sound, complete}
-use Rattle.exec_abstract.proofs.laws.runs_compute.Goals as goal
-
-pub returns : goal.returns
-returns c = record { sound = sound; complete = complete }

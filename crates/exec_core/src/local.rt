@@ -1,0 +1,97 @@
+//! A worker as its tasks see it: what it polls for, and its own end of its run queue.
+
+ghost use Rattle.std.specs.Prelude.{◌≡◌, ◌<◌, ◌==◌, ◌&&◌, not, [], ◌∷◌};
+ghost use Rattle.exec_base.specs.Slab.{value_at};
+ghost use Rattle.exec_words.specs.Queue.{room_of, published};
+ghost use Rattle.exec_waiters.specs.{Told.{HasPlaces, Tells}, Events.told_by_orphan};
+ghost use Rattle.exec_driver.specs.{Driving.seen, Steps.{let_go, told_by_let_go}};
+ghost use Rattle.exec_steps.specs.{View.driver_of, Roles.is_pool};
+
+use exec_driver::home::Home;
+use exec_ring::sim_ring::SimRing;
+use exec_steps::parts::mail::Reply;
+use exec_steps::parts::role::Role;
+use exec_steps::parts::seat::Seat;
+use exec_steps::parts::worker::Worker;
+use exec_task::runnable::Runnable;
+use exec_waiters::waiter_id::WaiterId;
+use exec_words::queue::PureQueue;
+
+/// A worker as its tasks see it, with its seat. Ports `Local`.
+#[derive(Drop)]
+pub struct Local<'a> {
+    /// The worker.
+    pub worker: &'a mut Worker,
+    /// Its seat.
+    pub seat: &'a mut Seat,
+    /// How many workers its pool has.
+    pub workers: usize,
+    /// The identity of the task set of its pool.
+    pub tasks: u64,
+}
+
+impl<'a> Local<'a> {
+    /// Whether it polls tasks of this set, and isn't closing. Ports `serves`.
+    pub fn serves(&self, owner: u64) -> bool
+        ensures { result ≡ is_pool self.now.worker.now.role && (self.now.tasks == owner) && not self.now.worker.now.home.closing }
+    {
+        self.worker.role.is_pool() && self.tasks == owner && !self.worker.home.closing
+    }
+
+    /// Which work it runs. Ports `role`.
+    pub fn role(&self) -> Role
+        ensures { result ≡ self.now.worker.now.role }
+    {
+        self.worker.role
+    }
+
+    /// How many workers its pool has. Ports `workers`.
+    pub fn workers(&self) -> usize
+        ensures { result ≡ self.now.workers }
+    {
+        self.workers
+    }
+
+    /// Its run queue. Ports `ready`.
+    pub fn ready(&self) -> &PureQueue<Runnable>
+        ensures { result.now ≡ self.now.seat.now.queue }
+    {
+        &self.seat.queue
+    }
+
+    /// Puts a runnable into its run queue. Ports `enqueue`, of which an overflow is for the caller: it must have room, and
+    /// be in the middle of no overflow.
+    pub fn enqueue(&mut self, runnable: Runnable)
+        requires room { 0 < room_of self.old.seat.now.queue }
+        requires whole { self.old.seat.now.queue.held ≡ [] }
+        ensures queued { self.new.seat.now ≡ record self.old.seat.now { queue = published self.old.seat.now.queue (runnable ∷ []) } }
+        ensures worker { self.new.worker.now ≡ self.old.worker.now }
+        ensures same_seat { self.new.seat.ghost_name ≡ self.old.seat.ghost_name }
+        ensures same_worker { self.new.worker.ghost_name ≡ self.old.worker.ghost_name }
+    {
+        self.seat.queue.push_fitting(runnable);
+    }
+
+    /// Nobody waits for the request from now on. The caller must have made room for two in each list of what is to be told.
+    /// Ports `cancel`.
+    pub fn cancel(&mut self, id: WaiterId)
+        requires room { HasPlaces self.old.worker.now.home.deferred 2 }
+        ensures let_go { driver_of self.new.worker.now ≡ let_go (driver_of self.old.worker.now) id }
+        ensures told { Tells self.old.worker.now.home.deferred self.new.worker.now.home.deferred (told_by_let_go (driver_of self.old.worker.now) id (told_by_orphan id.0 (value_at (driver_of self.old.worker.now).requests id.0))) }
+        ensures seat { self.new.seat.now ≡ self.old.seat.now }
+        ensures same_seat { self.new.seat.ghost_name ≡ self.old.seat.ghost_name }
+        ensures same_worker { self.new.worker.ghost_name ≡ self.old.worker.ghost_name }
+    {
+        let_go_of(&mut self.worker.home, id);
+    }
+}
+
+/// Nobody waits for the request at home from now on. The caller must have made room for two in each list of what is to be
+/// told.
+fn let_go_of(home: &mut Home<SimRing, Reply, Reply>, id: WaiterId)
+    requires room { HasPlaces home.old.deferred 2 }
+    ensures let_go { seen home.new.driver ≡ let_go (seen home.old.driver) id }
+    ensures told { Tells home.old.deferred home.new.deferred (told_by_let_go (seen home.old.driver) id (told_by_orphan id.0 (value_at (seen home.old.driver).requests id.0))) }
+{
+    home.driver.orphan(id, &mut home.deferred);
+}

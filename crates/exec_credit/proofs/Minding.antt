@@ -1,0 +1,191 @@
+-- What is carried gives what credit asks for.
+use Rattle.std.proofs.Common.{◌≡◌, ℕ, zero, suc, ◌+◌, ◌-◌, ◌*◌, ◌<◌, ◌≤◌, ◌==◌, ◌&&◌, ◌||◌, Bool, true, false, not, List, [], ◌∷◌, length, get_or, drop, All, Option, Some, None, if◌then◌else◌, ◌∙◌, refl, sym, ap, subst, arith, inl, inr}
+use Rattle.std.proofs.lemmas.Bool.{true≢false, false≢true, lt-ltb}
+use Rattle.std.specs.Prelude.{nat_le, nat_lt}
+use Rattle.std.proofs.lemmas.List.Elements.{All-tail}
+use Rattle.std.proofs.lemmas.Option.{slice_get-get_or}
+use Rattle.std.specs.Prelude.{slice_get}
+use Rattle.std.specs.List.{list_any}
+use Rattle.exec_machine.specs.{declared.{config.{Configuration.Configuration, ScriptWord.ScriptWord, Spin.Spin}, state.{Code.Code, Request.Request, RequestPhase.RequestPhase, Waiting.Waiting}}, Ranges.{largest_spin, ring_size}, Requests.operation_asked, Tests.{is_gated, is_empty}, Text.is_quiet, Words.{idle_words, is_idle_word, newest_held, next_word, sleep_asked, waiting_words, words_left}, World.{Own as Books, Common, Open, Task, no_request, task_of, request_of, sleeper_of}}
+use Rattle.exec_machine.specs.declared.config.ScriptWord.TheVariants as word
+use Rattle.exec_machine.specs.declared.state.Code.TheVariants as code
+use Rattle.exec_machine.specs.declared.state.Next.TheVariants as next
+use Rattle.exec_machine.specs.declared.state.RequestPhase.TheVariants as phase
+use Rattle.exec_machine.specs.declared.state.Waiting.TheVariants as waiting
+use Rattle.exec_moves.specs.declared.place.InCallbacks.TheVariants as callback
+use Rattle.exec_moves.specs.declared.place.AfterCallbacks.TheVariants as after
+use Rattle.exec_moves.specs.{declared.place.{InPoll.InPoll, Place.Place}, Move.{move, move_at}, Poll.{act_asked, await, drop_newest, resume, sleep_for}, Seen.next_at, Serve.first_numbered, State.{Desk, Things, Moved}, Submit.{next_gate, waits_at}}
+use Rattle.exec_moves.specs.declared.place.InPoll.TheVariants as poll
+use Rattle.exec_moves.specs.declared.place.Place.TheVariants as at
+use Rattle.exec_credit.specs.{Minds.{Minds, closes, is_poll}, Minded.{IsWithin, Minded, Stood, is_joining, is_played}}
+use Rattle.exec_credit.proofs.{First.{deadlines, sleepers}, Leading.no_mail}
+
+-- NO GATES
+
+waits_nowhere : (a b g : Bool) → g ≡ false → (a && g && b) ≡ false
+waits_nowhere true b false h = refl
+waits_nowhere false b false h = refl
+waits_nowhere a b true h = absurd (true≢false h)
+
+pub none_waits : (file : ℕ) (rs : List Request) → ((k : ℕ) → is_gated (get_or rs k no_request).phase ≡ false) → list_any (waits_at 0 file) rs ≡ false
+none_waits file [] none = refl
+none_waits file (r ∷ rs) none = rw (waits_nowhere (r.worker == 0) (r.operation.target == file) (is_gated r.phase) (none 0), none_waits file rs (λ k. none (suc k))) refl
+
+pub and_no : (a b : Bool) → b ≡ false → (a && b) ≡ false
+and_no true b h = h
+and_no false b h = refl
+
+no_gate : (from : ℕ) (rs : List Request) → ((file : ℕ) → list_any (waits_at 0 file) rs ≡ false) → (n : ℕ) (os : List Open) → first_numbered (λ file o. nat_le from file && list_any (waits_at 0 file) rs) n os ≡ None
+no_gate from rs none n [] = refl
+no_gate from rs none n (o ∷ os) = rw (and_no (nat_le from n) (list_any (waits_at 0 n) rs) (none n), no_gate from rs none (suc n) os) refl
+
+pub ungated : (s : Common) → ((k : ℕ) → is_gated (request_of s k).phase ≡ false) → (from : ℕ) → next_gate 0 from s ≡ None
+ungated s none from = no_gate from s.requests (λ file. none_waits file s.requests none) 0 s.opens
+
+-- THE NEXT WORD
+
+word_of : (ws : List ScriptWord) → All (λ w. is_played w ≡ true) ws → (n : ℕ) → is_played (get_or ws n word.End) ≡ true
+word_of [] all n = refl
+word_of (w ∷ ws) all zero = all 0 w (omega arith)
+word_of (w ∷ ws) all (suc n) = word_of ws (All-tail (λ w. is_played w ≡ true) w ws all) n
+
+all_behind : (n : ℕ) (ws : List ScriptWord) → All (λ w. is_played w ≡ true) ws → All (λ w. is_played w ≡ true) (drop n ws)
+all_behind zero ws all = all
+all_behind (suc n) [] all = all
+all_behind (suc n) (w ∷ ws) all = all_behind n ws (All-tail (λ w. is_played w ≡ true) w ws all)
+
+no_words : All (λ w. is_played w ≡ true) []
+no_words k w within = let no : ⊥ = omega (arith, within) in absurd no
+
+waits_on : (stopped : Bool) → All (λ w. is_played w ≡ true) (waiting_words stopped)
+waits_on true zero w within = refl
+waits_on false zero w within = refl
+waits_on stopped (suc k) w within = let no : ⊥ = omega (arith, within) in absurd no
+
+-- the next word is none that is passed over
+next_acts : (s : Common) (t : Task) (ws : List ScriptWord) → is_idle_word s t (get_or ws (idle_words s t ws) word.End) ≡ false
+next_acts s t [] = refl
+next_acts s t (w ∷ ws) = by (is_idle_word s t w) refl (next_acts s t ws)
+  where
+    by : (b : Bool) → is_idle_word s t w ≡ b → is_idle_word s t (get_or ws (idle_words s t ws) word.End) ≡ false → is_idle_word s t (get_or (w ∷ ws) (if b then suc (idle_words s t ws) else 0) word.End) ≡ false
+    by true h later = later
+    by false h later = h
+
+newest : (held : List ℕ) → is_empty held ≡ false → slice_get held (length held - 1) ≡ None → ⊥
+newest [] some none = true≢false some
+newest (r ∷ held) some none =
+    let there = slice_get-get_or (r ∷ held) (length (r ∷ held) - 1) 0 (omega arith) in
+    let no : Some (get_or (r ∷ held) (length (r ∷ held) - 1) 0) ≡ None = sym there ∙ none in absurd (cc)
+
+module _ (s : Common) (scripts : s.scripts ≡ []) (words : All (λ w. is_played w ≡ true) s.root) (t : Task) where
+  all_left : (k : Code) → t.code ≡ k → All (λ w. is_played w ≡ true) (words_left s t)
+  all_left code.Root h = rw h (all_behind t.place s.root words)
+  all_left (code.Script k) h = rw (h, scripts) (all_behind t.place [] no_words)
+  all_left code.Waits h = rw h (waits_on s.stopped)
+
+  pub played : is_played (next_word s t) ≡ true
+  played = word_of (words_left s t) (all_left t.code refl) (idle_words s t (words_left s t))
+  -- NO STEP OF A POLL IS QUIET
+
+module _ (c : Configuration) (me : Books) (s : Common) (d : Desk) (x : Things) (t : ℕ) where
+  abbrev it : Task
+  it = task_of s t
+
+  awaits : (o : Option ℕ) → is_quiet (await t s d it o).event ≡ false
+  awaits None = refl
+  awaits (Some r) = by (request_of s r).phase refl
+    where
+      by : (ph : RequestPhase) → (request_of s r).phase ≡ ph → is_quiet (await t s d it (Some r)).event ≡ false
+      by (phase.Resolved outcome) h = rw h refl
+      by phase.Gated h = rw h refl
+      by phase.Queued h = rw h refl
+      by phase.Staged h = rw h refl
+      by phase.Flying h = rw h refl
+      by (phase.Landed n) h = rw h refl
+
+  sleeps : (o : Option ℕ) → is_quiet (sleep_for t s d it o).event ≡ false
+  sleeps None = refl
+  sleeps (Some until) = refl
+
+  drops : (o : Option ℕ) → newest_held it ≡ o → is_empty it.held ≡ false → is_quiet (drop_newest t s d it o).event ≡ false
+  drops None none some = absurd (newest it.held some none)
+  drops (Some r) is some = refl
+
+  acts : (w : ScriptWord) → is_played w ≡ true → is_idle_word s it w ≡ false → is_quiet (act_asked t me s d it w (operation_asked c me.sampled w)).event ≡ false
+  acts (word.Send socket n) can idle = refl
+  acts (word.Poll l) can idle = refl
+  acts word.Await can idle = awaits (newest_held it)
+  acts word.Drop can idle = drops (newest_held it) refl idle
+  acts (word.Sleep time) can idle = sleeps (sleep_asked me.sampled (word.Sleep time))
+  acts word.Yield can idle = refl
+  acts word.End can idle = refl
+  acts (word.Fault code) can idle = refl
+  acts w can idle = absurd (false≢true can)
+
+  resumes : (w : Waiting) → it.waiting ≡ w → is_quiet (resume t s d it).event ≡ false
+  resumes (waiting.Request r) h = by (request_of s r).phase refl
+    where
+      by : (ph : RequestPhase) → (request_of s r).phase ≡ ph → is_quiet (resume t s d it).event ≡ false
+      by (phase.Resolved outcome) k = rw (h, k) refl
+      by phase.Gated k = rw (h, k) refl
+      by phase.Queued k = rw (h, k) refl
+      by phase.Staged k = rw (h, k) refl
+      by phase.Flying k = rw (h, k) refl
+      by (phase.Landed n) k = rw (h, k) refl
+  resumes (waiting.Timer z) h = by (sleeper_of s z).fired refl
+    where
+      by : (b : Bool) → (sleeper_of s z).fired ≡ b → is_quiet (resume t s d it).event ≡ false
+      by true k = rw (h, k) refl
+      by false k = rw (h, k) refl
+  resumes waiting.Woken h = rw h refl
+  resumes waiting.Nothing h = rw h refl
+  resumes waiting.Wake h = rw h refl
+  resumes waiting.Yielded h = rw h refl
+
+  polls : s.scripts ≡ [] → All (λ w. is_played w ≡ true) s.root → (p : InPoll) → is_joining (at.Poll t p) ≡ false → is_quiet (move_at c 0 me s d x (at.Poll t p)).event ≡ false
+  polls scripts words poll.BeginPoll joins = refl
+  polls scripts words poll.Resume joins = resumes it.waiting refl
+  polls scripts words poll.Act joins = acts (next_word s it) (played s scripts words it) (next_acts s it (words_left s it))
+  polls scripts words (poll.JoinGate r) joins = absurd (true≢false joins)
+  polls scripts words poll.Pend joins = refl
+
+-- WHAT CREDIT ASKS FOR
+
+pub within_largest : (spin : Spin) (n : ℕ) → ((spin.budget * spin.iterations == 0) ≡ true → n ≡ 0) → n ≤ spin.most * spin.iterations → n ≤ largest_spin spin
+within_largest spin n none le = by (spin.budget * spin.iterations == 0) refl
+  where
+    by : (b : Bool) → (spin.budget * spin.iterations == 0) ≡ b → n ≤ (if b then 0 else spin.most * spin.iterations)
+    by true h = omega (arith, none h)
+    by false h = le
+
+next_free : (p : Place) → closes p ≡ false → is_joining p ≡ false → next_at p ≡ next.Free
+next_free (at.Closing p) open_still joins = absurd (true≢false open_still)
+next_free (at.Poll t (poll.JoinGate r)) open_still joins = absurd (true≢false joins)
+next_free p open_still joins = refl
+
+module _ (c : Configuration) (me : Books) (s : Common) (d : Desk) (x : Things) where
+  told : s.scripts ≡ [] → All (λ w. is_played w ≡ true) s.root → (p : Place) → is_joining p ≡ false → is_poll p ≡ true → is_quiet (move_at c 0 me s d x p).event ≡ false
+  told scripts words (at.Poll t p) joins polling = polls c me s d x t scripts words p joins
+  told scripts words p joins polling = absurd (false≢true polling)
+
+  pub minds : nat_lt 0 (ring_size c) ≡ true → Stood me s d x → Minded c me s d x → closes d.place ≡ false → Minds c 0 me s d x
+  minds ring stood minded open_still =
+      record {
+        here = omega (arith, stood.seats);
+        some_ring = ring;
+        open_still = open_still;
+        serving = stood.serving;
+        free = stood.next ∙ next_free d.place open_still stood.joining;
+        unread = stood.batch;
+        unsent = no_mail d x minded.unsent;
+        elsewhere = stood.global;
+        unfound = minded.unfound;
+        ungated = ungated s stood.plain.ungated;
+        kept = stood.passing;
+        told = told stood.scripts stood.words d.place stood.joining;
+        sampled = stood.sampled;
+        deadlines = deadlines c me s;
+        sleepers = sleepers me s (stood.opened open_still);
+        budget = within_largest c.spin d.spinner.budget minded.spinner.none minded.spinner.budget;
+        looks = minded.looks;
+      }

@@ -1,0 +1,149 @@
+-- One step of any party: what is carried, and that a quiet one is paid for.
+use Rattle.std.proofs.Common.{◌≡◌, ℕ, zero, suc, ◌+◌, ◌<◌, ◌≤◌, ◌&&◌, ◌||◌, Bool, true, false, not, List, [], ◌∷◌, ◌++◌, length, set, get_or, if◌then◌else◌, ◌∙◌, refl, sym, ap, subst, arith, inl, inr}
+use Rattle.std.proofs.lemmas.Bool.{true≢false, false≢true, and_parts, or_parts, cases_Bool, lt-ltb}
+use Rattle.std.proofs.lemmas.List.{get_or_past}
+use Rattle.std.specs.Prelude.{nat_le, nat_lt}
+use Rattle.std.specs.List.{list_any}
+use Rattle.exec_outcomes.specs.{declared.outcome.OpResult.OpResult, Lawful.{is_lawful, window_of}}
+use Rattle.exec_machine.specs.{declared.{config.Configuration.Configuration, event.Event.Event, state.{Call.Call, WorkerPhase.WorkerPhase, Rest.TheVariants.Awake}, step.Action.Action}, After.{own_after, common_after, made_by}, Callers.{after_clock, after_landing, after_peer, is_enabled, is_half_done, is_held, may_work}, Choice.Choice, Progress.{is_anyone_closing, is_quiet_step}, Ranges.{ring_size, doubled_up_to}, Requests.{asked_of, cursor_of}, Run.Follows, Tests.{set_seat, has_ended, is_awake, is_closing, is_flying, is_open}, Text.is_quiet, World.{Own as Books, Common, Seat, World, no_own, no_seat, own_of, seat_of, request_of}, Examples.refuses}
+use Rattle.exec_machine.specs.declared.state.Call.TheVariants as call
+use Rattle.exec_machine.specs.declared.state.WorkerPhase.TheVariants as worker
+use Rattle.exec_machine.specs.declared.step.Action.TheVariants as action
+use Rattle.exec_moves.specs.declared.place.InClosing.TheVariants as closing
+use Rattle.exec_moves.specs.{declared.place.Place.Place, Credit.credit, Move.{move, move_at}, Plays.{Played, Playing, by_action, by_step, credit_of}, State.{Desk, Things, Moved}}
+use Rattle.exec_moves.specs.declared.place.Place.TheVariants as at
+use Rattle.exec_credit.specs.{Minds.{Falls, closes}, Minded.{Minded, PaidIn, Stood, StoodIn, is_start}}
+use Rattle.exec_credit.proofs.{Asking.is_open_of, Led.leads, Minding.minds, Others.{knows_still, landing_entered, landing_open}, Quiet.falls}
+
+-- there is some room in a ring
+doubled : (k p n : ℕ) → 0 < p → 0 < doubled_up_to k p n
+doubled zero p n more = more
+doubled (suc k) p n more = by (nat_le n p) (doubled k (p + p) n (omega (arith, more)))
+  where
+    by : (b : Bool) → 0 < doubled_up_to k (p + p) n → 0 < (if b then p else doubled_up_to k (p + p) n)
+    by true later = more
+    by false later = later
+
+pub some_ring : (c : Configuration) → nat_lt 0 (ring_size c) ≡ true
+some_ring c = lt-ltb 0 (ring_size c) (doubled 15 1 c.ring (omega arith))
+
+none_of : (b : Bool) → not b ≡ true → b ≡ false
+none_of true h = absurd (false≢true h)
+none_of false h = refl
+
+-- A STEP OF THE WORKER
+
+module _ (c : Configuration) (me : Books) (s : Common) (d : Desk) (x : Things) (stood : Stood me s d x) (minded : Minded c me s d x) where
+  abbrev did : Moved Things
+  did = move c 0 me s d x
+
+  pub minded_then : Minded c (own_after c me s 0 did.event did.choice) (common_after c me s 0 did.event did.choice) did.desk did.thing
+  minded_then = let it = leads c me s d x stood minded in record { unsent = it.0; unfound = it.2; looks = it.3; spinner = it.1; knows = it.4 }
+
+  closing_of : (p : WorkerPhase) → is_open p ≡ false → has_ended p ≡ false → is_closing p ≡ true
+  closing_of worker.Open shut going = absurd (true≢false shut)
+  closing_of worker.Closing shut going = refl
+  closing_of worker.Ended shut going = absurd (true≢false going)
+
+  start_loud : (p : Place) → is_start p ≡ true → is_quiet (move_at c 0 me s d x p).event ≡ false
+  start_loud (at.Closing closing.Close) starts = refl
+  start_loud p starts = absurd (false≢true starts)
+
+  -- while nobody closes
+  pub paid_for : has_ended (seat_of s 0).phase ≡ false → is_closing (seat_of s 0).phase ≡ false → Falls c 0 me s d x did
+  paid_for going nobody quiet = elim (cases_Bool (closes d.place)) [
+    | inr open_still ↦ falls c 0 me s d x (minds c me s d x (some_ring c) stood minded open_still) quiet
+    | inl shut ↦ elim (cases_Bool (is_start d.place)) [
+      | inl starts ↦ absurd (false≢true (sym (start_loud d.place starts) ∙ quiet))
+      | inr on ↦ absurd (true≢false (sym (closing_of (seat_of s 0).phase (stood.closed shut on) going) ∙ nobody))
+    ]
+  ]
+
+-- OF ANY PARTY
+
+pub first_set : (workers : List Books) (me y : Books) (made : List Books) → workers ≡ me ∷ [] → get_or (set workers 0 y ++ made) 0 no_own ≡ y
+first_set workers me y made one = rw one refl
+
+pub none_half : (calls : List Call) → list_any is_half_done calls ≡ false → (j : ℕ) → is_half_done (get_or calls j call.Nothing) ≡ false
+none_half [] none j = refl
+none_half (k ∷ calls) none zero = (or_parts (is_half_done k) (list_any is_half_done calls) none).0
+none_half (k ∷ calls) none (suc j) = none_half calls (or_parts (is_half_done k) (list_any is_half_done calls) none).1 j
+
+pub nobody_there : (s : Common) (i : ℕ) → length s.seats ≡ 1 → may_work s (seat_of s (suc i)) ≡ false
+nobody_there s i one = rw (get_or_past s.seats (suc i) no_seat (omega (arith, one))) refl
+
+module _ (c : Configuration) (x : Playing) (stood : StoodIn x) (minded : PaidIn c x) where
+  abbrev after_it : Action → Type 0
+  after_it a =
+      PaidIn c (by_action c x a).next
+      × (is_quiet_step x.world (by_action c x a).told.0.said ≡ true → credit_of c (by_action c x a).next < credit_of c x)
+
+  works : may_work x.world.common (seat_of x.world.common 0) ≡ true → after_it (action.Work 0)
+  works may =
+      let me = own_of x.world 0 in
+      let s = x.world.common in
+      let m = move c 0 me s x.desk x.things in
+      let same = first_set x.world.workers me (own_after c me s 0 m.event m.choice) (made_by s m.event) stood.one in
+      let awake = and_parts (is_awake (seat_of s 0).rest && not (has_ended (seat_of s 0).phase)) (not (is_held s (seat_of s 0))) may in
+      let going = none_of (has_ended (seat_of s 0).phase) (and_parts (is_awake (seat_of s 0).rest) (not (has_ended (seat_of s 0).phase)) awake.0).1 in (
+        subst (λ (own : Books). Minded c own (common_after c me s 0 m.event m.choice) m.desk m.thing) (sym same) (minded_then c me s x.desk x.things stood.here minded),
+        λ quiet. let parts = and_parts (is_quiet m.event) (not (is_anyone_closing x.world)) quiet in
+            subst (λ (own : Books). credit c 0 own (common_after c me s 0 m.event m.choice) m.desk m.thing < credit_of c x) (sym same)
+            (paid_for c me s x.desk x.things stood.here minded going (nobody s.seats stood.here.seats (none_of (is_anyone_closing x.world) parts.1)) parts.0),
+      )
+    where
+      nobody : (seats : List Seat) → length seats ≡ 1 → list_any (λ seat. is_closing seat.phase) seats ≡ false → is_closing (get_or seats 0 no_seat).phase ≡ false
+      nobody [] one none = refl
+      nobody (seat ∷ seats) one none = (or_parts (is_closing seat.phase) (list_any (λ seat. is_closing seat.phase) seats) none).0
+
+  -- where requests and their worker's part stay
+  beside : (s' : Common) (e : Desk) → s'.requests ≡ x.world.common.requests → Minded c (own_of x.world 0) x.world.common e x.things → Minded c (own_of x.world 0) s' e x.things
+  beside s' e same it =
+      record {
+        unsent = it.unsent;
+        unfound = it.unfound;
+        looks = it.looks;
+        spinner = it.spinner;
+        knows =
+            knows_still c (own_of x.world 0) x.world.common s' e e refl refl (ap (λ rs. list_any (is_open_of 0) rs) same)
+            (λ known. record { untold = rw same known.untold; staged = λ r. rw same (known.staged r) }) e.place it.knows;
+      }
+
+  lands : (r : ℕ) (n : OpResult) → is_flying (request_of x.world.common r).phase ≡ true → Minded c (own_of x.world 0) (after_landing x.world.common r n) (record x.desk { others = 0 }) x.things
+  lands r n flies =
+      record {
+        unsent = minded.unsent;
+        unfound = minded.unfound;
+        looks = minded.looks;
+        spinner = minded.spinner;
+        knows =
+            knows_still c (own_of x.world 0) x.world.common (after_landing x.world.common r n) x.desk (record x.desk { others = 0 }) refl refl
+            (landing_open x.world.common r n flies) (landing_entered x.world.common r n flies (own_of x.world 0)) x.desk.place minded.knows;
+      }
+
+  by_party : (a : Action) → is_enabled x.world.common a ≡ true
+      → Follows c x.world a (by_action c x a).told.0.said (by_action c x a).told.1 → after_it a
+  by_party (action.Work zero) may follows = works may
+  by_party (action.Work (suc i)) may follows = absurd (false≢true (sym (nobody_there x.world.common i stood.here.seats) ∙ may))
+  by_party (action.Spawn j k) may follows = absurd (false≢true follows.1.0)
+  by_party (action.Wake j t) may follows = absurd (false≢true follows.1.0)
+  by_party (action.GoOn j) may follows = absurd (false≢true (sym (none_half x.world.common.callers stood.callers j) ∙ may))
+  by_party (action.Clock d) may follows = (beside (after_clock x.world.common d) x.desk refl minded, λ quiet. absurd (false≢true quiet))
+  by_party (action.Land r n) may follows = (lands r n (and_parts (is_flying (request_of x.world.common r).phase) (is_lawful (window_of (asked_of (request_of x.world.common r).operation) (cursor_of (request_of x.world.common r).operation)) n) may).0, λ quiet. absurd (false≢true quiet))
+  by_party (action.SetBusy i) may follows = (beside (set_seat x.world.common i (record (seat_of x.world.common i) { busy = true })) x.desk refl minded, λ quiet. absurd (false≢true quiet))
+  by_party (action.EndPoll i) may follows = (beside x.world.common x.desk refl minded, λ quiet. absurd (false≢true quiet))
+  by_party (action.Stir i) may follows = (beside (set_seat x.world.common i (record (seat_of x.world.common i) { rest = Awake })) x.desk refl minded, λ quiet. absurd (false≢true quiet))
+  by_party (action.Peer l) may follows = (beside (after_peer x.world.common l) x.desk refl minded, λ quiet. absurd (false≢true quiet))
+
+abbrev Pays : Configuration → Playing → Action → Played → Type 0
+Pays c x a y = PaidIn c y.next × (is_quiet_step x.world y.told.0.said ≡ true → credit_of c y.next < credit_of c x)
+
+pub steps : (c : Configuration) (x : Playing) (a : Action) → StoodIn x → PaidIn c x
+    → Follows c x.world a (by_step c x a).told.0.said (by_step c x a).told.1 → Pays c x a (by_step c x a)
+steps c x a stood minded follows = by (is_enabled x.world.common a) refl follows
+  where
+    by : (b : Bool) → is_enabled x.world.common a ≡ b
+        → (let y : Played = if b then by_action c x a else record { told = refuses a; next = x } in Follows c x.world a y.told.0.said y.told.1)
+        → Pays c x a (if b then by_action c x a else record { told = refuses a; next = x })
+    by true may follows = by_party c x stood minded a may follows
+    by false refused follows = (minded, λ quiet. absurd (false≢true quiet))

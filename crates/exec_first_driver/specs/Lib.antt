@@ -1,4 +1,0 @@
-pub mod Operations
-pub mod Books
-pub mod Found
-pub mod Sleeps

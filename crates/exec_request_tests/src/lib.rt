@@ -1,0 +1,5 @@
+//! Tests of the public calls of requests, apart from their crate, so that it is proved once.
+#![tactic(auto)]
+
+#[cfg(test)]
+mod request;

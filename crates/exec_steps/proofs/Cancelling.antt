@@ -1,0 +1,208 @@
+-- A deadline that has come cancels its request, which the kernel has.
+use Rattle.std.proofs.Common.{◌⊎◌, ⊎_elim, ◌++◌, ◌||◌, ◌≡◌, ◌≢◌, ℕ, ◌+◌, ◌-◌, ◌*◌, ◌^◌, ◌<◌, ◌≤◌, ◌==◌, ◌&&◌, Bool, true, false, List, [], ◌∷◌, ◌++◌, map, Option, Some, None, refl, sym, ap, subst, ◌∙◌, arith, inl, inr}
+use Rattle.std.proofs.lemmas.Bool.{false≢true}
+use Rattle.std.proofs.lemmas.List.{append-nil, map-append}
+use Rattle.std.specs.Prelude.{slice_set, if◌then◌else◌}
+use Rattle.exec_base.specs.declared.{slab.Id.Id, error.Error.TheVariants.Timeout}
+use Rattle.exec_request.specs.States.{asks_cancel}
+use Rattle.exec_task.specs.declared.body.Said.{Said}
+use Rattle.exec_waiters.specs.{Events.{cancelled as cancelled_of, told_by_finish}, States.{tick_in, flying_count}, Told.{Tells, nothing_told}, declared.{waiter.Waiter.Waiter, waiter_id.WaiterId.WaiterId}}
+use Rattle.exec_driver.specs.{Driving.Driving, Lists.{first_of, is_among, is_same, after_due}, Punctual.IsPunctual, Steps.{cancelled_from, cancelling, ended, told_by_cancel, timed_out}}
+use Rattle.exec_driver.proofs.Names.{same_tells, same_tells}
+use Rattle.exec_machine.specs.{declared.event.Event.{Event, TheVariants.Expire}, Deadlines.{expired, outcome_at_expiry}, Same.same_end, World.request_of}
+use Rattle.exec_moves.specs.{Move.move_submit, Callback.{told_if_ended, told_if_ended}, Submit.{due_next, first_due, submits, Due.Expires}, declared.place.{Service.Service, Place.Place}}
+use Rattle.exec_moves.specs.declared.place.InService.TheVariants as step
+use Rattle.exec_moves.specs.declared.place.Place.TheVariants as at
+use Rattle.exec_steps.specs.{declared.parts.{mail.Reply.Reply, names.Names.Names, record.Record.Record, shared.Shared.Shared, worker.Worker.Worker}, Due.IsWheelAt, Flown.HasFlown, Phased.closes_at, Records.number_in, Serving.changed_at, Sound.{IsAlike, IsSubmitted, served_in, is_armed_at}, Spots.Spot, Submitting.{IsDueIn, IsInOrder}, View.{visible, own_of, desk_of, driver_of, common_of, things_of, numbers_of}, Works.Steps}
+use Rattle.exec_steps.proofs.{Calling.request_seen, Carries.carried_still, Changing.{OneGoesOn, flying_after, keeps_one}, Going.GoesOn, Seeing.{makes, shows, served, common_changed}, Serving.{is_calm, Serves, Keeps, KeepsBy}, Staging.stages_again, Turning.set_found, Watching.{Watched, flown_watched, submitted_watched, watched}, Timed.keeps_untold, Expiring.{HasExpired, comes_to_due, due_first, expires, flies_not_queued, move_expire, same_change, told_first, unticked_start, unticked_tick}, Expired.expiry_ends, Resolving.unticked_at, Orders.{alike_unticked, eased, eases_written, part_after, part_self}}
+use Rattle.exec_outcomes.specs.declared.outcome.Outcome.TheVariants.{Failure}
+
+-- THE LIST
+
+-- who stands there stood there before, or came last
+last_by : {id : Id} (other x : WaiterId) (ids : List WaiterId) (b : Bool) → is_same x other ≡ b → (b ≡ false → (is_among other ids ≡ true) ⊎ (other.0 ≡ id)) → ((b || is_among other ids) ≡ true) ⊎ (other.0 ≡ id)
+last_by other x ids true is later = inl refl
+last_by other x ids false is later = later refl
+
+pub among_last : (other id : WaiterId) (ids : List WaiterId) → is_among other (ids ++ id ∷ []) ≡ true → (is_among other ids ≡ true) ⊎ (other.0 ≡ id.0)
+among_last other id [] h =
+    elim (same_tells id other) [
+      | inl same ↦ inr (ap (λ (y : WaiterId). y.0) (sym same.1))
+      | inr differs ↦ absurd (false≢true (rw differs.0 at h))
+    ]
+among_last other id (x ∷ ids) h = last_by other x ids (is_same x other) refl (λ none. among_last other id ids (rw none at h))
+
+-- THE RECORD
+
+abbrev cancels : Record → Record
+cancels r = record r { shown = record r.shown { timer = None; cancelled = true } }
+
+untold_by : (b : Bool) (c : Bool) → c ≡ false → (b ≡ true → c ≡ true) → b ≡ false
+untold_by true c none h = absurd (false≢true (sym none ∙ h refl))
+untold_by false c none h = refl
+
+-- WHAT HOLDS AGAIN
+
+module _ {B : Type 0} (w : Worker) (s : Shared B) (new : IsDueIn w s) (id : WaiterId) (first : first_of (driver_of w).lists.due ≡ Some id) (flies : (due_first w s new id first).it.in_flight ≡ true) where
+  abbrev cancelled_waiter : Waiter Reply Reply
+  cancelled_waiter = cancelled_of (due_first w s new id first).it
+
+  abbrev cancelled_driver : Driving Reply Reply
+  cancelled_driver = cancelling (record (driver_of w) { lists = after_due (driver_of w).lists }) id (due_first w s new id first).it
+
+  abbrev cancelled_records : List Record
+  cancelled_records = changed_at s.requests.items (number_in w.names.requests.items id.0) cancels
+
+  alike_cancelled : IsAlike (driver_of w).wheel.start (driver_of w).wheel.tick cancelled_waiter (cancels (due_first w s new id first).r).shown
+  alike_cancelled =
+      let a = (due_first w s new id first).alike in
+      record {
+        asked = a.asked;
+        moved = a.moved;
+        switched = a.switched;
+        come = a.come;
+        hinted = a.hinted;
+        deadline = a.deadline;
+        cancelled = refl;
+        timer = refl;
+        observed = a.observed;
+        waiter = a.waiter;
+        flying = a.flying;
+        permit = a.permit;
+        open_still = a.open_still;
+        near = a.near;
+        going = λ h. flies;
+        told_once = λ h. refl;
+      }
+
+  watched_cancelled : Watched w.names (driver_of w) cancelled_driver s.requests.items cancelled_records id.0 (due_first w s new id first).r cancels
+  watched_cancelled =
+      let d = driver_of w in
+      let who = due_first w s new id first in
+      let x = tick_in who.it.state in
+      watched w.names d cancelled_driver s.requests.items id.0 who.it cancelled_waiter who.r cancels who.live who.there who.named refl who.alike.open_still refl refl refl (λ h. absurd (false≢true h)) (λ t is. absurd (cc)) alike_cancelled refl
+      (unticked_start d.wheel x) (unticked_tick d.wheel x) (alike_unticked d.wheel x) refl
+      (λ other among. ⊎_elim (λ before. inl before) (λ same. inr (same, untold_by who.r.shown.cancel_staged who.r.shown.cancelled (who.alike.cancelled ∙ who.unasked) who.alike.told_once)) (among_last other id d.lists.cancels among))
+
+  submitted_cancelled : IsSubmitted w.index w.names.staged.items w.names.untold.items (driver_of w).ring cancelled_records
+  submitted_cancelled = submitted_watched w.index w.names w.names.held (driver_of w) cancelled_driver w.home.timers s.requests.items cancelled_records s.sleepers.items id.0 (due_first w s new id first).r cancels watched_cancelled new.submits.sound.named.submitted
+
+  flown_cancelled : HasFlown (served_in (at.Service (step.Submit new.submits.gate) new.submits.service)) w.index w.names cancelled_driver cancelled_records
+  flown_cancelled = flown_watched w.index w.names w.names.held (driver_of w) cancelled_driver w.home.timers s.requests.items cancelled_records s.sleepers.items id.0 (due_first w s new id first).r cancels watched_cancelled (served_in (at.Service (step.Submit new.submits.gate) new.submits.service)) new.submits.sound.flown
+
+  keeps_cancelled : IsPunctual cancelled_driver
+      → KeepsBy (record w { place = at.Service (step.Submit new.submits.gate) new.submits.service }) cancelled_driver w.home.timers cancelled_records s.sleepers.items s
+  keeps_cancelled punctual =
+      let v = new.submits.service in
+      let gate = new.submits.gate in
+      let q : Place = at.Service (step.Submit gate) v in
+      let sound = new.submits.sound in
+      let d = driver_of w in
+      let who = due_first w s new id first in
+      let it = who.it in
+      let wheel : IsWheelAt s.config w.moments.start w.moments.sampled d.wheel = sound.due.wheel in
+      let a = who.alike in
+      let on : GoesOn who.r (cancels who.r) = record { same = refl; over = refl; ended = λ h. refl } in
+      let one : OneGoesOn w.names w.names d cancelled_driver s.requests.items id.0 it cancelled_waiter who.r cancels = record {
+        at = who.live;
+        there = who.there;
+        slab = refl;
+        on = on;
+        alike = alike_cancelled;
+        start = unticked_start d.wheel (tick_in it.state);
+        tick = unticked_tick d.wheel (tick_in it.state);
+        requests = refl;
+        timers = refl;
+      } in
+      keeps_one q q w.put_off w.names w s cancelled_driver id.0 it cancelled_waiter who.r cancels sound (stages_again gate v) one punctual (λ h. absurd (false≢true (sym h)))
+      (eased (eases_written d.requests id.0 it cancelled_waiter who.live (λ t is. absurd (cc)) (λ none. refl)) (alike_unticked d.wheel (tick_in it.state)) (part_self d.lists.enrolments) (part_after id d.lists.due) sound.due.order)
+      (unticked_at s.config w.moments.start w.moments.sampled d.wheel (tick_in it.state) wheel) refl submitted_cancelled flown_cancelled
+      (carried_still w.names.requests.items d.requests d.ring s.requests.items s.store sound.carried id.0 it cancelled_waiter who.live refl (number_in w.names.requests.items id.0) cancels (λ r there. refl) (λ r there. refl))
+
+-- A STEP
+
+module _ {B L : Type 0} (left : B → L) (spot : L → Option Said → Spot) where
+  pub expiry_cancels : (w w' : Worker) (s s' : Shared B) (e : Event) (id : WaiterId) → (new : IsDueIn w s) → IsInOrder w s → (first : first_of (driver_of w).lists.due ≡ Some id) → (due_first w s new id first).it.in_flight ≡ true → HasExpired w w' s s' e id (due_first w s new id first).r → Steps left spot w s e w' s'
+  expiry_cancels w w' s s' e id new order first flies by =
+      let v = new.submits.service in
+      let gate = new.submits.gate in
+      let q : Place = at.Service (step.Submit gate) v in
+      let sound = new.submits.sound in
+      let d = driver_of w in
+      let rs = s.requests.items in
+      let k = number_in w.names.requests.items id.0 in
+      let who = due_first w s new id first in
+      let it = who.it in
+      let w0 : Worker = record w { place = q } in
+      let it' = cancelled_waiter w s new id first flies in
+      let d' = cancelled_driver w s new id first flies in
+      let rs' = cancelled_records w s new id first flies in
+      let ends : outcome_at_expiry who.r.shown ≡ None = ap (λ b. if b then Some (Failure Timeout) else None) (flies_not_queued who.r.shown.phase (who.alike.flying ∙ flies)) in
+      let driver : driver_of w' ≡ d' =
+      by.driver ∙ ap (cancelled_from (record d { lists = after_due d.lists }) id) who.live
+      ∙ ap (λ b. if b then (if asks_cancel it.state then (record d { lists = after_due d.lists }) else cancelling (record d { lists = after_due d.lists }) id it) else ended (record d { lists = after_due d.lists }) id it timed_out None) flies
+      ∙ ap (λ b. if b then (record d { lists = after_due d.lists }) else cancelling (record d { lists = after_due d.lists }) id it) who.unasked in
+      let tells : Tells w.home.deferred w'.home.deferred nothing_told =
+      subst (λ x. Tells w.home.deferred w'.home.deferred x)
+      (ap (told_by_cancel id) who.live ∙ ap (λ b. if b then nothing_told else told_by_finish id.0 it timed_out None) flies) by.tells in
+      let records : s'.requests.items ≡ rs' = by.records ∙ same_change rs k who.r expires cancels who.there (ap (λ o. record who.r { shown = expired o who.r.shown }) ends) in
+      let names = by.still ends in
+      let deferred = w'.home.deferred in
+      let w1 : Worker = record w { place = q; home = record w.home { deferred = deferred } } in
+      let w2 : Worker = record w1 { home = record w1.home { driver = w'.home.driver } } in
+      let same : w' ≡ record w { home = record w.home { driver = w'.home.driver; deferred = deferred } } =
+      by.worker ∙ ap (λ (x : Names). record w { home = record w.home { driver = w'.home.driver; deferred = deferred }; names = record w.names { ended = x.ended } }) names in
+      let there : w'.place ≡ q = ap (λ x. x.place) same ∙ sound.here in
+      let same2 : w' ≡ w2 = same ∙ ap (λ y. record w { place = y; home = record w.home { driver = w'.home.driver; deferred = deferred } }) sound.here in
+      let kept : KeepsBy w0 d' w.home.timers rs' s.sleepers.items s = keeps_cancelled w s new id first flies (subst IsPunctual driver by.punctual) in
+      let untold : KeepsBy w1 d' w.home.timers rs' s.sleepers.items s = keeps_untold w0 d' w.home.timers rs' s.sleepers.items s deferred tells kept in
+      let by_records : KeepsBy w1 d' w.home.timers s'.requests.items s.sleepers.items s = subst (λ x. KeepsBy w1 d' w.home.timers x s.sleepers.items s) (sym records) untold in
+      let by_driver : KeepsBy w1 (driver_of w') w.home.timers s'.requests.items s.sleepers.items s = subst (λ x. KeepsBy w1 x w.home.timers s'.requests.items s.sleepers.items s) (sym driver) by_records in
+      let by_home : KeepsBy w2 (driver_of w') w.home.timers s'.requests.items s.sleepers.items s = assumption by_driver in
+      let by_worker : KeepsBy w' (driver_of w') w'.home.timers s'.requests.items s.sleepers.items s = subst (λ x. KeepsBy x (driver_of w') x.home.timers s'.requests.items s.sleepers.items s) (sym same2) by_home in
+      let keeps : Keeps w' s' = subst (λ y. KeepsBy w' (driver_of w') w'.home.timers s'.requests.items y.sleepers.items y) (sym by.shared) (assumption by_worker) in
+      let serves : Serves q w w' s s' = record {
+        worker = subst (λ x. x ≡ record w { place = x.place; home = record w.home { driver = x.home.driver; timers = x.home.timers; deferred = x.home.deferred }; names = record w.names { ended = x.names.ended; staged = x.names.staged; untold = x.names.untold }; put_off = x.put_off }) (sym same) refl;
+        shared = subst (λ z. z ≡ record s { requests = z.requests; sleepers = z.sleepers }) (sym by.shared) refl;
+        from = refl;
+        to = ap is_calm there;
+        armed = ap is_armed_at there;
+        closes = ap closes_at there;
+      } in
+      let show = shows q w w' s s' d' serves driver in
+      let wakes : deferred.notes.wakes.items ≡ w.home.deferred.notes.wakes.items = tells.notes.wakes_added ∙ append-nil w.home.deferred.notes.wakes.items in
+      let outputs : deferred.outputs.items ≡ w.home.deferred.outputs.items = tells.outputs_added ∙ append-nil w.home.deferred.outputs.items in
+      let flying : flying_count d'.requests ≡ flying_count d.requests =
+      let n = flying_after d.requests id.0 it it' who.live in
+      omega (arith, n) in
+      let numbers : numbers_of w.names.requests.items (d.lists.cancels ++ id ∷ []) ≡ numbers_of w.names.requests.items d.lists.cancels ++ k ∷ [] = map-append (λ (x : WaiterId). number_in w.names.requests.items x.0) d.lists.cancels (id ∷ []) in
+      subst (λ x. Steps left spot w s x w' s') (sym (by.event ∙ ap (Expire k) ends))
+      (served left spot q w w' s s' (Expire k None) sound serves keeps
+      (λ p vs suits.
+      let cp = p.config in
+      let all = common_of left spot p vs s in
+      let request : request_of all k ≡ who.r.shown = request_seen rs k who.r who.there in
+      let found : first_due cp w.index (own_of w0) all ≡ Some k = subst (λ x. first_due x w.index (own_of w0) all ≡ Some k) suits.config (order id first) in
+      let due : due_next cp w.index gate (own_of w0) all (desk_of w0) ≡ Expires k = comes_to_due cp w.index gate k (own_of w0) all (desk_of w0) found in
+      let desk : desk_of w' ≡ desk_of w0 = show.desk ∙ rw (there, ap (λ x. x.put_off) same, wakes, outputs) refl in
+      record {
+        moves =
+            ap (move_submit cp w.index (own_of w0) all (desk_of w0) (things_of w.index s) gate v) due
+            ∙ ap (move_expire (desk_of w0) (things_of w.index s) gate v k) request
+            ∙ ap (λ o. makes (Expire k o) (submits v gate (told_if_ended o who.r.shown (desk_of w0))) (things_of w.index s)) ends
+            ∙ ap (λ x. makes (Expire k None) x (things_of w.index s)) (sym desk);
+        may = (refl, (told_first cp (own_of w0) w.index all.requests k found, (ap (same_end None) (ap outcome_at_expiry request ∙ ends), tt)));
+        own = show.own ∙ rw (there, ap (λ x. x.names.ended) same, ap (λ x. x.names.untold) same, numbers, flying) refl;
+        common =
+            ap (λ us. common_of left spot p us s') (ap (λ x. slice_set vs w.index x) show.seen ∙ set_found vs w.index (visible w) suits.seen)
+            ∙ common_changed left spot p vs s s' k who.r cancels by.shared records who.there (λ x. refl)
+            ∙ ap (λ x. record all { requests = slice_set (map (λ r. r.shown) rs) k (record x { timer = None; cancelled = true }) }) (sym request);
+      }))
+
+  -- by whether the kernel has it
+  pub expiry_steps : (w w' : Worker) (s s' : Shared B) (e : Event) (id : WaiterId) → (new : IsDueIn w s) → IsInOrder w s → (first : first_of (driver_of w).lists.due ≡ Some id) → HasExpired w w' s s' e id (due_first w s new id first).r → Steps left spot w s e w' s'
+  expiry_steps w w' s s' e id new order first by =
+      elim ((due_first w s new id first).it.in_flight) as (λ b. (due_first w s new id first).it.in_flight ≡ b → Steps left spot w s e w' s') [
+        | true ↦ λ flies. expiry_cancels w w' s s' e id new order first flies by
+        | false ↦ λ idle. expiry_ends left spot w w' s s' e id new order first idle by
+      ] refl

@@ -1,0 +1,336 @@
+-- The end of the stagings of a service.
+use Rattle.std.proofs.Common.{◌≡◌, ℕ, zero, suc, ◌+◌, ◌<◌, ◌≤◌, ◌==◌, ◌&&◌, ◌||◌, Bool, true, false, not, List, [], ◌∷◌, ◌++◌, length, map, filter, Option, Some, None, refl, sym, ap, subst, ◌∙◌, arith}
+use Rattle.std.proofs.lemmas.Bool.{false≢true}
+use Rattle.std.proofs.lemmas.List.{length-append}
+use Rattle.std.specs.Prelude.{slice_get, slice_set, nat_lt, if◌then◌else◌}
+use Rattle.std.specs.List.{list_any}
+use Rattle.exec_base.specs.Slab.{live_count}
+use Rattle.exec_ring.specs.{Kernels.entered as entered_ring, Rings.{RingState, completions}, declared.completion.Submission.Submission}
+use Rattle.exec_waiters.specs.{Ids.index_in, States.{pending_count, flying_count}, Told.is_untold, declared.waiter_id.WaiterId.WaiterId}
+use Rattle.exec_task.specs.declared.body.Said.{Said}
+use Rattle.exec_driver.specs.{Driving.{Driving, has_pending, may_stage_one, is_full as is_ring_full}, Punctual.IsPunctual, Steps.{wake_entry, poll_staged}}
+use Rattle.exec_machine.specs.{declared.{config.Configuration.Configuration, event.Event.{Event, TheVariants.{Serve, Busy}}}, Progress.Plan, Ranges.ring_size, Tests.is_resolved, World.{Own, Common, seat_of}}
+use Rattle.exec_moves.specs.{Callback.{has_requests, has_callbacks, is_full}, Load.has_submissions, Serve.{enters, after_staging}, Move.{move_at, move_submit}, Seen.serves_at, State.{Desk, Things}, Submit.{Due, staging_due, request_due, with_poll, Due.{Ends, Flushes}}, declared.place.{InService.InService, Service.Service, Place.Place}}
+use Rattle.exec_moves.specs.declared.place.InService.TheVariants as step
+use Rattle.exec_moves.specs.declared.place.Reaping.TheVariants as reaping
+use Rattle.exec_moves.specs.declared.place.Place.TheVariants as at
+use Rattle.exec_steps.specs.{declared.parts.{mail.Reply.Reply, shared.Shared.Shared, worker.{PutOff.PutOff, Worker.Worker}}, Carried.those_of, Due.{IsWheelAt, may_be_due, wheel_moment}, Flown.{AreAcks, HasFlown, operations}, Phased.closes_at, Rooted.IsRooted, Serving.{AreTagged, Enters, cancels_in, enters_after, with_staging_ended}, Sound.{tellers, SoundAt, IsNamed, IsSubmitted, served_in, is_armed_at}, Spots.Spot, Submitting.{IsIdle, EndsStaging, with_wake_poll, must_flush, after_flush}, Tests.{has_open_requests, is_anything_told}, View.{Visible, visible, own_of, desk_of, driver_of, common_of, things_of}, Works.{Suits, Steps}}
+use Rattle.exec_steps.proofs.{Conveying.{carried_ring, control_entry}, Entered.entered, Flown.landed_as, Going.{all_still, rooted_on}, Leading.told_seen, Seeing.{makes, own_with, desk_with, visible_with, served, common_same}, Serving.{is_calm, calm, Follows, Serves, Keeps, KeepsBy, own_seat}, Staging.{staging_next, flush_seen, stages_again, idle_at, suits_at}, Standing.{requests_seen, submissions_seen}}
+
+-- WHERE ONLY THE RING CHANGES
+
+-- a driver with another ring, in which the same has landed
+pub record SameButRing (d d' : Driving Reply Reply) : Type 0 where
+  pub requests : d'.requests ≡ d.requests
+  pub lists : d'.lists ≡ d.lists
+  pub wheel : d'.wheel ≡ d.wheel
+  pub size : d'.ring.size ≡ d.ring.size
+  pub landed : operations d'.ring ≡ operations d.ring
+  pub raised : d'.ring.raised ≡ d.ring.raised
+  pub acks : AreAcks d.ring.posted → AreAcks d'.ring.posted
+  pub cancels : cancels_in d'.ring.staged ≡ cancels_in d.ring.staged
+  pub tagged : AreTagged d.ring.staged → AreTagged d'.ring.staged
+  pub entries : length d.ring.staged ≤ length d'.ring.staged
+  pub flies : d'.ring.flying ≡ d.ring.flying
+  pub stages : (v : ℕ) → index_in v < 4294967295 → those_of v d'.ring.staged ≡ those_of v d.ring.staged
+
+module _ {B : Type 0} where
+  pub keeps_ring : (q q' : Place) (o : PutOff) (w : Worker) (s : Shared B) (d' : Driving Reply Reply) → SoundAt q w s → Follows q q' → SameButRing (driver_of w) d'
+      → (may_be_due (served_in q') ≡ false → (driver_of w).lists.due ≡ []) → KeepsBy (record w { place = q'; put_off = o }) d' w.home.timers s.requests.items s.sleepers.items s
+  keeps_ring q q' o w s d' sound to like told =
+      let d = driver_of w in
+      let rs = s.requests.items in
+      let due = sound.due in
+      let flown = sound.flown in
+      let named = sound.named in
+      let sub = named.submitted in
+      let submitted : IsSubmitted w.index w.names.staged.items w.names.untold.items d'.ring rs =
+      record { tagged = like.tagged sub.tagged; cancels = like.cancels ∙ sub.cancels; known = sub.known; own = sub.own; all = sub.all; unraised = like.raised ∙ sub.unraised } in
+      let d1 : Driving Reply Reply = record d' { requests = d.requests; lists = d.lists; wheel = d.wheel } in
+      let shape : d1 ≡ d' = rw (← like.requests, ← like.lists, ← like.wheel) refl in
+      subst (λ x. KeepsBy (record w { place = q'; put_off = o }) x w.home.timers rs s.sleepers.items s) shape (record {
+        told = sound.told;
+        named = record { requests = named.requests; timers = named.timers; alike = named.alike; over = named.over; submitted = submitted; slots = named.slots; beds = named.beds };
+        sized = like.size ∙ sound.sized;
+        over = sound.over;
+        quiet = λ h. sound.quiet (sym to.wakes ∙ h);
+        due = record { punctual = record { ahead = due.punctual.ahead }; told = told; wheel = subst (λ m. IsWheelAt s.config w.moments.start m d.wheel) (sym (to.moment w.moments)) due.wheel; timed = due.timed; asleep = due.asleep; order = due.order };
+        flown = record {
+          ending = flown.ending;
+          staging = rw like.size flown.staging;
+          telling = rw like.size flown.telling;
+          entries = omega (arith, flown.entries, like.entries);
+          permits = to.permits;
+          enrolling = flown.enrolling;
+          acks = like.acks flown.acks;
+          owning = flown.owning;
+          ours = flown.ours;
+          plain = flown.plain;
+          landed = rw like.landed (landed_as w.names d d1 rs (operations d.ring) refl flown.landed);
+          uncancelled = flown.uncancelled;
+        };
+        carried = carried_ring w.names.requests.items d.requests d.ring rs s.store sound.carried d1.ring (λ v small. ap (those_of v) like.flies) like.stages;
+        rooted =
+            rooted_on rs rs (all_still rs) None w.index w.root w.names w.names d d1 w.home.timers s.tasks.items s.sleepers.items
+            (subst (λ x. IsRooted x w.index w.root w.names d w.home.timers s.tasks.items rs s.sleepers.items) (calm q to.from).stands sound.rooted)
+            refl refl refl (λ id h. h) (λ id told h. h);
+        owed = sound.tied.owed;
+      })
+
+-- THE WAKE POLL
+
+tagged_poll : (es : List Submission) → AreTagged es → AreTagged (es ++ wake_entry ∷ [])
+tagged_poll [] t = ((λ h. absurd (false≢true h)), tt)
+tagged_poll (e ∷ es) t = (t.0, tagged_poll es t.1)
+
+no_cancel_more : (es : List Submission) → cancels_in (es ++ wake_entry ∷ []) ≡ cancels_in es
+no_cancel_more [] = refl
+no_cancel_more (e ∷ es) = rw (no_cancel_more es) refl
+
+polled_ring : (d : Driving Reply Reply) → SameButRing d (poll_staged d)
+polled_ring d =
+    record {
+      requests = refl;
+      lists = refl;
+      wheel = refl;
+      size = refl;
+      landed = refl;
+      raised = refl;
+      acks = λ a. a;
+      cancels = no_cancel_more d.ring.staged;
+      tagged = tagged_poll d.ring.staged;
+      entries = rw (length-append d.ring.staged (wake_entry ∷ [])) (omega arith);
+      flies = refl;
+      stages = λ v small. control_entry wake_entry v d.ring (λ h. omega (arith, h)) small;
+    }
+
+pub same_ring : (d : Driving Reply Reply) → SameButRing d d
+same_ring d = record { requests = refl; lists = refl; wheel = refl; size = refl; landed = refl; raised = refl; acks = λ a. a; cancels = refl; tagged = λ t. t; entries = omega arith; flies = refl; stages = λ v small. refl }
+
+poll_by : (a f : Bool) (d : Driving Reply Reply) → SameButRing d (if a then d else (if f then d else poll_staged d))
+poll_by true f d = same_ring d
+poll_by false true d = same_ring d
+poll_by false false d = polled_ring d
+
+-- WHERE IT LEADS
+
+abbrev pub after_by : Bool → InService
+after_by b = if b then step.EnterLast else step.Reap reaping.Last
+
+follows_by : (gate : ℕ) (v : Service) (b : Bool) → Follows (at.Service (step.Submit gate) v) (at.Service (after_by b) v)
+follows_by gate v true = record { from = refl; to = refl; serves = refl; armed = refl; closes = refl; wakes = refl; permits = refl; moment = λ m. refl }
+follows_by gate v false = record { from = refl; to = refl; serves = refl; armed = refl; closes = refl; wakes = refl; permits = refl; moment = λ m. refl }
+
+module _ {B L : Type 0} (left : B → L) (spot : L → Option Said → Spot) where
+  -- the machine enters then, or doesn't, as the worker does
+  pub enters_seen : (v : Service) (gate : ℕ) (w : Worker) (s : Shared B) (x : Desk) (p : Plan) (vs : List Visible) → SoundAt (at.Service (step.Submit gate) v) w s → Suits p vs w s
+      → x.wakes ≡ (desk_of w).wakes → x.outputs ≡ (desk_of w).outputs
+      → enters p.config w.index v (own_of w) (common_of left spot p vs s) x ≡ enters_after v w
+  enters_seen v gate w s x p vs sound suits wakes outputs =
+      let me = own_of w in
+      let c = p.config in
+      let requests = requests_seen w.index w.names (driver_of w) w.home.timers s.requests.items s.sleepers.items sound.named in
+      let told = told_seen me x w.home.deferred (tellers (driver_of w).requests w.home.timers) sound.told wakes outputs in
+      let submissions = submissions_seen c w (sound.sized ∙ ap ring_size suits.config) in
+      ap (λ b. b && (not v.defer || has_callbacks me x || has_submissions c me)) (sym requests)
+      ∙ ap (λ b. has_open_requests w && (not v.defer || b || has_submissions c me)) told
+      ∙ ap (λ b. has_open_requests w && (not v.defer || is_anything_told w || b)) (sym submissions)
+
+  requests_open : (v : Service) (gate : ℕ) (w : Worker) (s : Shared B) (p : Plan) (vs : List Visible) → SoundAt (at.Service (step.Submit gate) v) w s
+      → has_requests w.index (common_of left spot p vs s) ≡ has_open_requests w
+  requests_open v gate w s p vs sound = sym (requests_seen w.index w.names (driver_of w) w.home.timers s.requests.items s.sleepers.items sound.named)
+
+  -- what is on the desk once the staging has ended
+  pub ended_seen : (v : Service) (gate : ℕ) (w : Worker) (s : Shared B) (x : Desk) (p : Plan) (vs : List Visible) → SoundAt (at.Service (step.Submit gate) v) w s → Suits p vs w s
+      → x.wakes ≡ (desk_of w).wakes → x.outputs ≡ (desk_of w).outputs
+      → after_staging p.config w.index v (own_of w) (common_of left spot p vs s) x ≡ record x { place = at.Service (after_by (enters_after v w)) v; may_put_off = v.defer; put_off = has_open_requests w && not (enters_after v w) }
+  ended_seen v gate w s x p vs sound suits wakes outputs =
+      let by = enters_seen v gate w s x p vs sound suits wakes outputs in
+      ap (λ b. record x { place = at.Service (after_by b) v; may_put_off = v.defer; put_off = has_requests w.index (common_of left spot p vs s) && not b }) by
+      ∙ ap (λ b. record x { place = at.Service (after_by (enters_after v w)) v; may_put_off = v.defer; put_off = b && not (enters_after v w) }) (requests_open v gate w s p vs sound)
+
+-- the wake poll on the desk
+poll_seen : (w : Worker) (q : Place) (o : PutOff) (d : Driving Reply Reply) (a f : Bool)
+    → desk_with w q o w.home.deferred (if a then d else (if f then d else poll_staged d))
+    ≡ record (if a || f then desk_with w q o w.home.deferred d else (record (desk_with w q o w.home.deferred d) { entries = length d.ring.staged + 1; polled = true })) { place = q }
+poll_seen w q o d true f = refl
+poll_seen w q o d false true = refl
+poll_seen w q o d false false = ap (λ n. record (desk_with w q o w.home.deferred d) { entries = n; polled = true }) (length-append d.ring.staged (wake_entry ∷ []))
+
+-- nothing may be staged
+request_none : (c : Configuration) (w : Worker) → (driver_of w).ring.size ≡ ring_size c → may_stage_one (driver_of w) ≡ false → request_due c (own_of w) ≡ Ends
+request_none c w sized none = by (driver_of w).lists.queued refl
+  where
+    either : (b : Bool) → (if b then Ends else Ends) ≡ Ends
+    either true = refl
+    either false = refl
+
+    by : (ids : List WaiterId) → (driver_of w).lists.queued ≡ ids → request_due c (own_of w) ≡ Ends
+    by [] is = rw is (either (nat_lt (flying_count (driver_of w).requests) (ring_size c)))
+    by (id ∷ ids) is =
+        let full : nat_lt (flying_count (driver_of w).requests) (ring_size c) ≡ false = ap (nat_lt (flying_count (driver_of w).requests)) (sym sized) ∙ rw is at none in
+        rw full refl
+
+busy_same : (a f : Bool) (d : Driving Reply Reply) (numbers : List ℕ) → visible_with numbers (if a then d else (if f then d else poll_staged d)).ring ≡ visible_with numbers d.ring
+busy_same true f d numbers = refl
+busy_same false true d numbers = refl
+busy_same false false d numbers = refl
+
+own_polled : (a f : Bool) (w : Worker) (q : Place) → own_with w q w.names.ended.items w.names.untold.items (if a then driver_of w else (if f then driver_of w else poll_staged (driver_of w))) ≡ own_with w q w.names.ended.items w.names.untold.items (driver_of w)
+own_polled true f w q = refl
+own_polled false true w q = refl
+own_polled false false w q = refl
+
+-- the machine's desk with the wake poll is that of the driver
+with_poll_seen : (size : ℕ) (w : Worker) (a f : Bool) → (driver_of w).armed ≡ a → is_full size (desk_of w) ≡ f
+    → with_poll size (desk_of w) ≡ (if a || f then desk_of w else (record (desk_of w) { entries = length (driver_of w).ring.staged + 1; polled = true }))
+with_poll_seen size w true f armed full = rw armed refl
+with_poll_seen size w false true armed full = rw (armed, full) refl
+with_poll_seen size w false false armed full = rw (armed, full) refl
+
+module _ {B L : Type 0} (left : B → L) (spot : L → Option Said → Spot) where
+  pub staging_ended : (v : Service) (w w' w1 : Worker) (s : Shared B) (e : Event) → (idle : IsIdle v w s) → must_flush (driver_of w) ≡ false → (driver_of w).lists.cancels ≡ [] → may_stage_one (driver_of w) ≡ false
+      → e ≡ Serve → EndsStaging w w1 → w' ≡ with_staging_ended v w1 → Steps left spot w s e w' s
+  staging_ended v w w' w1 s e idle unflushed none few event ends is =
+      let q : Place = at.Service (step.Submit idle.gate) v in
+      let sound = idle.sound in
+      let d = driver_of w in
+      let d' : Driving Reply Reply = record (with_wake_poll d) { landings = (driver_of w1).landings } in
+      let like0 = poll_by d.armed (is_ring_full d) d in
+      let like : SameButRing d d' = record { requests = like0.requests; lists = like0.lists; wheel = like0.wheel; size = like0.size; landed = like0.landed; raised = like0.raised; acks = like0.acks; cancels = like0.cancels; tagged = like0.tagged; entries = like0.entries; flies = like0.flies; stages = like0.stages } in
+      let b = enters_after v w in
+      let o : PutOff = record { defer = v.defer; «enter» = has_open_requests w && not b } in
+      let q' : Place = at.Service (after_by b) v in
+      let w2 : Worker = record w { place = q'; put_off = o; home = record w.home { driver = w1.home.driver } } in
+      let pending : pending_count d'.requests ≡ pending_count d.requests = ap pending_count like.requests in
+      let enters_same : enters_after v w1 ≡ b =
+      ap (λ (x : Worker). not (pending_count (driver_of w1).requests == 0) && (not v.defer || not (is_untold x.home.deferred) || has_pending (driver_of w1))) ends.worker
+      ∙ ap (λ (x : Driving Reply Reply). not (pending_count x.requests == 0) && (not v.defer || not (is_untold w.home.deferred) || has_pending x)) ends.driver
+      ∙ rw (like.requests, like.lists, like.size) refl in
+      let requests_same : has_open_requests w1 ≡ has_open_requests w = ap (λ (x : Driving Reply Reply). not (pending_count x.requests == 0)) ends.driver ∙ ap (λ n. not (n == 0)) pending in
+      let same : w' ≡ w2 =
+      is
+      ∙ ap (λ c. record w1 { place = at.Service (after_by c) v; put_off = record { defer = v.defer; «enter» = has_open_requests w1 && not c } }) enters_same
+      ∙ ap (λ c. record w1 { place = q'; put_off = record { defer = v.defer; «enter» = c && not b } }) requests_same
+      ∙ ap (λ (x : Worker). record x { place = q'; put_off = o }) ends.worker in
+      let driver : driver_of w' ≡ d' = ap driver_of same ∙ ends.driver in
+      let follows = follows_by idle.gate v b in
+      let serves : Serves q w w' s s = record {
+        worker = subst (λ x. x ≡ record w { place = x.place; home = record w.home { driver = x.home.driver; timers = x.home.timers; deferred = x.home.deferred }; names = record w.names { ended = x.names.ended; staged = x.names.staged; untold = x.names.untold }; put_off = x.put_off }) (sym same) refl;
+        shared = refl;
+        from = refl;
+        to = ap (λ x. is_calm x.place) same ∙ follows.to;
+        armed = ap (λ x. is_armed_at x.place) same ∙ follows.armed;
+        closes = ap (λ x. closes_at x.place) same ∙ follows.closes;
+      } in
+      let by : KeepsBy (record w { place = q'; put_off = o }) d' w.home.timers s.requests.items s.sleepers.items s =
+      keeps_ring q q' o w s d' sound follows like (λ h. idle.due) in
+      let keeps : Keeps w' s =
+      subst (λ x. KeepsBy x (driver_of x) x.home.timers s.requests.items s.sleepers.items s) (sym same)
+      (subst (λ x. KeepsBy w2 x w.home.timers s.requests.items s.sleepers.items s) (sym ends.driver) (assumption by)) in
+      let seen : visible w' ≡ visible w =
+      ap visible same ∙ ap (λ (x : Driving Reply Reply). visible_with w.names.requests.items x.ring) ends.driver ∙ busy_same d.armed (is_ring_full d) d w.names.requests.items in
+      let w0 : Worker = record w { place = q } in
+      let idle0 : IsIdle v w0 s = idle_at v w s idle in
+      subst (λ x. Steps left spot w s x w' s) (sym event)
+      (served left spot q w w' s s Serve sound serves keeps
+      (λ p vs suits.
+      let c = p.config in
+      let all = common_of left spot p vs s in
+      let suits0 = suits_at q p vs w s suits in
+      let sized : d.ring.size ≡ ring_size c = sound.sized ∙ ap ring_size suits.config in
+      let due : staging_due c (own_of w0) (desk_of w0) ≡ Ends =
+      rw (flush_seen c w0 sized, unflushed, none) (request_none c w0 sized few) in
+      let a = d.armed in
+      let f = is_ring_full d in
+      let full : is_full (ring_size c) (desk_of w0) ≡ f = ap (λ n. not (nat_lt (length d.ring.staged) n)) (sym sized) in
+      let x : Desk = if a || f then desk_of w0 else (record (desk_of w0) { entries = length d.ring.staged + 1; polled = true }) in
+      let wakes : x.wakes ≡ (desk_of w0).wakes = wakes_there (a || f) (desk_of w0) (length d.ring.staged + 1) in
+      let outputs : x.outputs ≡ (desk_of w0).outputs = outputs_there (a || f) (desk_of w0) (length d.ring.staged + 1) in
+      record {
+        moves =
+            ap (move_submit c w.index (own_of w0) all (desk_of w0) (things_of w.index s) idle.gate v) (staging_next left spot v w0 s idle0 p vs suits0 ∙ due)
+            ∙ ap (λ y. makes Serve (after_staging c w.index v (own_of w0) all y) (things_of w.index s)) (with_poll_seen (ring_size c) w0 a f refl full)
+            ∙ ap (λ y. makes Serve y (things_of w.index s))
+            (ended_seen left spot v idle.gate w0 s x p vs idle0.sound suits0 wakes outputs
+            ∙ desk_there (a || f) w q' o (length d.ring.staged + 1)
+            ∙ sym (ap desk_of same ∙ ap (desk_with w q' o w.home.deferred) ends.driver ∙ poll_seen w q' o d a f));
+        may = (refl, tt);
+        own = ap own_of same ∙ ap (own_with w q' w.names.ended.items w.names.untold.items) ends.driver ∙ own_polled a f w q' ∙ rw (served_by b) refl;
+        common = common_same left spot p vs w w' s suits seen;
+      }))
+    where
+      served_by : (b : Bool) → serves_at (at.Service (after_by b) v) ≡ true
+      served_by true = refl
+      served_by false = refl
+
+      wakes_there : (b : Bool) (x : Desk) (n : ℕ) → (if b then x else (record x { entries = n; polled = true })).wakes ≡ x.wakes
+      wakes_there true x n = refl
+      wakes_there false x n = refl
+
+      outputs_there : (b : Bool) (x : Desk) (n : ℕ) → (if b then x else (record x { entries = n; polled = true })).outputs ≡ x.outputs
+      outputs_there true x n = refl
+      outputs_there false x n = refl
+
+      desk_there : (b : Bool) (u : Worker) (r : Place) (o : PutOff) (n : ℕ)
+          → record (if b then desk_of (record u { place = at.Service (step.Submit idle.gate) v }) else (record (desk_of (record u { place = at.Service (step.Submit idle.gate) v })) { entries = n; polled = true })) { place = r; may_put_off = o.defer; put_off = o.«enter» }
+          ≡ record (if b then desk_with u r o u.home.deferred (driver_of u) else (record (desk_with u r o u.home.deferred (driver_of u)) { entries = n; polled = true })) { place = r }
+      desk_there true u r o n = refl
+      desk_there false u r o n = refl
+
+-- A FULL QUEUE IS ENTERED FIRST
+
+module _ {B L : Type 0} (left : B → L) (spot : L → Option Said → Spot) where
+  -- with a worker that has the same driver but for its ring and landings
+  after_same : (v : Service) (w w1 : Worker) (s s' : Shared B) (e : Event) → Enters w s e w1 s' → (driver_of w).ring.busy ≡ true
+      → (enters_after v w1 ≡ enters_after v w) × (has_open_requests w1 ≡ has_open_requests w)
+  after_same v w w1 s s' e it busy =
+      let ring : entered_ring (driver_of w).ring ≡ record (driver_of w).ring { busy = false } = rw busy refl in
+      let d' : Driving Reply Reply = record (driver_of w) { ring = record (driver_of w).ring { busy = false }; landings = (driver_of w1).landings } in
+      let driver : driver_of w1 ≡ d' = it.driver ∙ ap (λ x. record (driver_of w) { ring = x; landings = (driver_of w1).landings }) ring in (
+        ap (λ (x : Worker). not (pending_count (driver_of w1).requests == 0) && (not v.defer || not (is_untold x.home.deferred) || has_pending (driver_of w1))) it.worker
+            ∙ ap (λ (x : Driving Reply Reply). not (pending_count x.requests == 0) && (not v.defer || not (is_untold w.home.deferred) || has_pending x)) driver,
+        ap (λ (x : Driving Reply Reply). not (pending_count x.requests == 0)) driver,
+      )
+
+  entered_there : (w w' w1 : Worker) (s s' : Shared B) (e : Event) → Enters w s e w1 s' → w' ≡ record w1 { place = w'.place; put_off = w'.put_off } → Enters w s e (record w' { place = w.place; put_off = w.put_off }) s'
+  entered_there w w' w1 s s' e it same =
+      let back : record w1 { place = w.place; put_off = w.put_off } ≡ w1 = rw (← ap (λ x. x.place) it.worker, ← ap (λ x. x.put_off) it.worker) refl in
+      subst (λ x. Enters w s e x s') (sym (ap (λ (x : Worker). record x { place = w.place; put_off = w.put_off }) same ∙ back)) it
+
+  pub flush_entered : (v : Service) (w w' w1 : Worker) (s s' : Shared B) (e : Event) → (idle : IsIdle v w s) → must_flush (driver_of w) ≡ true → Enters w s e w1 s' → w' ≡ after_flush v (driver_of w).ring.busy w1 → Steps left spot w s e w' s'
+  flush_entered v w w' w1 s s' e idle full it is =
+      elim ((driver_of w).ring.busy) as (λ b. (driver_of w).ring.busy ≡ b → w' ≡ after_flush v b w1 → Steps left spot w s e w' s') [
+        | true ↦ put_aside
+        | false ↦ went_in
+      ] refl is
+    where
+      moved : (p : Plan) (vs : List Visible) → Suits p vs w s
+          → move_at p.config w.index (own_of w) (common_of left spot p vs s) (desk_of w) (things_of w.index s) (at.Service (step.Submit idle.gate) v)
+          ≡ move_submit p.config w.index (own_of w) (common_of left spot p vs s) (desk_of w) (things_of w.index s) idle.gate v Flushes
+      moved p vs suits =
+          let c = p.config in
+          let due : staging_due c (own_of w) (desk_of w) ≡ Flushes = rw (flush_seen c w (idle.sound.sized ∙ ap ring_size suits.config), full) refl in
+          ap (move_submit c w.index (own_of w) (common_of left spot p vs s) (desk_of w) (things_of w.index s) idle.gate v) (staging_next left spot v w s idle p vs suits ∙ due)
+
+      went_in : (driver_of w).ring.busy ≡ false → w' ≡ w1 → Steps left spot w s e w' s'
+      went_in free same =
+          let there : w'.place ≡ at.Service (step.Submit idle.gate) v = ap (λ x. x.place) same ∙ ap (λ x. x.place) it.worker ∙ idle.sound.here in
+          let off : w'.put_off ≡ w.put_off = ap (λ x. x.put_off) same ∙ ap (λ x. x.put_off) it.worker in
+          entered left spot (at.Service (step.Submit idle.gate) v) w w' s s' e idle.sound (subst (λ y. Follows (at.Service (step.Submit idle.gate) v) y) (sym there) (stages_again idle.gate v)) (λ h. idle.due)
+          (entered_there w w' w1 s s' e it (subst (λ x. x ≡ record w1 { place = x.place; put_off = x.put_off }) (sym same) refl))
+          (λ p vs suits. moved p vs suits ∙ rw (there, off, own_seat left spot p vs w s idle.sound.alone.seat suits idle.sound.alone.there, free) refl)
+
+      put_aside : (driver_of w).ring.busy ≡ true → w' ≡ with_staging_ended v w1 → Steps left spot w s e w' s'
+      put_aside busy same =
+          let like = after_same v w w1 s s' e it busy in
+          let b = enters_after v w in
+          let there : w'.place ≡ at.Service (after_by b) v = ap (λ x. x.place) same ∙ ap (λ c. at.Service (after_by c) v) like.0 in
+          let defer : w'.put_off.defer ≡ v.defer = ap (λ x. x.put_off.defer) same in
+          let put : w'.put_off.«enter» ≡ (has_open_requests w && not b) = ap (λ x. x.put_off.«enter») same ∙ ap (λ c. has_open_requests w1 && not c) like.0 ∙ ap (λ c. c && not b) like.1 in
+          entered left spot (at.Service (step.Submit idle.gate) v) w w' s s' e idle.sound (subst (λ y. Follows (at.Service (step.Submit idle.gate) v) y) (sym there) (follows_by idle.gate v b)) (λ h. idle.due)
+          (entered_there w w' w1 s s' e it (subst (λ x. x ≡ record w1 { place = x.place; put_off = x.put_off }) (sym same) refl))
+          (λ p vs suits.
+          moved p vs suits
+          ∙ rw (there, defer, put, own_seat left spot p vs w s idle.sound.alone.seat suits idle.sound.alone.there, busy)
+          (ap (λ x. makes Busy x (things_of w.index s)) (ended_seen left spot v idle.gate w s (record (desk_of w) { place = at.Service (step.Submit idle.gate) v }) p vs idle.sound suits refl refl)))

@@ -1,0 +1,271 @@
+-- The steps of a closing, each as a step of the machine.
+use Rattle.std.proofs.Common.{◌≡◌, ℕ, ◌-◌, ◌==◌, ◌||◌, Bool, true, false, not, [], length, map, Option, Some, None, refl, sym, ap, subst, ◌∙◌, arith}
+use Rattle.std.proofs.lemmas.Bool.{false≢true, eq-eqb}
+use Rattle.std.proofs.lemmas.List.{length-map, set-get_or}
+use Rattle.std.proofs.lemmas.Option.{slice_get_within}
+use Rattle.std.specs.Prelude.{slice_get, slice_set, if◌then◌else◌}
+use Rattle.std.specs.List.{list_all}
+use Rattle.exec_task.specs.{TaskSet.{Set, drain_of, passed, IsFor}, declared.{drain.Drain.Drain, body.Said.Said, runnable.Runnable.Runnable}}
+use Rattle.exec_words.specs.{Global.Global, Inbox.shut}
+use Rattle.exec_machine.specs.{declared.event.Event.{Event, TheVariants.{Turn, Close, Stop, End}}, Choice.Choice.{Plain, Passes}, Closing.{gone_with, is_over_or_root}, Tests.{is_asleep, all_left}}
+use Rattle.exec_machine.specs.declared.state.WorkerPhase.TheVariants as worker
+use Rattle.exec_moves.specs.declared.place.AfterCallbacks.TheVariants as after
+use Rattle.exec_moves.specs.declared.place.InCallbacks.TheVariants as callback
+use Rattle.exec_moves.specs.declared.place.InClosing.TheVariants as closing
+use Rattle.exec_moves.specs.{declared.place.Place.Place, Close.{after_visit, is_held_here}}
+use Rattle.exec_moves.specs.declared.place.Place.TheVariants as at
+use Rattle.exec_steps.specs.{declared.parts.{seat.Seat.Seat as Chair, shared.Shared.Shared, worker.Worker.Worker}, Phased.{IsGoing, TurnsChair, stage_of}, Sound.{SoundAt, IsAlone}, Spots.Spot, View.{visible, common_of, things_of, task_seen}, Works.{SameShared, Steps}}
+use Rattle.exec_steps.proofs.{Hearing.unheard, Shutting.{mapped_all, none_numbered, same_by, first_alone, now_closing, now_done, gone_before, unheld, positive, visit_free, alone_on, sound_on, phased_on, held_nothing, onward, told_as, root_there, seats_on, stays}, Phased.{set_there, same_thing}, Turning.set_found, Seats.{seats_all, own_seat}}
+
+module _ {B L : Type 0} (left : B → L) (spot : L → Option Said → Spot) where
+  pub closing_began : (w w' : Worker) (s s' : Shared B) (e : Event) → SoundAt (at.Closing closing.Close) w s → e ≡ Close
+      → w' ≡ record w { place = at.Closing closing.CloseQueue; home = record w.home { closing = true } } → TurnsChair w.index (λ chair. record chair { phase = worker.Closing }) s s'
+      → s' ≡ record s { seats = s'.seats; set = record s.set { closed = true } } → Steps left spot w s e w' s'
+  closing_began w w' s s' e sound event goes turns kept =
+      let w1 : Worker = record w { place = at.Closing closing.CloseQueue; home = record w.home { closing = true } } in
+      let s1 : Shared B = record s { seats = s'.seats; set = record s.set { closed = true } } in
+      let seat = sound.alone.seat in
+      let chair : Chair = record seat { phase = worker.Closing } in
+      let items : s'.seats.items ≡ slice_set s.seats.items w.index chair = turns seat sound.alone.there in
+      let found : slice_get s'.seats.items w.index ≡ Some chair = ap (λ xs. slice_get xs w.index) items ∙ set_there s.seats.items w.index chair seat sound.alone.there in
+      let alone = alone_on w.index s.seats.items s'.seats.items s.global.values chair sound.alone (record { queue = refl; messages = refl; waker = refl }) items in
+      let phased = sound.phased seat sound.alone.there in
+      let things : things_of w.index s ≡ things_of w.index s1 = rw (found, sound.alone.there) refl in
+      told_as left spot w w1 w' s s1 s' Close e event goes kept (
+        (λ p vs suits.
+            let seen = common_of left spot p vs s in
+            let mine = own_seat left spot p vs w s seat suits sound.alone.there in
+            let root = root_there left spot p vs s w.root sound.runnable.root sound.runnable.there in
+            record {
+              choice = Plain;
+              moves = rw (sound.here, ← things) refl;
+              may = rw sound.here (refl, (rw mine phased.opened, (rw (root, sound.runnable.home, eq-eqb w.index w.index refl) refl, (rw root (now_done sound.runnable.root.cell.phase sound.runnable.root.poller ∙ phased.root sound.runnable.root sound.runnable.there), tt))));
+              own = rw (sound.here, sound.index) refl;
+              common = rw (seats_on left spot p vs w s s' chair suits items, mine, phased.set, sound.index) refl;
+            }),
+        sound_on closing.Close (at.Closing closing.CloseQueue) w w.batch true s s1 sound refl sound.batch alone
+            (phased_on true (Some closing.CloseQueue) true w.root w.names.unreleased w.index s1 chair s.tasks.items found (record {
+              told = refl;
+              opened = refl;
+              ended = λ h. absurd (false≢true h);
+              root = phased.root;
+              lone = phased.lone;
+              pool = phased.pool;
+              stopped = phased.stopped;
+              left = phased.left;
+              shut = phased.shut;
+              set = refl;
+              empty = phased.empty;
+              prepared = tt;
+            })),
+        unheard refl refl refl,
+      )
+
+  pub queue_closed : (w w' : Worker) (s s' : Shared B) (e : Event) → SoundAt (at.Closing closing.CloseQueue) w s → IsGoing w.index s.seats.items → e ≡ Turn
+      → w' ≡ record w { place = at.Closing closing.OpenBarrier } → s' ≡ record s { global = record { values = []; places = 0; closed = true } } → Steps left spot w s e w' s'
+  queue_closed w w' s s' e sound going event goes kept =
+      let none : Global Runnable = record { values = []; places = 0; closed = true } in
+      told_as left spot w (record w { place = at.Closing closing.OpenBarrier }) w' s (record s { global = none }) s' Turn e event goes kept (
+        (λ p vs suits. record {
+          choice = Plain;
+          moves = rw sound.here refl;
+          may = tt;
+          own = rw sound.here refl;
+          common = rw (sound.here, set_found vs w.index (visible w) suits.seen) refl;
+        }),
+        stays closing.CloseQueue closing.OpenBarrier w s none s.barrier_open s.stopped sound refl refl going refl (sound.phased sound.alone.seat sound.alone.there).stopped refl refl tt,
+        unheard refl refl refl,
+      )
+
+  pub barrier_opened : (w w' : Worker) (s s' : Shared B) (e : Event) → SoundAt (at.Closing closing.OpenBarrier) w s → IsGoing w.index s.seats.items → e ≡ Turn
+      → w' ≡ record w { place = at.Closing closing.Stop } → s' ≡ record s { barrier_open = true } → Steps left spot w s e w' s'
+  barrier_opened w w' s s' e sound going event goes kept =
+      told_as left spot w (record w { place = at.Closing closing.Stop }) w' s (record s { barrier_open = true }) s' Turn e event goes kept (
+        (λ p vs suits. record {
+          choice = Plain;
+          moves = rw sound.here refl;
+          may = tt;
+          own = rw sound.here refl;
+          common = rw (sound.here, set_found vs w.index (visible w) suits.seen) refl;
+        }),
+        stays closing.OpenBarrier closing.Stop w s s.global true s.stopped sound refl refl going sound.alone.elsewhere (sound.phased sound.alone.seat sound.alone.there).stopped refl refl tt,
+        unheard refl refl refl,
+      )
+
+  pub pool_stopped : (w w' : Worker) (s s' : Shared B) (e : Event) → SoundAt (at.Closing closing.Stop) w s → IsGoing w.index s.seats.items → e ≡ Stop
+      → w' ≡ record w { place = at.Closing closing.Discard } → s' ≡ record s { stopped = true } → Steps left spot w s e w' s'
+  pool_stopped w w' s s' e sound going event goes kept =
+      let seat = sound.alone.seat in
+      let phased = sound.phased seat sound.alone.there in
+      told_as left spot w (record w { place = at.Closing closing.Discard }) w' s (record s { stopped = true }) s' Stop e event goes kept (
+        (λ p vs suits.
+            let mine = own_seat left spot p vs w s seat suits sound.alone.there in
+            record {
+              choice = Plain;
+              moves = rw sound.here refl;
+              may = rw sound.here (refl, (rw sound.index refl, (rw mine (now_closing seat.phase phased.opened (going seat sound.alone.there)), (rw phased.stopped refl, tt))));
+              own = rw (sound.here, ← suits.config, sound.config.one_worker) refl;
+              common = rw (set_found vs w.index (visible w) suits.seen) refl;
+            }),
+        stays closing.Stop closing.Discard w s s.global s.barrier_open true sound refl refl going sound.alone.elsewhere refl refl refl tt,
+        unheard refl refl refl,
+      )
+
+  pub queue_emptied : (w w' : Worker) (s s' : Shared B) (e : Event) → SoundAt (at.Closing closing.Discard) w s → IsGoing w.index s.seats.items → e ≡ Turn
+      → w' ≡ record w { place = at.Closing (closing.Visit (drain_of s.set w.index)) } → IsFor (drain_of s.set w.index) s.set → SameShared s s' → Steps left spot w s e w' s'
+  queue_emptied w w' s s' e sound going event goes its same =
+      let q : Place = at.Closing (closing.Visit (drain_of s.set w.index)) in
+      let things : things_of w.index (record s { seats = s'.seats }) ≡ things_of w.index s = rw same.seats refl in
+      let phased = sound.phased sound.alone.seat sound.alone.there in
+      let holds : SoundAt q (record w { place = q }) s =
+      stays closing.Discard (closing.Visit (drain_of s.set w.index)) w s s.global s.barrier_open s.stopped sound refl refl going sound.alone.elsewhere phased.stopped refl refl (its, omega (arith, its.there)) in
+      told_as left spot w (record w { place = q }) w' s (record s { seats = s'.seats }) s' Turn e event goes same.kept (
+        (λ p vs suits. record {
+          choice = Plain;
+          moves = rw (sound.here, things, sound.alone.there, sound.alone.run_queue, length-map) refl;
+          may = tt;
+          own = rw sound.here refl;
+          common = rw (sound.here, set_found vs w.index (visible w) suits.seen, same.seats) refl;
+        }),
+        sound_on closing.Discard q w w.batch w.home.closing s (record s { seats = s'.seats }) sound refl sound.batch
+            (subst (λ xs. IsAlone w.index false xs s.global.values) (sym same.seats) sound.alone)
+            (λ chair there. holds.phased chair (subst (λ xs. slice_get xs w.index ≡ Some chair) same.seats there)),
+        unheard refl refl refl,
+      )
+
+  -- the drain after a visit that found nothing, by whether it is over
+  visited_by : (b : Bool) (drain : Drain) (w : Worker) (s : Shared B) → SoundAt (at.Closing (closing.Visit drain)) w s → IsGoing w.index s.seats.items → ((passed (length s.set.shards) drain).left == 0) ≡ b
+      → IsFor (passed (length s.set.shards) drain) s.set
+      → SoundAt (at.Closing (if b then closing.LeaveBarrier else closing.Visit (passed (length s.set.shards) drain))) (record w { place = at.Closing (if b then closing.LeaveBarrier else closing.Visit (passed (length s.set.shards) drain)) }) s
+  visited_by true drain w s sound going over its =
+      stays (closing.Visit drain) closing.LeaveBarrier w s s.global s.barrier_open s.stopped sound refl refl going sound.alone.elsewhere (sound.phased sound.alone.seat sound.alone.there).stopped refl refl tt
+  visited_by false drain w s sound going over its =
+      stays (closing.Visit drain) (closing.Visit (passed (length s.set.shards) drain)) w s s.global s.barrier_open s.stopped sound refl refl going sound.alone.elsewhere (sound.phased sound.alone.seat sound.alone.there).stopped refl refl
+      (its, positive (drain.left - 1) over)
+
+  pub shard_visited : (drain : Drain) (w w' : Worker) (s : Shared B) (set' : Set (Unit {0})) (e : Event) → SoundAt (at.Closing (closing.Visit drain)) w s → IsGoing w.index s.seats.items → e ≡ Turn
+      → w' ≡ record w { place = at.Closing (after_visit (passed (length s.set.shards) drain)) } → IsFor (passed (length s.set.shards) drain) s.set → set' ≡ s.set → Steps left spot w s e w' (record s { set = set' })
+  shard_visited drain w w' s set' e sound going event goes its same =
+      let q : Place = at.Closing (after_visit (passed (length s.set.shards) drain)) in
+      told_as left spot w (record w { place = q }) w' s s (record s { set = set' }) Turn e event goes (ap (λ x. record s { set = x }) same) (
+        (λ p vs suits. record {
+          choice = Plain;
+          moves = rw (sound.here, length-map, set-get_or) refl;
+          may = tt;
+          own = rw (sound.here, visit_free (passed (length s.set.shards) drain)) refl;
+          common = rw (sound.here, set_found vs w.index (visible w) suits.seen) refl;
+        }),
+        visited_by ((passed (length s.set.shards) drain).left == 0) drain w s sound going refl its,
+        unheard refl refl refl,
+      )
+
+  pub barrier_left : (w w' : Worker) (s s' : Shared B) (e : Event) → SoundAt (at.Closing closing.LeaveBarrier) w s → IsGoing w.index s.seats.items → e ≡ Turn
+      → w' ≡ record w { place = at.Closing closing.CloseMailbox } → TurnsChair w.index (λ chair. record chair { left = true }) s s' → s' ≡ record s { seats = s'.seats } → Steps left spot w s e w' s'
+  barrier_left w w' s s' e sound going event goes turns kept =
+      let q : Place = at.Closing closing.CloseMailbox in
+      let s1 : Shared B = record s { seats = s'.seats } in
+      let seat = sound.alone.seat in
+      let chair : Chair = record seat { left = true } in
+      let items : s'.seats.items ≡ slice_set s.seats.items w.index chair = turns seat sound.alone.there in
+      let found : slice_get s'.seats.items w.index ≡ Some chair = ap (λ xs. slice_get xs w.index) items ∙ set_there s.seats.items w.index chair seat sound.alone.there in
+      let alone = alone_on w.index s.seats.items s'.seats.items s.global.values chair sound.alone (record { queue = refl; messages = refl; waker = refl }) items in
+      let phased = sound.phased seat sound.alone.there in
+      let things : things_of w.index s ≡ things_of w.index s1 = rw (found, sound.alone.there) refl in
+      told_as left spot w (record w { place = q }) w' s s1 s' Turn e event goes kept (
+        (λ p vs suits.
+            let mine = own_seat left spot p vs w s seat suits sound.alone.there in
+            record {
+              choice = Passes;
+              moves = rw (sound.here, ← things) refl;
+              may = rw sound.here (refl, (rw mine (now_closing seat.phase phased.opened (going seat sound.alone.there)), (rw mine phased.pool, (rw mine (ap not phased.left), (phased.stopped, tt)))));
+              own = rw sound.here refl;
+              common = rw (seats_on left spot p vs w s s' chair suits items, mine) refl;
+            }),
+        sound_on closing.LeaveBarrier q w w.batch w.home.closing s s1 sound refl sound.batch alone
+            (phased_on true (Some closing.CloseMailbox) w.home.closing w.root w.names.unreleased w.index s1 chair s.tasks.items found
+            (onward closing.LeaveBarrier (Some closing.CloseMailbox) w.home.closing w.root w.names.unreleased (stage_of seat s) s.stopped true seat.mailbox.inbox.closed s.tasks.items phased (going seat sound.alone.there) phased.stopped refl phased.shut tt)),
+        unheard refl refl refl,
+      )
+
+  pub mailbox_closed : (w w' : Worker) (s s' : Shared B) (e : Event) → SoundAt (at.Closing closing.CloseMailbox) w s → IsGoing w.index s.seats.items → e ≡ Turn
+      → w' ≡ record w { place = at.Callbacks callback.TakeBatch after.Drain } → TurnsChair w.index (λ chair. record chair { mailbox = record chair.mailbox { inbox = shut chair.mailbox.inbox } }) s s' → s' ≡ record s { seats = s'.seats } → Steps left spot w s e w' s'
+  mailbox_closed w w' s s' e sound going event goes turns kept =
+      let q : Place = at.Callbacks callback.TakeBatch after.Drain in
+      let s1 : Shared B = record s { seats = s'.seats } in
+      let seat = sound.alone.seat in
+      let chair : Chair = record seat { mailbox = record seat.mailbox { inbox = shut seat.mailbox.inbox } } in
+      let items : s'.seats.items ≡ slice_set s.seats.items w.index chair = turns seat sound.alone.there in
+      let found : slice_get s'.seats.items w.index ≡ Some chair = ap (λ xs. slice_get xs w.index) items ∙ set_there s.seats.items w.index chair seat sound.alone.there in
+      let alone = alone_on w.index s.seats.items s'.seats.items s.global.values chair sound.alone (record { queue = refl; messages = refl; waker = refl }) items in
+      let phased = sound.phased seat sound.alone.there in
+      let nothing = held_nothing closing.CloseMailbox w s sound refl in
+      let things : things_of w.index s ≡ things_of w.index s1 = rw (found, sound.alone.there) refl in
+      let held = none_numbered (λ n r. is_held_here w.index r) (λ r. r.shown) 0 s.requests.items (λ m k r there. unheld w.index r.shown (nothing.unobserved k r there)) in
+      let asleep = none_numbered (λ n z. is_asleep w.index z) (λ z. z.shown) 0 s.sleepers.items (λ m k z there. nothing.awake k z there) in
+      told_as left spot w (record w { place = q }) w' s s1 s' Turn e event goes kept (
+        (λ p vs suits.
+            let mine = own_seat left spot p vs w s seat suits sound.alone.there in
+            record {
+              choice = Plain;
+              moves = rw (sound.here, ← things, held, asleep, sound.batch) refl;
+              may = tt;
+              own = rw sound.here refl;
+              common = rw (sound.here, seats_on left spot p vs w s s' chair suits items, mine, sound.alone.inbox) refl;
+            }),
+        sound_on closing.CloseMailbox q w w.batch w.home.closing s s1 sound refl sound.batch alone
+            (phased_on true None w.home.closing w.root w.names.unreleased w.index s1 chair s.tasks.items found
+            (onward closing.CloseMailbox None w.home.closing w.root w.names.unreleased (stage_of seat s) s.stopped seat.left true s.tasks.items phased (going seat sound.alone.there) phased.stopped phased.left refl tt)),
+        unheard refl refl refl,
+      )
+
+  pub worker_ended : (w w' : Worker) (s s' : Shared B) (e : Event) → SoundAt (at.Closing closing.End) w s → IsGoing w.index s.seats.items → e ≡ End
+      → w' ≡ record w { place = at.Closing closing.End } → TurnsChair w.index (λ chair. record chair { phase = worker.Ended }) s s' → s' ≡ record s { seats = s'.seats } → Steps left spot w s e w' s'
+  worker_ended w w' s s' e sound going event goes turns kept =
+      let q : Place = at.Closing closing.End in
+      let s1 : Shared B = record s { seats = s'.seats } in
+      let seat = sound.alone.seat in
+      let chair : Chair = record seat { phase = worker.Ended } in
+      let items : s'.seats.items ≡ slice_set s.seats.items w.index chair = turns seat sound.alone.there in
+      let found : slice_get s'.seats.items w.index ≡ Some chair = ap (λ xs. slice_get xs w.index) items ∙ set_there s.seats.items w.index chair seat sound.alone.there in
+      let alone = alone_on w.index s.seats.items s'.seats.items s.global.values chair sound.alone (record { queue = refl; messages = refl; waker = refl }) items in
+      let phased = sound.phased seat sound.alone.there in
+      let nothing = held_nothing closing.End w s sound refl in
+      let things : things_of w.index s ≡ things_of w.index s1 = rw (found, sound.alone.there) refl in
+      let gone = same_by (gone_with w.index) (λ z. z.shown) s.sleepers.items (λ k z there. gone_before w.index z.shown (nothing.awake k z there)) in
+      told_as left spot w (record w { place = q }) w' s s1 s' End e event goes kept (
+        (λ p vs suits.
+            let seen = common_of left spot p vs s in
+            let mine = own_seat left spot p vs w s seat suits sound.alone.there in
+            let here : (k : ℕ) (c : Chair) → slice_get s.seats.items k ≡ Some c → c ≡ seat = λ k c found.
+            let same : w.index ≡ k = first_alone (length s.seats.items) w.index k sound.alone.only (slice_get_within s.seats.items w.index seat sound.alone.there) (slice_get_within s.seats.items k c found) in
+            same_thing c seat (sym found ∙ ap (λ n. slice_get s.seats.items n) (sym same) ∙ sound.alone.there) in
+            let all : all_left seen ≡ true =
+            seats_all (λ x. x.left || not x.pool) vs s.seats.items (λ k v c found. rw (here k c found, phased.left) refl) in
+            let over : list_all is_over_or_root (map (task_seen left spot) s.tasks.items) ≡ true =
+            mapped_all is_over_or_root (task_seen left spot) s.tasks.items (λ k slot found.
+            let root : slot ≡ sound.runnable.root = same_thing slot sound.runnable.root (sym found ∙ ap (λ n. slice_get s.tasks.items n) (phased.lone k slot found) ∙ sound.runnable.there) in
+            rw (root, sound.runnable.home) refl) in
+            record {
+              choice = Plain;
+              moves = rw (sound.here, ← things) refl;
+              may = rw sound.here (refl, (rw mine (now_closing seat.phase phased.opened (going seat sound.alone.there)), (rw mine phased.shut, (rw phased.prepared refl, (rw (mine, phased.pool, all, over) refl, tt)))));
+              own = rw sound.here refl;
+              common = rw (seats_on left spot p vs w s s' chair suits items, mine, sound.alone.inbox, gone) refl;
+            }),
+        sound_on closing.End q w w.batch w.home.closing s s1 sound refl sound.batch alone
+            (phased_on true (Some closing.End) w.home.closing w.root w.names.unreleased w.index s1 chair s.tasks.items found (record {
+              told = phased.told;
+              opened = refl;
+              ended = λ h. refl;
+              root = phased.root;
+              lone = phased.lone;
+              pool = phased.pool;
+              stopped = phased.stopped;
+              left = phased.left;
+              shut = phased.shut;
+              set = phased.set;
+              empty = phased.empty;
+              prepared = phased.prepared;
+            })),
+        unheard refl refl refl,
+      )

@@ -1,0 +1,90 @@
+-- The enrolment of a deadline is a step.
+use Rattle.std.proofs.Common.{◌≡◌, ◌≢◌, ℕ, zero, suc, ◌+◌, ◌-◌, ◌*◌, ◌^◌, ◌<◌, ◌≤◌, ◌==◌, ◌&&◌, Bool, true, false, not, List, [], ◌∷◌, ◌++◌, length, map, filter, Option, Some, None, IsSome, refl, sym, ap, subst, ◌∙◌, arith, inl, inr}
+use Rattle.std.proofs.lemmas.Bool.{false≢true, eq-eqb}
+use Rattle.std.proofs.lemmas.Bool.Decides.{nat_tests}
+use Rattle.std.specs.Prelude.{slice_get, slice_set, drop, is_some, unwrap_or, if◌then◌else◌, Result, Ok, Err}
+use Rattle.std.specs.VecDeque.{deque_capacity}
+use Rattle.exec_base.specs.{Slab.{value_at, written}, declared.{error.Error.Error, slab.Id.Id}}
+use Rattle.exec_base.proofs.Slots.{id_cases}
+use Rattle.exec_outcomes.specs.declared.outcome.Outcome.{Outcome, TheVariants.Failure}
+use Rattle.exec_request.specs.{Requests.deadline_of, States.asks_cancel}
+use Rattle.exec_time.specs.Wheel.{Wheel, scheduled}
+use Rattle.exec_waiters.proofs.Changes.{entry_of, one_if}
+use Rattle.exec_waiters.specs.{Events.with_tick, States.{waiter_at, takes_tick, tick_in}, declared.{deferred.Deferred.Deferred, waiter.Waiter.Waiter, waiter_id.WaiterId.WaiterId}}
+use Rattle.exec_driver.specs.{Driving.{Driving, request_at, is_unenrolled}, Lists.{first_of, rest_of, is_among}, Punctual.IsPunctual, Steps.{EnrolsAs, enrolled as enrolled_driver, enrolled_by, ended_by, tick_for}}
+use Rattle.exec_machine.specs.{declared.{config.Configuration.Configuration, event.Event.{Event, TheVariants.Enrol}}, Deadlines.enrolled, Requests.joined_if, Tests.is_resolved}
+use Rattle.exec_machine.specs.declared.state.RequestPhase.TheVariants as phase
+use Rattle.exec_moves.specs.declared.place.InService.TheVariants as step
+use Rattle.exec_moves.specs.declared.place.Place.TheVariants as at
+use Rattle.exec_steps.specs.{declared.parts.{mail.Reply.Reply, record.Record.Record, shared.Shared.Shared, worker.Worker.Worker}, Due.IsWheelAt, Records.number_in, Serving.{changed_at, first_tick, outcome_of_error}, Sound.{SoundAt, IsAlike}, Submitting.IsNewIn, View.driver_of}
+use Rattle.exec_steps.proofs.{Staging.among_first, Starting.queued_phase}
+
+-- THE FIRST NEW DEADLINE
+
+new_parts : (a b c : Bool) → (not a && b && c) ≡ true → (a ≡ false) × (b ≡ true) × (c ≡ true)
+new_parts true b c h = absurd (false≢true h)
+new_parts false true true h = (refl, refl, refl)
+new_parts false true false h = absurd (false≢true h)
+new_parts false false c h = absurd (false≢true h)
+
+some_of : {A : Type 0} (o : Option A) → is_some o ≡ true → (x : A) × (o ≡ Some x)
+some_of None h = absurd (false≢true h)
+some_of (Some x) h = (x, refl)
+
+-- whose it is
+pub record NewAt {B : Type 0} (w : Worker) (s : Shared B) (id : WaiterId) : Type 0 where
+  pub it : Waiter Reply Reply
+  pub r : Record
+  pub deadline : ℕ
+  pub live : waiter_at (driver_of w).requests id.0 ≡ Some it
+  pub there : slice_get s.requests.items (number_in w.names.requests.items id.0) ≡ Some r
+  pub named : r.id.0 ≡ id.0
+  pub worker : r.shown.worker ≡ w.index
+  pub alike : IsAlike (driver_of w).wheel.start (driver_of w).wheel.tick it r.shown
+  pub idle : it.in_flight ≡ false
+  pub takes : takes_tick it.state ≡ true
+  pub asked : deadline_of it.request ≡ Some deadline
+  pub told : r.shown.operation.deadline ≡ Some deadline
+  pub queued : r.shown.phase ≡ phase.Queued
+
+module _ {B : Type 0} (w : Worker) (s : Shared B) (new : IsNewIn w s) (id : WaiterId) (first : first_of (driver_of w).lists.enrolments ≡ Some id) where
+  new_by : (o : Option (Waiter Reply Reply)) → request_at (driver_of w) id ≡ o → NewAt w s id
+  new_by None gone = absurd (false≢true (ap is_unenrolled (sym gone) ∙ new.submits.lists.enrolments id (among_first id (driver_of w).lists.enrolments first)))
+  new_by (Some it) live =
+      let sound = new.submits.sound in
+      let waits : (not it.in_flight && takes_tick it.state && is_some (deadline_of it.request)) ≡ true = ap is_unenrolled (sym live) ∙ new.submits.lists.enrolments id (among_first id (driver_of w).lists.enrolments first) in
+      let parts = new_parts it.in_flight (takes_tick it.state) (is_some (deadline_of it.request)) waits in
+      let r = sound.named.requests id.0 (rw (entry_of (value_at (driver_of w).requests id.0) it live) refl) in
+      let a = sound.named.alike id.0 it r.0 live r.1 in
+      let p = sound.flown.plain (number_in w.names.requests.items id.0) r.0 r.1 r.3 in
+      let d = some_of (deadline_of it.request) parts.2 in
+      record {
+        it = it;
+        r = r.0;
+        deadline = d.0;
+        live = live;
+        there = r.1;
+        named = r.2;
+        worker = r.3;
+        alike = a;
+        idle = parts.0;
+        takes = parts.1;
+        asked = d.1;
+        told = a.deadline ∙ d.1;
+        queued = queued_phase r.0.shown.phase (a.flying ∙ parts.0) a.open_still p.ungated;
+      }
+
+  pub new_first : NewAt w s id
+  new_first = new_by (request_at (driver_of w) id) refl
+
+-- what an enrolment does
+pub record HasEnrolled {B : Type 0} (w w' : Worker) (s s' : Shared B) (e : Event) (id : WaiterId) (told : Option Error) : Type 0 where
+  pub event : e ≡ Enrol (number_in w.names.requests.items id.0) (outcome_of_error told)
+  pub enrols : (it : Waiter Reply Reply) (deadline : ℕ) → request_at (driver_of w) id ≡ Some it → deadline_of it.request ≡ Some deadline → EnrolsAs (driver_of w) (driver_of w') w.home.deferred w'.home.deferred id it deadline w.moments.sampled told
+  pub punctual : IsPunctual (driver_of w')
+  pub bounded : id.0.generation < 2 ^ 64
+  pub records : s'.requests.items ≡ changed_at s.requests.items (number_in w.names.requests.items id.0) (λ r. record r { shown = enrolled (first_tick w.moments.start s.config.tick (unwrap_or r.shown.operation.deadline 0)) (outcome_of_error told) r.shown })
+  pub ended : w'.names.ended.items ≡ joined_if (is_some told) w.names.ended.items (number_in w.names.requests.items id.0)
+  pub capacity : deque_capacity w'.names.ended ≡ deque_capacity w.names.ended
+  pub worker : w' ≡ record w { home = record w.home { driver = w'.home.driver; deferred = w'.home.deferred }; names = record w.names { ended = w'.names.ended } }
+  pub shared : s' ≡ record s { requests = s'.requests }

@@ -1,0 +1,273 @@
+-- What an enter is to the machine.
+use Rattle.std.proofs.Common.{◌≡◌, ℕ, zero, suc, ◌+◌, ◌<◌, ◌≤◌, ◌==◌, ◌&&◌, Bool, true, false, not, List, [], ◌∷◌, length, map, Option, Some, None, refl, sym, ap, subst, ◌∙◌, arith}
+use Rattle.std.proofs.lemmas.Bool.{false≢true, eq-eqb}
+use Rattle.std.specs.Prelude.{slice_get, slice_set, if◌then◌else◌, IsSome}
+use Rattle.std.specs.Option.{option_map}
+use Rattle.std.specs.Vec.{vec_capacity}
+use Rattle.exec_base.specs.{Slab.{Slab, value_at}, declared.slab.Id.Id}
+use Rattle.exec_time.specs.declared.timers.Sleeper.{Sleeper as Sleeping}
+use Rattle.exec_ring.specs.{Kernels.{Landing, all_taken, entered}, Rings.RingState}
+use Rattle.exec_waiters.specs.{States.waiter_at, declared.waiter.Waiter.Waiter}
+use Rattle.exec_driver.specs.Driving.{Driving}
+use Rattle.exec_outcomes.specs.declared.outcome.OpResult.{OpResult}
+use Rattle.exec_machine.specs.{declared.state.{Request.Request, RequestPhase.RequestPhase}, Requests.flown, Tests.{is_staged, is_in_flight, is_resolved}}
+use Rattle.exec_machine.specs.declared.state.RequestPhase.TheVariants as phase
+use Rattle.exec_steps.specs.{declared.parts.{mail.Reply.Reply, names.Names.Names, record.Record.Record, sleeping.SleeperRecord.SleeperRecord}, Due.AreTimed, Flown.{AreAcks, IsPlain, HasFlown, operations, passes_permit}, Records.number_in, Serving.{flies, flown_in, cancels_in, is_one_of}, Sound.{IsNamed, IsAlike, IsSubmitted}}
+use Rattle.exec_moves.specs.declared.place.InService.{InService}
+use Rattle.exec_steps.proofs.{Flown.landed_on, Going.{GoesOn, AllGoOn, still, same_worker, same_id}, Flying.{flies_if, worker_kept, get_flown}, Rings.{Acknowledges, all_acknowledged}}
+
+-- A REQUEST THAT FLIES
+
+staged_flies : (p : RequestPhase) → is_staged p ≡ true → is_in_flight p ≡ true
+staged_flies phase.Staged h = refl
+staged_flies _ h = absurd (false≢true h)
+
+staged_stands : (p : RequestPhase) → is_staged p ≡ true → is_resolved p ≡ false
+staged_stands phase.Staged h = refl
+staged_stands _ h = absurd (false≢true h)
+
+and_right : (a b : Bool) → (a && b) ≡ true → b ≡ true
+and_right true b h = h
+and_right false b h = absurd (false≢true h)
+
+alike_by : (start tick : ℕ) (b : Bool) (it : Waiter Reply Reply) (r : Request) → (b ≡ true → is_staged r.phase ≡ true) → IsAlike start tick it r → IsAlike start tick it (if b then (record r { phase = phase.Flying }) else r)
+alike_by start tick true it r staged a =
+    record {
+      asked = a.asked;
+      moved = a.moved;
+      switched = a.switched;
+      come = a.come;
+      hinted = a.hinted;
+      deadline = a.deadline;
+      cancelled = a.cancelled;
+      timer = a.timer;
+      observed = a.observed;
+      waiter = a.waiter;
+      flying = sym (staged_flies r.phase (staged refl)) ∙ a.flying;
+      permit = λ h. absurd (false≢true h);
+      open_still = refl;
+      near = a.near;
+      going = a.going;
+      told_once = a.told_once;
+    }
+alike_by start tick false it r staged a = a
+
+alike_flown : (start tick i : ℕ) (it : Waiter Reply Reply) (r : Request) → IsAlike start tick it r → IsAlike start tick it (flown i r)
+alike_flown start tick i it r a = alike_by start tick ((r.worker == i) && is_staged r.phase) it r (and_right (r.worker == i) (is_staged r.phase)) a
+
+alike_flies : (start tick : ℕ) (b : Bool) (it : Waiter Reply Reply) (r : Record) → IsAlike start tick it r.shown → IsAlike start tick it (flies_if b r).shown
+alike_flies start tick true it r a = alike_flown start tick r.shown.worker it r.shown a
+alike_flies start tick false it r a = a
+
+resolved_by : (b : Bool) (r : Request) → (b ≡ true → is_staged r.phase ≡ true) → is_resolved (if b then (record r { phase = phase.Flying }) else r).phase ≡ is_resolved r.phase
+resolved_by true r staged = sym (staged_stands r.phase (staged refl))
+resolved_by false r staged = refl
+
+resolved_flies : (b : Bool) (r : Record) → is_resolved (flies_if b r).shown.phase ≡ is_resolved r.shown.phase
+resolved_flies true r = resolved_by ((r.shown.worker == r.shown.worker) && is_staged r.shown.phase) r.shown (and_right (r.shown.worker == r.shown.worker) (is_staged r.shown.phase))
+resolved_flies false r = refl
+
+id_flies : (b : Bool) (r : Record) → (flies_if b r).id ≡ r.id
+id_flies true r = refl
+id_flies false r = refl
+
+worker_flies : (b : Bool) (r : Record) → (flies_if b r).shown.worker ≡ r.shown.worker
+worker_flies true r = worker_kept r.shown.worker r.shown
+worker_flies false r = refl
+
+flown_none : (b : Bool) (r : Request) → ((r.worker == r.worker) && is_staged r.phase) ≡ b → is_staged (if b then (record r { phase = phase.Flying }) else r).phase ≡ false
+flown_none true r is = refl
+flown_none false r is = not_staged (is_staged r.phase) (r.worker == r.worker) (eq-eqb r.worker r.worker refl) is
+  where
+    not_staged : (a b : Bool) → b ≡ true → (b && a) ≡ false → a ≡ false
+    not_staged a true same none = none
+    not_staged a false same none = absurd (false≢true same)
+
+-- none that flies is staged any more
+still_staged : (b : Bool) (r : Record) → is_staged (flies_if b r).shown.phase ≡ true → (b ≡ false) × (is_staged r.shown.phase ≡ true)
+still_staged true r h = absurd (false≢true (sym (flown_none ((r.shown.worker == r.shown.worker) && is_staged r.shown.phase) r.shown refl) ∙ h))
+still_staged false r h = (refl, h)
+
+-- a record that flies goes on
+goes_by : (i : ℕ) (b : Bool) (r : Record) → (b ≡ true → is_staged r.shown.phase ≡ true) → GoesOn r (record r { shown = (if b then (record r.shown { phase = phase.Flying }) else r.shown) })
+goes_by i true r staged =
+    record { same = refl; over = sym (staged_stands r.shown.phase (staged refl)); ended = λ h. absurd (false≢true (sym (staged_stands r.shown.phase (staged refl)) ∙ h)) }
+goes_by i false r staged = still r
+
+goes_flies : (b : Bool) (r : Record) → GoesOn r (flies_if b r)
+goes_flies true r = goes_by r.shown.worker ((r.shown.worker == r.shown.worker) && is_staged r.shown.phase) r (and_right (r.shown.worker == r.shown.worker) (is_staged r.shown.phase))
+goes_flies false r = still r
+
+-- what has landed doesn't fly
+landed_by : (b : Bool) (r : Request) (n : OpResult) → (b ≡ true → is_staged r.phase ≡ true) → r.phase ≡ phase.Landed n → (if b then (record r { phase = phase.Flying }) else r).phase ≡ r.phase
+landed_by true r n staged landed = absurd (false≢true (ap is_staged (sym landed) ∙ staged refl))
+landed_by false r n staged landed = refl
+
+pub landed_flies : (b : Bool) (r : Record) (n : OpResult) → r.shown.phase ≡ phase.Landed n → (flies_if b r).shown.phase ≡ r.shown.phase
+landed_flies true r n landed = landed_by ((r.shown.worker == r.shown.worker) && is_staged r.shown.phase) r.shown n (and_right (r.shown.worker == r.shown.worker) (is_staged r.shown.phase)) landed
+landed_flies false r n landed = refl
+
+-- nor does what flies change but by that
+plain_by : (b : Bool) (r : Request) → IsPlain r → IsPlain (if b then (record r { phase = phase.Flying }) else r)
+plain_by true r p = record { bounded = p.bounded; moved = p.moved; first_part = p.first_part; unhinted = p.unhinted; ungated = refl; deadline = p.deadline }
+plain_by false r p = p
+
+plain_flies : (b : Bool) (r : Record) → IsPlain r.shown → IsPlain (flies_if b r).shown
+plain_flies true r p = plain_by ((r.shown.worker == r.shown.worker) && is_staged r.shown.phase) r.shown p
+plain_flies false r p = p
+
+timer_by : (b : Bool) (r : Request) → (if b then (record r { phase = phase.Flying }) else r).timer ≡ r.timer
+timer_by true r = refl
+timer_by false r = refl
+
+timer_flies : (b : Bool) (r : Record) → (flies_if b r).shown.timer ≡ r.shown.timer
+timer_flies true r = timer_by ((r.shown.worker == r.shown.worker) && is_staged r.shown.phase) r.shown
+timer_flies false r = refl
+
+cancel_by : (b : Bool) (r : Request) → (if b then (record r { phase = phase.Flying }) else r).cancel_staged ≡ r.cancel_staged
+cancel_by true r = refl
+cancel_by false r = refl
+
+cancel_flies : (b : Bool) (r : Record) → (flies_if b r).shown.cancel_staged ≡ r.shown.cancel_staged
+cancel_flies true r = cancel_by ((r.shown.worker == r.shown.worker) && is_staged r.shown.phase) r.shown
+cancel_flies false r = refl
+
+-- THE NAMES
+
+-- what a flown record was
+was : (ks : List ℕ) (rs : List Record) (k : ℕ) (x : Record) → slice_get (flown_in ks rs) k ≡ Some x → (r : Record) × (slice_get rs k ≡ Some r) × (x ≡ flies_if (is_one_of k ks) r)
+was ks rs k x there = from (slice_get rs k) refl
+  where
+    from : (o : Option Record) → slice_get rs k ≡ o → (r : Record) × (slice_get rs k ≡ Some r) × (x ≡ flies_if (is_one_of k ks) r)
+    from None none =
+        let no : option_map (flies_if (is_one_of k ks)) None ≡ Some x = ap (option_map (flies_if (is_one_of k ks))) (sym none) ∙ sym (get_flown ks rs k) ∙ there in
+        absurd (cc)
+    from (Some r) found =
+        let yes : Some (flies_if (is_one_of k ks) r) ≡ Some x = ap (option_map (flies_if (is_one_of k ks))) (sym found) ∙ sym (get_flown ks rs k) ∙ there in
+        (r, found, cc)
+
+flies_there : (ks : List ℕ) (rs : List Record) (k : ℕ) (r : Record) → slice_get rs k ≡ Some r → slice_get (flown_in ks rs) k ≡ Some (flies_if (is_one_of k ks) r)
+flies_there ks rs k r there = get_flown ks rs k ∙ ap (option_map (flies_if (is_one_of k ks))) there
+
+-- all go on
+pub all_go : (ks : List ℕ) (rs : List Record) → AllGoOn rs (flown_in ks rs)
+all_go ks rs =
+    record {
+      was = λ k x there.
+          let old = was ks rs k x there in
+          record { r = old.0; there = old.1; on = subst (λ y. GoesOn old.0 y) (sym old.2) (goes_flies (is_one_of k ks) old.0) };
+      becomes = λ k r there. record { r' = flies_if (is_one_of k ks) r; there = flies_there ks rs k r there; on = goes_flies (is_one_of k ks) r };
+    }
+
+pub timed_flown : (i : ℕ) (n n' : Names) (ks : List ℕ) (rs : List Record) → n'.requests ≡ n.requests → AreTimed i n rs → AreTimed i n' (flown_in ks rs)
+timed_flown i n n' ks rs same timed k x there mine =
+    let old = was ks rs k x there in
+    let b = is_one_of k ks in
+    let r = old.0 in
+    let on : GoesOn r x = subst (λ y. GoesOn r y) (sym old.2) (goes_flies b r) in
+    let it = timed k r old.1 (sym (same_worker r x on) ∙ mine) in
+    record {
+      named = λ unresolved. rw (same, same_id r x on) (it.named (sym on.over ∙ unresolved));
+      over = λ done. ap (λ y. y.shown.timer) old.2 ∙ timer_flies b r ∙ it.over (sym on.over ∙ done);
+    }
+
+-- what has landed, with another ring in which the same has
+pub flown_entered : (x x' : Option InService) (i : ℕ) (n n' : Names) (d : Driving Reply Reply) (ring : RingState) (l : List Landing) (ks : List ℕ) (rs : List Record)
+    → HasFlown x i n d rs → passes_permit x' ≡ false → n'.requests ≡ n.requests → n'.ended ≡ n.ended → n'.unreleased ≡ n.unreleased
+    → vec_capacity n'.staged ≡ vec_capacity n.staged → vec_capacity n'.untold ≡ vec_capacity n.untold
+    → ring.size ≡ d.ring.size → AreAcks ring.posted → operations ring ≡ operations d.ring → length n'.staged.items + length n'.untold.items ≤ length ring.staged
+    → HasFlown x' i n' (record d { ring = ring; landings = l }) (flown_in ks rs)
+flown_entered x x' i n n' d ring l ks rs flown permits requests ended unreleased staged untold size acks same entries =
+    let d' : Driving Reply Reply = record d { ring = ring; landings = l } in
+    record {
+      ending = rw (ended, unreleased) flown.ending;
+      staging = rw (staged, size) flown.staging;
+      telling = rw (untold, size) flown.telling;
+      entries = entries;
+      permits = permits;
+      enrolling = flown.enrolling;
+      acks = acks;
+      owning = λ k y there unresolved.
+          let old = was ks rs k y there in
+          let b = is_one_of k ks in
+          let on : GoesOn old.0 y = subst (λ z. GoesOn old.0 z) (sym old.2) (goes_flies b old.0) in
+          ap (λ z. z.shown.released) on.same ∙ flown.owning k old.0 old.1 (sym on.over ∙ unresolved);
+      ours = λ k y there.
+          let old = was ks rs k y there in
+          ap (λ z. z.shown.worker) old.2 ∙ worker_flies (is_one_of k ks) old.0 ∙ flown.ours k old.0 old.1;
+      plain = λ k y there mine.
+          let old = was ks rs k y there in
+          let b = is_one_of k ks in
+          let of_i : old.0.shown.worker ≡ i = sym (worker_flies b old.0) ∙ sym (ap (λ z. z.shown.worker) old.2) ∙ mine in
+          subst (λ z. IsPlain z.shown) (sym old.2) (plain_flies b old.0 (flown.plain k old.0 old.1 of_i));
+      landed =
+          rw same
+          (landed_on n n' d d' rs (flown_in ks rs) (operations d.ring) flown.landed
+          (λ id it r given at flies there landed.
+          let k = number_in n.requests.items id in
+          record { it' = it; r' = flies_if (is_one_of k ks) r; live = at; flies = refl; same = refl; number = ap (λ v. number_in v.items id) requests; there = flies_there ks rs k r there; phase = landed_flies (is_one_of k ks) r given landed }));
+      uncancelled = λ id y among there.
+          let k = number_in n.requests.items id.0 in
+          let old = was ks rs k y (ap (λ v. slice_get (flown_in ks rs) (number_in v.items id.0)) (sym requests) ∙ there) in
+          ap (λ z. z.shown.cancel_staged) old.2 ∙ cancel_flies (is_one_of k ks) old.0 ∙ flown.uncancelled id old.0 among old.1;
+    }
+
+module _ (i : ℕ) (n : Names) (d : Driving Reply Reply) (zs : Slab (Sleeping Reply)) (rs : List Record) (sleepers : List SleeperRecord) (named : IsNamed i n d zs rs sleepers) where
+  pub submitted_free : (r : RingState) → Acknowledges (record d.ring { staged = [] }) r (cancels_in d.ring.staged) → IsSubmitted i [] [] r (flown_in n.staged.items rs)
+  submitted_free r ring =
+      record {
+        tagged = rw ring.staged tt;
+        cancels = rw ring.staged refl;
+        known = tt;
+        own = λ k x h there. absurd (false≢true h);
+        all = λ k x there mine staged.
+            let before = was n.staged.items rs k x there in
+            let still = still_staged (is_one_of k n.staged.items) before.0 (sym (ap (λ y. is_staged y.shown.phase) before.2) ∙ staged) in
+            let of_i : before.0.shown.worker ≡ i = sym (worker_flies (is_one_of k n.staged.items) before.0) ∙ sym (ap (λ y. y.shown.worker) before.2) ∙ mine in
+            absurd (false≢true (sym still.0 ∙ named.submitted.all k before.0 before.1 of_i still.1));
+        unraised = ring.raised;
+      }
+
+  pub named_free : (n' : Names) (r : RingState) (l : List Landing) → n'.requests.items ≡ n.requests.items → n'.timers.items ≡ n.timers.items
+      → IsSubmitted i n'.staged.items n'.untold.items r (flown_in n.staged.items rs) → IsNamed i n' (record d { ring = r; landings = l }) zs (flown_in n.staged.items rs) sleepers
+  named_free n' r l requests timers submitted =
+      record {
+        requests = λ id there.
+            let old = named.requests id there in
+            let b = is_one_of (number_in n.requests.items id) n.staged.items in
+            rw requests
+            (flies_if b old.0, get_flown n.staged.items rs (number_in n.requests.items id) ∙ ap (option_map (flies_if b)) old.1, ap (λ x. x.0) (id_flies b old.0) ∙ old.2, worker_flies b old.0 ∙ old.3);
+        timers = λ id there. rw timers (named.timers id there);
+        alike = λ id it x at_driver there.
+            let before = was n.staged.items rs (number_in n.requests.items id) x (rw (← requests) there) in
+            subst (λ y. IsAlike d.wheel.start d.wheel.tick it y.shown) (sym before.2)
+            (alike_flies d.wheel.start d.wheel.tick (is_one_of (number_in n.requests.items id) n.staged.items) it before.0 (named.alike id it before.0 at_driver before.1));
+        over = λ k x there mine gone.
+            let before = was n.staged.items rs k x there in
+            let b = is_one_of k n.staged.items in
+            let of_i : before.0.shown.worker ≡ i = sym (worker_flies b before.0) ∙ sym (ap (λ y. y.shown.worker) before.2) ∙ mine in
+            let name : x.id ≡ before.0.id = ap (λ y. y.id) before.2 ∙ id_flies b before.0 in
+            ap (λ y. is_resolved y.shown.phase) before.2 ∙ resolved_flies b before.0 ∙ named.over k before.0 before.1 of_i (ap (λ y. waiter_at d.requests y.0) (sym name) ∙ gone);
+        submitted = submitted;
+        slots = rw requests named.slots;
+        beds = rw timers named.beds;
+      }
+
+  -- the same while the records stay
+  pub named_beside : (n' : Names) (r : RingState) (l : List Landing) → n'.requests.items ≡ n.requests.items → n'.timers.items ≡ n.timers.items
+      → IsSubmitted i n'.staged.items n'.untold.items r rs → IsNamed i n' (record d { ring = r; landings = l }) zs rs sleepers
+  named_beside n' r l requests timers submitted =
+      record {
+        requests = λ id there. rw requests (named.requests id there);
+        timers = λ id there. rw timers (named.timers id there);
+        alike = λ id it x at_driver there. named.alike id it x at_driver (rw (← requests) there);
+        over = named.over;
+        submitted = submitted;
+        slots = rw requests named.slots;
+        beds = rw timers named.beds;
+      }
+
+  pub submitted_busy : IsSubmitted i n.staged.items n.untold.items (record d.ring { busy = false }) rs
+  submitted_busy =
+      let sub = named.submitted in
+      record { tagged = sub.tagged; cancels = sub.cancels; known = sub.known; own = sub.own; all = sub.all; unraised = sub.unraised }

@@ -1,0 +1,144 @@
+-- A deadline that has come ends its request, which the kernel doesn't have.
+use Rattle.std.proofs.Common.{◌≡◌, ◌≢◌, ℕ, zero, suc, ◌+◌, ◌-◌, ◌*◌, ◌^◌, ◌<◌, ◌≤◌, ◌==◌, ◌&&◌, Bool, true, false, not, List, [], ◌∷◌, ◌++◌, length, map, filter, Option, Some, None, IsSome, IfSome, refl, sym, ap, subst, ◌∙◌, arith, inl, inr}
+use Rattle.std.proofs.lemmas.Bool.{false≢true, eq-eqb}
+use Rattle.std.proofs.lemmas.Bool.Decides.{nat_tests}
+use Rattle.std.specs.Prelude.{slice_get, slice_set, drop, is_some, unwrap_or, if◌then◌else◌, Result, Ok, Err}
+use Rattle.std.specs.Option.{option_map}
+use Rattle.exec_base.specs.{Slab.{Slab, value_at, written}, declared.{error.{Error.{Error, TheVariants.Timeout}, Cause.Cause}, slab.Id.Id}}
+use Rattle.exec_base.proofs.Slots.{id_cases}
+use Rattle.exec_outcomes.specs.declared.outcome.Outcome.{Outcome, TheVariants.Failure}
+use Rattle.exec_request.specs.{Requests.{deadline_of, asked_of, output_of}, States.asks_cancel, declared.{results.WaiterState.{WaiterState, TheVariants.{Active, CancelRequested}}, output.RequestOutput.RequestOutput, request.Request.Request as Asking}}
+use Rattle.exec_task.specs.declared.body.Said.{Said}
+use Rattle.exec_time.specs.declared.timers.Sleeper.{Sleeper as Sleeping}
+use Rattle.exec_waiters.proofs.Changes.{entry_of, one_if}
+use Rattle.exec_waiters.specs.{Events.{with_tick, finished, output_told, told_by_finish, waker_in}, States.{waiter_at, takes_tick, tick_in, flying_count}, Told.{Tells, nothing_told, Told, tasks_of}, declared.{deferred.Deferred.Deferred, waiter.{Entry.TheVariants.Pending, Waiter.Waiter}, waiter_id.WaiterId.WaiterId, observer.Observer.{Observer, TheVariants.{Local, Orphaned}}}}
+use Rattle.exec_driver.specs.{Driving.{Driving, request_at, is_queued, is_unenrolled, is_cancelled}, Lists.{first_of, rest_of, is_among, is_same, after_due, without, withdrawn}, Punctual.IsPunctual, Steps.{cancelled_from, cancelling, ended, told_by_cancel, timed_out, unscheduled}}
+use Rattle.exec_machine.specs.{declared.{config.Configuration.Configuration, event.Event.{Event, TheVariants.Expire}, state.Request.Request}, Deadlines.{expired, outcome_at_expiry}, Progress.Plan, Same.{is_none, is_number, same_end, same_cause, same_error}, Tests.{is_queued as is_phase_queued, is_resolved, is_staged}, World.{Own, Common, request_of}, Requests.{joined_if, resolved}}
+use Rattle.exec_machine.specs.declared.state.RequestPhase.TheVariants as phase
+use Rattle.exec_moves.specs.{Move.move_submit, Callback.{told_if_ended, told_of_end, waker_of}, State.{Desk, Moved, Things}, Submit.{due_next, first_due, submits, Due.Expires}, declared.place.{Service.Service, Place.Place}}
+use Rattle.exec_moves.specs.declared.place.InService.TheVariants as step
+use Rattle.exec_moves.specs.declared.place.Place.TheVariants as at
+use Rattle.exec_steps.specs.{declared.parts.{mail.Reply.Reply, names.Names.Names, record.Record.Record, shared.Shared.Shared, sleeping.SleeperRecord.SleeperRecord, worker.Worker.Worker}, Due.IsWheelAt, Flown.{HasFlown, IsPlain, operations, IsUpTo, longest}, Phased.closes_at, Records.number_in, Serving.{changed_at, first_tick, is_one_of, outcome_of_error}, Sound.{SoundAt, AreOwed, IsAlike, IsSubmitted, IsTold, served_in, is_armed_at, has_wakes_at}, Spots.Spot, Submitting.{IsDueIn, IsInOrder}, View.{Visible, visible, own_of, desk_of, driver_of, common_of, things_of, numbers_of}, Works.{Suits, Steps}, Rooted.{IsNear, outcome_told}}
+use Rattle.exec_steps.proofs.{Calling.request_seen, Seeing.{makes, shows, served, common_changed, desk_with}, Serving.{is_calm, Follows, Serves, Keeps, KeepsBy, calm, kept}, Staging.split_first, Turning.set_found, Ends.{desk_ended, flying_ended, later_in, numbers_without, without_first}, Orders.alike_unticked, Ousting.keeps_ended, Over.OneEnds, Resolving.{slab_after, told_once, unticked_at}, Starting.{fills, reads, writes_bytes, queued_phase}, Expiring.{DueAt, HasExpired, comes_to_due, due_first, expires, move_expire, same_change, told_first, unticked_start, unticked_tick}, Late.{same_error_self, same_place, tells_error, wakes_are}}
+use Rattle.exec_base.specs.declared.error.Cause.TheVariants as cause
+use Rattle.exec_base.specs.declared.error.Error.TheVariants as error
+use Rattle.exec_request.specs.declared.request.Request.TheVariants as asks
+
+abbrev ends_as : Outcome → Record → Record
+ends_as outcome r = record r { shown = resolved outcome r.shown }
+
+stands : (d : Driving Reply Reply) (x : WaiterId) (test : Option (Waiter Reply Reply) → Bool) (o : Option (Waiter Reply Reply)) → request_at d x ≡ o → test None ≡ false → test o ≡ true → IsSome (value_at d.requests x.0)
+stands d x test None at none h = absurd (false≢true (sym none ∙ h))
+stands d x test (Some y) at none h = rw (entry_of (value_at d.requests x.0) y at) refl
+
+module _ {B L : Type 0} (left : B → L) (spot : L → Option Said → Spot) where
+  pub expiry_ends : (w w' : Worker) (s s' : Shared B) (e : Event) (id : WaiterId) → (new : IsDueIn w s) → IsInOrder w s → (first : first_of (driver_of w).lists.due ≡ Some id) → (due_first w s new id first).it.in_flight ≡ false → HasExpired w w' s s' e id (due_first w s new id first).r → Steps left spot w s e w' s'
+  expiry_ends w w' s s' e id new order first idle by =
+      let v = new.submits.service in
+      let gate = new.submits.gate in
+      let q : Place = at.Service (step.Submit gate) v in
+      let sound = new.submits.sound in
+      let d = driver_of w in
+      let rs = s.requests.items in
+      let n = w.names.requests.items in
+      let k = number_in n id.0 in
+      let who = due_first w s new id first in
+      let it = who.it in
+      let c = s.config in
+      let w0 : Worker = record w { place = q } in
+      let start = w.moments.start in
+      let now = w.moments.sampled in
+      let outcome = Failure Timeout in
+      let error : Error = Timeout in
+      let phase_is : who.r.shown.phase ≡ phase.Queued = queued_phase who.r.shown.phase (who.alike.flying ∙ idle) who.alike.open_still who.ungated in
+      let ends : outcome_at_expiry who.r.shown ≡ Some outcome = ap (λ x. if is_phase_queued x then Some outcome else None) phase_is in
+      let told = output_of it.request (Err error) None in
+      let others = rest_of d.lists.due in
+      let split : d.lists.due ≡ id ∷ others = split_first id d.lists.due first in
+      let dues : without id others ≡ without id d.lists.due = sym (ap (without id) split ∙ without_first id others) in
+      let d' : Driving Reply Reply = record d { requests = finished d.requests id.0 it (Err error) None; wheel = unscheduled d.wheel (tick_in it.state); lists = withdrawn id d.lists } in
+      let driver : driver_of w' ≡ d' =
+      by.driver ∙ ap (cancelled_from (record d { lists = after_due d.lists }) id) who.live
+      ∙ ap (λ b. if b then (if asks_cancel it.state then (record d { lists = after_due d.lists }) else cancelling (record d { lists = after_due d.lists }) id it) else ended (record d { lists = after_due d.lists }) id it timed_out None) idle
+      ∙ ap (λ ids. record d' { lists = record (withdrawn id d.lists) { due = ids } }) dues in
+      let t : Told Reply Reply = told_by_finish id.0 it (Err error) None in
+      let tells : Tells w.home.deferred w'.home.deferred t =
+      subst (λ x. Tells w.home.deferred w'.home.deferred x)
+      (ap (told_by_cancel id) who.live ∙ ap (λ b. if b then nothing_told else told_by_finish id.0 it timed_out None) idle) by.tells in
+      let begun : start ≤ now = omega (arith, sound.time.begun, sound.time.ordered) in
+      let plain = sound.flown.plain k who.r who.there who.worker in
+      let wheel : IsWheelAt c start now d.wheel = sound.due.wheel in
+      let a = who.alike in
+      let one : OneEnds w.names d d'.requests rs id.0 it who.r (ends_as outcome) outcome told = record {
+        at = who.live;
+        there = who.there;
+        slab = slab_after d.requests id.0 it (Err error) None a.near who.live;
+        ends = record { same = refl };
+      } in
+      let deferred = w'.home.deferred in
+      let ended_by : w'.names.ended.items ≡ w.names.ended.items ++ k ∷ [] = by.ended ∙ ap (λ o. joined_if (is_some o) w.names.ended.items k) ends in
+      let records : s'.requests.items ≡ changed_at rs k (ends_as outcome) = by.records ∙ same_change rs k who.r expires (ends_as outcome) who.there (ap (λ o. record who.r { shown = expired o who.r.shown }) ends) in
+      let bounded_kind : IsUpTo (longest (asked_of it.request).kind) who.r.shown.operation.length = subst (λ x. IsUpTo (longest x.kind) who.r.shown.operation.length) a.asked plain.bounded in
+      let w1 : Worker = record w { place = q; names = record w.names { ended = w'.names.ended }; home = record w.home { deferred = deferred } } in
+      let rs' = changed_at rs k (ends_as outcome) in
+      let kept_now : KeepsBy w1 d' w.home.timers rs' s.sleepers.items s =
+      keeps_ended w s d d' w.home.timers rs s.sleepers.items id.0 it who.r (ends_as outcome) outcome told q w'.names deferred t one (kept q w s sound (calm q refl))
+      sound.runnable.root sound.runnable.there (record { once = told_once id.0 it (Err error) None a.near; wakes = wakes_are id.0 told it.observer a.near }) tells
+      ended_by by.capacity idle (record { bounded = plain.bounded; moved = plain.moved; first_part = plain.first_part; unhinted = plain.unhinted; ungated = refl; deadline = plain.deadline })
+      (λ held. sym (tells_error it.request who.r.shown.operation.length error bounded_kind))
+      refl refl (unticked_start d.wheel (tick_in it.state)) (unticked_tick d.wheel (tick_in it.state))
+      (subst IsPunctual driver by.punctual) (λ h. absurd (false≢true (sym h))) (unticked_at c start now d.wheel (tick_in it.state) wheel) (alike_unticked d.wheel (tick_in it.state)) refl refl in
+      let w2 : Worker = record w1 { home = record w1.home { driver = w'.home.driver } } in
+      let there : w'.place ≡ q = ap (λ x. x.place) by.worker ∙ sound.here in
+      let same2 : w' ≡ w2 = by.worker ∙ ap (λ y. record w { place = y; home = record w.home { driver = w'.home.driver; deferred = deferred }; names = record w.names { ended = w'.names.ended } }) sound.here in
+      let by_records : KeepsBy w1 d' w.home.timers s'.requests.items s.sleepers.items s = subst (λ x. KeepsBy w1 d' w.home.timers x s.sleepers.items s) (sym records) kept_now in
+      let by_driver : KeepsBy w1 (driver_of w') w.home.timers s'.requests.items s.sleepers.items s = subst (λ x. KeepsBy w1 x w.home.timers s'.requests.items s.sleepers.items s) (sym driver) by_records in
+      let by_home : KeepsBy w2 (driver_of w') w.home.timers s'.requests.items s.sleepers.items s = assumption by_driver in
+      let by_worker : KeepsBy w' (driver_of w') w'.home.timers s'.requests.items s.sleepers.items s = subst (λ x. KeepsBy x (driver_of w') x.home.timers s'.requests.items s.sleepers.items s) (sym same2) by_home in
+      let keeps : Keeps w' s' = subst (λ y. KeepsBy w' (driver_of w') w'.home.timers s'.requests.items y.sleepers.items y) (sym by.shared) (assumption by_worker) in
+      let serves : Serves q w w' s s' = record {
+        worker = subst (λ x. x ≡ record w { place = x.place; home = record w.home { driver = x.home.driver; timers = x.home.timers; deferred = x.home.deferred }; names = record w.names { ended = x.names.ended; staged = x.names.staged; untold = x.names.untold }; put_off = x.put_off }) (sym by.worker) refl;
+        shared = subst (λ z. z ≡ record s { requests = z.requests; sleepers = z.sleepers }) (sym by.shared) refl;
+        from = refl;
+        to = ap is_calm there;
+        armed = ap is_armed_at there;
+        closes = ap closes_at there;
+      } in
+      let show = shows q w w' s s' d' serves driver in
+      let flying : flying_count d'.requests ≡ flying_count d.requests = flying_ended d.requests id.0 it (Err error) None who.live idle in
+      let apart : (x : WaiterId) → IsSome (value_at d.requests x.0) → x.0 ≢ id.0 → number_in n x.0 ≡ k → ⊥ = λ x some differs same.
+      let one_r = sound.named.requests x.0 some in
+      let both : one_r.0 ≡ who.r = cc (one_r.1, who.there, same) in
+      differs (sym one_r.2 ∙ ap (λ y. y.id.0) both ∙ who.named) in
+      let ready : numbers_of n (without id d.lists.queued) ≡ filter (λ j. not (j == k)) (numbers_of n d.lists.queued) =
+      numbers_without n id d.lists.queued (λ x among. apart x (stands d x is_queued (request_at d x) refl refl (new.submits.lists.queued x among))) in
+      let unenrolled : numbers_of n (without id d.lists.enrolments) ≡ filter (λ j. not (j == k)) (numbers_of n d.lists.enrolments) =
+      numbers_without n id d.lists.enrolments (λ x among. apart x (stands d x is_unenrolled (request_at d x) refl refl (new.submits.lists.enrolments x among))) in
+      let cancels : numbers_of n (without id d.lists.cancels) ≡ filter (λ j. not (j == k)) (numbers_of n d.lists.cancels) =
+      numbers_without n id d.lists.cancels (λ x among. apart x (stands d x is_cancelled (request_at d x) refl refl (new.submits.lists.cancels x among))) in
+      subst (λ x. Steps left spot w s x w' s') (sym (by.event ∙ ap (Expire k) ends))
+      (served left spot q w w' s s' (Expire k (Some outcome)) sound serves keeps
+      (λ p vs suits.
+      let cp = p.config in
+      let all = common_of left spot p vs s in
+      let request : request_of all k ≡ who.r.shown = request_seen rs k who.r who.there in
+      let found : first_due cp w.index (own_of w0) all ≡ Some k = subst (λ x. first_due x w.index (own_of w0) all ≡ Some k) suits.config (order id first) in
+      let due : due_next cp w.index gate (own_of w0) all (desk_of w0) ≡ Expires k = comes_to_due cp w.index gate k (own_of w0) all (desk_of w0) found in
+      let desk : desk_of w' ≡ told_of_end who.r.shown (desk_of w0) =
+      show.desk ∙ ap (λ y. desk_with w y w'.put_off deferred d') there ∙ ap (λ o. desk_with w q o deferred d') (ap (λ x. x.put_off) by.worker)
+      ∙ desk_ended (desk_of w0) w.home.deferred deferred it.observer id.0 told who.r.shown t tells refl refl a.near a.observed a.waiter in
+      let placed : submits v gate (told_of_end who.r.shown (desk_of w0)) ≡ told_of_end who.r.shown (desk_of w0) =
+      same_place who.r.shown.observed q (record (desk_of w0) { wakes = (desk_of w0).wakes ++ waker_of who.r.shown.waiter }) (record (desk_of w0) { outputs = (desk_of w0).outputs + 1 }) refl refl in
+      record {
+        moves =
+            ap (move_submit cp w.index (own_of w0) all (desk_of w0) (things_of w.index s) gate v) due
+            ∙ ap (move_expire (desk_of w0) (things_of w.index s) gate v k) request
+            ∙ ap (λ o. makes (Expire k o) (submits v gate (told_if_ended o who.r.shown (desk_of w0))) (things_of w.index s)) ends
+            ∙ ap (λ x. makes (Expire k (Some outcome)) x (things_of w.index s)) (placed ∙ sym desk);
+        may = (refl, (told_first cp (own_of w0) w.index all.requests k found, (ap (same_end (Some outcome)) (ap outcome_at_expiry request ∙ ends) ∙ same_error_self error, tt)));
+        own = show.own ∙ rw (there, ended_by, ap (λ x. x.names.untold) by.worker, ready, unenrolled, cancels, flying) refl;
+        common =
+            ap (λ us. common_of left spot p us s') (ap (λ x. slice_set vs w.index x) show.seen ∙ set_found vs w.index (visible w) suits.seen)
+            ∙ common_changed left spot p vs s s' k who.r (ends_as outcome) by.shared records who.there (λ x. refl)
+            ∙ ap (λ x. record all { requests = slice_set (map (λ r. r.shown) rs) k (resolved outcome x) }) (sym request);
+      }))

@@ -1,0 +1,139 @@
+-- An operation that has landed, whose request is over: what is seen of it.
+use Rattle.std.proofs.Common.{◌≡◌, ◌≢◌, ℕ, ◌+◌, ◌^◌, ◌<◌, ◌≤◌, ◌==◌, ◌&&◌, ◌||◌, Bool, true, false, not, List, [], ◌∷◌, ◌++◌, length, map, Option, Some, None, IsSome, refl, sym, ap, subst, ◌∙◌, arith, inl, inr, suc, ◌-◌, filter}
+use Rattle.std.proofs.lemmas.Bool.{false≢true, eq-eqb}
+use Rattle.std.proofs.lemmas.Bool.Decides.{nat_tests}
+use Rattle.std.specs.Prelude.{slice_get, slice_index_or, is_some, if◌then◌else◌, slice_set}
+use Rattle.exec_base.specs.{Slab.{value_at, written}, declared.slab.Id.Id}
+use Rattle.exec_base.proofs.Slots.{id_cases, Updates-write}
+use Rattle.exec_outcomes.specs.{Lawful.{is_lawful, window_in, window_of}, Outcomes.{HasCome, bytes_of, counted_for, first_length, first_part, moves_on, part_now, second_part}, declared.outcome.{Kind.Kind, OpResult.OpResult, Outcome.Outcome}}
+use Rattle.exec_request.specs.{Judging.{Judges, judged_as}, Kept.kept_of, Requests.{asked_of, cursor_of, deadline_of, hinted_of, output_of}, declared.{request.Request.Request as Asking, output.RequestOutput.RequestOutput}, States.{Ended, as_outcome}}
+use Rattle.exec_ring.specs.{Completions.result_in, declared.completion.Completion.Completion, Rings.completions}
+use Rattle.exec_waiters.specs.{Ids.index_in, States.{waiter_at, takes_tick, flying_count, tick_in, waiter_of, pending_count}, declared.{waiter.{Entry.TheVariants.Pending, Waiter.Waiter}, deferred.Deferred.Deferred, waiter_id.WaiterId.WaiterId}, Told.{Tells, nothing_told, Told}, Events.{finished, told_by_finish, output_told}}
+use Rattle.exec_driver.specs.{Driving.{Driving, request_at, is_queued, is_unenrolled, is_cancelled}, Lists.{is_among, with_queued, without, withdrawn}, Punctual.IsPunctual, Placed.ListsRequests, Steps.unscheduled}
+use Rattle.exec_machine.specs.{declared.{state.{Request.Request, RequestPhase.TheVariants.{Landed, Queued, Resolved}}, event.Event.{Event, TheVariants.Reap}}, Requests.{judged_of, reaped, went_on, asked_of as asked_in, cursor_of as cursor_in, outcome_given}, Tests.{is_gated, is_resolved, is_staged}, Progress.Plan, World.Own}
+use Rattle.exec_moves.specs.{declared.place.{Place.Place, Reaping.Reaping, Service.Service}, Move.aside, Seen.serves_at, Serve.{after_permit, back_from_reap, others_after_reap}, State.Desk, Callback.{told_of_end, waker_of}}
+use Rattle.exec_steps.specs.{declared.parts.{mail.Reply.Reply, names.Names.Names, record.Record.Record, shared.Shared.Shared, worker.Worker.Worker}, Due.{IsWheelAt, may_be_due, wheel_moment}, Flown.{AreLanded, HasFlown, HasLanded, IsPlain, IsUpTo, longest, operations, passes_permit}, Records.number_in, Serving.{changed_at, is_one_of, cancels_in, AreTagged}, Sound.{SoundAt, IsAlike, IsSubmitted, served_in, is_armed_at}, View.{driver_of, number_told, Visible, visible, own_of, desk_of, common_of, things_of, numbers_of, trailing}, Phased.closes_at, Spots.Spot, Works.{Suits, Steps}, Rooted.outcome_told}
+use Rattle.exec_steps.proofs.{Changing.{OneGoesOn, all_go_one, changes_one, keeps_one, flying_after, live_still, pending_still}, Flown.{FliesOn, landed_on}, Going.GoesOn, Judging.{bytes_fit, cancel_decides, first_still, given_is, moved_is, stays_first, switched_is, total_fits}, Marking.{mark_if, marked, was_marked}, Serving.{Follows, KeepsBy, Keeps, Serves, is_calm, calm, kept}, Staging.known_then, Starting.{fills, reads, writes_bytes, simple}, Trailing.{RingAfter, others_left}, Requeued.{not_same, GoesBack, back_alike, back_waiter, goes_back, keeps_back, landed_rest, lawful_shown, moved_fits, number_landed}, Seeing.{desk_with, makes, own_with, served, shows}, Sweeping.follows_reap, Timed.keeps_untold, Viewed.{common_seen, may_seen, moves_seen, reap_as}, Ends.{desk_ended, flying_ended, numbers_without, shows_left}, Late.{stands, wakes_are}, Ousting.keeps_over, Over.OneEnds, Resolving.{EntryAfter, SlabAfter, slab_after, told_once, unticked_at}, Returned.{desk_left, follows_back, not_due, one_fewer, served_back}, Finished.{GoesOver, goes_over, keeps_gone, over_alike, over_place, over_tells, over_told, over_waiter, over_written, told_place}}
+use Rattle.std.proofs.lemmas.List.{append-nil}
+use Rattle.exec_task.specs.declared.body.Said.{Said}
+use Rattle.exec_waiters.proofs.Changes.{one_if, entry_of}
+use Rattle.std.specs.VecDeque.{deque_capacity}
+use Rattle.exec_outcomes.specs.declared.outcome.Kind.TheVariants as kind
+use Rattle.exec_moves.specs.declared.place.InService.TheVariants as step
+use Rattle.exec_moves.specs.declared.place.Place.TheVariants as at
+use Rattle.exec_moves.specs.declared.place.Reaping.TheVariants as reaping
+use Rattle.exec_request.specs.declared.request.Request.TheVariants as asks
+
+-- another has another number
+apart_by : {B : Type 0} (q : Place) (w : Worker) (s : Shared B) → SoundAt q w s → (id : Id) (r : Record) → slice_get s.requests.items (number_in w.names.requests.items id) ≡ Some r → r.id.0 ≡ id
+    → (x : WaiterId) → IsSome (value_at (driver_of w).requests x.0) → x.0 ≢ id → number_in w.names.requests.items x.0 ≡ number_in w.names.requests.items id → ⊥
+apart_by q w s sound id r there name x some differs same =
+    let one = sound.named.requests x.0 some in
+    let both : one.0 ≡ r = cc (one.1, there, same) in
+    differs (sym one.2 ∙ ap (λ y. y.id.0) both ∙ name)
+
+module _ {B L : Type 0} (left : B → L) (spot : L → Option Said → Spot) (rp : Reaping) (v : Service) (w : Worker) (s : Shared B) (sound : SoundAt (at.Service (step.Reap rp) v) w s) (lists : ListsRequests (driver_of w)) (c : Completion) (cs : List Completion) (is : operations (driver_of w).ring ≡ c ∷ cs) (how : Ended) where
+  over_name : (d' : Driving Reply Reply) (over : GoesOver w s d' c cs how) → over.h.r.id.0 ≡ over.h.id
+  over_name d' over =
+      let one = sound.named.requests over.h.id (rw (entry_of (value_at (driver_of w).requests over.h.id) over.h.it over.h.live) refl) in
+      let both : one.0 ≡ over.h.r = cc (one.1, over.h.there) in
+      ap (λ y. y.id.0) (sym both) ∙ one.2
+
+  own_gone : (d' : Driving Reply Reply) (over : GoesOver w s d' c cs how) (ended : List ℕ) (q' : Place) →
+      let n = w.names.requests.items in
+      let k = number_in n over.h.id in
+      let me = own_with w q' ended w.names.untold.items (driver_of w) in
+      own_with w q' ended w.names.untold.items d' ≡ record me { ready = filter (λ j. not (j == k)) me.ready; unenrolled = filter (λ j. not (j == k)) me.unenrolled; cancels = filter (λ j. not (j == k)) me.cancels; in_flight = me.in_flight - 1 }
+  own_gone d' over ended q' =
+      let n = w.names.requests.items in
+      let d = driver_of w in
+      let id = over.h.id in
+      let k = number_in n id in
+      let name : WaiterId = record { 0 = id } in
+      let me' = own_with w q' ended w.names.untold.items d' in
+      let s1 = written d.requests id (Pending (record over.h.it { in_flight = false; request = over.request })) in
+      let it1 : Waiter Reply Reply = record over.h.it { in_flight = false; request = over.request } in
+      let flying : flying_count d'.requests ≡ flying_count d.requests - 1 =
+      ap flying_count over.requests ∙ flying_ended s1 id it1 how None (changes_one d.requests id over.h.it it1 over.h.live).is_at refl
+      ∙ one_fewer _ _ _ _ (flying_after d.requests id over.h.it it1 over.h.live) (ap one_if over.h.flies) refl in
+      let apart = apart_by (at.Service (step.Reap rp) v) w s sound id over.h.r over.h.there (over_name d' over) in
+      let ready = numbers_without n name d.lists.queued (λ x among. apart x (stands d x is_queued (request_at d x) refl refl (lists.queued x among))) in
+      let unenrolled = numbers_without n name d.lists.enrolments (λ x among. apart x (stands d x is_unenrolled (request_at d x) refl refl (lists.enrolments x among))) in
+      let cancels = numbers_without n name d.lists.cancels (λ x among. apart x (stands d x is_cancelled (request_at d x) refl refl (lists.cancels x among))) in
+      ap (λ l. record me' { ready = numbers_of n l.queued; unenrolled = numbers_of n l.enrolments; cancels = numbers_of n l.cancels }) over.lists
+      ∙ ap (λ ns. record me' { ready = ns; unenrolled = numbers_of n (without name d.lists.enrolments); cancels = numbers_of n (without name d.lists.cancels) }) ready
+      ∙ ap (λ ns. record me' { ready = filter (λ j. not (j == k)) (numbers_of n d.lists.queued); unenrolled = ns; cancels = numbers_of n (without name d.lists.cancels) }) unenrolled
+      ∙ ap (λ ns. record me' { ready = filter (λ j. not (j == k)) (numbers_of n d.lists.queued); unenrolled = filter (λ j. not (j == k)) (numbers_of n d.lists.enrolments); cancels = ns }) cancels
+      ∙ ap (λ m. record me' { ready = filter (λ j. not (j == k)) (numbers_of n d.lists.queued); unenrolled = filter (λ j. not (j == k)) (numbers_of n d.lists.enrolments); cancels = filter (λ j. not (j == k)) (numbers_of n d.lists.cancels); in_flight = m }) flying
+
+  pub reaped_over : (w' : Worker) (s' : Shared B) (e : Event) (over : GoesOver w s (driver_of w') c cs how) → IsPunctual (driver_of w') → e ≡ Reap (number_in w.names.requests.items over.h.id) (result_in c.result) (Some (as_outcome how))
+      → s'.requests.items ≡ changed_at s.requests.items (number_in w.names.requests.items over.h.id) (goes_over (result_in c.result) how) → s' ≡ record s { requests = s'.requests }
+      → Tells w.home.deferred w'.home.deferred (told_by_finish over.h.id (record over.h.it { in_flight = false; request = over.request }) how None)
+      → w'.names.ended.items ≡ w.names.ended.items ++ number_in w.names.requests.items over.h.id ∷ [] → deque_capacity w'.names.ended ≡ deque_capacity w.names.ended
+      → w' ≡ record w { place = at.Service (after_permit (back_from_reap rp (map (number_told w.names.requests.items) cs))) v; home = record w.home { driver = w'.home.driver; deferred = w'.home.deferred }; names = record w.names { ended = w'.names.ended } } → Steps left spot w s e w' s'
+  reaped_over w' s' e over punctual event records shared tells ended capacity same =
+      let q : Place = at.Service (step.Reap rp) v in
+      let n = w.names.requests.items in
+      let later = map (number_told n) cs in
+      let q' : Place = at.Service (after_permit (back_from_reap rp later)) v in
+      let d = driver_of w in
+      let d' = driver_of w' in
+      let rs = s.requests.items in
+      let h = over.h in
+      let k = number_in n h.id in
+      let r = h.r.shown in
+      let given = result_in c.result in
+      let outcome = as_outcome how in
+      let w0 : Worker = record w { place = q } in
+      let deferred = w'.home.deferred in
+      let follows = follows_back rp v later in
+      let ring = over.ring in
+      let a = over_alike rp v w s sound c cs d' how over in
+      let rs' = changed_at rs k (goes_over given how) in
+      let w1 : Worker = record w { place = q'; names = record w.names { ended = w'.names.ended }; home = record w.home { deferred = deferred } } in
+      let w2 : Worker = record w1 { home = record w1.home { driver = w'.home.driver } } in
+      let gone : KeepsBy w1 d' w.home.timers rs' s.sleepers.items s = keeps_gone rp v w s sound c cs d' how over w'.names deferred tells ended capacity punctual in
+      let by_records : KeepsBy w1 d' w.home.timers s'.requests.items s.sleepers.items s = subst (λ x. KeepsBy w1 d' w.home.timers x s.sleepers.items s) (sym records) gone in
+      let by_home : KeepsBy w2 d' w.home.timers s'.requests.items s.sleepers.items s = assumption by_records in
+      let by_worker : KeepsBy w' d' w'.home.timers s'.requests.items s.sleepers.items s = subst (λ x. KeepsBy x d' x.home.timers s'.requests.items s.sleepers.items s) (sym same) by_home in
+      let keeps : Keeps w' s' = subst (λ y. KeepsBy w' d' w'.home.timers s'.requests.items y.sleepers.items y) (sym shared) (assumption by_worker) in
+      let there : w'.place ≡ q' = ap (λ x. x.place) same in
+      let serves : Serves q w w' s s' = record {
+        worker = subst (λ x. x ≡ record w { place = x.place; home = record w.home { driver = x.home.driver; timers = x.home.timers; deferred = x.home.deferred }; names = record w.names { ended = x.names.ended; staged = x.names.staged; untold = x.names.untold }; put_off = x.put_off }) (sym same) refl;
+        shared = subst (λ z. z ≡ record s { requests = z.requests; sleepers = z.sleepers }) (sym shared) refl;
+        from = refl;
+        to = ap is_calm there ∙ follows.to;
+        armed = ap is_armed_at there ∙ follows.armed;
+        closes = ap closes_at there ∙ follows.closes;
+      } in
+      let show = shows q w w' s s' d' serves refl in
+      let seen : visible w' ≡ record (visible w) { landed = later } =
+      show.seen ∙ ap (λ b. record { busy = b; landed = map (number_told n) (operations d'.ring) }) ring.busy ∙ ap (λ ops. record { busy = d.ring.busy; landed = map (number_told n) ops }) ring.landed in
+      let x : Desk = others_after_reap later (desk_of w0) in
+      let base : desk_with w q' w.put_off w.home.deferred d' ≡ record x { place = q' } =
+      ap (λ es. record (desk_of w0) { place = q'; entries = length es; polled = d'.armed; others = trailing 0 (completions d'.ring) }) ring.staged
+      ∙ ap (λ b. record (desk_of w0) { place = q'; polled = b; others = trailing 0 (completions d'.ring) }) ring.armed
+      ∙ ap (λ m. record (desk_of w0) { place = q'; others = m }) ring.others
+      ∙ desk_left n cs (desk_of w0) q' in
+      let told : RequestOutput = output_of over.request how None in
+      let t : Told Reply Reply = told_by_finish h.id (record h.it { in_flight = false; request = over.request }) how None in
+      let desk : desk_of w' ≡ record (told_of_end r x) { place = q' } =
+      show.desk ∙ ap (λ y. desk_with w y w'.put_off deferred d') there ∙ ap (λ o. desk_with w q' o deferred d') (ap (λ y. y.put_off) same)
+      ∙ desk_ended (desk_with w q' w.put_off w.home.deferred d') w.home.deferred deferred h.it.observer h.id told r t tells refl refl a.near a.observed a.waiter
+      ∙ ap (told_of_end r) base
+      ∙ told_place r.observed (record x { wakes = x.wakes ++ waker_of r.waiter }) (record x { outputs = x.outputs + 1 }) q' in
+      let answer : outcome_given r given ≡ Some outcome = given_is d.wheel.start d.wheel.tick h.it r a given over.request (Some outcome) over.judges in
+      subst (λ y. Steps left spot w s y w' s') (sym event)
+      (served left spot q w w' s s' (Reap k given (Some outcome)) sound serves keeps
+      (λ p vs suits.
+      record {
+        moves =
+            ap (aside (things_of w.index s)) (moves_seen left spot rp v w s sound c cs is h p vs suits (desk_of w0) (Some outcome) answer)
+            ∙ ap (λ y. makes (Reap k given (Some outcome)) y (things_of w.index s)) (sym desk);
+        may = may_seen left spot rp v w s sound c cs is h p vs suits (own_of w0) (Some outcome) refl answer;
+        own =
+            show.own ∙ ap (λ y. own_with w y w'.names.ended.items w'.names.untold.items d') there ∙ ap (λ y. own_with w q' w'.names.ended.items y.names.untold.items d') same
+            ∙ ap (λ es. own_with w q' es w.names.untold.items d') ended
+            ∙ own_gone d' over (w.names.ended.items ++ k ∷ []) q' ∙ rw (served_back rp v later) refl;
+        common = common_seen left spot rp v w s sound c cs is h p vs suits s' (Some outcome) w' shared records seen;
+      }))

@@ -1,0 +1,61 @@
+-- Where no act was made: a root can be told what it could.
+use Rattle.std.proofs.Common.{◌≡◌, ℕ, List, Option, Some, None, refl, sym, ap, subst, ◌∙◌}
+use Rattle.std.specs.Prelude.{slice_get}
+use Rattle.exec_task.specs.declared.body.Said.{Said}
+use Rattle.exec_task.specs.declared.body.Said.TheVariants as said
+use Rattle.exec_machine.specs.{declared.state.Waiting.Waiting, Tasks.begun_waiting}
+use Rattle.exec_machine.specs.declared.state.Waiting.TheVariants as waiting
+use Rattle.exec_steps.specs.{declared.parts.{shared.Shared.Shared, task_slot.TaskSlot.TaskSlot, worker.Worker.Worker}, Hearing.{CanHear, Hears, StillHears, held_once_come}, View.body_in}
+
+-- what is waited for as a poll begins can be heard as before
+pub hears_begun : (told : Option Said) (u : Waiting) (held : List ℕ) (answer : Said) → CanHear told (begun_waiting u) answer → CanHear told u answer × (held_once_come u held ≡ held_once_come (begun_waiting u) held)
+hears_begun (Some x) waiting.Nothing held answer h = (h, refl)
+hears_begun (Some x) (waiting.Request r) held answer h = (h, refl)
+hears_begun (Some x) (waiting.Timer z) held answer h = (h, refl)
+hears_begun (Some x) waiting.Wake held answer h = (h, refl)
+hears_begun (Some x) waiting.Woken held answer h = (h, refl)
+hears_begun (Some x) waiting.Yielded held answer h = (h, refl)
+hears_begun None waiting.Nothing held answer h = (h, refl)
+hears_begun None (waiting.Request r) held answer h = (h, refl)
+hears_begun None (waiting.Timer z) held answer h = (h, refl)
+hears_begun None waiting.Wake held said.Pass h = (tt, refl)
+hears_begun None waiting.Wake held answer h = absurd h
+hears_begun None waiting.Woken held answer h = (h, refl)
+hears_begun None waiting.Yielded held answer h = absurd h
+
+module _ {B : Type 0} where
+  -- with the same tasks
+  pub unheard : {w w' : Worker} {s s' : Shared B} → w'.root ≡ w.root → s'.config ≡ s.config → s'.tasks.items ≡ s.tasks.items → StillHears w s w' s'
+  unheard {w} {w'} {s} {s'} root config same =
+      record {
+        root = root;
+        config = config;
+        hears = λ slot slot' there there'.
+            let is : slot ≡ slot' = cc (sym there ∙ ap (λ ts. slice_get ts w.root) (sym same) ∙ there') in
+            subst (Hears slot) is (record { body = refl; told = λ answer hears. (hears, refl) });
+      }
+
+  -- where its slot became this
+  pub hears_so : {w w' : Worker} {s s' : Shared B} (slot slot' : TaskSlot B) → w'.root ≡ w.root → s'.config ≡ s.config → slice_get s.tasks.items w.root ≡ Some slot → slice_get s'.tasks.items w.root ≡ Some slot' → Hears slot slot' → StillHears w s w' s'
+  hears_so slot slot' root config there there' hears =
+      record {
+        root = root;
+        config = config;
+        hears = λ o o' at_o at_o'.
+            let is : slot ≡ o = cc (there, at_o) in
+            let is' : slot' ≡ o' = cc (there', at_o') in
+            subst (λ x. Hears x o') is (subst (Hears slot) is' hears);
+      }
+
+  -- what it waited for has come
+  pub hears_come : (slot slot' : TaskSlot B) (u : Waiting) (x : Said) → slot.told ≡ None → slot.waiting ≡ u → CanHear None u x → held_once_come u slot.held.items ≡ slot'.held.items
+      → slot' ≡ record slot { held = slot'.held; waiting = waiting.Nothing; told = Some x } → Hears slot slot'
+  hears_come slot slot' u x untold waits may held came =
+      record {
+        body = ap (λ (o : TaskSlot B). body_in o.cell.phase o.body) came;
+        told = λ answer hears.
+            let is : answer ≡ x = subst (λ (o : TaskSlot B). CanHear o.told o.waiting answer) came hears in (
+              subst (λ o. CanHear o slot.waiting answer) (sym untold) (subst (λ v. CanHear None v answer) (sym waits) (subst (CanHear None u) (sym is) may)),
+              ap (λ v. held_once_come v slot.held.items) waits ∙ held ∙ sym (ap (λ (o : TaskSlot B). held_once_come o.waiting slot'.held.items) came),
+            );
+      }

@@ -1,0 +1,215 @@
+-- A deadline that has passed, or is beyond the wheel, ends its request.
+use Rattle.std.proofs.Common.{◌≡◌, ◌≢◌, ℕ, zero, suc, ◌+◌, ◌-◌, ◌*◌, ◌^◌, ◌<◌, ◌≤◌, ◌==◌, ◌&&◌, Bool, true, false, not, List, [], ◌∷◌, ◌++◌, length, map, filter, Option, Some, None, IsSome, IfSome, refl, sym, ap, subst, ◌∙◌, arith, inl, inr}
+use Rattle.std.proofs.lemmas.Bool.{false≢true, eq-eqb}
+use Rattle.std.proofs.lemmas.Bool.Decides.{nat_tests}
+use Rattle.std.specs.Prelude.{slice_get, slice_set, drop, is_some, unwrap_or, if◌then◌else◌, Result, Ok, Err}
+use Rattle.std.specs.Option.{option_map}
+use Rattle.exec_base.specs.{Slab.{Slab, value_at, written}, declared.{error.{Error.Error, Cause.Cause}, slab.Id.Id}}
+use Rattle.exec_base.proofs.Slots.{id_cases}
+use Rattle.exec_outcomes.specs.declared.outcome.Outcome.{Outcome, TheVariants.Failure}
+use Rattle.exec_request.specs.{Requests.{deadline_of, asked_of, output_of}, States.asks_cancel, declared.{results.WaiterState.{WaiterState, TheVariants.{Active, CancelRequested}}, output.RequestOutput.RequestOutput, request.Request.Request as Asking}}
+use Rattle.exec_task.specs.declared.body.Said.{Said}
+use Rattle.exec_time.specs.declared.timers.Sleeper.{Sleeper as Sleeping}
+use Rattle.exec_waiters.proofs.Changes.{entry_of, one_if}
+use Rattle.exec_waiters.specs.{Events.{with_tick, finished, output_told, told_by_finish, waker_in}, States.{waiter_at, takes_tick, tick_in, flying_count}, Told.{Tells, nothing_told, Told, tasks_of}, declared.{deferred.Deferred.Deferred, waiter.{Entry.TheVariants.Pending, Waiter.Waiter}, waiter_id.WaiterId.WaiterId, observer.Observer.{Observer, TheVariants.{Local, Orphaned}}}}
+use Rattle.exec_driver.specs.{Driving.{Driving, request_at, is_queued, is_unenrolled, is_cancelled}, Lists.{first_of, rest_of, is_among, is_same, after_enrolment, without, withdrawn}, Punctual.IsPunctual, Steps.{enrolled_by, told_by_enrolment, tick_for, ended_by, unscheduled}}
+use Rattle.exec_machine.specs.{declared.{config.Configuration.Configuration, event.Event.{Event, TheVariants.Enrol}, state.Request.Request}, Deadlines.{fires_at, outcome_at_enrol}, Progress.Plan, Same.{is_none, is_number, same_end, same_cause, same_error}, Tests.{is_queued as is_phase_queued, is_resolved, is_staged}, World.{Own, Common, request_of}, Requests.resolved}
+use Rattle.exec_machine.specs.declared.state.RequestPhase.TheVariants as phase
+use Rattle.exec_moves.specs.{Move.move_submit, Callback.{told_if_ended, told_of_end, waker_of}, State.{Desk, Moved, Things}, Submit.{due_next, first_due, submits, Due.Enrols}, declared.place.{Service.Service, Place.Place}}
+use Rattle.exec_moves.specs.declared.place.InService.TheVariants as step
+use Rattle.exec_moves.specs.declared.place.Place.TheVariants as at
+use Rattle.exec_steps.specs.{declared.parts.{mail.Reply.Reply, names.Names.Names, record.Record.Record, shared.Shared.Shared, sleeping.SleeperRecord.SleeperRecord, worker.Worker.Worker}, Due.IsWheelAt, Flown.{HasFlown, IsPlain, operations, IsUpTo, longest}, Phased.closes_at, Records.number_in, Serving.{changed_at, first_tick, is_one_of, outcome_of_error}, Sound.{SoundAt, AreOwed, IsAlike, IsSubmitted, IsTold, served_in, is_armed_at, has_wakes_at}, Spots.Spot, Submitting.IsNewIn, View.{Visible, visible, own_of, desk_of, driver_of, common_of, things_of, numbers_of}, Works.{Suits, Steps}, Rooted.{IsNear, outcome_told}}
+use Rattle.exec_steps.proofs.{Calling.request_seen, Enrolled.{HasEnrolled, NewAt, new_first}, Enrolling.enrol_same, Idling.none_due, Seeing.{makes, shows, served, common_changed, desk_with}, Serving.{is_calm, Follows, Serves, Keeps, KeepsBy, calm, kept}, Staging.split_first, Turning.set_found, Ends.{desk_ended, flying_ended, later_in, numbers_without, without_first}, Orders.alike_unticked, Ousting.keeps_ended, Over.OneEnds, Resolving.{slab_after, told_once, unticked_at}, Starting.{fills, reads, writes_bytes}, Timed.{comes_to_new, move_enrol, unset}}
+use Rattle.exec_base.specs.declared.error.Cause.TheVariants as cause
+use Rattle.exec_base.specs.declared.error.Error.TheVariants as error
+use Rattle.exec_request.specs.declared.request.Request.TheVariants as asks
+
+-- THE OUTCOME
+
+same_cause_self : (x : Cause) → same_cause x x ≡ true
+same_cause_self (cause.Code n) = eq-eqb n n refl
+same_cause_self cause.InvalidInput = refl
+same_cause_self cause.Closed = refl
+
+both_so : (a b : Bool) → a ≡ true → b ≡ true → (a && b) ≡ true
+both_so true b h g = g
+both_so false b h g = absurd (false≢true h)
+
+pub same_error_self : (x : Error) → same_error x x ≡ true
+same_error_self error.Timeout = refl
+same_error_self error.Closed = refl
+same_error_self error.SendFailed = refl
+same_error_self error.RecvFailed = refl
+same_error_self error.ReadFailed = refl
+same_error_self error.WriteFailed = refl
+same_error_self error.ConnectionFailed = refl
+same_error_self error.BindFailed = refl
+same_error_self (error.Io x) = same_cause_self x
+same_error_self error.BlobInsufficientLength = refl
+same_error_self error.OffsetOverflow = refl
+same_error_self (error.BlobSyncFailed n x) = both_so (n == n) (same_cause x x) (eq-eqb n n refl) (same_cause_self x)
+same_error_self (error.BlobResizeFailed n x) = both_so (n == n) (same_cause x x) (eq-eqb n n refl) (same_cause_self x)
+same_error_self error.NoMemory = refl
+same_error_self error.Full = refl
+
+ended_is : (r : Result ℕ Error) (x : Error) → Some x ≡ ended_by r → r ≡ Err x
+ended_is (Ok t) x is = absurd (cc)
+ended_is (Err y) x is = cc
+
+-- what its task hears is what the log tells
+pub tells_error : (q : Asking) (n : ℕ) (x : Error) → IsUpTo (longest (asked_of q).kind) n → outcome_told (output_of q (Err x) None) ≡ Failure x
+tells_error (asks.Send s) n x h = refl
+tells_error (asks.Poll p) n x h = refl
+tells_error (asks.Recv r) n x h = absurd (fills r.exact n h)
+tells_error (asks.ReadAt r) n x h = absurd (reads r.way (length r.buf.bytes) n h)
+tells_error (asks.WriteAt w) n x h = absurd (writes_bytes w.state n h)
+tells_error (asks.Sync s) n x h = absurd h
+tells_error (asks.Connect c) n x h = absurd h
+
+pub wakes_are : (id : Id) (out : RequestOutput) (o : Observer Reply Reply) → IsNear o → (output_told id out o).wakes ≡ tasks_of (waker_in o)
+wakes_are id out (Local waker) near = refl
+wakes_are id out Orphaned near = refl
+wakes_are id out _ near = absurd near
+
+-- the place stays
+pub same_place : (b : Bool) (q : Place) (x y : Desk) → x.place ≡ q → y.place ≡ q → record (if b then x else y) { place = q } ≡ (if b then x else y)
+same_place true q x y a b = ap (λ p. record x { place = p }) (sym a)
+same_place false q x y a b = ap (λ p. record y { place = p }) (sym b)
+
+abbrev ends_as : Outcome → Record → Record
+ends_as outcome r = record r { shown = resolved outcome r.shown }
+
+pub stands : (d : Driving Reply Reply) (x : WaiterId) (test : Option (Waiter Reply Reply) → Bool) (o : Option (Waiter Reply Reply)) → request_at d x ≡ o → test None ≡ false → test o ≡ true → IsSome (value_at d.requests x.0)
+stands d x test None at none h = absurd (false≢true (sym none ∙ h))
+stands d x test (Some y) at none h = rw (entry_of (value_at d.requests x.0) y at) refl
+
+module _ {B L : Type 0} (left : B → L) (spot : L → Option Said → Spot) where
+  pub enrol_ends : (w w' : Worker) (s s' : Shared B) (e : Event) (id : WaiterId) (error : Error) → (new : IsNewIn w s) → first_of (driver_of w).lists.enrolments ≡ Some id → HasEnrolled w w' s s' e id (Some error) → Steps left spot w s e w' s'
+  enrol_ends w w' s s' e id error new first by =
+      let v = new.submits.service in
+      let gate = new.submits.gate in
+      let q : Place = at.Service (step.Submit gate) v in
+      let sound = new.submits.sound in
+      let d = driver_of w in
+      let rs = s.requests.items in
+      let n = w.names.requests.items in
+      let k = number_in n id.0 in
+      let who = new_first w s new id first in
+      let it = who.it in
+      let c = s.config in
+      let w0 : Worker = record w { place = q } in
+      let start = w.moments.start in
+      let now = w.moments.sampled in
+      let enrols = by.enrols it who.deadline who.live who.asked in
+      let ending = ended_is (tick_for d.wheel who.deadline now) error enrols.told_is in
+      let outcome = Failure error in
+      let told = output_of it.request (Err error) None in
+      let others = rest_of d.lists.enrolments in
+      let split : d.lists.enrolments ≡ id ∷ others = split_first id d.lists.enrolments first in
+      let enrolments : without id others ≡ without id d.lists.enrolments = sym (ap (without id) split ∙ without_first id others) in
+      let d' : Driving Reply Reply = record d { requests = finished d.requests id.0 it (Err error) None; wheel = unscheduled d.wheel (tick_in it.state); lists = withdrawn id d.lists } in
+      let driver : driver_of w' ≡ d' =
+      enrols.driver ∙ ap (enrolled_by (record d { lists = after_enrolment d.lists }) id it) ending
+      ∙ ap (λ ids. record d' { lists = record (withdrawn id d.lists) { enrolments = ids } }) enrolments in
+      let t : Told Reply Reply = told_by_finish id.0 it (Err error) None in
+      let tells : Tells w.home.deferred w'.home.deferred t = subst (λ x. Tells w.home.deferred w'.home.deferred (told_by_enrolment id it x)) ending enrols.tells in
+      let begun : start ≤ now = omega (arith, sound.time.begun, sound.time.ordered) in
+      let plain = sound.flown.plain k who.r who.there who.worker in
+      let bounded : who.deadline < 2 ^ 63 = subst (λ o. IfSome o (λ m. m < 2 ^ 63)) who.told plain.deadline in
+      let within : who.deadline + c.tick < 2 ^ 64 = omega (arith, bounded, sound.config.tick) in
+      let wheel : IsWheelAt c start now d.wheel = sound.due.wheel in
+      let so : outcome_at_enrol c (own_of w0) (Some who.deadline) ≡ Some outcome =
+      sym (enrol_same c (own_of w0) d.wheel now who.deadline wheel refl sound.config.some_tick begun within) ∙ ap (λ x. outcome_of_error (ended_by x)) ending in
+      let a = who.alike in
+      let free = unset it.state who.takes in
+      let one : OneEnds w.names d d'.requests rs id.0 it who.r (ends_as outcome) outcome told = record {
+        at = who.live;
+        there = who.there;
+        slab = slab_after d.requests id.0 it (Err error) None a.near who.live;
+        ends = record { same = refl };
+      } in
+      let deferred = w'.home.deferred in
+      let bounded_kind : IsUpTo (longest (asked_of it.request).kind) who.r.shown.operation.length = subst (λ x. IsUpTo (longest x.kind) who.r.shown.operation.length) a.asked plain.bounded in
+      let w1 : Worker = record w { place = q; names = record w.names { ended = w'.names.ended }; home = record w.home { deferred = deferred } } in
+      let rs' = changed_at rs k (ends_as outcome) in
+      let kept_now : KeepsBy w1 d' w.home.timers rs' s.sleepers.items s =
+      keeps_ended w s d d' w.home.timers rs s.sleepers.items id.0 it who.r (ends_as outcome) outcome told q w'.names deferred t one (kept q w s sound (calm q refl))
+      sound.runnable.root sound.runnable.there (record { once = told_once id.0 it (Err error) None a.near; wakes = wakes_are id.0 told it.observer a.near }) tells
+      by.ended by.capacity who.idle (record { bounded = plain.bounded; moved = plain.moved; first_part = plain.first_part; unhinted = plain.unhinted; ungated = refl; deadline = plain.deadline })
+      (λ held. sym (tells_error it.request who.r.shown.operation.length error bounded_kind))
+      refl refl (ap (λ o. (unscheduled d.wheel o).start) free.0) (ap (λ o. (unscheduled d.wheel o).tick) free.0)
+      (subst IsPunctual driver by.punctual) (λ h. ap (without id) new.due) (unticked_at c start now d.wheel (tick_in it.state) wheel) (alike_unticked d.wheel (tick_in it.state)) refl refl in
+      let w2 : Worker = record w1 { home = record w1.home { driver = w'.home.driver } } in
+      let there : w'.place ≡ q = ap (λ x. x.place) by.worker ∙ sound.here in
+      let same2 : w' ≡ w2 = by.worker ∙ ap (λ y. record w { place = y; home = record w.home { driver = w'.home.driver; deferred = deferred }; names = record w.names { ended = w'.names.ended } }) sound.here in
+      let by_records : KeepsBy w1 d' w.home.timers s'.requests.items s.sleepers.items s = subst (λ x. KeepsBy w1 d' w.home.timers x s.sleepers.items s) (sym by.records) kept_now in
+      let by_driver : KeepsBy w1 (driver_of w') w.home.timers s'.requests.items s.sleepers.items s = subst (λ x. KeepsBy w1 x w.home.timers s'.requests.items s.sleepers.items s) (sym driver) by_records in
+      let by_home : KeepsBy w2 (driver_of w') w.home.timers s'.requests.items s.sleepers.items s = assumption by_driver in
+      let by_worker : KeepsBy w' (driver_of w') w'.home.timers s'.requests.items s.sleepers.items s = subst (λ x. KeepsBy x (driver_of w') x.home.timers s'.requests.items s.sleepers.items s) (sym same2) by_home in
+      let keeps : Keeps w' s' = subst (λ y. KeepsBy w' (driver_of w') w'.home.timers s'.requests.items y.sleepers.items y) (sym by.shared) (assumption by_worker) in
+      let serves : Serves q w w' s s' = record {
+        worker = subst (λ x. x ≡ record w { place = x.place; home = record w.home { driver = x.home.driver; timers = x.home.timers; deferred = x.home.deferred }; names = record w.names { ended = x.names.ended; staged = x.names.staged; untold = x.names.untold }; put_off = x.put_off }) (sym by.worker) refl;
+        shared = subst (λ z. z ≡ record s { requests = z.requests; sleepers = z.sleepers }) (sym by.shared) refl;
+        from = refl;
+        to = ap is_calm there;
+        armed = ap is_armed_at there;
+        closes = ap closes_at there;
+      } in
+      let show = shows q w w' s s' d' serves driver in
+      let flying : flying_count d'.requests ≡ flying_count d.requests = flying_ended d.requests id.0 it (Err error) None who.live who.idle in
+      let numbers : numbers_of n d.lists.enrolments ≡ k ∷ numbers_of n others = ap (numbers_of n) split in
+      let apart : (x : WaiterId) → IsSome (value_at d.requests x.0) → x.0 ≢ id.0 → number_in n x.0 ≡ k → ⊥ = λ x some differs same.
+      let one_r = sound.named.requests x.0 some in
+      let both : one_r.0 ≡ who.r = cc (one_r.1, who.there, same) in
+      differs (sym one_r.2 ∙ ap (λ y. y.id.0) both ∙ who.named) in
+      let ready : numbers_of n (without id d.lists.queued) ≡ filter (λ j. not (j == k)) (numbers_of n d.lists.queued) =
+      numbers_without n id d.lists.queued (λ x among. apart x (stands d x is_queued (request_at d x) refl refl (new.submits.lists.queued x among))) in
+      let unenrolled : numbers_of n (without id d.lists.enrolments) ≡ filter (λ j. not (j == k)) (drop 1 (numbers_of n d.lists.enrolments)) =
+      ap (numbers_of n) (sym enrolments)
+      ∙ numbers_without n id others (λ x among. apart x (stands d x is_unenrolled (request_at d x) refl refl (new.submits.lists.enrolments x (ap (is_among x) split ∙ later_in id x others among))))
+      ∙ ap (λ ks. filter (λ j. not (j == k)) (drop 1 ks)) (sym numbers) in
+      let cancels : numbers_of n (without id d.lists.cancels) ≡ filter (λ j. not (j == k)) (numbers_of n d.lists.cancels) =
+      numbers_without n id d.lists.cancels (λ x among. apart x (stands d x is_cancelled (request_at d x) refl refl (new.submits.lists.cancels x among))) in
+      subst (λ x. Steps left spot w s x w' s') (sym by.event)
+      (served left spot q w w' s s' (Enrol k (Some outcome)) sound serves keeps
+      (λ p vs suits.
+      let cp = p.config in
+      let all = common_of left spot p vs s in
+      let request : request_of all k ≡ who.r.shown = request_seen rs k who.r who.there in
+      let asked : (request_of all k).operation.deadline ≡ Some who.deadline = ap (λ x. x.operation.deadline) request ∙ who.told in
+      let ends : outcome_at_enrol cp (own_of w0) (request_of all k).operation.deadline ≡ Some outcome = ap (outcome_at_enrol cp (own_of w0)) asked ∙ ap (λ x. outcome_at_enrol x (own_of w0) (Some who.deadline)) (sym suits.config) ∙ so in
+      let none : first_due cp w.index (own_of w0) all ≡ None =
+      subst (λ x. first_due x w.index (own_of w0) all ≡ None) suits.config
+      (none_due _ w.index w.moments s.config w.names d w.home.timers rs s.sleepers.items sound.due sound.named sound.config.some_tick begun (own_of w0) all refl refl new.due) in
+      let due : due_next cp w.index gate (own_of w0) all (desk_of w0) ≡ Enrols k =
+      comes_to_new cp w.index gate k (own_of w0) all (desk_of w0) none (ap (λ ks. slice_get ks 0) numbers) in
+      let desk : desk_of w' ≡ told_of_end who.r.shown (desk_of w0) =
+      show.desk ∙ ap (λ y. desk_with w y w'.put_off deferred d') there ∙ ap (λ o. desk_with w q o deferred d') (ap (λ x. x.put_off) by.worker)
+      ∙ desk_ended (desk_of w0) w.home.deferred deferred it.observer id.0 told who.r.shown t tells refl refl a.near a.observed a.waiter in
+      let placed : submits v gate (told_of_end who.r.shown (desk_of w0)) ≡ told_of_end who.r.shown (desk_of w0) =
+      same_place who.r.shown.observed q (record (desk_of w0) { wakes = (desk_of w0).wakes ++ waker_of who.r.shown.waiter }) (record (desk_of w0) { outputs = (desk_of w0).outputs + 1 }) refl refl in
+      record {
+        moves =
+            ap (move_submit cp w.index (own_of w0) all (desk_of w0) (things_of w.index s) gate v) due
+            ∙ ap (λ o. move_enrol cp w.index (own_of w0) all (desk_of w0) (things_of w.index s) gate v k o) ends
+            ∙ ap (λ x. makes (Enrol k (Some outcome)) (submits v gate (told_of_end x (desk_of w0))) (things_of w.index s)) request
+            ∙ ap (λ x. makes (Enrol k (Some outcome)) x (things_of w.index s)) (placed ∙ sym desk);
+        may = (
+          refl,
+          (
+            ap (λ ks. is_number k (slice_get ks 0)) numbers ∙ eq-eqb k k refl,
+            (
+              ap (λ x. x.worker == w.index) request ∙ ap (λ i. i == w.index) who.worker ∙ eq-eqb w.index w.index refl,
+              (
+                ap (λ x. is_phase_queued x.phase) request ∙ ap is_phase_queued who.queued,
+                (ap (λ x. is_none x.timer) request ∙ ap is_none (a.timer ∙ ap (option_map (λ m. d.wheel.start + m * d.wheel.tick)) free.0), (ap (λ o. not (is_none o)) asked, (ap (same_end (Some outcome)) ends ∙ same_error_self error, tt))),
+              ),
+            ),
+          ),
+        );
+        own = show.own ∙ rw (there, by.ended, ap (λ x. x.names.untold) by.worker, ready, unenrolled, cancels, flying) refl;
+        common =
+            ap (λ us. common_of left spot p us s') (ap (λ x. slice_set vs w.index x) show.seen ∙ set_found vs w.index (visible w) suits.seen)
+            ∙ common_changed left spot p vs s s' k who.r (ends_as outcome) by.shared by.records who.there (λ x. refl)
+            ∙ ap (λ x. record all { requests = slice_set (map (λ r. r.shown) rs) k (resolved outcome x) }) (sym request);
+      }))

@@ -1,0 +1,337 @@
+-- One more request is queued: what holds again of the requests.
+use Rattle.std.proofs.Common.{◌≡◌, ◌≢◌, ◌⊎◌, ℕ, ◌+◌, ◌<◌, ◌≤◌, Bool, true, false, List, [], ◌∷◌, ◌++◌, length, Option, Some, None, IsSome, refl, sym, ap, subst, ◌∙◌, arith, inl, inr}
+use Rattle.std.proofs.lemmas.Bool.{false≢true}
+use Rattle.std.proofs.lemmas.List.{length-append}
+use Rattle.std.proofs.lemmas.Option.{slice_get_within}
+use Rattle.std.specs.Prelude.{slice_get, is_some}
+use Rattle.std.specs.List.{AllByRecursion}
+use Rattle.std.specs.VecDeque.{deque_capacity}
+use Rattle.exec_base.specs.{Slab.{Slab, value_at, next_id, IsPast}, declared.slab.Id.Id}
+use Rattle.exec_request.specs.{Requests.{asked_of, cursor_of, deadline_of, target_of}, declared.request.Request.Request as Asking}
+use Rattle.exec_ring.specs.{Rings.RingState, Stores.Reserves, declared.store.Store.Store}
+use Rattle.exec_time.specs.declared.timers.Sleeper.{Sleeper as Sleeping}
+use Rattle.exec_waiters.proofs.Changes.{entry_of}
+use Rattle.exec_waiters.specs.{States.{awaits_tick, waiter_at, waiter_of, tick_in, tick_of}, declared.waiter.{Entry.TheVariants.{Pending, Ready}, Waiter.Waiter}}
+use Rattle.exec_driver.specs.{Driving.{Driving, is_cancelled, is_unenrolled}, Lists.is_among, Placed.ListsRequests, Punctual.IsPunctual, Steps.footprint_of}
+use Rattle.exec_machine.specs.{declared.state.Operation.Operation, Requests.{new_request, asked_of as asked_in}, Tests.{is_in_flight, is_resolved, is_staged}}
+use Rattle.exec_machine.specs.declared.state.RequestPhase.TheVariants as phase
+use Rattle.exec_machine.specs.declared.state.Waiting.TheVariants as waiting
+use Rattle.exec_moves.specs.declared.place.InService.{InService}
+use Rattle.exec_steps.specs.{declared.parts.{mail.Reply.Reply, names.Names.Names, record.Record.Record, sleeping.SleeperRecord.SleeperRecord}, Carried.IsCarried, Due.AreTimed, Flown.{AreLanded, HasFlown, IsPlain, operations}, Ordered.IsOrdered, Records.number_in, Rooted.Holds, Scripts.IsPlainRequest, Serving.is_one_of, Sound.{AreOver, IsAlike, IsNamed, IsSubmitted}}
+use Rattle.exec_steps.proofs.{Flown.{AllFlyOn, landed_on}, Admitted.{carried_joined, plain_whole, room_made}, Conveying.carried_ring, Late.stands, Orders.{Eases, comes_in, joins}, Over.in_append, Taken.{Takes, got_new, got_old, name_apart, number_new, number_old, past_still, slot_apart, some_still, value_before, value_new, value_old, was_got, apart_or_same, enrolled_if, among_before, among_now, one_before, one_now, all_listed, known_more}}
+
+-- A request came in under this name, queued, with the next number.
+pub record OneComes (i : ℕ) (n n' : Names) (d d' : Driving Reply Reply) (rs : List Record) (id : Id) (it : Waiter Reply Reply) (r : Record) : Type 0 where
+  pub takes : Takes d.requests d'.requests id (Pending it)
+  pub next : next_id d.requests ≡ Some id
+  pub new : IsPast d.requests id → ⊥
+  pub number_is : slice_get n'.requests.items id.index ≡ Some (length rs)
+  pub others : (k : ℕ) → k ≢ id.index → slice_get n'.requests.items k ≡ slice_get n.requests.items k
+  pub slots : length d'.requests.slots ≤ length n'.requests.items
+  pub timers : n'.timers.items ≡ n.timers.items
+  pub staged : n'.staged ≡ n.staged
+  pub untold : n'.untold ≡ n.untold
+  pub ended : n'.ended.items ≡ n.ended.items
+  pub unreleased : n'.unreleased ≡ n.unreleased + 1
+  pub held : n'.held ≡ n.held + 1
+  pub room : n'.unreleased ≤ deque_capacity n'.ended
+  pub name : r.id.0 ≡ id
+  pub o : Operation
+  pub shown : r.shown ≡ record (new_request i o) { phase = phase.Queued }
+  pub alike : IsAlike d.wheel.start d.wheel.tick it r.shown
+  pub plain : IsPlain r.shown
+  pub lists : ListsRequests d
+  pub ring : d'.ring ≡ record d.ring { places = d'.ring.places }
+  pub wheel : d'.wheel ≡ d.wheel
+  pub cancels : d'.lists.cancels ≡ d.lists.cancels
+  pub due : d'.lists.due ≡ d.lists.due
+  pub enrolments : d'.lists.enrolments ≡ enrolled_if (deadline_of it.request) (record { 0 = id }) d.lists.enrolments
+
+module _ (i : ℕ) (n n' : Names) (d d' : Driving Reply Reply) (zs : Slab (Sleeping Reply)) (rs : List Record) (ss : List SleeperRecord) (id : Id) (it : Waiter Reply Reply) (r : Record) (one : OneComes i n n' d d' rs id it r) where
+  -- THE DRIVER AND THE NUMBERS
+
+  pub is_here : waiter_at d'.requests id ≡ Some it
+  is_here = ap waiter_of (value_new d.requests d'.requests id (Pending it) one.takes)
+
+  was_none : waiter_at d.requests id ≡ None
+  was_none = ap waiter_of (value_before d.requests d'.requests id (Pending it) one.takes)
+
+  still_at : (other : Id) → other ≢ id → waiter_at d'.requests other ≡ waiter_at d.requests other
+  still_at other apart = ap waiter_of (value_old d.requests d'.requests id (Pending it) one.takes other apart)
+
+  some_of : (other : Id) (w : Waiter Reply Reply) → waiter_at d.requests other ≡ Some w → IsSome (value_at d.requests other)
+  some_of other w at = rw (entry_of (value_at d.requests other) w at) refl
+
+  pub number_here : number_in n'.requests.items id ≡ length rs
+  number_here = number_new n.requests.items n'.requests.items id (length rs) one.number_is one.others
+
+  pub number_there : (other : Id) → IsSome (value_at d.requests other) → number_in n'.requests.items other ≡ number_in n.requests.items other
+  number_there other some = number_old n.requests.items n'.requests.items id (length rs) one.number_is one.others other (slot_apart d.requests d'.requests id (Pending it) one.takes other some)
+
+  queued : r.shown.phase ≡ phase.Queued
+  queued = ap (λ x. x.phase) one.shown
+
+  unresolved : is_resolved r.shown.phase ≡ false
+  unresolved = ap is_resolved queued
+
+  mine_too : r.shown.worker ≡ i
+  mine_too = ap (λ x. x.worker) one.shown
+
+  -- what has a number that is known has that record still
+  record_there : IsNamed i n d zs rs ss → (other : Id) (x : Record) → IsSome (value_at d.requests other) → slice_get (rs ++ r ∷ []) (number_in n'.requests.items other) ≡ Some x → slice_get rs (number_in n.requests.items other) ≡ Some x
+  record_there named other x some there =
+      let old = named.requests other some in
+      let now = ap (slice_get (rs ++ r ∷ [])) (number_there other some) ∙ got_old rs r old.0 (number_in n.requests.items other) old.1 in
+      let same : old.0 ≡ x = cc (now, there) in
+      old.1 ∙ ap (λ y. Some y) same
+
+  -- NAMED
+
+  submitted_next : IsSubmitted i n.staged.items n.untold.items d.ring rs → IsSubmitted i n'.staged.items n'.untold.items d'.ring (rs ++ r ∷ [])
+  submitted_next sub =
+      subst (λ (x : RingState). IsSubmitted i n'.staged.items n'.untold.items x (rs ++ r ∷ [])) (sym one.ring)
+      (rw (one.staged, one.untold) (record {
+        tagged = sub.tagged;
+        cancels = sub.cancels;
+        known = known_more n.staged.items rs r sub.known;
+        own = λ k x listed there. elim (was_got rs r x k there) [ inl old ↦ sub.own k x listed old | inr last ↦ ap (λ y. y.shown.worker) (sym last.1) ∙ mine_too ];
+        all = λ k x there mine staged.
+            elim (was_got rs r x k there) [
+              | inl old ↦ sub.all k x old mine staged
+              | inr last ↦ absurd (false≢true (sym (ap (λ y. is_staged y.shown.phase) (sym last.1) ∙ ap is_staged queued) ∙ staged))
+            ];
+        unraised = sub.unraised;
+      }))
+
+  pub named_next : IsNamed i n d zs rs ss → IsNamed i n' d' zs (rs ++ r ∷ []) ss
+  named_next named =
+      record {
+        requests = λ other h.
+            apart_or_same other id
+            (λ apart.
+            let some : IsSome (value_at d.requests other) = rw (← value_old d.requests d'.requests id (Pending it) one.takes other apart) h in
+            let old = named.requests other some in
+            (old.0, ap (slice_get (rs ++ r ∷ [])) (number_there other some) ∙ got_old rs r old.0 (number_in n.requests.items other) old.1, old.2, old.3))
+            (λ same. (r, ap (λ x. slice_get (rs ++ r ∷ []) (number_in n'.requests.items x)) same ∙ ap (slice_get (rs ++ r ∷ [])) number_here ∙ got_new rs r, one.name ∙ sym same, mine_too));
+        timers = λ other h. rw one.timers (named.timers other h);
+        alike = λ other w x at there.
+            rw one.wheel
+            (apart_or_same other id
+            (λ apart.
+            let old : waiter_at d.requests other ≡ Some w = sym (still_at other apart) ∙ at in
+            named.alike other w x old (record_there named other x (some_of other w old) there))
+            (λ same.
+            let is_it : it ≡ w = cc (is_here, at, ap (waiter_at d'.requests) same) in
+            let found : slice_get (rs ++ r ∷ []) (length rs) ≡ Some x = ap (slice_get (rs ++ r ∷ [])) (sym (ap (number_in n'.requests.items) same ∙ number_here)) ∙ there in
+            let is_r : r ≡ x = cc (found, got_new rs r) in
+            rw (← is_it, ← is_r) one.alike));
+        over = λ k x there mine gone.
+            elim (was_got rs r x k there) [
+              | inl old ↦ named.over k x old mine (apart_or_same x.id.0 id (λ apart. sym (still_at x.id.0 apart) ∙ gone) (λ same. ap (waiter_at d.requests) same ∙ was_none))
+              | inr last ↦ absurd (let no : Some it ≡ None = sym is_here ∙ ap (waiter_at d'.requests) (sym one.name) ∙ ap (λ y. waiter_at d'.requests y.id.0) last.1 ∙ gone in cc)
+            ];
+        submitted = submitted_next named.submitted;
+        slots = one.slots;
+        beds = rw one.timers named.beds;
+      }
+
+  -- OVER, TIMED
+
+  pub over_next : (others : ℕ) → AreOver i n.ended.items n.unreleased others rs → AreOver i n'.ended.items n'.unreleased (others + 1) (rs ++ r ∷ [])
+  over_next others over =
+      rw (one.ended, one.unreleased) (record {
+        over = λ k m at. let old = over.over k m at in (old.0, got_old rs r old.0 m old.1, old.2, old.3);
+        once = over.once;
+        counted = omega (arith, over.counted);
+      })
+
+  -- what isn't over is at the driver
+  at_driver : IsNamed i n d zs rs ss → (k : ℕ) (x : Record) → slice_get rs k ≡ Some x → x.shown.worker ≡ i → is_resolved x.shown.phase ≡ false → IsSome (value_at d.requests x.id.0)
+  at_driver named k x there mine open_still = by (waiter_at d.requests x.id.0) refl
+    where
+      by : (o : Option (Waiter Reply Reply)) → waiter_at d.requests x.id.0 ≡ o → IsSome (value_at d.requests x.id.0)
+      by None at = absurd (false≢true (sym open_still ∙ named.over k x there mine at))
+      by (Some w) at = some_of x.id.0 w at
+
+  pub timed_next : IsNamed i n d zs rs ss → AreTimed i n rs → AreTimed i n' (rs ++ r ∷ [])
+  timed_next named timed k x there mine =
+      elim (was_got rs r x k there) [
+        | inl old ↦
+            let t = timed k x old mine in
+            record { named = λ open_still. number_there x.id.0 (at_driver named k x old mine open_still) ∙ t.named open_still; over = t.over }
+        | inr last ↦
+            record {
+              named = λ open_still. ap (λ y. number_in n'.requests.items y.id.0) (sym last.1) ∙ ap (number_in n'.requests.items) one.name ∙ number_here ∙ sym last.0;
+              over = λ over. absurd (false≢true (sym (ap (λ y. is_resolved y.shown.phase) (sym last.1) ∙ unresolved) ∙ over));
+            }
+      ]
+
+  -- DEADLINES
+
+  pub punctual_next : tick_in it.state ≡ None → IsPunctual d → IsPunctual d'
+  punctual_next untimed punctual =
+      record {
+        ahead = λ other t at apart_due.
+            apart_or_same other.0 id
+            (λ apart.
+            let old : tick_of (waiter_at d.requests other.0) ≡ Some t = ap tick_of (sym (still_at other.0 apart)) ∙ at in
+            rw one.wheel (punctual.ahead other t old (rw (← one.due) apart_due)))
+            (λ same. absurd (let no : None ≡ Some t = sym untimed ∙ ap tick_of (sym (ap (waiter_at d'.requests) same ∙ is_here)) ∙ at in cc));
+      }
+
+  largest : IsNamed i n d zs rs ss → (other : Id) → IsSome (value_at d.requests other) → number_in n.requests.items other < length rs
+  largest named other some = let old = named.requests other some in slice_get_within rs (number_in n.requests.items other) old.0 old.1
+
+  eases : tick_in it.state ≡ None → Eases d.requests d'.requests
+  eases untimed =
+      record {
+        ticks = λ other t at.
+            apart_or_same other id (λ apart. sym (ap tick_of (still_at other apart)) ∙ at)
+            (λ same. absurd (let no : None ≡ Some t = sym untimed ∙ ap tick_of (sym (ap (waiter_at d'.requests) same ∙ is_here)) ∙ at in cc));
+        taken = λ other past was. apart_or_same other id (λ apart. ap awaits_tick (still_at other apart) ∙ was) (λ same. absurd (one.new (subst (λ x. IsPast d.requests x) same past)));
+        past = λ other bounded past. past_still d.requests d'.requests id (Pending it) one.takes other past;
+      }
+
+  pub order_next : (round : Bool) → tick_in it.state ≡ None → IsNamed i n d zs rs ss → d.lists.due ≡ [] → IsOrdered round n.requests.items d.requests d.wheel d.lists.enrolments d.lists.due
+      → IsOrdered round n'.requests.items d'.requests d'.wheel d'.lists.enrolments d'.lists.due
+  order_next round untimed named none order =
+      rw (one.wheel, one.enrolments, one.due, none) (by (deadline_of it.request))
+    where
+      before : IsOrdered round n.requests.items d.requests d.wheel d.lists.enrolments []
+      before = subst (λ ds. IsOrdered round n.requests.items d.requests d.wheel d.lists.enrolments ds) none order
+
+      listed : AllByRecursion (λ e. IsSome (value_at d.requests e.0)) d.lists.enrolments
+      listed = all_listed d d.lists.enrolments (λ x among. stands d x is_unenrolled (waiter_at d.requests x.0) refl refl (one.lists.enrolments x among))
+
+      numbers : (other : Id) → other.index ≢ id.index → number_in n'.requests.items other ≡ number_in n.requests.items other
+      numbers = number_old n.requests.items n'.requests.items id (length rs) one.number_is one.others
+
+      by : (o : Option ℕ) → IsOrdered round n'.requests.items d'.requests d.wheel (enrolled_if o (record { 0 = id }) d.lists.enrolments) []
+      by None = comes_in round n.requests.items n'.requests.items d.requests d'.requests d.wheel d.lists.enrolments (record { 0 = id }) (length rs) one.next one.new (eases untimed) number_here numbers (largest named) listed before
+      by (Some m) = joins round n.requests.items n'.requests.items d.requests d'.requests d.wheel d.lists.enrolments (record { 0 = id }) (length rs) one.next one.new (eases untimed) number_here numbers (largest named) listed before
+
+  -- THE KERNEL
+
+  pub carried_next : (q : Asking) (st st' : Store) → it.request ≡ q → id.index < 4294967295 → IsPlainRequest q → asked_in r.shown.operation ≡ asked_of q → r.shown.operation.target ≡ target_of q → r.shown.operation.moved ≡ (cursor_of q).moved → Reserves (footprint_of q) st st'
+      → IsNamed i n d zs rs ss → IsCarried n.requests.items d.requests d.ring rs st → IsCarried n'.requests.items d'.requests d'.ring (rs ++ r ∷ []) st'
+  carried_next q st st' is small plain asked target moved reserves named carried =
+      let whole = plain_whole q plain in
+      subst (λ (x : RingState). IsCarried n'.requests.items d'.requests x (rs ++ r ∷ []) st') (sym one.ring)
+      (carried_ring n'.requests.items d'.requests d.ring (rs ++ r ∷ []) st'
+      (carried_joined n.requests.items n'.requests.items d.requests d'.requests d.ring rs st st' carried id q r (record {
+        small = small;
+        none = was_none;
+        here = rw (value_new d.requests d'.requests id (Pending it) one.takes) refl;
+        asks = λ x at. let same : it ≡ x = cc (is_here, at) in ap (λ y. y.request) (sym same) ∙ is;
+        others = λ other apart. value_old d.requests d'.requests id (Pending it) one.takes other apart;
+        number = number_here;
+        apart = number_old n.requests.items n'.requests.items id (length rs) one.number_is one.others;
+        known = largest named;
+        whole = whole;
+        target = target;
+        idle = ap is_in_flight queued;
+      }) (room_made q r st st' whole asked target moved reserves))
+      (record d.ring { places = d'.ring.places }) (λ v h. refl) (λ v h. refl))
+
+  -- FLOWN
+
+  -- what has landed has its number and its record still
+  pub flies_on : AllFlyOn n n' d d' rs (rs ++ r ∷ [])
+  flies_on other w x given at flies there landed =
+      let some = some_of other w at in
+      record {
+        it' = w;
+        r' = x;
+        live = still_at other (name_apart d.requests d'.requests id (Pending it) one.takes other some) ∙ at;
+        flies = refl;
+        same = refl;
+        number = number_there other some;
+        there = got_old rs r x (number_in n.requests.items other) there;
+        phase = refl;
+      }
+
+  pub flown_next : (x : Option InService) → IsNamed i n d zs rs ss → HasFlown x i n d rs → HasFlown x i n' d' (rs ++ r ∷ [])
+  flown_next x named flown =
+      let size : d'.ring.size ≡ d.ring.size = ap (λ (y : RingState). y.size) one.ring in
+      record {
+        ending = one.room;
+        staging = rw (size, one.staged) flown.staging;
+        telling = rw (size, one.untold) flown.telling;
+        entries = rw (one.staged, one.untold, ap (λ (y : RingState). y.staged) one.ring) flown.entries;
+        permits = flown.permits;
+        ours = λ k y there. elim (was_got rs r y k there) [ inl old ↦ flown.ours k y old | inr last ↦ ap (λ z. z.shown.worker) (sym last.1) ∙ mine_too ];
+        plain = λ k y there mine. elim (was_got rs r y k there) [ inl old ↦ flown.plain k y old mine | inr last ↦ subst (λ z. IsPlain z.shown) last.1 one.plain ];
+        landed = subst (λ (y : RingState). AreLanded n' d' (rs ++ r ∷ []) (operations y)) (sym one.ring) (landed_on n n' d d' rs (rs ++ r ∷ []) (operations d.ring) flown.landed flies_on);
+        enrolling = λ other w at takes has.
+            rw one.enrolments
+            (apart_or_same other.0 id
+            (λ apart. among_before other (record { 0 = id }) (deadline_of it.request) d.lists.enrolments (flown.enrolling other w (sym (still_at other.0 apart) ∙ at) takes has))
+            (λ same.
+            let is_it : it ≡ w = cc (is_here, at, ap (waiter_at d'.requests) same) in
+            let name : record { 0 = id } ≡ other = ap (λ y. record { 0 = y }) (sym same) in
+            subst (λ y. is_among y (enrolled_if (deadline_of it.request) (record { 0 = id }) d.lists.enrolments) ≡ true) name
+            (among_now (record { 0 = id }) (deadline_of it.request) d.lists.enrolments (ap (λ y. is_some (deadline_of y.request)) is_it ∙ has))));
+        acks = rw one.ring flown.acks;
+        owning = λ k y there open_still. elim (was_got rs r y k there) [ inl old ↦ flown.owning k y old open_still | inr last ↦ ap (λ z. z.shown.released) (sym last.1) ∙ ap (λ z. z.released) one.shown ];
+        uncancelled = λ other y among there.
+            let listed : is_among other d.lists.cancels ≡ true = rw (← one.cancels) among in
+            let some = stands d other is_cancelled (waiter_at d.requests other.0) refl refl (one.lists.cancels other listed) in
+            flown.uncancelled other y listed (record_there named other.0 y some there);
+      }
+
+  -- WHAT THE ROOT HOLDS
+
+  pub holds_next : (t : ℕ) (holding : List ℕ) (over : Bool) → over ≡ false → IsNamed i n d zs rs ss → Holds false i t holding waiting.Nothing over n d zs rs ss → Holds false i t (holding ++ length rs ∷ []) waiting.Nothing over n' d' zs (rs ++ r ∷ []) ss
+  holds_next t holding over going named holds =
+      record {
+        counted = omega (arith, one.held, holds.counted, length-append holding (length rs ∷ []));
+        held = λ j m at.
+            elim (in_append holding (length rs) j m at) [
+              | inl old ↦
+                  let h = holds.held j m old in
+                  let is = h.2 in
+                  (h.0, got_old rs r h.0 m h.1, record { worker = is.worker; observed = is.observed; unsent = is.unsent; named = number_there h.0.id.0 is.live ∙ is.named; live = some_still d.requests d'.requests id (Pending it) one.takes h.0.id.0 is.live; unpaid = is.unpaid })
+              | inr last ↦ (
+                r,
+                ap (slice_get (rs ++ r ∷ [])) last.1 ∙ got_new rs r,
+                record {
+                  worker = mine_too;
+                  observed = ap (λ x. x.observed) one.shown;
+                  unsent = ap (λ x. x.forwarding) one.shown;
+                  named = ap (number_in n'.requests.items) one.name ∙ number_here ∙ sym last.1;
+                  live = rw (one.name, value_new d.requests d'.requests id (Pending it) one.takes) refl;
+                  unpaid = λ h. ap (λ x. x.wakes_paid) one.shown;
+                },
+              )
+            ];
+        once = λ j l m a b. once_by j l m (in_append holding (length rs) j m a) (in_append holding (length rs) l m b);
+        all = λ k x there mine seen.
+            elim (was_got rs r x k there) [ inl old ↦ one_before (length rs) k holding (holds.all k x old mine seen) | inr last ↦ subst (λ y. is_one_of y (holding ++ length rs ∷ []) ≡ true) (sym last.0) (one_now (length rs) holding) ];
+        awaited = λ k x u there mine open_still seen waits.
+            elim (was_got rs r x k there) [
+              | inl old ↦ holds.awaited k x u old mine open_still seen waits
+              | inr last ↦ absurd (let no : Some u ≡ None = sym waits ∙ ap (λ z. z.shown.waiter) (sym last.1) ∙ ap (λ z. z.waiter) one.shown in cc)
+            ];
+        kept = λ other told x at there.
+            apart_or_same other id
+            (λ apart.
+            let old : value_at d.requests other ≡ Some (Ready told) = sym (value_old d.requests d'.requests id (Pending it) one.takes other apart) ∙ at in
+            holds.kept other told x old (record_there named other x (rw old refl) there))
+            (λ same. absurd (let no : Some (Pending it) ≡ Some (Ready told) = sym (value_new d.requests d'.requests id (Pending it) one.takes) ∙ ap (value_at d'.requests) (sym same) ∙ at in cc));
+        waits = tt;
+        sleeping = λ other z at. rw one.timers (holds.sleeping other z at);
+        asleep = holds.asleep;
+        over = λ h. absurd (false≢true (sym going ∙ h));
+      }
+    where
+      known : (j m : ℕ) → slice_get holding j ≡ Some m → m ≡ length rs → ⊥
+      known j m at last =
+          let h = holds.held j m at in
+          let within = slice_get_within rs m h.0 h.1 in
+          omega (arith, within, last)
+
+      once_by : (j l m : ℕ) → (slice_get holding j ≡ Some m) ⊎ ((j ≡ length holding) × (m ≡ length rs)) → (slice_get holding l ≡ Some m) ⊎ ((l ≡ length holding) × (m ≡ length rs)) → j ≡ l
+      once_by j l m (inl a) (inl b) = holds.once j l m a b
+      once_by j l m (inl a) (inr b) = absurd (known j m a b.1)
+      once_by j l m (inr a) (inl b) = absurd (known l m b a.1)
+      once_by j l m (inr a) (inr b) = a.0 ∙ sym b.0

@@ -1,0 +1,143 @@
+-- A cell in its poll; what a body runs and holds after its act; and what is seen of an act that got no memory.
+use Rattle.std.proofs.Common.{◌≡◌, ℕ, Bool, true, false, List, [], map, Option, Some, None, refl, sym, ap, subst, ◌∙◌}
+use Rattle.std.proofs.lemmas.Bool.{false≢true}
+use Rattle.std.proofs.lemmas.List.{map-set, set-get_or}
+use Rattle.std.proofs.lemmas.Option.{get_or_from_slice_get}
+use Rattle.std.specs.Prelude.{slice_get, slice_index_or, slice_set}
+use Rattle.exec_base.specs.declared.error.Error.TheVariants.{NoMemory}
+use Rattle.exec_task.specs.{Phases.{is_polled, woken as cell_woken}, Sight.Sight, declared.{body.{Act.Act, Said.Said}, runnable.Runnable.Runnable, task.Phase.Phase}}
+use Rattle.exec_task.specs.declared.body.Act.TheVariants as act
+use Rattle.exec_task.specs.declared.body.Said.TheVariants as said
+use Rattle.exec_task.specs.declared.task.Phase.TheVariants as cell
+use Rattle.exec_machine.specs.{declared.state.Waiting.Waiting, Progress.Plan, Tasks.woken_phase, World.Task}
+use Rattle.exec_machine.specs.declared.state.Waiting.TheVariants as waiting
+use Rattle.exec_steps.specs.{declared.parts.{shared.Shared.Shared, task_slot.TaskSlot.TaskSlot, worker.Worker.Worker}, Acting.{Performs, StillPerforms}, Hearing.{CanHear, held_once_come}, Phased.is_complete, Polls.yielded_slot, Scripts.{GoesOn, IsAnswer, held_after}, Sound.IsRunnable, Spots.{Spot, spot_of, standing_at}, View.{Visible, common_of, things_of, phase_seen, task_seen, spot_by, body_in}, Works.{Same, TurnsSlot}}
+use Rattle.exec_steps.proofs.Turning.{set_there}
+
+-- A CELL IN ITS POLL
+
+module _ {B : Type 0} where
+  pub in_poll : (p : Phase B) (o : Option B) → is_polled p ≡ true → body_in p o ≡ o
+  in_poll (cell.Idle b) o h = absurd (false≢true h)
+  in_poll (cell.Queued b) o h = absurd (false≢true h)
+  in_poll cell.Running o h = refl
+  in_poll cell.Notified o h = refl
+  in_poll cell.Complete o h = absurd (false≢true h)
+
+  pub going_on : (p : Phase B) → is_polled p ≡ true → is_complete p ≡ false
+  going_on (cell.Idle b) h = refl
+  going_on (cell.Queued b) h = refl
+  going_on cell.Running h = refl
+  going_on cell.Notified h = refl
+  going_on cell.Complete h = absurd (false≢true h)
+
+  pub run_on : (o : Option Runnable) (slot slot' : TaskSlot B) → is_polled slot.cell.phase ≡ true → is_polled slot'.cell.phase ≡ true → IsRunnable o slot → IsRunnable o slot'
+  run_on None slot slot' before after run = λ b is. absurd (false≢true (sym (ap is_polled is) ∙ after))
+  run_on (Some r) slot slot' before after run = absurd (false≢true (sym (ap is_polled run.1.1) ∙ before))
+
+  -- what becomes of a polled cell that is woken
+  pub record WakesAs (p : Phase B) (o : Option B) (i : ℕ) : Type 0 where
+    pub shown : phase_seen (cell_woken p) i ≡ woken_phase (phase_seen p i)
+    pub same_body : body_in (cell_woken p) o ≡ body_in p o
+    pub polled : is_polled (cell_woken p) ≡ true
+    pub complete : is_complete (cell_woken p) ≡ is_complete p
+
+  pub wakes_as : (p : Phase B) (o : Option B) (i : ℕ) → is_polled p ≡ true → WakesAs p o i
+  wakes_as (cell.Idle b) o i h = absurd (false≢true h)
+  wakes_as (cell.Queued b) o i h = absurd (false≢true h)
+  wakes_as cell.Running o i h = record { shown = refl; same_body = refl; polled = refl; complete = refl }
+  wakes_as cell.Notified o i h = record { shown = refl; same_body = refl; polled = refl; complete = refl }
+  wakes_as cell.Complete o i h = absurd (false≢true h)
+
+-- WHAT IT RUNS AND HOLDS THEN
+
+module _ {B L : Type 0} (left : B → L) (runs : L → Plan → Type 0) (holds : L → Option Said → List ℕ) where
+  -- where the slot became this
+  pub still_performs : (w w' : Worker) (s s' : Shared B) (slot slot' : TaskSlot B) → slice_get s.tasks.items w.root ≡ Some slot → s'.tasks.items ≡ slice_set s.tasks.items w.root slot' → w'.root ≡ w.root → s'.config ≡ s.config
+      → ((p : Plan) → Performs left runs holds p slot → Performs left runs holds p slot') → StillPerforms left runs holds w s w' s'
+  still_performs w w' s s' slot slot' there items root config performs =
+      record {
+        root = root;
+        config = config;
+        performs = λ p fits o found.
+            let is : slot' ≡ o = cc (found, ap (λ ts. slice_get ts w.root) items ∙ set_there s.tasks.items w.root slot' slot there) in
+            subst (Performs left runs holds p) is (performs p (fits slot there));
+      }
+
+module _ {B L : Type 0} (left : B → L) (runs : L → Plan → Type 0) (holds : L → Option Said → List ℕ) (spot : L → Option Said → Spot) (gives : L → Option Sight → Said → Act B → L → Option Sight → Type 0) where
+  -- A body that goes on performs the plan, where each thing that it can be told answers its act.
+  pub performs_on : (p : Plan) (t : Task) (a : Act B) (slot' : TaskSlot B) (b' : B) → GoesOn runs holds spot gives p t a (left b') → body_in slot'.cell.phase slot'.body ≡ Some b'
+      → ((answer : Said) → CanHear slot'.told slot'.waiting answer → IsAnswer a answer × (held_after a answer t.held ≡ held_once_come slot'.waiting slot'.held.items)) → Performs left runs holds p slot'
+  performs_on p t a slot' b' goes body answers =
+      record {
+        runs_it = λ b answer is hears. let same : b' ≡ b = cc (body, is) in subst (λ x. runs (left x) p) same goes.runs_on;
+        holding = λ b answer is hears.
+            let same : b' ≡ b = cc (body, is) in
+            let fits = answers answer hears in
+            ap (λ x. holds (left x) (Some answer)) (sym same) ∙ goes.holding answer fits.0 ∙ fits.1;
+      }
+
+  -- one that is told that there was no memory performs it still
+  pub performs_refused : (p : Plan) (t : Task) (a : Act B) (slot' : TaskSlot B) (b' : B) → GoesOn runs holds spot gives p t a (left b') → body_in slot'.cell.phase slot'.body ≡ Some b'
+      → slot'.told ≡ Some (said.Refused NoMemory) → slot'.waiting ≡ waiting.Nothing → slot'.held.items ≡ t.held → Performs left runs holds p slot'
+  performs_refused p t a slot' b' goes body told nothing held =
+      record {
+        runs_it = λ b answer is hears. let same : b' ≡ b = cc (body, is) in subst (λ x. runs (left x) p) same goes.runs_on;
+        holding = λ b answer is hears.
+            let same : b' ≡ b = cc (body, is) in
+            let heard : CanHear (Some (said.Refused NoMemory)) slot'.waiting answer = subst (λ o. CanHear o slot'.waiting answer) told hears in
+            ap (λ x. holds (left x) (Some answer)) (sym same) ∙ ap (λ y. holds (left b') (Some y)) heard ∙ goes.refused_holding ∙ sym held ∙ sym (ap (λ u. held_once_come u slot'.held.items) nothing);
+      }
+
+  pub performs_passed : (p : Plan) (slot : TaskSlot B) (b' : B) → is_polled slot.cell.phase ≡ true → slot.waiting ≡ waiting.Nothing → GoesOn runs holds spot gives p (task_seen left spot slot) (act.Sleep 0) (left b')
+      → Performs left runs holds p (record slot { body = Some b'; told = Some said.Pass })
+  performs_passed p slot b' is nothing goes =
+      performs_on p (task_seen left spot slot) (act.Sleep 0) (record slot { body = Some b'; told = Some said.Pass }) b' goes (in_poll slot.cell.phase (Some b') is)
+      (λ answer hears. subst (λ y. IsAnswer {B = B} (act.Sleep 0) y × (held_after {B = B} (act.Sleep 0) y slot.held.items ≡ held_once_come slot.waiting slot.held.items)) (sym hears) (tt, sym (ap (λ u. held_once_come u slot.held.items) nothing)))
+
+  pub performs_waiting : (p : Plan) (slot : TaskSlot B) (b' : B) (r : Option ℕ) → is_polled slot.cell.phase ≡ true → GoesOn runs holds spot gives p (task_seen left spot slot) (act.Await r) (left b')
+      → Performs left runs holds p (record slot { body = Some b'; told = None; waiting = waiting.Wake })
+  performs_waiting p slot b' r is goes =
+      performs_on p (task_seen left spot slot) (act.Await r) (record slot { body = Some b'; told = None; waiting = waiting.Wake }) b' goes (in_poll slot.cell.phase (Some b') is) (woken_by r)
+    where
+      woken_by : (o : Option ℕ) (answer : Said) → CanHear None waiting.Wake answer → IsAnswer {B = B} (act.Await o) answer × (held_after {B = B} (act.Await o) answer slot.held.items ≡ slot.held.items)
+      woken_by None said.Pass h = (tt, refl)
+      woken_by (Some k) said.Pass h = (tt, refl)
+      woken_by o answer h = absurd h
+
+  pub performs_yielded : (p : Plan) (slot : TaskSlot B) (b' : B) → is_polled slot.cell.phase ≡ true → GoesOn runs holds spot gives p (task_seen left spot slot) act.Yield (left b')
+      → Performs left runs holds p (yielded_slot (record slot { body = Some b'; told = None }))
+  performs_yielded p slot b' is goes =
+      let wakes = wakes_as slot.cell.phase (Some b') slot.poller is in
+      performs_on p (task_seen left spot slot) act.Yield (yielded_slot (record slot { body = Some b'; told = None })) b' goes (wakes.same_body ∙ in_poll slot.cell.phase (Some b') is)
+      (λ answer hears. subst (λ y. IsAnswer {B = B} act.Yield y × (held_after {B = B} act.Yield y slot.held.items ≡ slot.held.items)) (sym hears) (tt, refl))
+
+-- WHERE THERE IS NO MEMORY
+
+module _ {B L : Type 0} (left : B → L) (spot : L → Option Said → Spot) where
+  -- a body that is told so stands where it stood
+  pub unmoved_seen : (slot : TaskSlot B) (b' : B) → is_polled slot.cell.phase ≡ true → spot (left b') (Some (said.Refused NoMemory)) ≡ spot_of (task_seen left spot slot)
+      → task_seen left spot (record slot { body = Some b'; told = Some (said.Refused NoMemory) }) ≡ task_seen left spot slot
+  unmoved_seen slot b' is back =
+      ap (λ o. standing_at (spot_by left spot o (Some (said.Refused NoMemory))) (task_seen left spot slot)) (in_poll slot.cell.phase (Some b') is)
+      ∙ ap (λ x. standing_at x (task_seen left spot slot)) back
+
+  -- nothing is seen of a slot that became another which looks the same
+  pub same_slot : (t : ℕ) (w : Worker) (s s' : Shared B) (slot slot' : TaskSlot B) → slice_get s.tasks.items t ≡ Some slot → task_seen left spot slot' ≡ task_seen left spot slot
+      → s' ≡ record s { tasks = s'.tasks } → s'.tasks.items ≡ slice_set s.tasks.items t slot' → Same left spot w s w s'
+  same_slot t w s s' slot slot' there alike kept items =
+      let seen = task_seen left spot in
+      let back : slice_set s.tasks.items t slot ≡ s.tasks.items = ap (slice_set s.tasks.items t) (sym (get_or_from_slice_get s.tasks.items t slot slot there)) ∙ set-get_or s.tasks.items t slot in
+      let all : map seen s'.tasks.items ≡ map seen s.tasks.items =
+      ap (map seen) items ∙ map-set seen s.tasks.items t slot' ∙ ap (slice_set (map seen s.tasks.items) t) alike ∙ sym (map-set seen s.tasks.items t slot) ∙ ap (map seen) back in
+      record {
+        own = refl;
+        desk = refl;
+        things = ap (things_of w.index) kept;
+        common = λ p vs. ap (common_of left spot p vs) kept ∙ ap (λ ts. record (common_of left spot p vs s) { tasks = ts }) all;
+        visible_same = refl;
+      }
+
+  -- a body whose act got no memory made none
+  pub unacted : (t : ℕ) (w : Worker) (s s' : Shared B) (slot : TaskSlot B) → slice_get s.tasks.items t ≡ Some slot → TurnsSlot t s s' (λ o. o) → Same left spot w s w s'
+  unacted t w s s' slot there turns = same_slot t w s s' slot slot there refl turns.kept (turns.tasks slot there)

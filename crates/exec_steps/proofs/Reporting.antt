@@ -1,0 +1,60 @@
+-- What is asked of the record of an operation that was reaped, and a reaping that found none.
+use Rattle.std.proofs.Common.{◌≡◌, ℕ, ◌+◌, ◌-◌, ◌^◌, ◌<◌, ◌≤◌, Bool, true, false, List, [], ◌∷◌, length, Option, Some, None, refl, sym, ap, subst, ◌∙◌, arith}
+use Rattle.std.proofs.lemmas.Option.{slice_get_within}
+use Rattle.std.specs.Prelude.{slice_get, get_or, Err}
+use Rattle.std.specs.VecDeque.{deque_capacity}
+use Rattle.exec_base.specs.declared.error.Error.TheVariants.{Timeout}
+use Rattle.exec_outcomes.specs.Outcomes.{bytes_of}
+use Rattle.exec_ring.specs.Completions.{result_in}
+use Rattle.exec_waiters.specs.{States.pending_count, declared.deferred.Deferred.Deferred}
+use Rattle.exec_driver.specs.{Driving.Driving, Opens.OpenState, Steps.ReapsNext, declared.driver.reaping.Reaped.Reaped}
+use Rattle.exec_moves.specs.declared.place.Place.{Place}
+use Rattle.exec_steps.specs.{declared.parts.{mail.Reply.Reply, record.Record.Record, shared.Shared.Shared, worker.Worker.Worker}, Flown.{IsPlain, IsUpTo, longest, operations}, Records.{has_one_part, number_in}, Sound.SoundAt, View.driver_of}
+use Rattle.exec_steps.proofs.{Dating.{found_is, one_pending, room_by}, Reaped.{TellsOf, one_part_of, tells_of}, Requeued.{lawful_shown, total_shown}, Resolving.slab_after}
+
+pub none_of : (told : Option Reaped) → ((x : Reaped) → told ≡ Some x → ⊥) → told ≡ None
+none_of None h = refl
+none_of (Some x) h = absurd (h x refl)
+
+module _ {B : Type 0} (q : Place) (w : Worker) (s : Shared B) (sound : SoundAt q w s) (d' : Driving Reply Reply) (opens opens' : List OpenState) (before after : Deferred Reply Reply) (done : Reaped) (reaps : ReapsNext (driver_of w) d' opens opens' before after (Some done)) where
+  pub of_it : TellsOf w.names (driver_of w) d' s.requests.items opens opens' before after done
+  of_it = tells_of w.names (driver_of w) d' s.requests.items opens opens' before after sound.flown.landed done reaps
+
+  pub reaped_number : number_in w.names.requests.items done.id.0 ≡ number_in w.names.requests.items of_it.reaped.has.id
+  reaped_number = ap (λ y. number_in w.names.requests.items y.0) of_it.id
+
+  pub reaped_within : number_in w.names.requests.items done.id.0 < length s.requests.items
+  reaped_within =
+      let h = of_it.reaped.has in
+      subst (λ n. n < length s.requests.items) (sym reaped_number) (slice_get_within s.requests.items (number_in w.names.requests.items h.id) h.r h.there)
+
+  pub reaped_room : length w.names.ended.items < deque_capacity w.names.ended
+  reaped_room =
+      let h = of_it.reaped.has in
+      let alike = sound.named.alike h.id h.it h.r h.live h.there in
+      let pending = one_pending _ (pending_count (driver_of w).requests) (slab_after (driver_of w).requests h.id h.it (Err Timeout) None alike.near h.live).pending in
+      room_by (length w.names.ended.items) (pending_count (driver_of w).requests) w.names.unreleased (deque_capacity w.names.ended) sound.over.counted pending sound.flown.ending
+
+  reaped_plain_of : IsPlain of_it.reaped.has.r.shown
+  reaped_plain_of =
+      let h = of_it.reaped.has in
+      sound.flown.plain (number_in w.names.requests.items h.id) h.r h.there (sound.flown.ours (number_in w.names.requests.items h.id) h.r h.there)
+
+  pub reaped_record : (j : ℕ) (old : Record) → j ≡ number_in w.names.requests.items done.id.0 → old ≡ get_or s.requests.items j old → old ≡ of_it.reaped.has.r
+  reaped_record j old number found = found_is s.requests.items (number_in w.names.requests.items of_it.reaped.has.id) j of_it.reaped.has.r old (number ∙ reaped_number) of_it.reaped.has.there found
+
+  pub reaped_one_part : (j : ℕ) (old : Record) → j ≡ number_in w.names.requests.items done.id.0 → old ≡ get_or s.requests.items j old → has_one_part old.shown.operation.kind ≡ true
+  reaped_one_part j old number found =
+      ap (λ y. has_one_part y.shown.operation.kind) (reaped_record j old number found) ∙ one_part_of of_it.reaped.has.r.shown.operation.kind of_it.reaped.has.r.shown.operation.length reaped_plain_of.bounded
+
+  pub reaped_plain : (j : ℕ) (old : Record) → j ≡ number_in w.names.requests.items done.id.0 → old ≡ get_or s.requests.items j old → old.shown.operation.hinted ≡ false
+  reaped_plain j old number found = ap (λ y. y.shown.operation.hinted) (reaped_record j old number found) ∙ reaped_plain_of.unhinted
+
+  pub reaped_lawful : (j : ℕ) (old : Record) → j ≡ number_in w.names.requests.items done.id.0 → old ≡ get_or s.requests.items j old → bytes_of done.given + old.shown.operation.moved < 2 ^ 64
+  reaped_lawful j old number found =
+      let h = of_it.reaped.has in
+      let d = driver_of w in
+      let alike = sound.named.alike h.id h.it h.r h.live h.there in
+      let under : bytes_of (result_in of_it.c.result) + h.r.shown.operation.moved < 2 ^ 64 =
+      total_shown h.r.shown (result_in of_it.c.result) reaped_plain_of (lawful_shown d.wheel.start d.wheel.tick h.it h.r.shown (result_in of_it.c.result) alike h.lawful) in
+      subst (λ n. bytes_of n + old.shown.operation.moved < 2 ^ 64) (sym of_it.given) (subst (λ y. bytes_of (result_in of_it.c.result) + y.shown.operation.moved < 2 ^ 64) (sym (reaped_record j old number found)) under)

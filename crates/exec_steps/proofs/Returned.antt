@@ -1,0 +1,126 @@
+-- An operation that has landed, whose request goes on: a step.
+use Rattle.std.proofs.Common.{◌≡◌, ℕ, suc, ◌+◌, ◌-◌, ◌≤◌, ◌==◌, Bool, true, false, List, [], ◌∷◌, ◌++◌, length, map, Option, Some, None, refl, sym, ap, subst, ◌∙◌, arith}
+use Rattle.std.proofs.lemmas.Bool.{false≢true}
+use Rattle.std.proofs.lemmas.List.{append-nil}
+use Rattle.std.specs.Prelude.{slice_set}
+use Rattle.exec_outcomes.specs.declared.outcome.Outcome.{Outcome}
+use Rattle.exec_ring.specs.{Completions.result_in, Rings.completions, declared.completion.Completion.Completion}
+use Rattle.exec_task.specs.declared.body.Said.{Said}
+use Rattle.exec_waiters.proofs.Changes.{one_if}
+use Rattle.exec_waiters.specs.{States.flying_count, Told.{Tells, nothing_told}, declared.waiter_id.WaiterId.WaiterId}
+use Rattle.exec_driver.specs.{Driving.Driving, Punctual.IsPunctual}
+use Rattle.exec_machine.specs.{declared.event.Event.{Event, TheVariants.Reap}, Progress.Plan, Requests.outcome_given}
+use Rattle.exec_moves.specs.{Move.aside, Seen.serves_at, Serve.{after_permit, back_from_reap, others_after_reap}, State.Desk, declared.place.{Place.Place, Reaping.Reaping, Service.Service}}
+use Rattle.exec_moves.specs.declared.place.InService.TheVariants as step
+use Rattle.exec_moves.specs.declared.place.Place.TheVariants as at
+use Rattle.exec_moves.specs.declared.place.Reaping.TheVariants as reaping
+use Rattle.exec_steps.specs.{declared.parts.{mail.Reply.Reply, record.Record.Record, shared.Shared.Shared, worker.Worker.Worker}, Due.may_be_due, Flown.operations, Phased.closes_at, Records.number_in, Serving.changed_at, Sound.{SoundAt, served_in, is_armed_at}, Spots.Spot, View.{Visible, visible, own_of, desk_of, driver_of, common_of, things_of, number_told, numbers_of, trailing}, Works.{Suits, Steps}}
+use Rattle.exec_steps.proofs.{Changing.flying_after, Judging.given_is, Requeued.{GoesBack, back_alike, back_waiter, goes_back, keeps_back}, Seeing.{desk_with, makes, own_with, served, shows}, Serving.{Follows, Keeps, KeepsBy, Serves, is_calm}, Sweeping.follows_reap, Timed.keeps_untold, Trailing.others_left, Viewed.{common_seen, may_seen, moves_seen, reap_as}}
+
+-- WHERE IT LEADS
+
+pub follows_back : (rp : Reaping) (v : Service) (later : List ℕ) → Follows (at.Service (step.Reap rp) v) (at.Service (after_permit (back_from_reap rp later)) v)
+follows_back rp v [] = follows_reap rp v
+follows_back rp v (k ∷ later) = record { from = refl; to = refl; serves = refl; armed = refl; closes = refl; wakes = refl; permits = refl; moment = λ m. refl }
+
+pub not_due : (rp : Reaping) (v : Service) → may_be_due (served_in (at.Service (step.Reap rp) v)) ≡ false
+not_due reaping.First v = refl
+not_due reaping.Last v = refl
+
+pub served_back : (rp : Reaping) (v : Service) (later : List ℕ) → serves_at (at.Service (after_permit (back_from_reap rp later)) v) ≡ true
+served_back reaping.First v [] = refl
+served_back reaping.Last v [] = refl
+served_back rp v (k ∷ later) = refl
+
+pub desk_left : (numbers : List ℕ) (cs : List Completion) (d : Desk) (q : Place) → record d { place = q; others = others_left cs d.others } ≡ record (others_after_reap (map (number_told numbers) cs) d) { place = q }
+desk_left numbers [] d q = refl
+desk_left numbers (c ∷ cs) d q = refl
+
+numbers_push : (numbers : List ℕ) (ids : List WaiterId) (id : WaiterId) → numbers_of numbers (ids ++ id ∷ []) ≡ numbers_of numbers ids ++ number_in numbers id.0 ∷ []
+numbers_push numbers [] id = refl
+numbers_push numbers (x ∷ ids) id = ap (λ ns. number_in numbers x.0 ∷ ns) (numbers_push numbers ids id)
+
+pub one_fewer : (a b m n : ℕ) → a + m ≡ b + n → m ≡ 1 → n ≡ 0 → a ≡ b - 1
+one_fewer a b m n is one none = omega (arith, is, one, none)
+
+module _ {B L : Type 0} (left : B → L) (spot : L → Option Said → Spot) (rp : Reaping) (v : Service) (w : Worker) (s : Shared B) (sound : SoundAt (at.Service (step.Reap rp) v) w s) (c : Completion) (cs : List Completion) (is : operations (driver_of w).ring ≡ c ∷ cs) where
+  abbrev pub place_back : Place
+  place_back = at.Service (after_permit (back_from_reap rp (map (number_told w.names.requests.items) cs))) v
+
+  own_back : (d' : Driving Reply Reply) (back : GoesBack w s d' c cs) →
+      let n = w.names.requests.items in
+      let me = own_with w place_back w.names.ended.items w.names.untold.items (driver_of w) in
+      own_with w place_back w.names.ended.items w.names.untold.items d' ≡ record me { ready = me.ready ++ number_in n back.h.id ∷ []; in_flight = me.in_flight - 1 }
+  own_back d' back =
+      let n = w.names.requests.items in
+      let d = driver_of w in
+      let k = number_in n back.h.id in
+      let me' = own_with w place_back w.names.ended.items w.names.untold.items d' in
+      let flying : flying_count d'.requests ≡ flying_count d.requests - 1 =
+      ap flying_count back.requests ∙ one_fewer _ _ _ _ (flying_after d.requests back.h.id back.h.it (record back.h.it { in_flight = false; request = back.request }) back.h.live) (ap one_if back.h.flies) refl in
+      ap (λ l. record me' { ready = numbers_of n l.queued; unenrolled = numbers_of n l.enrolments; cancels = numbers_of n l.cancels }) back.lists
+      ∙ ap (λ ns. record me' { ready = ns; unenrolled = numbers_of n d.lists.enrolments; cancels = numbers_of n d.lists.cancels }) (numbers_push n d.lists.queued (record { 0 = back.h.id }))
+      ∙ ap (λ m. record me' { ready = numbers_of n d.lists.queued ++ k ∷ []; unenrolled = numbers_of n d.lists.enrolments; cancels = numbers_of n d.lists.cancels; in_flight = m }) flying
+
+  pub reaped_back : (w' : Worker) (s' : Shared B) (e : Event) (back : GoesBack w s (driver_of w') c cs) → IsPunctual (driver_of w') → e ≡ Reap (number_in w.names.requests.items back.h.id) (result_in c.result) None
+      → s'.requests.items ≡ changed_at s.requests.items (number_in w.names.requests.items back.h.id) (goes_back (result_in c.result)) → s' ≡ record s { requests = s'.requests } → Tells w.home.deferred w'.home.deferred nothing_told
+      → w' ≡ record w { place = place_back; home = record w.home { driver = w'.home.driver; deferred = w'.home.deferred } } → Steps left spot w s e w' s'
+  reaped_back w' s' e back punctual event records shared tells same =
+      let q : Place = at.Service (step.Reap rp) v in
+      let q' : Place = place_back in
+      let d = driver_of w in
+      let d' = driver_of w' in
+      let rs = s.requests.items in
+      let n = w.names.requests.items in
+      let h = back.h in
+      let k = number_in n h.id in
+      let given = result_in c.result in
+      let w0 : Worker = record w { place = q } in
+      let deferred = w'.home.deferred in
+      let follows = follows_back rp v (map (number_told n) cs) in
+      let ring = back.ring in
+      let kept : KeepsBy (record w { place = q' }) d' w.home.timers (changed_at rs k (goes_back given)) s.sleepers.items s =
+      keeps_back q q' w s sound d' c cs back follows punctual (λ h. ap (λ l. l.due) back.lists ∙ sound.due.told (not_due rp v)) in
+      let w1 : Worker = record w { place = q'; home = record w.home { deferred = deferred } } in
+      let w2 : Worker = record w1 { home = record w1.home { driver = w'.home.driver } } in
+      let untold : KeepsBy w1 d' w.home.timers (changed_at rs k (goes_back given)) s.sleepers.items s = keeps_untold (record w { place = q' }) d' w.home.timers (changed_at rs k (goes_back given)) s.sleepers.items s deferred tells kept in
+      let by_records : KeepsBy w1 d' w.home.timers s'.requests.items s.sleepers.items s = subst (λ x. KeepsBy w1 d' w.home.timers x s.sleepers.items s) (sym records) untold in
+      let by_home : KeepsBy w2 d' w.home.timers s'.requests.items s.sleepers.items s = assumption by_records in
+      let by_worker : KeepsBy w' d' w'.home.timers s'.requests.items s.sleepers.items s = subst (λ x. KeepsBy x d' x.home.timers s'.requests.items s.sleepers.items s) (sym same) by_home in
+      let keeps : Keeps w' s' = subst (λ y. KeepsBy w' d' w'.home.timers s'.requests.items y.sleepers.items y) (sym shared) (assumption by_worker) in
+      let there : w'.place ≡ q' = ap (λ x. x.place) same in
+      let serves : Serves q w w' s s' = record {
+        worker = subst (λ x. x ≡ record w { place = x.place; home = record w.home { driver = x.home.driver; timers = x.home.timers; deferred = x.home.deferred }; names = record w.names { ended = x.names.ended; staged = x.names.staged; untold = x.names.untold }; put_off = x.put_off }) (sym same) refl;
+        shared = subst (λ z. z ≡ record s { requests = z.requests; sleepers = z.sleepers }) (sym shared) refl;
+        from = refl;
+        to = ap is_calm there ∙ follows.to;
+        armed = ap is_armed_at there ∙ follows.armed;
+        closes = ap closes_at there ∙ follows.closes;
+      } in
+      let show = shows q w w' s s' d' serves refl in
+      let wakes : deferred.notes.wakes.items ≡ w.home.deferred.notes.wakes.items = tells.notes.wakes_added ∙ append-nil w.home.deferred.notes.wakes.items in
+      let outputs : deferred.outputs.items ≡ w.home.deferred.outputs.items = tells.outputs_added ∙ append-nil w.home.deferred.outputs.items in
+      let seen : visible w' ≡ record (visible w) { landed = map (number_told n) cs } =
+      show.seen ∙ ap (λ b. record { busy = b; landed = map (number_told n) (operations d'.ring) }) ring.busy ∙ ap (λ ops. record { busy = d.ring.busy; landed = map (number_told n) ops }) ring.landed in
+      let desk : desk_of w' ≡ record (others_after_reap (map (number_told n) cs) (desk_of w0)) { place = q' } =
+      show.desk ∙ ap (λ y. desk_with w y w'.put_off deferred d') there ∙ ap (λ o. desk_with w q' o deferred d') (ap (λ x. x.put_off) same)
+      ∙ ap (λ ws. record (desk_with w q' w.put_off deferred d') { wakes = map (λ t. t.0) ws }) wakes
+      ∙ ap (λ os. record (desk_with w q' w.put_off deferred d') { wakes = map (λ t. t.0) w.home.deferred.notes.wakes.items; outputs = length os }) outputs
+      ∙ ap (λ es. record (desk_of w0) { place = q'; entries = length es; polled = d'.armed; others = trailing 0 (completions d'.ring) }) ring.staged
+      ∙ ap (λ b. record (desk_of w0) { place = q'; polled = b; others = trailing 0 (completions d'.ring) }) ring.armed
+      ∙ ap (λ m. record (desk_of w0) { place = q'; others = m }) ring.others
+      ∙ desk_left n cs (desk_of w0) q' in
+      let answer : outcome_given h.r.shown given ≡ None = given_is d.wheel.start d.wheel.tick h.it h.r.shown (back_alike q q' w s sound d' c cs back) given back.request None back.judges in
+      subst (λ x. Steps left spot w s x w' s') (sym event)
+      (served left spot q w w' s s' (Reap k given None) sound serves keeps
+      (λ p vs suits.
+      record {
+        moves =
+            ap (aside (things_of w.index s)) (moves_seen left spot rp v w s sound c cs is h p vs suits (desk_of w0) None answer)
+            ∙ ap (λ x. makes (Reap k given None) x (things_of w.index s)) (sym desk);
+        may = may_seen left spot rp v w s sound c cs is h p vs suits (own_of w0) None refl answer;
+        own =
+            show.own ∙ ap (λ y. own_with w y w'.names.ended.items w'.names.untold.items d') there ∙ ap (λ x. own_with w q' x.names.ended.items x.names.untold.items d') same
+            ∙ own_back d' back ∙ rw (served_back rp v (map (number_told n) cs)) refl;
+        common = common_seen left spot rp v w s sound c cs is h p vs suits s' None w' shared records seen;
+      }))

@@ -1,0 +1,315 @@
+-- Steps of a service: what they keep.
+use Rattle.std.proofs.Common.{◌≡◌, ℕ, zero, suc, ◌<◌, ◌≤◌, ◌+◌, Bool, true, false, List, [], ◌∷◌, length, Option, Some, None, refl, sym, ap, subst, ◌∙◌, arith}
+use Rattle.std.proofs.lemmas.Bool.{false≢true}
+use Rattle.std.proofs.lemmas.Option.{slice_get_within, slice_get-get_or, get_or_from_slice_get}
+use Rattle.std.proofs.lemmas.List.{get_or-set_same, length-set}
+use Rattle.std.specs.Prelude.{slice_get, slice_set, slice_index_or}
+use Rattle.exec_base.specs.Slab.{Slab, live_count}
+use Rattle.exec_waiters.specs.{States.pending_count, declared.deferred.Deferred.Deferred}
+use Rattle.exec_time.specs.declared.timers.Sleeper.{Sleeper as Sleeping}
+use Rattle.exec_driver.specs.Driving.{Driving, seen}
+use Rattle.exec_words.specs.{Queue.room_of, declared.word.PureWord.PureWord}
+use Rattle.exec_words.specs.declared.word.WaitTarget.TheVariants as target
+use Rattle.exec_task.specs.declared.{body.Said.Said, runnable.Runnable.Runnable}
+use Rattle.exec_machine.specs.{declared.event.Event.{Event, TheVariants.Serve}, Choice.Choice.Plain, Progress.Plan, Ranges.ring_size, World.{seat_of, Seat, no_seat}}
+use Rattle.exec_machine.specs.declared.state.Next.TheVariants as next
+use Rattle.exec_moves.specs.declared.place.InCallbacks.TheVariants as callback
+use Rattle.exec_moves.specs.declared.place.InMail.TheVariants as mail
+use Rattle.exec_moves.specs.{declared.place.{InService.InService, Service.Service, Place.Place}, Move.move, Seen.{polls_at, next_at, serves_at, serves_in}, Serve.{sample, unlatched}}
+use Rattle.exec_moves.specs.declared.place.InService.TheVariants as step
+use Rattle.exec_moves.specs.declared.place.Reaping.TheVariants as reaping
+use Rattle.exec_moves.specs.declared.place.Place.TheVariants as at
+use Rattle.exec_steps.specs.{declared.parts.{mail.Reply.Reply, names.Names.Names, record.Record.Record, sleeping.SleeperRecord.SleeperRecord, seat.Seat.Seat as Chair, shared.Shared.Shared, task_slot.TaskSlot.TaskSlot, worker.{Worker.Worker, Moments.Moments}}, Carried.IsCarried, Due.{IsDue, wheel_moment}, Flown.{HasFlown, passes_permit}, Phased.{IsPhased, closes_at, closing_in, stage_of}, Rooted.IsRooted, Sound.{tellers, SoundAt, IsAlone, IsInTime, IsTold, IsNamed, AreOver, AreOwed, Stands, InHand, HasShare, HasLeft, has_wakes_at, served_in, polled_in, is_armed_at}, Spots.Spot, View.{Visible, visible, own_of, desk_of, driver_of, common_of, things_of, seats_seen, seat_seen, queue_at, queue_seen, word_at}, Works.{Makes, TurnsWord, Works, Suits, Steps}}
+use Rattle.exec_steps.proofs.{Hearing.unheard, Turning.set_found, Orders.unordered}
+
+-- PLACES
+
+-- a service that passes no permit, what follows it, and a wait on the ring
+abbrev pub is_calm : Place → Bool
+is_calm (at.Service (step.PassPermit file b) v) = false
+is_calm (at.Service (step.Signal worker b) v) = false
+is_calm (at.Service x v) = true
+is_calm (at.Mail mail.LoadMailWord) = true
+is_calm (at.Callbacks callback.TakeBatch n) = true
+is_calm (at.RingWait x y) = true
+is_calm _ = false
+
+-- nothing is polled or owed there, no share is about to be taken, and the hand is empty
+pub record IsCalm (q : Place) : Type 0 where
+  pub polls : polls_at q ≡ None
+  pub free : next_at q ≡ next.Free
+  pub share : (n : ℕ) → HasShare q n
+  pub hands : (root : ℕ) (hand : Option Runnable) → hand ≡ None → InHand q root hand
+  pub empty : (root : ℕ) (hand : Option Runnable) → InHand q root hand → hand ≡ None
+  pub left : (d : Deferred Reply Reply) → HasLeft q d
+  pub stands : polled_in q ≡ None
+  pub closing : closing_in q ≡ None
+
+pub calm : (q : Place) → is_calm q ≡ true → IsCalm q
+calm (at.Service (step.PassPermit file b) v) h = absurd (false≢true h)
+calm (at.Service (step.Signal worker b) v) h = absurd (false≢true h)
+calm (at.Service x v) h = record { polls = refl; free = refl; share = λ n. tt; hands = λ root hand e. e; empty = λ root hand e. e; left = λ d. tt; stands = refl; closing = refl }
+calm (at.Mail mail.LoadMailWord) h = record { polls = refl; free = refl; share = λ n. tt; hands = λ root hand e. e; empty = λ root hand e. e; left = λ d. tt; stands = refl; closing = refl }
+calm (at.Callbacks callback.TakeBatch n) h = record { polls = refl; free = refl; share = λ n. tt; hands = λ root hand e. e; empty = λ root hand e. e; left = λ d. tt; stands = refl; closing = refl }
+calm (at.RingWait x y) h = record { polls = refl; free = refl; share = λ n. tt; hands = λ root hand e. e; empty = λ root hand e. e; left = λ d. tt; stands = refl; closing = refl }
+calm _ h = absurd (false≢true h)
+
+-- SEATS
+
+-- the chair with another wake word
+abbrev pub worded : PureWord → Chair → Chair
+worded x chair = record chair { mailbox = record chair.mailbox { waker = x } }
+
+pub set_there : {A : Type 0} (xs : List A) (i : ℕ) (x y : A) → slice_get xs i ≡ Some y → slice_get (slice_set xs i x) i ≡ Some x
+set_there xs i x y there =
+    let within = slice_get_within xs i y there in
+    slice_get-get_or (slice_set xs i x) i x (rw length-set within) ∙ ap (λ z. Some z) (get_or-set_same xs i x x within)
+
+-- The machine doesn't see the wake word.
+pub word_unseen : (vs : List Visible) (seats : List Chair) (i : ℕ) (chair : Chair) (x : PureWord) → slice_get seats i ≡ Some chair
+    → seats_seen vs (slice_set seats i (worded x chair)) ≡ seats_seen vs seats
+word_unseen [] seats i chair x there = refl
+word_unseen (v ∷ vs) [] i chair x there = refl
+word_unseen (v ∷ vs) (seat ∷ seats) zero chair x there =
+    let same : chair ≡ seat = cc in
+    ap (λ c. seat_seen v c ∷ seats_seen vs seats) same
+word_unseen (v ∷ vs) (seat ∷ seats) (suc i) chair x there = ap (λ xs. seat_seen v seat ∷ xs) (word_unseen vs seats i chair x there)
+
+-- what is seen of one chair
+pub seat_there : (vs : List Visible) (seats : List Chair) (i : ℕ) (v : Visible) (chair : Chair) → slice_get vs i ≡ Some v → slice_get seats i ≡ Some chair
+    → slice_get (seats_seen vs seats) i ≡ Some (seat_seen v chair)
+seat_there [] seats i v chair seen there = absurd (cc)
+seat_there (x ∷ vs) [] i v chair seen there = absurd (cc)
+seat_there (x ∷ vs) (seat ∷ seats) zero v chair seen there =
+    let one : x ≡ v = cc in
+    let two : seat ≡ chair = cc in
+    rw (one, two) refl
+seat_there (x ∷ vs) (seat ∷ seats) (suc i) v chair seen there = seat_there vs seats i v chair seen there
+
+pub seats_set : (vs : List Visible) (seats : List Chair) (i : ℕ) (v : Visible) (chair : Chair) → slice_get seats i ≡ Some chair
+    → seats_seen (slice_set vs i v) seats ≡ slice_set (seats_seen vs seats) i (seat_seen v chair)
+seats_set [] seats i v chair there = refl
+seats_set (x ∷ vs) [] i v chair there = absurd (cc)
+seats_set (x ∷ vs) (seat ∷ seats) zero v chair there =
+    let same : seat ≡ chair = cc in
+    ap (λ c. seat_seen v c ∷ seats_seen vs seats) same
+seats_set (x ∷ vs) (seat ∷ seats) (suc i) v chair there = ap (λ xs. seat_seen x seat ∷ xs) (seats_set vs seats i v chair there)
+
+module _ {B L : Type 0} (left : B → L) (spot : L → Option Said → Spot) where
+  pub own_seat : (p : Plan) (vs : List Visible) (w : Worker) (s : Shared B) (chair : Chair) → Suits p vs w s → slice_get s.seats.items w.index ≡ Some chair
+      → seat_of (common_of left spot p vs s) w.index ≡ seat_seen (visible w) chair
+  own_seat p vs w s chair suits there =
+      get_or_from_slice_get (seats_seen vs s.seats.items) w.index (seat_seen (visible w) chair) no_seat (seat_there vs s.seats.items w.index (visible w) chair suits.seen there)
+
+-- WHAT HOLDS AGAIN
+
+-- A step of a service leads from a calm place to one. Of the worker its driver, its sleepers, what is left to be told, its
+-- numbers and what it put off may change, and of what is shared the records.
+pub record Serves {B : Type 0} (q : Place) (w w' : Worker) (s s' : Shared B) : Type 0 where
+  pub worker : w' ≡ record w { place = w'.place; home = record w.home { driver = w'.home.driver; timers = w'.home.timers; deferred = w'.home.deferred }; names = record w.names { ended = w'.names.ended; staged = w'.names.staged; untold = w'.names.untold }; put_off = w'.put_off }
+  pub shared : s' ≡ record s { requests = s'.requests; sleepers = s'.sleepers }
+  pub from : is_calm q ≡ true
+  pub to : is_calm w'.place ≡ true
+  pub armed : is_armed_at w'.place ≡ is_armed_at q
+  pub closes : closes_at w'.place ≡ closes_at q
+
+-- what a step leads to where nothing is polled, and neither the closing nor a wait on a word begins or ends
+pub record Follows (q q' : Place) : Type 0 where
+  pub from : is_calm q ≡ true
+  pub to : is_calm q' ≡ true
+  pub serves : serves_at q' ≡ serves_at q
+  pub armed : is_armed_at q' ≡ is_armed_at q
+  pub closes : closes_at q' ≡ closes_at q
+  pub wakes : has_wakes_at q' ≡ has_wakes_at q
+  pub permits : passes_permit (served_in q') ≡ false
+  pub moment : (m : Moments) → wheel_moment (served_in q') m ≡ wheel_moment (served_in q) m
+
+-- What must hold again then, of a worker with this driver and these sleepers, and of the records.
+pub record KeepsBy {B : Type 0} (w : Worker) (d : Driving Reply Reply) (zs : Slab (Sleeping Reply)) (rs : List Record) (ss : List SleeperRecord) (s : Shared B) : Type 0 where
+  pub told : IsTold w.names.ended.items w.home.deferred (tellers d.requests zs)
+  pub named : IsNamed w.index w.names d zs rs ss
+  pub sized : d.ring.size ≡ ring_size s.config
+  pub over : AreOver w.index w.names.ended.items w.names.unreleased (pending_count d.requests) rs
+  pub quiet : has_wakes_at w.place ≡ false → w.home.deferred.notes.wakes.items ≡ []
+  pub due : IsDue (served_in w.place) w.index w.moments s.config w.names d zs rs ss
+  pub flown : HasFlown (served_in w.place) w.index w.names d rs
+  pub carried : IsCarried w.names.requests.items d.requests d.ring rs s.store
+  pub rooted : IsRooted None w.index w.root w.names d zs s.tasks.items rs ss
+  pub owed : AreOwed w.index w.root w.home.deferred.notes.wakes.items s.tasks.items rs ss
+
+abbrev pub Keeps : {B : Type 0} → Worker → Shared B → Type 0
+Keeps w s = KeepsBy w (driver_of w) w.home.timers s.requests.items s.sleepers.items s
+
+-- by what a worker without its driver, a driver and records are
+pub keeps_all : {B : Type 0} (w w' : Worker) (s s' : Shared B) (rs : List Record) (d : Driving Reply Reply) →
+    let w1 : Worker = record w { place = w'.place; put_off = w'.put_off; names = record w.names { staged = w'.names.staged; untold = w'.names.untold } } in
+    w' ≡ record w1 { home = record w.home { driver = w'.home.driver } } → s' ≡ record s { requests = s'.requests } → driver_of w' ≡ d → s'.requests.items ≡ rs
+    → KeepsBy w1 d w.home.timers rs s.sleepers.items s → Keeps w' s'
+keeps_all w w' s s' rs d worker shared driver records keeps =
+    let w1 : Worker = record w { place = w'.place; put_off = w'.put_off; names = record w.names { staged = w'.names.staged; untold = w'.names.untold } } in
+    let w2 : Worker = record w1 { home = record w.home { driver = w'.home.driver } } in
+    let by_records : KeepsBy w1 d w.home.timers s'.requests.items s.sleepers.items s = subst (λ x. KeepsBy w1 d w.home.timers x s.sleepers.items s) (sym records) keeps in
+    let by_driver : KeepsBy w1 (driver_of w') w.home.timers s'.requests.items s.sleepers.items s = subst (λ x. KeepsBy w1 x w.home.timers s'.requests.items s.sleepers.items s) (sym driver) by_records in
+    let by_home : KeepsBy w2 (driver_of w') w.home.timers s'.requests.items s.sleepers.items s = assumption by_driver in
+    let by_worker : KeepsBy w' (driver_of w') w'.home.timers s'.requests.items s.sleepers.items s = subst (λ x. KeepsBy x (driver_of w') x.home.timers s'.requests.items s.sleepers.items s) (sym worker) by_home in
+    subst (λ y. KeepsBy w' (driver_of w') w'.home.timers s'.requests.items y.sleepers.items y) (sym shared) (assumption by_worker)
+
+module _ {B : Type 0} where
+  -- what holds at a calm place, of those
+  pub kept : (q : Place) (w : Worker) (s : Shared B) → SoundAt q w s → IsCalm q → Keeps w s
+  kept q w s sound from =
+      record {
+        told = sound.told;
+        named = sound.named;
+        sized = sound.sized;
+        over = sound.over;
+        quiet = subst (λ p. has_wakes_at p ≡ false → w.home.deferred.notes.wakes.items ≡ []) (sym sound.here) sound.quiet;
+        due = subst (λ p. IsDue (served_in p) w.index w.moments s.config w.names (driver_of w) w.home.timers s.requests.items s.sleepers.items) (sym sound.here) sound.due;
+        flown = subst (λ p. HasFlown (served_in p) w.index w.names (driver_of w) s.requests.items) (sym sound.here) sound.flown;
+        carried = sound.carried;
+        rooted = subst (λ x. IsRooted x w.index w.root w.names (driver_of w) w.home.timers s.tasks.items s.requests.items s.sleepers.items) from.stands sound.rooted;
+        owed = sound.tied.owed;
+      }
+
+  sound_parts : (q : Place) (w v : Worker) (s t : Shared B) → SoundAt q w s → IsCalm q → IsCalm v.place → is_armed_at v.place ≡ is_armed_at q → closes_at v.place ≡ closes_at q →
+      let w1 : Worker = record w { place = v.place; home = record w.home { driver = v.home.driver; timers = v.home.timers; deferred = v.home.deferred }; names = record w.names { ended = v.names.ended; staged = v.names.staged; untold = v.names.untold }; put_off = v.put_off } in
+      let s1 : Shared B = record s { requests = t.requests; sleepers = t.sleepers } in
+      Keeps w1 s1 → SoundAt v.place w1 s1
+  sound_parts q w v s t sound from to armed closes keeps =
+      record {
+        here = refl;
+        config = sound.config;
+        gates = sound.gates;
+        index = sound.index;
+        time = sound.time;
+        told = keeps.told;
+        named = keeps.named;
+        runnable = sound.runnable;
+        alone = subst (λ a. IsAlone w.index a s.seats.items s.global.values) (sym armed) sound.alone;
+        share = λ chair there. to.share (room_of (queue_seen chair.queue));
+        sized = keeps.sized;
+        processed = sound.processed;
+        hand = to.hands w.root w.hand (from.empty w.root w.hand sound.hand);
+        left = to.left v.home.deferred;
+        over = keeps.over;
+        batch = sound.batch;
+        quiet = keeps.quiet;
+        due = keeps.due;
+        flown = keeps.flown;
+        carried = keeps.carried;
+        rooted = subst (λ x. IsRooted x w.index w.root (record w.names { ended = v.names.ended; staged = v.names.staged; untold = v.names.untold }) (seen v.home.driver) v.home.timers s.tasks.items t.requests.items t.sleepers.items) (sym to.stands) keeps.rooted;
+        phased = λ chair there.
+            subst (λ c. IsPhased c (closing_in v.place) w.home.closing w.root w.names.unreleased (stage_of chair s) s.tasks.items) (sym closes)
+            (subst (λ x. IsPhased (closes_at q) x w.home.closing w.root w.names.unreleased (stage_of chair s) s.tasks.items) (from.closing ∙ sym to.closing) (sound.phased chair there));
+        tied = record {
+          stands = subst (λ x. (slot : TaskSlot B) → slice_get s.tasks.items w.root ≡ Some slot → Stands x w.index slot) (from.stands ∙ sym to.stands) sound.tied.stands;
+          owed = keeps.owed;
+        };
+      }
+
+  pub sound_again : (q : Place) (w w' : Worker) (s s' : Shared B) → SoundAt q w s → Serves q w w' s s' → Keeps w' s' → SoundAt w'.place w' s'
+  sound_again q w w' s s' sound serves keeps =
+      let w1 : Worker = record w { place = w'.place; home = record w.home { driver = w'.home.driver; timers = w'.home.timers; deferred = w'.home.deferred }; names = record w.names { ended = w'.names.ended; staged = w'.names.staged; untold = w'.names.untold }; put_off = w'.put_off } in
+      let s1 : Shared B = record s { requests = s'.requests; sleepers = s'.sleepers } in
+      let by_worker : Keeps w1 s' = subst (λ x. Keeps x s') serves.worker keeps in
+      let by_shared : Keeps w1 s1 = subst (λ y. Keeps w1 y) serves.shared by_worker in
+      let again : SoundAt w'.place w1 s1 = sound_parts q w w' s s' sound (calm q serves.from) (calm w'.place serves.to) serves.armed serves.closes by_shared in
+      let there : SoundAt w'.place w' s1 = subst (λ x. SoundAt w'.place x s1) (sym serves.worker) again in
+      subst (λ y. SoundAt w'.place w' y) (sym serves.shared) there
+
+  -- another wake word, which has no wait bit where the place has none
+  pub alone_again : (i : ℕ) (armed b : Bool) (s s' : Shared B) (x : PureWord) → (alone : IsAlone i armed s.seats.items s.global.values) → TurnsWord i s s' x
+      → (b ≡ false → x.target ≡ target.None) → IsAlone i b s'.seats.items s.global.values
+  alone_again i armed b s s' x alone turns unarmed =
+      let seat = alone.seat in
+      record {
+        only = ap length (turns.seats seat alone.there) ∙ length-set s.seats.items i (worded x seat) ∙ alone.only;
+        seat = worded x seat;
+        there = rw (turns.seats seat alone.there) (set_there s.seats.items i (worded x seat) seat alone.there);
+        run_queue = alone.run_queue;
+        whole = alone.whole;
+        inbox = alone.inbox;
+        unarmed = unarmed;
+        elsewhere = alone.elsewhere;
+      }
+
+  pub word_shows : (i : ℕ) (armed : Bool) (s s' : Shared B) (x : PureWord) → (alone : IsAlone i armed s.seats.items s.global.values) → TurnsWord i s s' x
+      → things_of i s' ≡ record (things_of i s) { word = x }
+  word_shows i armed s s' x alone turns =
+      let seat = alone.seat in
+      let found : slice_get s'.seats.items i ≡ Some (worded x seat) = rw (turns.seats seat alone.there) (set_there s.seats.items i (worded x seat) seat alone.there) in
+      subst (λ t. things_of i t ≡ record (things_of i s) { word = x }) (sym turns.kept) (rw (found, alone.there) refl)
+
+-- THE SAMPLE
+
+module _ {B L : Type 0} (left : B → L) (spot : L → Option Said → Spot) where
+  sample_works : (v : Service) (w : Worker) (s s' : Shared B) → SoundAt (at.Service step.Sample v) w s → TurnsWord w.index s s' (unlatched (things_of w.index s).word)
+      → (p : Plan) (vs : List Visible) → Suits p vs w s
+      → Works left spot p vs w s Serve (record w { place = at.Service (step.Reap reaping.First) v; moments = record w.moments { before = w.moments.sampled; sampled = s.clock } }) (record s { seats = s'.seats })
+  sample_works v w s s' sound turns p vs suits =
+      let seat = sound.alone.seat in
+      let things : things_of w.index (record s { seats = s'.seats }) ≡ record (things_of w.index s) { word = unlatched (things_of w.index s).word } =
+      subst (λ t. things_of w.index t ≡ record (things_of w.index s) { word = unlatched (things_of w.index s).word }) turns.kept (word_shows w.index false s s' (unlatched (things_of w.index s).word) sound.alone turns) in
+      record {
+        choice = Plain;
+        moves = rw (sound.here, things) refl;
+        may = rw sound.here (refl, tt);
+        own = rw sound.here refl;
+        common =
+            rw (set_found vs w.index (visible w) suits.seen)
+            (ap (λ seen. record (common_of left spot p vs s) { seats = seen }) (ap (seats_seen vs) (turns.seats seat sound.alone.there) ∙ word_unseen vs s.seats.items w.index seat (unlatched (things_of w.index s).word) sound.alone.there));
+      }
+
+  sound_sampled : (v : Service) (w : Worker) (s s' : Shared B) → SoundAt (at.Service step.Sample v) w s → TurnsWord w.index s s' (unlatched (things_of w.index s).word)
+      → SoundAt (at.Service (step.Reap reaping.First) v) (record w { place = at.Service (step.Reap reaping.First) v; moments = record w.moments { before = w.moments.sampled; sampled = s.clock } }) (record s { seats = s'.seats })
+  sound_sampled v w s s' sound turns =
+      let seat = sound.alone.seat in
+      let word = unlatched (things_of w.index s).word in
+      let now = worded word seat in
+      let there : slice_get s'.seats.items w.index ≡ Some now = rw (turns.seats seat sound.alone.there) (set_there s.seats.items w.index now seat sound.alone.there) in
+      let due = sound.due in
+      let flown = sound.flown in
+      record {
+        here = refl;
+        config = sound.config;
+        gates = sound.gates;
+        index = sound.index;
+        time = record { begun = omega (arith, sound.time.begun, sound.time.ordered); ordered = sound.time.not_after; not_after = omega arith; read = sound.time.read; asleep = sound.time.asleep; bounded = sound.time.bounded };
+        told = sound.told;
+        named = sound.named;
+        runnable = sound.runnable;
+        alone = alone_again w.index false false s s' word sound.alone turns (λ h. rw sound.alone.there (sound.alone.unarmed refl));
+        share = λ chair found. tt;
+        sized = sound.sized;
+        processed = sound.processed;
+        hand = sound.hand;
+        left = tt;
+        over = sound.over;
+        batch = sound.batch;
+        quiet = λ h. absurd (false≢true (sym h));
+        due = record { punctual = due.punctual; told = λ h. due.told refl; wheel = due.wheel; timed = due.timed; asleep = due.asleep; order = unordered (due.told refl) due.order };
+        flown = record { ending = flown.ending; staging = flown.staging; telling = flown.telling; entries = flown.entries; permits = refl; ours = flown.ours; plain = flown.plain; enrolling = flown.enrolling; acks = flown.acks; owning = flown.owning; landed = flown.landed; uncancelled = flown.uncancelled };
+        carried = sound.carried;
+        rooted = sound.rooted;
+        phased = λ chair found.
+            let same : now ≡ chair = cc (there, found) in
+            subst (λ c. IsPhased (closes_at (at.Service step.Sample v)) None w.home.closing w.root w.names.unreleased (stage_of c s) s.tasks.items) same (sound.phased seat sound.alone.there);
+        tied = record { stands = sound.tied.stands; owed = sound.tied.owed };
+      }
+
+  pub sampled : (v : Service) (w w' : Worker) (s s' : Shared B) (e : Event) → SoundAt (at.Service step.Sample v) w s
+      → Makes (sample v (desk_of w) (things_of w.index s).word) e w'
+      → w' ≡ record w { place = w'.place; moments = record w.moments { before = w.moments.sampled; sampled = s.clock } }
+      → TurnsWord w.index s s' (unlatched (things_of w.index s).word) → Steps left spot w s e w' s'
+  sampled v w w' s s' e sound makes same turns =
+      let q : Place = at.Service (step.Reap reaping.First) v in
+      let there : w'.place ≡ q = ap (λ d. d.place) makes.desk in
+      let m : Moments = record w.moments { before = w.moments.sampled; sampled = s.clock } in
+      let w1 : Worker = record w { place = q; moments = m } in
+      let by_place : w' ≡ w1 = same ∙ ap (λ x. record w { place = x; moments = m }) there in
+      let s1 : Shared B = record s { seats = s'.seats } in
+      let holds : SoundAt q w1 s1 = sound_sampled v w s s' sound turns in
+      let done : Steps left spot w s Serve w1 s1 = ((λ p vs suits. sample_works v w s s' sound turns p vs suits), holds, unheard refl refl refl) in
+      let by_event : Steps left spot w s e w1 s1 = subst (λ x. Steps left spot w s x w1 s1) (sym makes.event) done in
+      let by_worker : Steps left spot w s e w' s1 = subst (λ x. Steps left spot w s e x s1) (sym by_place) by_event in
+      subst (λ x. Steps left spot w s e w' x) (sym turns.kept) by_worker

@@ -1,0 +1,343 @@
+-- What the stagings of a service are to the machine.
+use Rattle.std.proofs.Common.{◌≡◌, ◌⊎◌, ℕ, zero, suc, ◌+◌, ◌<◌, ◌≤◌, ◌==◌, ◌&&◌, ◌||◌, Bool, true, false, not, List, [], ◌∷◌, ◌++◌, length, map, Option, Some, None, IsSome, refl, sym, ap, subst, ◌∙◌, arith, inl, inr}
+use Rattle.std.proofs.lemmas.Bool.{false≢true, eq-eqb}
+use Rattle.std.proofs.lemmas.Bool.Decides.{nat_tests}
+use Rattle.std.proofs.lemmas.List.{length-append}
+use Rattle.std.specs.Prelude.{slice_get, slice_set, nat_lt, drop, if◌then◌else◌}
+use Rattle.std.specs.Vec.{vec_capacity}
+use Rattle.exec_base.specs.Slab.{Slab, value_at}
+use Rattle.exec_time.specs.declared.timers.Sleeper.{Sleeper as Sleeping}
+use Rattle.std.proofs.lemmas.Option.{slice_get_within}
+use Rattle.exec_ring.specs.declared.completion.Submission.{Submission}
+use Rattle.exec_waiters.proofs.Changes.{entry_of}
+use Rattle.exec_waiters.specs.{States.{waiter_at, flying_count}, declared.{waiter.{Entry.TheVariants.Pending, Waiter.Waiter}, waiter_id.WaiterId.WaiterId}}
+use Rattle.exec_task.specs.declared.body.Said.{Said}
+use Rattle.exec_request.specs.States.{asks_cancel}
+use Rattle.exec_driver.specs.{Driving.{Driving, request_at, is_cancelled, is_queued, is_full as is_ring_full, may_stage_one}, Lists.{has_first, first_of, rest_of, is_among}, Placed.ListsRequests, Punctual.IsPunctual, Steps.{cancel_entry, cancel_staged}}
+use Rattle.exec_driver.proofs.Counting.{same_written}
+use Rattle.exec_machine.specs.{declared.{config.Configuration.Configuration, event.Event.{Event, TheVariants.{Cancel, Stage}}}, Progress.Plan, Ranges.ring_size, Same.is_number, Tests.{is_empty, is_in_flight, is_staged}, World.{Own, Common, seat_of, request_of}}
+use Rattle.exec_moves.specs.{Callback.is_full, Load.may_stage, Move.move_submit, State.{Desk, Things}, Submit.{Due, due_next, staging_due, first_due, Due.Cancels}, declared.place.{Service.Service, Place.Place}}
+use Rattle.exec_moves.specs.declared.place.InService.TheVariants as step
+use Rattle.exec_moves.specs.declared.place.Place.TheVariants as at
+use Rattle.exec_steps.specs.{declared.parts.{mail.Reply.Reply, names.Names.Names, record.Record.Record, sleeping.SleeperRecord.SleeperRecord, shared.Shared.Shared, worker.Worker.Worker}, Flown.{HasFlown, IsPlain, operations}, Phased.closes_at, Records.number_in, Serving.{AreKnown, AreTagged, cancels_in, is_cancel, changed_at, is_one_of}, Sound.{SoundAt, IsAlike, IsNamed, IsSubmitted, served_in, is_armed_at}, Spots.Spot, Submitting.{AreNamed, IsIdle, StagesCancel, must_flush}, View.{Visible, visible, own_of, desk_of, driver_of, common_of, things_of, numbers_of}, Works.{Suits, Steps}}
+use Rattle.exec_steps.proofs.{Calling.request_seen, Carries.carried_marked, Changing.{OneGoesOn, keeps_one, others_there, all_go_one}, Conveying.carried_beside, Flown.landed_on, Going.{GoesOn, same_worker}, Idling.{comes_to_staging, none_due, none_gated}, Marking.{mark_if, marked, was_marked, marked_length}, Seeing.{makes, shows, served, common_changed}, Serving.{is_calm, Follows, Serves, Keeps, KeepsBy, keeps_all}, Turning.set_found}
+
+-- WHAT IS SEEN
+
+some_numbered : (numbers : List ℕ) (ids : List WaiterId) → has_first ids ≡ not (is_empty (numbers_of numbers ids))
+some_numbered numbers [] = refl
+some_numbered numbers (id ∷ ids) = refl
+
+-- the queue must be entered first, for the machine too
+pub flush_seen : (c : Configuration) (w : Worker) → (driver_of w).ring.size ≡ ring_size c
+    → (is_full (ring_size c) (desk_of w) && (not (is_empty (own_of w).cancels) || may_stage c (own_of w) || not (desk_of w).polled)) ≡ must_flush (driver_of w)
+flush_seen c w sized =
+    let d = driver_of w in
+    let n = w.names.requests.items in
+    rw (some_numbered n d.lists.cancels, some_numbered n d.lists.queued, sized) refl
+
+-- the same at the place as it is
+abbrev pub idle_at : {B : Type 0} (v : Service) (w : Worker) (s : Shared B) → (idle : IsIdle v w s) → IsIdle v (record w { place = at.Service (step.Submit idle.gate) v }) s
+idle_at v w s idle =
+    let q : Place = at.Service (step.Submit idle.gate) v in
+    record { gate = idle.gate; sound = subst (λ x. SoundAt q x s) (ap (λ y. record w { place = y }) idle.sound.here) idle.sound; lists = idle.lists; due = idle.due; enrolments = idle.enrolments }
+
+pub suits_at : {B : Type 0} (q : Place) (p : Plan) (vs : List Visible) (w : Worker) (s : Shared B) → Suits p vs w s → Suits p vs (record w { place = q }) s
+suits_at q p vs w s suits = record { config = suits.config; seen = suits.seen; workers = suits.workers }
+
+pub stages_again : (gate : ℕ) (v : Service) → Follows (at.Service (step.Submit gate) v) (at.Service (step.Submit gate) v)
+stages_again gate v = record { from = refl; to = refl; serves = refl; armed = refl; closes = refl; wakes = refl; permits = refl; moment = λ m. refl }
+
+module _ {B L : Type 0} (left : B → L) (spot : L → Option Said → Spot) where
+  -- nothing else is next for the machine
+  pub staging_next : (v : Service) (w : Worker) (s : Shared B) → (idle : IsIdle v w s) → (p : Plan) (vs : List Visible) → Suits p vs w s
+      → due_next p.config w.index idle.gate (own_of w) (common_of left spot p vs s) (desk_of w) ≡ staging_due p.config (own_of w) (desk_of w)
+  staging_next v w s idle p vs suits =
+      let sound = idle.sound in
+      let all = common_of left spot p vs s in
+      let none =
+      none_due _ w.index w.moments s.config w.names (driver_of w) w.home.timers s.requests.items s.sleepers.items sound.due sound.named sound.config.some_tick
+      (omega (arith, sound.time.begun, sound.time.ordered)) (own_of w) all refl refl idle.due in
+      comes_to_staging p.config w.index idle.gate (own_of w) all (desk_of w)
+      (subst (λ c. first_due c w.index (own_of w) all ≡ None) suits.config none)
+      (ap (λ ids. slice_get (numbers_of w.names.requests.items ids) 0) idle.enrolments)
+      (none_gated _ w.index idle.gate w.names (driver_of w) s.requests.items all refl sound.flown)
+
+-- CANCELS
+
+tagged_after : (es : List Submission) (id : WaiterId) → AreTagged es → AreTagged (es ++ cancel_entry id ∷ [])
+tagged_after [] id t = ((λ h. refl), tt)
+tagged_after (e ∷ es) id t = (t.0, tagged_after es id t.1)
+
+one_cancel_more : (es : List Submission) (id : WaiterId) → cancels_in (es ++ cancel_entry id ∷ []) ≡ cancels_in es + 1
+one_cancel_more [] id = refl
+one_cancel_more (e ∷ es) id = rw (one_cancel_more es id) (omega arith)
+
+abbrev marks_cancel : Record → Record
+marks_cancel r = record r { shown = record r.shown { cancel_staged = true } }
+
+marks_worker : (b : Bool) (r : Record) → (mark_if marks_cancel b r).shown.worker ≡ r.shown.worker
+marks_worker true r = refl
+marks_worker false r = refl
+
+marks_phase : (b : Bool) (r : Record) → (mark_if marks_cancel b r).shown.phase ≡ r.shown.phase
+marks_phase true r = refl
+marks_phase false r = refl
+
+marks_plain : (b : Bool) (r : Record) → IsPlain r.shown → IsPlain (mark_if marks_cancel b r).shown
+marks_plain true r p = record { bounded = p.bounded; moved = p.moved; first_part = p.first_part; unhinted = p.unhinted; ungated = p.ungated; deadline = p.deadline }
+marks_plain false r p = p
+
+pub known_then : (ks : List ℕ) (rs : List Record) (k : ℕ) (f : Record → Record) → AreKnown ks rs → AreKnown ks (changed_at rs k f)
+known_then [] rs k f known = tt
+known_then (q ∷ ks) rs k f known = (rw (marked_length f rs k) known.0, known_then ks rs k f known.1)
+
+among_later : (id other : WaiterId) (ids : List WaiterId) → is_among other ids ≡ true → is_among other (id ∷ ids) ≡ true
+among_later id other ids h = rw h (or_true ((id.0.index == other.0.index) && (id.0.generation == other.0.generation)))
+  where
+    or_true : (b : Bool) → (b || true) ≡ true
+    or_true true = refl
+    or_true false = refl
+
+live_by : (o : Option (Waiter Reply Reply)) → is_cancelled o ≡ true → (it : Waiter Reply Reply) × (o ≡ Some it)
+live_by None h = absurd (false≢true h)
+live_by (Some it) h = (it, refl)
+
+-- the first of a list stands in it
+pub among_first : (id : WaiterId) (ids : List WaiterId) → first_of ids ≡ Some id → is_among id ids ≡ true
+among_first id [] h = absurd (cc)
+among_first id (x ∷ ids) h =
+    let same : x ≡ id = cc in
+    rw (same, eq-eqb id.0.index id.0.index refl, eq-eqb id.0.generation id.0.generation refl) refl
+
+pub split_first : (id : WaiterId) (ids : List WaiterId) → first_of ids ≡ Some id → ids ≡ id ∷ rest_of ids
+split_first id [] h = absurd (cc)
+split_first id (x ∷ ids) h = let same : x ≡ id = cc in ap (λ y. y ∷ ids) same
+
+pub first_there : (ids : List WaiterId) → has_first ids ≡ true → (id : WaiterId) × (first_of ids ≡ Some id)
+first_there [] h = absurd (false≢true h)
+first_there (id ∷ ids) h = (id, refl)
+
+pub none_there : (ids : List WaiterId) → has_first ids ≡ false → ids ≡ []
+none_there [] h = refl
+none_there (id ∷ ids) h = absurd (false≢true (sym h))
+
+pub first_may : (d : Driving Reply Reply) → may_stage_one d ≡ true → (id : WaiterId) × (first_of d.lists.queued ≡ Some id)
+first_may d may = by (has_first d.lists.queued) (nat_lt (flying_count d.requests) d.ring.size) refl may
+  where
+    by : (a b : Bool) → has_first d.lists.queued ≡ a → (a && b) ≡ true → (id : WaiterId) × (first_of d.lists.queued ≡ Some id)
+    by true b is h = first_there d.lists.queued is
+    by false b is h = absurd (false≢true h)
+
+-- each has the number of a record
+pub all_named : (i : ℕ) (n : Names) (d : Driving Reply Reply) (zs : Slab (Sleeping Reply)) (rs : List Record) (ss : List SleeperRecord) → IsNamed i n d zs rs ss → (ids : List WaiterId) → ((id : WaiterId) → is_among id ids ≡ true → IsSome (value_at d.requests id.0)) → AreNamed n.requests.items ids rs
+all_named i n d zs rs ss named [] live = tt
+all_named i n d zs rs ss named (id ∷ ids) live =
+    let r = named.requests id.0 (live id (among_first id (id ∷ ids) refl)) in
+    (slice_get_within rs (number_in n.requests.items id.0) r.0 r.1, all_named i n d zs rs ss named ids (λ other among. live other (among_later id other ids among)))
+
+-- where the queue isn't full the lists of numbers have room
+pub rooms_there : (n m e size cap : ℕ) → n + m ≤ e → nat_lt e size ≡ true → size ≤ cap → (n < cap) × (m < cap)
+rooms_there n m e size cap few less room =
+    let below : e < size = grind (arith, nat_tests) in
+    (omega (arith, few, below, room), omega (arith, few, below, room))
+
+full_not : (b : Bool) → not b ≡ false → b ≡ true
+full_not true h = refl
+full_not false h = absurd (false≢true (sym h))
+
+module _ {B : Type 0} (v : Service) (w : Worker) (s : Shared B) (idle : IsIdle v w s) (id : WaiterId) (first : first_of (driver_of w).lists.cancels ≡ Some id) where
+  -- the request that asks for it
+  pub record Asks : Type 0 where
+    pub it : Waiter Reply Reply
+    pub r : Record
+    pub live : waiter_at (driver_of w).requests id.0 ≡ Some it
+    pub there : slice_get s.requests.items (number_in w.names.requests.items id.0) ≡ Some r
+    pub named : r.id.0 ≡ id.0
+    pub worker : r.shown.worker ≡ w.index
+    pub alike : IsAlike (driver_of w).wheel.start (driver_of w).wheel.tick it r.shown
+    pub cancelled : r.shown.cancelled ≡ true
+    pub flies : is_in_flight r.shown.phase ≡ true
+    pub unstaged : r.shown.cancel_staged ≡ false
+
+  asks_by : (o : Option (Waiter Reply Reply)) → request_at (driver_of w) id ≡ o → Asks
+  asks_by None gone = absurd (false≢true (ap is_cancelled (sym gone) ∙ idle.lists.cancels id (among_first id (driver_of w).lists.cancels first)))
+  asks_by (Some it) live =
+      let asked : asks_cancel it.state ≡ true = ap is_cancelled (sym live) ∙ idle.lists.cancels id (among_first id (driver_of w).lists.cancels first) in
+      let r = idle.sound.named.requests id.0 (rw (entry_of (value_at (driver_of w).requests id.0) it live) refl) in
+      let a = idle.sound.named.alike id.0 it r.0 live r.1 in
+      record {
+        it = it;
+        r = r.0;
+        live = live;
+        there = r.1;
+        named = r.2;
+        worker = r.3;
+        alike = a;
+        cancelled = a.cancelled ∙ asked;
+        flies = a.flying ∙ a.going asked;
+        unstaged = idle.sound.flown.uncancelled id r.0 (among_first id (driver_of w).lists.cancels first) r.1;
+      }
+
+  pub asks : Asks
+  asks = asks_by (request_at (driver_of w) id) refl
+
+-- a name that is another's isn't this one, and its request has another number
+-- WHAT A STAGING NEEDS
+
+unfull : (f x y z : Bool) → (f && (x || y || z)) ≡ false → (x || y || z) ≡ true → f ≡ false
+unfull true x y z h some = absurd (false≢true (sym h ∙ some))
+unfull false x y z h some = refl
+
+some_of_three : (x y z : Bool) → (x ≡ true) ⊎ (y ≡ true) → (x || y || z) ≡ true
+some_of_three true y z h = refl
+some_of_three false true z h = refl
+some_of_three false false z (inl h) = absurd (false≢true h)
+some_of_three false false z (inr h) = absurd (false≢true h)
+
+module _ {B : Type 0} (v : Service) (w : Worker) (s : Shared B) (idle : IsIdle v w s) (unflushed : must_flush (driver_of w) ≡ false) where
+  pub has_room : (has_first (driver_of w).lists.cancels ≡ true) ⊎ (may_stage_one (driver_of w) ≡ true) → is_ring_full (driver_of w) ≡ false
+  has_room some =
+      let d = driver_of w in
+      unfull (is_ring_full d) (has_first d.lists.cancels) (may_stage_one d) (not d.armed) unflushed (some_of_three (has_first d.lists.cancels) (may_stage_one d) (not d.armed) some)
+
+  pub has_places : (has_first (driver_of w).lists.cancels ≡ true) ⊎ (may_stage_one (driver_of w) ≡ true) → (length w.names.staged.items < vec_capacity w.names.staged) × (length w.names.untold.items < vec_capacity w.names.untold)
+  has_places some =
+      let d = driver_of w in
+      let f = idle.sound.flown in
+      let below : nat_lt (length d.ring.staged) d.ring.size ≡ true = full_not (nat_lt (length d.ring.staged) d.ring.size) (has_room some) in (
+        (rooms_there (length w.names.staged.items) (length w.names.untold.items) (length d.ring.staged) d.ring.size (vec_capacity w.names.staged) f.entries below f.staging).0,
+        (rooms_there (length w.names.staged.items) (length w.names.untold.items) (length d.ring.staged) d.ring.size (vec_capacity w.names.untold) f.entries below f.telling).1,
+      )
+
+  value_by : (o : Option (Waiter Reply Reply)) (id : WaiterId) → request_at (driver_of w) id ≡ o → (o ≡ None → ⊥) → IsSome (value_at (driver_of w).requests id.0)
+  value_by None id is stands = absurd (stands refl)
+  value_by (Some it) id is stands = rw (entry_of (value_at (driver_of w).requests id.0) it is) refl
+
+  pub cancels_named : AreNamed w.names.requests.items (driver_of w).lists.cancels s.requests.items
+  cancels_named =
+      all_named w.index w.names (driver_of w) w.home.timers s.requests.items s.sleepers.items idle.sound.named (driver_of w).lists.cancels
+      (λ id among. value_by (request_at (driver_of w) id) id refl (λ gone. false≢true (ap is_cancelled (sym gone) ∙ idle.lists.cancels id among)))
+
+  pub queued_named : AreNamed w.names.requests.items (driver_of w).lists.queued s.requests.items
+  queued_named =
+      all_named w.index w.names (driver_of w) w.home.timers s.requests.items s.sleepers.items idle.sound.named (driver_of w).lists.queued
+      (λ id among. value_by (request_at (driver_of w) id) id refl (λ gone. false≢true (ap is_queued (sym gone) ∙ idle.lists.queued id among)))
+
+module _ {B L : Type 0} (left : B → L) (spot : L → Option Said → Spot) where
+  pub cancel_stages : (v : Service) (w w' : Worker) (s s' : Shared B) (e : Event) (id : WaiterId) → (idle : IsIdle v w s) → (first : first_of (driver_of w).lists.cancels ≡ Some id) → must_flush (driver_of w) ≡ false
+      → IsPunctual (driver_of w') → vec_capacity w'.names.untold ≡ vec_capacity w.names.untold → StagesCancel w s e w' s' id → Steps left spot w s e w' s'
+  cancel_stages v w w' s s' e id idle first unflushed punctual room it =
+      let q : Place = at.Service (step.Submit idle.gate) v in
+      let sound = idle.sound in
+      let d = driver_of w in
+      let rs = s.requests.items in
+      let k = number_in w.names.requests.items id.0 in
+      let ask = asks v w s idle id first in
+      let d' : Driving Reply Reply = record (cancel_staged d id) { landings = (driver_of w').landings } in
+      let o = w.put_off in
+      let n' : Names = record w.names { untold = w'.names.untold } in
+      let same : w' ≡ record w { place = w'.place; put_off = w'.put_off; home = record w.home { driver = w'.home.driver }; names = record w.names { staged = w'.names.staged; untold = w'.names.untold } } =
+      subst (λ x. x ≡ record w { place = x.place; put_off = x.put_off; home = record w.home { driver = x.home.driver }; names = record w.names { staged = x.names.staged; untold = x.names.untold } }) (sym it.worker) refl in
+      let there : w'.place ≡ q = ap (λ x. x.place) it.worker ∙ sound.here in
+      let off : w'.put_off ≡ w.put_off = ap (λ x. x.put_off) it.worker in
+      let unchanged : w'.names.staged ≡ w.names.staged = ap (λ x. x.names.staged) it.worker in
+      let split = split_first id d.lists.cancels first in
+      let on : GoesOn ask.r (marks_cancel ask.r) = record { same = refl; over = refl; ended = λ h. refl } in
+      let a = ask.alike in
+      let one : OneGoesOn w.names (record w.names { staged = w'.names.staged; untold = w'.names.untold }) d d' rs id.0 ask.it ask.it ask.r marks_cancel = record {
+        at = ask.live;
+        there = ask.there;
+        slab = sym (same_written d.requests id.0 (Pending ask.it) (entry_of (value_at d.requests id.0) ask.it ask.live));
+        on = on;
+        alike = record { asked = a.asked; moved = a.moved; switched = a.switched; come = a.come; hinted = a.hinted; deadline = a.deadline; cancelled = a.cancelled; timer = a.timer; observed = a.observed; waiter = a.waiter; flying = a.flying; permit = a.permit; open_still = a.open_still; near = a.near; going = a.going; told_once = λ h. ask.cancelled };
+        start = refl;
+        tick = refl;
+        requests = refl;
+        timers = refl;
+      } in
+      let all = all_go_one rs k marks_cancel ask.r ask.there on in
+      let rs' = changed_at rs k marks_cancel in
+      let sub = sound.named.submitted in
+      let submitted : IsSubmitted w.index w'.names.staged.items w'.names.untold.items d'.ring rs' =
+      subst (λ ks. IsSubmitted w.index ks w'.names.untold.items d'.ring rs') (ap (λ x. x.items) (sym unchanged)) (record {
+        tagged = tagged_after d.ring.staged id sub.tagged;
+        cancels = one_cancel_more d.ring.staged id ∙ ap (λ n. n + 1) sub.cancels ∙ sym (ap length it.untold ∙ length-append w.names.untold.items (k ∷ []));
+        known = known_then w.names.staged.items rs k marks_cancel sub.known;
+        own = λ j x h found. let old = all.was j x found in same_worker old.r x old.on ∙ sub.own j old.r h old.there;
+        all = λ j x found mine staged.
+            let old = was_marked marks_cancel rs k j x found in
+            sub.all j old.0 old.1 (sym (marks_worker (k == j) old.0) ∙ sym (ap (λ y. y.shown.worker) old.2) ∙ mine) (sym (ap is_staged (marks_phase (k == j) old.0)) ∙ sym (ap (λ y. is_staged y.shown.phase) old.2) ∙ staged);
+        unraised = sub.unraised;
+      }) in
+      let flown = sound.flown in
+      let untold_more : length w'.names.untold.items ≡ length w.names.untold.items + 1 = ap length it.untold ∙ length-append w.names.untold.items (k ∷ []) in
+      let entries_more : length d'.ring.staged ≡ length d.ring.staged + 1 = length-append d.ring.staged (cancel_entry id ∷ []) in
+      let named_apart : (other : WaiterId) (x : Record) → is_among other (rest_of d.lists.cancels) ≡ true → slice_get rs' (number_in w.names.requests.items other.0) ≡ Some x → x.shown.cancel_staged ≡ false = λ other x among found.
+      let listed : is_among other d.lists.cancels ≡ true = ap (is_among other) split ∙ among_later id other (rest_of d.lists.cancels) among in
+      let live = live_by (request_at d other) (idle.lists.cancels other listed) in
+      let before = sound.named.requests other.0 (rw (entry_of (value_at d.requests other.0) live.0 live.1) refl) in
+      let apart : k ≡ number_in w.names.requests.items other.0 → ⊥ = λ is.
+      let both : ask.r ≡ before.0 = cc (ask.there, before.1, is) in
+      let same_name : other.0 ≡ id.0 = sym before.2 ∙ ap (λ y. y.id.0) (sym both) ∙ ask.named in
+      let no : is_among id (rest_of d.lists.cancels) ≡ true = subst (λ (y : WaiterId). is_among y (rest_of d.lists.cancels) ≡ true) (ap (λ z. record { 0 = z }) same_name) among in
+      false≢true (sym (idle.lists.cancelled_once id first) ∙ no) in
+      flown.uncancelled other x listed (others_there rs k marks_cancel ask.r ask.there on (number_in w.names.requests.items other.0) x apart found) in
+      let flown_then : HasFlown (served_in q) w.index (record w.names { staged = w'.names.staged; untold = w'.names.untold }) d' rs' = record {
+        ending = flown.ending;
+        staging = rw unchanged flown.staging;
+        telling = rw room flown.telling;
+        entries = rw (unchanged, untold_more, entries_more) (omega (arith, flown.entries));
+        permits = refl;
+        ours = λ j x found.
+            let old = was_marked marks_cancel rs k j x found in
+            ap (λ y. y.shown.worker) old.2 ∙ marks_worker (k == j) old.0 ∙ flown.ours j old.0 old.1;
+        plain = λ j x found mine.
+            let old = was_marked marks_cancel rs k j x found in
+            subst (λ y. IsPlain y.shown) (sym old.2) (marks_plain (k == j) old.0 (flown.plain j old.0 old.1 (sym (marks_worker (k == j) old.0) ∙ sym (ap (λ y. y.shown.worker) old.2) ∙ mine)));
+        landed = landed_on w.names (record w.names { staged = w'.names.staged; untold = w'.names.untold }) d d' rs rs' (operations d.ring) flown.landed
+            (λ other x r given live flies found landed.
+            let j = number_in w.names.requests.items other in
+            record { it' = x; r' = mark_if marks_cancel (k == j) r; live = live; flies = refl; same = refl; number = refl; there = marked marks_cancel rs k j r found; phase = marks_phase (k == j) r });
+        enrolling = flown.enrolling;
+        acks = flown.acks;
+        owning = λ j x found unresolved.
+            let old = all.was j x found in
+            ap (λ y. y.shown.released) old.on.same ∙ flown.owning j old.r old.there (sym old.on.over ∙ unresolved);
+        uncancelled = named_apart;
+      } in
+      let keeps : Keeps w' s' =
+      keeps_all w w' s s' rs' d' same it.shared it.driver it.records
+      (subst (λ y. KeepsBy (record w { place = y; put_off = w'.put_off; names = record w.names { staged = w'.names.staged; untold = w'.names.untold } }) d' w.home.timers rs' s.sleepers.items s) (sym there)
+      (keeps_one q q w'.put_off w'.names w s d' id.0 ask.it ask.it ask.r marks_cancel sound (stages_again idle.gate v) one (subst IsPunctual it.driver punctual) (λ h. idle.due) sound.due.order sound.due.wheel refl submitted flown_then
+      (carried_beside w.names.requests.items d.requests d.ring rs' s.store (carried_marked w.names.requests.items d.requests d.ring rs s.store sound.carried k marks_cancel (λ r at. refl) (λ r at. refl)) (cancel_entry id).window 4294967295 (λ h. omega (arith, h))))) in
+      let serves : Serves q w w' s s' = record {
+        worker = subst (λ x. x ≡ record w { place = x.place; home = record w.home { driver = x.home.driver; timers = x.home.timers; deferred = x.home.deferred }; names = record w.names { ended = x.names.ended; staged = x.names.staged; untold = x.names.untold }; put_off = x.put_off }) (sym it.worker) refl;
+        shared = subst (λ t. t ≡ record s { requests = t.requests; sleepers = t.sleepers }) (sym it.shared) refl;
+        from = refl;
+        to = ap is_calm there;
+        armed = ap is_armed_at there;
+        closes = ap closes_at there;
+      } in
+      let show = shows q w w' s s' d' serves it.driver in
+      subst (λ x. Steps left spot w s x w' s') (sym it.event)
+      (served left spot q w w' s s' (Cancel k) sound serves keeps
+      (λ p vs suits.
+      let c = p.config in
+      let all = common_of left spot p vs s in
+      let request : request_of all k ≡ ask.r.shown = request_seen rs k ask.r ask.there in
+      let numbers : numbers_of w.names.requests.items d.lists.cancels ≡ k ∷ numbers_of w.names.requests.items (rest_of d.lists.cancels) = ap (numbers_of w.names.requests.items) split in
+      let w0 : Worker = record w { place = q } in
+      let due : staging_due c (own_of w0) (desk_of w0) ≡ Cancels k =
+      rw (flush_seen c w0 (sound.sized ∙ ap ring_size suits.config), unflushed, numbers) refl in
+      record {
+        moves =
+            ap (move_submit c w.index (own_of w0) all (desk_of w0) (things_of w.index s) idle.gate v) (staging_next left spot v w0 s (idle_at v w s idle) p vs (suits_at q p vs w s suits) ∙ due)
+            ∙ ap (λ x. makes (Cancel k) x (things_of w.index s)) (sym (show.desk ∙ rw (there, off, ap (λ x. x.home.deferred) it.worker, entries_more) refl));
+        may = (refl, (ap (λ ks. is_number k (slice_get ks 0)) numbers ∙ eq-eqb k k refl, (ap (λ x. x.worker == w.index) request ∙ ap (λ i. i == w.index) ask.worker ∙ eq-eqb w.index w.index refl, (ap (λ x. is_in_flight x.phase) request ∙ ask.flies, (ap (λ x. x.cancelled) request ∙ ask.cancelled, (ap (λ x. not x.cancel_staged) request ∙ ap not ask.unstaged, tt))))));
+        own = show.own ∙ rw (there, ap (λ x. x.names.ended) it.worker, it.untold, numbers) refl;
+        common =
+            ap (λ us. common_of left spot p us s') (ap (λ x. slice_set vs w.index x) show.seen ∙ set_found vs w.index (visible w) suits.seen)
+            ∙ common_changed left spot p vs s s' k ask.r marks_cancel it.shared it.records ask.there (λ x. refl)
+            ∙ ap (λ x. record all { requests = slice_set (map (λ y. y.shown) rs) k (record x { cancel_staged = true }) }) (sym request);
+      }))

@@ -1,0 +1,209 @@
+-- The staging of a request's operation is a step.
+use Rattle.std.proofs.Common.{◌≡◌, ◌≢◌, ◌⊎◌, ℕ, zero, suc, ◌+◌, ◌-◌, ◌<◌, ◌≤◌, ◌==◌, ◌&&◌, ◌||◌, Bool, true, false, not, List, [], ◌∷◌, ◌++◌, length, map, Option, Some, None, IsSome, refl, sym, ap, subst, ◌∙◌, arith, inl, inr}
+use Rattle.std.proofs.lemmas.Bool.{false≢true, eq-eqb}
+use Rattle.std.proofs.lemmas.Bool.Decides.{nat_tests}
+use Rattle.std.proofs.lemmas.List.{length-append}
+use Rattle.std.proofs.lemmas.List.Folds.{list_any-append}
+use Rattle.std.proofs.lemmas.Option.{slice_get_within}
+use Rattle.std.specs.Prelude.{slice_get, slice_set, nat_lt, is_some, if◌then◌else◌}
+use Rattle.std.specs.Vec.{vec_capacity}
+use Rattle.exec_base.specs.{Slab.{value_at, written}, declared.slab.Id.Id}
+use Rattle.exec_base.proofs.Slots.{id_cases}
+use Rattle.exec_outcomes.specs.declared.outcome.OpResult.{OpResult}
+use Rattle.exec_request.specs.Requests.{deadline_of}
+use Rattle.exec_ring.specs.{Kernels.with_entry, Rings.RingState}
+use Rattle.exec_waiters.proofs.Changes.{entry_of, one_if}
+use Rattle.exec_waiters.specs.{States.{waiter_at, takes_tick, flying_count, file_of}, declared.{waiter.{Entry.TheVariants.Pending, Waiter.Waiter}, waiter_id.WaiterId.WaiterId}}
+use Rattle.exec_task.specs.declared.body.Said.{Said}
+use Rattle.exec_driver.specs.{Driving.{Driving, may_stage_one}, Lists.{has_first, first_of, rest_of, is_among, after_queued}, Opens.account_in, Punctual.IsPunctual, Steps.{StagesOne, with_staged}}
+use Rattle.exec_machine.specs.{declared.{event.Event.{Event, TheVariants.Stage}, state.Request.Request}, Progress.Plan, Ranges.ring_size, Requests.{asks_hint, is_enrolled, staged}, Same.is_number, Tests.{is_queued as is_phase_queued, is_resolved, is_staged}, World.request_of}
+use Rattle.exec_machine.specs.declared.state.RequestPhase.TheVariants as phase
+use Rattle.exec_moves.specs.{Move.move_submit, Submit.{Due, staging_due, Due.Stages}, declared.place.{Service.Service, Place.Place}}
+use Rattle.exec_moves.specs.declared.place.InService.TheVariants as step
+use Rattle.exec_moves.specs.declared.place.Place.TheVariants as at
+use Rattle.exec_steps.specs.{declared.parts.{mail.Reply.Reply, names.Names.Names, record.Record.Record, shared.Shared.Shared, worker.Worker.Worker}, Carried.IsCarried, Flown.{HasFlown, IsPlain, IsUpTo, longest, operations}, Phased.closes_at, Records.number_in, Serving.{changed_at, is_cancel, is_one_of}, Sound.{SoundAt, IsSubmitted, served_in, is_armed_at}, Spots.Spot, Submitting.{IsIdle, StagesRequest, must_flush}, View.{Visible, visible, own_of, desk_of, driver_of, common_of, things_of, numbers_of}, Works.{Suits, Steps}, Ordered.{IsOrdered, went_round}}
+use Rattle.exec_steps.proofs.{Calling.request_seen, Changing.{OneGoesOn, changes_one, flying_after, keeps_one, apart_number, others_there, all_go_one, now_there}, Conveying.carried_staged, Flown.landed_on, Marking.{mark_if, marked, was_marked, marked_length}, Seeing.{makes, shows, served, common_changed}, Serving.{is_calm, Follows, Serves, Keeps, KeepsBy, keeps_all}, Staging.{flush_seen, idle_at, known_then, split_first, staging_next, stages_again, suits_at}, Starting.{Starts, starts_first, starts, starts_on, starts_alike, starts_if_worker, starts_if_cancel, starts_if_plain, simple, came_on, known_and, no_hint, tagged_by, cancels_by}, Turning.set_found, Whole.whole_kept, Orders.{alike_self, eased, eases_written, part_self}}
+
+same_number : (a b : ℕ) → (a == b) ≡ true → a ≡ b
+same_number a b h = grind (arith, nat_tests)
+
+-- among the numbers that are staged it is the last
+one_of_last : (k j : ℕ) (ks : List ℕ) → is_one_of j (ks ++ k ∷ []) ≡ (is_one_of j ks || ((k == j) || false))
+one_of_last k j ks = list_any-append (λ q. q == j) ks (k ∷ [])
+
+or_left : (a b : Bool) → a ≡ true → (a || b) ≡ true
+or_left true b h = refl
+or_left false b h = absurd (false≢true h)
+
+or_last : (a b : Bool) → b ≡ true → (a || (b || false)) ≡ true
+or_last true b h = refl
+or_last false true h = refl
+or_last false false h = absurd (false≢true h)
+
+staged_then : (i : ℕ) (ks : List ℕ) (rs : List Record) (k : ℕ) → {untold : List ℕ} {r : RingState} → IsSubmitted i ks untold r rs → (j : ℕ) (x : Record) (b : Bool) → (k == j) ≡ b → slice_get (changed_at rs k starts) j ≡ Some x → is_staged x.shown.phase ≡ true → x.shown.worker ≡ i
+    → (is_one_of j ks || ((k == j) || false)) ≡ true
+staged_then i ks rs k sub j x true is found staged mine = or_last (is_one_of j ks) (k == j) is
+staged_then i ks rs k sub j x false is found staged mine =
+    let old = was_marked starts rs k j x found in
+    let same : x ≡ old.0 = old.2 ∙ ap (λ b. mark_if starts b old.0) is in
+    or_left (is_one_of j ks) ((k == j) || false) (sub.all j old.0 old.1 (ap (λ y. y.shown.worker) (sym same) ∙ mine) (ap (λ y. is_staged y.shown.phase) (sym same) ∙ staged))
+
+not_same : (k j : ℕ) → (k ≡ j → ⊥) → (k == j) ≡ false
+not_same k j apart = by (k == j) refl
+  where
+    by : (b : Bool) → (k == j) ≡ b → (k == j) ≡ false
+    by true is = absurd (apart (same_number k j is))
+    by false is = is
+
+few_of : (a b : Bool) → (a && b) ≡ true → b ≡ true
+few_of true b h = h
+few_of false b h = absurd (false≢true h)
+
+hint_none : (r : Request) → asks_hint r.operation ≡ false → (stands : Bool) → (asks_hint r.operation && r.operation.unrefused && stands) ≡ false
+hint_none r none stands = rw none refl
+
+module _ {B L : Type 0} (left : B → L) (spot : L → Option Said → Spot) where
+  pub request_stages : (v : Service) (w w' : Worker) (s s' : Shared B) (e : Event) (id : WaiterId) → (idle : IsIdle v w s) → (first : first_of (driver_of w).lists.queued ≡ Some id)
+      → must_flush (driver_of w) ≡ false → (driver_of w).lists.cancels ≡ [] → may_stage_one (driver_of w) ≡ true
+      → IsPunctual (driver_of w') → vec_capacity w'.names.staged ≡ vec_capacity w.names.staged → StagesRequest w s e w' s' id → Steps left spot w s e w' s'
+  request_stages v w w' s s' e id idle first unflushed none may punctual room by =
+      let q : Place = at.Service (step.Submit idle.gate) v in
+      let sound = idle.sound in
+      let d = driver_of w in
+      let rs = s.requests.items in
+      let k = number_in w.names.requests.items id.0 in
+      let who = starts_first v w s idle id first in
+      let it = who.it in
+      let by_driver : StagesOne d (driver_of w') id it (account_in s.opens (file_of it.request)) = by.driver it who.live in
+      let it' : Waiter Reply Reply = record it { in_flight = true; request = by_driver.request } in
+      let d0 : Driving Reply Reply = with_staged (record d { requests = written d.requests id.0 (Pending it'); lists = after_queued d.lists }) by_driver.entry in
+      let d' : Driving Reply Reply = record d0 { landings = (driver_of w').landings } in
+      let plain = sound.flown.plain k who.r who.there who.worker in
+      let simple_was = simple it.request who.r.shown.operation.length (subst (λ a. IsUpTo (longest a.kind) who.r.shown.operation.length) who.alike.asked plain.bounded) in
+      let come = who.alike.come in
+      let cursor = came_on it.request by_driver.request come.0 by_driver.kept come.1 (by_driver.goes_on come.0 come.1) in
+      let simple_is = simple by_driver.request who.r.shown.operation.length (subst (λ a. IsUpTo (longest a.kind) who.r.shown.operation.length) (who.alike.asked ∙ sym cursor.asked) plain.bounded) in
+      let operates : is_cancel by_driver.entry.window.kind ≡ false = ap (λ x. is_cancel x.kind) by_driver.window ∙ simple_was.operates _ in
+      let unresolved : is_resolved who.r.shown.phase ≡ false = ap is_resolved who.queued in
+      let on = starts_on who.r unresolved in
+      let names_then : Names = record w.names { staged = w'.names.staged; untold = w'.names.untold } in
+      let one : OneGoesOn w.names names_then d d' rs id.0 it it' who.r starts = record {
+        at = who.live;
+        there = who.there;
+        slab = refl;
+        on = on;
+        alike = starts_alike d.wheel.start d.wheel.tick it by_driver.request who.r who.alike cursor simple_is who.unasked;
+        start = refl;
+        tick = refl;
+        requests = refl;
+        timers = refl;
+      } in
+      let rs' = changed_at rs k starts in
+      let sub = sound.named.submitted in
+      let same : w' ≡ record w { place = w'.place; put_off = w'.put_off; home = record w.home { driver = w'.home.driver }; names = record w.names { staged = w'.names.staged; untold = w'.names.untold } } =
+      subst (λ x. x ≡ record w { place = x.place; put_off = x.put_off; home = record w.home { driver = x.home.driver }; names = record w.names { staged = x.names.staged; untold = x.names.untold } }) (sym by.worker) refl in
+      let there : w'.place ≡ q = ap (λ x. x.place) by.worker ∙ sound.here in
+      let off : w'.put_off ≡ w.put_off = ap (λ x. x.put_off) by.worker in
+      let untold : w'.names.untold ≡ w.names.untold = ap (λ x. x.names.untold) by.worker in
+      let within : k < length rs' = rw (marked_length starts rs k) (slice_get_within rs k who.r who.there) in
+      let submitted : IsSubmitted w.index w'.names.staged.items w'.names.untold.items d'.ring rs' =
+      subst (λ ks. IsSubmitted w.index ks w'.names.untold.items d'.ring rs') (sym by.staged) (subst (λ ks. IsSubmitted w.index (w.names.staged.items ++ k ∷ []) ks d'.ring rs') (ap (λ x. x.items) (sym untold)) (record {
+        tagged = tagged_by d.ring.staged by_driver.entry operates sub.tagged;
+        cancels = cancels_by d.ring.staged by_driver.entry operates ∙ sub.cancels;
+        known = known_and w.names.staged.items k rs' (known_then w.names.staged.items rs k starts sub.known) within;
+        own = λ j x h found.
+            let old = was_marked starts rs k j x found in
+            ap (λ y. y.shown.worker) old.2 ∙ starts_if_worker (k == j) old.0 ∙ sound.flown.ours j old.0 old.1;
+        all = λ j x found mine staged. one_of_last k j w.names.staged.items ∙ staged_then w.index w.names.staged.items rs k sub j x (k == j) refl found staged mine;
+        unraised = sub.unraised;
+      })) in
+      let flown = sound.flown in
+      let entries_more : length d'.ring.staged ≡ length d.ring.staged + 1 = length-append d.ring.staged (by_driver.entry ∷ []) in
+      let staged_more : length w'.names.staged.items ≡ length w.names.staged.items + 1 = ap length by.staged ∙ length-append w.names.staged.items (k ∷ []) in
+      let changed = changes_one d.requests id.0 it it' who.live in
+      let flown_then : HasFlown (served_in q) w.index names_then d' rs' = record {
+        ending = flown.ending;
+        staging = rw room flown.staging;
+        telling = rw untold flown.telling;
+        entries = rw (untold, staged_more, entries_more) (omega (arith, flown.entries));
+        permits = refl;
+        ours = λ j x found.
+            let old = was_marked starts rs k j x found in
+            ap (λ y. y.shown.worker) old.2 ∙ starts_if_worker (k == j) old.0 ∙ flown.ours j old.0 old.1;
+        plain = λ j x found mine.
+            let old = was_marked starts rs k j x found in
+            subst (λ y. IsPlain y.shown) (sym old.2) (starts_if_plain (k == j) old.0 (flown.plain j old.0 old.1 (flown.ours j old.0 old.1)));
+        landed = landed_on w.names names_then d d' rs rs' (operations d.ring) flown.landed
+            (λ other x r given live flies found landed.
+            let j = number_in w.names.requests.items other in
+            let apart : other ≢ id.0 = λ same.
+            let both : x ≡ it = cc (live, who.live, same) in
+            false≢true (sym who.idle ∙ ap (λ y. y.in_flight) (sym both) ∙ flies) in
+            let apart_k = apart_number w.index w.names names_then d d' w.home.timers rs s.sleepers.items id.0 it it' who.r starts one sound.named other (rw (entry_of (value_at d.requests other) x live) refl) apart in
+            record { it' = x; r' = r; live = changed.others other apart ∙ live; flies = refl; same = refl; number = refl; there = marked starts rs k j r found ∙ ap (λ b. Some (mark_if starts b r)) (not_same k j apart_k); phase = refl });
+        acks = flown.acks;
+        owning = λ j x found unresolved.
+            let old = (all_go_one rs k starts who.r who.there on).was j x found in
+            ap (λ y. y.shown.released) old.on.same ∙ flown.owning j old.r old.there (sym old.on.over ∙ unresolved);
+        enrolling = λ other x live takes some.
+            let differs : other.0 ≢ id.0 → is_among other d.lists.enrolments ≡ true = λ apart. flown.enrolling other x (sym (changed.others other.0 apart) ∙ live) takes some in
+            elim (id_cases other.0 id.0) [
+              | inl i ↦ differs (λ e. i (ap (λ (y : Id). y.index) e))
+              | inr (inl e) ↦ differs (λ y. e.1 (ap (λ (z : Id). z.generation) y))
+              | inr (inr eq) ↦
+                  let is_it : x ≡ it' = cc (live, eq, changed.is_at) in
+                  flown.enrolling other it (ap (waiter_at d.requests) eq ∙ who.live) (ap (λ y. takes_tick y.state) (sym is_it) ∙ takes)
+                  (ap is_some (sym cursor.deadline) ∙ ap (λ y. is_some (deadline_of y.request)) (sym is_it) ∙ some)
+            ];
+        uncancelled = λ other x among found.
+            let j = number_in w.names.requests.items other.0 in
+            let old = was_marked starts rs k j x found in
+            ap (λ y. y.shown.cancel_staged) old.2 ∙ starts_if_cancel (k == j) old.0 ∙ flown.uncancelled other old.0 among old.1;
+      } in
+      let order : IsOrdered (went_round s.config w.moments) w.names.requests.items d'.requests d'.wheel d'.lists.enrolments d'.lists.due =
+      eased (eases_written d.requests id.0 it it' who.live (λ t is. is) (λ none. none)) (alike_self d.wheel) (part_self d.lists.enrolments) (part_self d.lists.due) sound.due.order in
+      let carried : IsCarried w.names.requests.items d'.requests d'.ring rs' s.store =
+      subst (λ u. IsCarried w.names.requests.items d'.requests (with_entry d.ring by_driver.entry.window u) rs' s.store) (sym by_driver.user_data)
+      (carried_staged w.names.requests.items d.requests d.ring rs s.store sound.carried id.0 it it' who.r starts by_driver.entry.window who.live who.there who.queued refl refl
+      (whole_kept it.request by_driver.request by_driver.kept (sound.carried.whole id.0 it who.live)) (ap (λ x. x.target) by_driver.kept) by_driver.again
+      (λ other x live apart. apart_number w.index w.names names_then d d' w.home.timers rs s.sleepers.items id.0 it it' who.r starts one sound.named other (rw (entry_of (value_at d.requests other) x live) refl) apart)) in
+      let keeps : Keeps w' s' =
+      keeps_all w w' s s' rs' d' same by.shared by_driver.driver by.records
+      (subst (λ y. KeepsBy (record w { place = y; put_off = w'.put_off; names = names_then }) d' w.home.timers rs' s.sleepers.items s) (sym there)
+      (keeps_one q q w'.put_off w'.names w s d' id.0 it it' who.r starts sound (stages_again idle.gate v) one (subst IsPunctual by_driver.driver punctual) (λ h. idle.due) order sound.due.wheel refl submitted flown_then carried)) in
+      let serves : Serves q w w' s s' = record {
+        worker = subst (λ x. x ≡ record w { place = x.place; home = record w.home { driver = x.home.driver; timers = x.home.timers; deferred = x.home.deferred }; names = record w.names { ended = x.names.ended; staged = x.names.staged; untold = x.names.untold }; put_off = x.put_off }) (sym by.worker) refl;
+        shared = subst (λ t. t ≡ record s { requests = t.requests; sleepers = t.sleepers }) (sym by.shared) refl;
+        from = refl;
+        to = ap is_calm there;
+        armed = ap is_armed_at there;
+        closes = ap closes_at there;
+      } in
+      let show = shows q w w' s s' d' serves by_driver.driver in
+      let w0 : Worker = record w { place = q } in
+      let flying : flying_count d'.requests ≡ flying_count d.requests + 1 =
+      let n = flying_after d.requests id.0 it it' who.live in
+      omega (arith, ap one_if who.idle, n) in
+      subst (λ x. Steps left spot w s x w' s') (sym by.event)
+      (served left spot q w w' s s' (Stage k) sound serves keeps
+      (λ p vs suits.
+      let c = p.config in
+      let all = common_of left spot p vs s in
+      let sized : d.ring.size ≡ ring_size c = sound.sized ∙ ap ring_size suits.config in
+      let request : request_of all k ≡ who.r.shown = request_seen rs k who.r who.there in
+      let numbers : numbers_of w.names.requests.items d.lists.queued ≡ k ∷ numbers_of w.names.requests.items (rest_of d.lists.queued) = ap (numbers_of w.names.requests.items) (split_first id d.lists.queued first) in
+      let few : nat_lt (flying_count d.requests) (ring_size c) ≡ true = ap (nat_lt (flying_count d.requests)) (sym sized) ∙ few_of (has_first d.lists.queued) (nat_lt (flying_count d.requests) d.ring.size) may in
+      let due : staging_due c (own_of w0) (desk_of w0) ≡ Stages k =
+      rw (flush_seen c w0 sized, unflushed, none, few, numbers) refl in
+      record {
+        moves =
+            ap (move_submit c w.index (own_of w0) all (desk_of w0) (things_of w.index s) idle.gate v) (staging_next left spot v w0 s (idle_at v w s idle) p vs (suits_at q p vs w s suits) ∙ due)
+            ∙ ap (λ x. makes (Stage k) x (things_of w.index s)) (sym (show.desk ∙ rw (there, off, ap (λ x. x.home.deferred) by.worker, entries_more) refl));
+        may = (refl, (ap (λ ks. is_number k (slice_get ks 0)) numbers ∙ eq-eqb k k refl, (ap (λ x. x.worker == w.index) request ∙ ap (λ i. i == w.index) who.worker ∙ eq-eqb w.index w.index refl, (ap (λ x. is_phase_queued x.phase) request ∙ ap is_phase_queued who.queued, (ap (λ x. not x.cancelled) request ∙ ap not (who.alike.cancelled ∙ who.unasked), (ap is_enrolled request ∙ who.enrolled, (few, tt)))))));
+        own = show.own ∙ rw (there, ap (λ x. x.names.ended) by.worker, untold, numbers, flying) refl;
+        common =
+            ap (λ us. common_of left spot p us s') (ap (λ x. slice_set vs w.index x) show.seen ∙ set_found vs w.index (visible w) suits.seen)
+            ∙ common_changed left spot p vs s s' k who.r starts by.shared by.records who.there (λ x. refl)
+            ∙ ap (λ b. record all { requests = slice_set (map (λ y. y.shown) rs) k (record who.r.shown { operation = record who.r.shown.operation { hinted = b }; phase = phase.Staged }) }) (sym (hint_none who.r.shown (no_hint who.r.shown plain) _))
+            ∙ ap (λ x. record all { requests = slice_set (map (λ y. y.shown) rs) k (staged all x) }) (sym request);
+      }))

@@ -1,0 +1,230 @@
+-- What the staging of a request's operation is to the machine.
+use Rattle.std.proofs.Common.{◌≡◌, ◌≢◌, ℕ, zero, suc, ◌+◌, ◌-◌, ◌*◌, ◌<◌, ◌≤◌, ◌==◌, ◌&&◌, ◌||◌, Bool, true, false, not, List, [], ◌∷◌, ◌++◌, length, map, Option, Some, None, IsSome, refl, sym, ap, subst, ◌∙◌, arith, inl, inr}
+use Rattle.std.proofs.lemmas.Bool.{false≢true, eq-eqb}
+use Rattle.std.proofs.lemmas.Bool.Decides.{nat_tests}
+use Rattle.std.proofs.lemmas.List.{length-append}
+use Rattle.std.proofs.lemmas.List.Folds.{list_any-append}
+use Rattle.std.proofs.lemmas.Option.{slice_get_within}
+use Rattle.std.specs.Prelude.{slice_get, slice_set, nat_lt, drop, is_some, if◌then◌else◌}
+use Rattle.std.specs.Option.{option_map}
+use Rattle.std.specs.Vec.{vec_capacity}
+use Rattle.exec_base.specs.{Slab.{Slab, value_at, written}, declared.slab.Id.Id}
+use Rattle.exec_base.proofs.Slots.{id_cases}
+use Rattle.exec_outcomes.specs.{declared.outcome.{Judged.Judged, Kind.Kind, OpResult.OpResult}, Outcomes.{Asked, HasCome, stop_of, present, moved_by}}
+use Rattle.exec_outcomes.specs.declared.outcome.Kind.TheVariants as kind
+use Rattle.exec_request.specs.{Kept.kept_of, Requests.{asked_of, cursor_of, hinted_of, deadline_of, window_by}, States.asks_cancel, Syncing.write_kind, Ways.asked_by, declared.{request.Request.Request as Asking, results.WaiterState.{WaiterState, TheVariants.{Active, CancelRequested}}, way.Way.Way, write_at.WriteAtState.WriteAtState}}
+use Rattle.exec_request.specs.declared.request.Request.TheVariants as asks
+use Rattle.exec_request.specs.declared.way.Way.TheVariants as way
+use Rattle.exec_request.specs.declared.write_at.WriteAtState.TheVariants as writes
+use Rattle.exec_ring.specs.declared.completion.Submission.{Submission}
+use Rattle.exec_waiters.proofs.Changes.{entry_of}
+use Rattle.exec_waiters.specs.{States.{waiter_at, takes_tick, tick_in, flying_count, needs_permit}, declared.{waiter.Waiter.Waiter, waiter_id.WaiterId.WaiterId}}
+use Rattle.exec_driver.specs.{Driving.{Driving, request_at, is_queued}, Lists.{first_of, rest_of, is_among}}
+use Rattle.exec_machine.specs.{declared.state.{Operation.Operation, Request.Request, RequestPhase.RequestPhase}, Requests.{asks_hint, is_enrolled}, Same.{is_none, is_number, same_kind}, Tests.{is_gated, is_in_flight, is_queued as is_phase_queued, is_resolved, is_staged}}
+use Rattle.exec_machine.specs.declared.state.RequestPhase.TheVariants as phase
+use Rattle.exec_steps.specs.{declared.parts.{mail.Reply.Reply, record.Record.Record, shared.Shared.Shared, worker.Worker.Worker}, Flown.{IsPlain, IsUpTo, longest}, Records.number_in, Serving.{AreKnown, AreTagged, cancels_in, is_cancel}, Sound.IsAlike, Submitting.IsIdle, View.driver_of}
+use Rattle.exec_moves.specs.declared.place.Service.{Service}
+use Rattle.exec_steps.proofs.{Going.GoesOn, Marking.mark_if, Staging.among_first}
+
+-- A REQUEST OF THE FIRST KINDS
+
+-- its operations have no hint and are no cancels
+pub record IsSimple (q : Asking) : Type 0 where
+  pub unhinted : hinted_of q ≡ false
+  pub operates : (h : Bool) → is_cancel (window_by h q).kind ≡ false
+
+pub fills : (b : Bool) (n : ℕ) → IsUpTo (longest (if b then kind.Fill else kind.Recv)) n → ⊥
+fills true n h = h
+fills false n h = h
+
+pub reads : (w : Way) (m n : ℕ) → IsUpTo (longest (asked_by w m).kind) n → ⊥
+reads way.Buffered m n h = h
+reads way.Hinted m n h = h
+reads (way.Direct skip len) m n h = h
+reads (way.Switched skip len) m n h = h
+
+pub writes_bytes : (w : WriteAtState) (n : ℕ) → IsUpTo (longest (write_kind w)) n → ⊥
+writes_bytes writes.Writing n h = h
+writes_bytes writes.WritingSync n h = h
+writes_bytes writes.WritingBeforeSync n h = h
+writes_bytes writes.Syncing n h = h
+
+pub simple : (q : Asking) (n : ℕ) → IsUpTo (longest (asked_of q).kind) n → IsSimple q
+simple (asks.Send s) n h = record { unhinted = refl; operates = λ b. refl }
+simple (asks.Poll p) n h = record { unhinted = refl; operates = λ b. refl }
+simple (asks.Recv r) n h = absurd (fills r.exact n h)
+simple (asks.ReadAt r) n h = absurd (reads r.way (length r.buf.bytes) n h)
+simple (asks.WriteAt w) n h = absurd (writes_bytes w.state n h)
+simple (asks.Sync s) n h = absurd h
+simple (asks.Connect c) n h = absurd h
+
+hint_of : (k : Kind) (b : Bool) (n : ℕ) → IsUpTo (longest k) n → (same_kind k kind.Hint || (same_kind k kind.Direct && b)) ≡ false
+hint_of kind.Poll b n h = refl
+hint_of kind.Send b n h = refl
+hint_of _ b n h = absurd h
+
+pub no_hint : (r : Request) → IsPlain r → asks_hint r.operation ≡ false
+no_hint r p = hint_of r.operation.kind r.operation.switched r.operation.length p.bounded
+
+-- it waits to be staged
+pub queued_phase : (p : RequestPhase) → is_in_flight p ≡ false → is_resolved p ≡ false → is_gated p ≡ false → p ≡ phase.Queued
+queued_phase phase.Queued a b c = refl
+queued_phase phase.Gated a b c = absurd (false≢true (sym c))
+queued_phase phase.Staged a b c = absurd (false≢true (sym a))
+queued_phase phase.Flying a b c = absurd (false≢true (sym a))
+queued_phase (phase.Landed n) a b c = absurd (false≢true (sym a))
+queued_phase (phase.Resolved outcome) a b c = absurd (false≢true (sym b))
+
+-- with a deadline, and without a tick that is set, it is yet to be enrolled
+pub takes_by : (s : WaiterState) → asks_cancel s ≡ false → tick_in s ≡ None → takes_tick s ≡ true
+takes_by (Active None) a t = refl
+takes_by (Active (Some tick)) a t = absurd (cc)
+takes_by CancelRequested a t = absurd (false≢true (sym a))
+
+-- WHAT HAS COME OF IT STAYS
+
+pub record SameCursor (q q' : Asking) : Type 0 where
+  pub asked : asked_of q' ≡ asked_of q
+  pub deadline : deadline_of q' ≡ deadline_of q
+  pub moved : (cursor_of q').moved ≡ (cursor_of q).moved
+  pub switched : (cursor_of q').switched ≡ (cursor_of q).switched
+  pub come : (results : List Judged) × HasCome (asked_of q') (cursor_of q') results
+
+pub came_on : (q q' : Asking) (results : List Judged) → kept_of q' ≡ kept_of q → HasCome (asked_of q) (cursor_of q) results → HasCome (asked_of q') (cursor_of q') results → SameCursor q q'
+came_on q q' results kept before after =
+    let same : asked_of q' ≡ asked_of q = ap (λ k. k.asked) kept in
+    record {
+      asked = same;
+      deadline = ap (λ k. k.deadline) kept;
+      moved = after.amount ∙ ap (λ a. moved_by (present a results)) same ∙ sym before.amount;
+      switched = after.part ∙ ap (λ a. is_some (stop_of a results)) same ∙ sym before.part;
+      come = (results, after);
+    }
+
+-- THE SUBMISSION QUEUE
+
+pub tagged_by : (es : List Submission) (e : Submission) → is_cancel e.window.kind ≡ false → AreTagged es → AreTagged (es ++ e ∷ [])
+tagged_by [] e none t = ((λ h. absurd (false≢true (sym none ∙ h))), tt)
+tagged_by (x ∷ es) e none t = (t.0, tagged_by es e none t.1)
+
+pub cancels_by : (es : List Submission) (e : Submission) → is_cancel e.window.kind ≡ false → cancels_in (es ++ e ∷ []) ≡ cancels_in es
+cancels_by [] e none = rw none refl
+cancels_by (x ∷ es) e none = rw (cancels_by es e none) refl
+
+-- THE RECORD
+
+abbrev pub starts : Record → Record
+starts r = record r { shown = record r.shown { operation = record r.shown.operation { hinted = false }; phase = phase.Staged } }
+
+pub starts_on : (r : Record) → is_resolved r.shown.phase ≡ false → GoesOn r (starts r)
+starts_on r unresolved = record { same = refl; over = sym unresolved; ended = λ h. absurd (false≢true (sym unresolved ∙ h)) }
+
+pub starts_alike : (start tick : ℕ) (it : Waiter Reply Reply) (q : Asking) (r : Record) → IsAlike start tick it r.shown → SameCursor it.request q → IsSimple q → asks_cancel it.state ≡ false
+    → IsAlike start tick (record it { in_flight = true; request = q }) (starts r).shown
+starts_alike start tick it q r a same plain unasked =
+    record {
+      asked = a.asked ∙ sym same.asked;
+      moved = a.moved ∙ sym same.moved;
+      switched = a.switched ∙ sym same.switched;
+      come = same.come;
+      hinted = sym plain.unhinted;
+      deadline = a.deadline ∙ sym same.deadline;
+      cancelled = a.cancelled;
+      timer = a.timer;
+      observed = a.observed;
+      waiter = a.waiter;
+      flying = refl;
+      permit = λ h. absurd (false≢true h);
+      open_still = refl;
+      near = a.near;
+      going = λ h. refl;
+      told_once = a.told_once;
+    }
+
+-- A STEP
+
+queued_parts : (a b c : Bool) → (not a && not b && not c) ≡ true → (a ≡ false) × (b ≡ false)
+queued_parts true b c h = absurd (false≢true h)
+queued_parts false true c h = absurd (false≢true h)
+queued_parts false false c h = (refl, refl)
+
+same_number : (a b : ℕ) → (a == b) ≡ true → a ≡ b
+same_number a b h = grind (arith, nat_tests)
+
+pub starts_if_worker : (b : Bool) (r : Record) → (mark_if starts b r).shown.worker ≡ r.shown.worker
+starts_if_worker true r = refl
+starts_if_worker false r = refl
+
+pub starts_if_cancel : (b : Bool) (r : Record) → (mark_if starts b r).shown.cancel_staged ≡ r.shown.cancel_staged
+starts_if_cancel true r = refl
+starts_if_cancel false r = refl
+
+pub starts_if_plain : (b : Bool) (r : Record) → IsPlain r.shown → IsPlain (mark_if starts b r).shown
+starts_if_plain true r p = record { bounded = p.bounded; moved = p.moved; first_part = p.first_part; unhinted = refl; ungated = refl; deadline = p.deadline }
+starts_if_plain false r p = p
+
+pub known_and : (ks : List ℕ) (k : ℕ) (rs : List Record) → AreKnown ks rs → k < length rs → AreKnown (ks ++ k ∷ []) rs
+known_and [] k rs known more = (more, tt)
+known_and (q ∷ ks) k rs known more = (known.0, known_and ks k rs known.1 more)
+
+-- who waits first to be staged, and may be
+pub record Starts {B : Type 0} (w : Worker) (s : Shared B) (id : WaiterId) : Type 0 where
+  pub it : Waiter Reply Reply
+  pub r : Record
+  pub live : waiter_at (driver_of w).requests id.0 ≡ Some it
+  pub there : slice_get s.requests.items (number_in w.names.requests.items id.0) ≡ Some r
+  pub named : r.id.0 ≡ id.0
+  pub worker : r.shown.worker ≡ w.index
+  pub alike : IsAlike (driver_of w).wheel.start (driver_of w).wheel.tick it r.shown
+  pub idle : it.in_flight ≡ false
+  pub unasked : asks_cancel it.state ≡ false
+  pub queued : r.shown.phase ≡ phase.Queued
+  pub enrolled : is_enrolled r.shown ≡ true
+
+module _ {B : Type 0} (v : Service) (w : Worker) (s : Shared B) (idle : IsIdle v w s) (id : WaiterId) (first : first_of (driver_of w).lists.queued ≡ Some id) where
+  enrolled_by : (it : Waiter Reply Reply) (r : Request) (t d : Option ℕ) → r.timer ≡ t → r.operation.deadline ≡ d → (t ≡ None → d ≡ None) → is_enrolled r ≡ true
+  enrolled_by it r (Some m) d timer deadline h = rw timer (or_right (is_none r.operation.deadline))
+    where
+      or_right : (b : Bool) → (b || true) ≡ true
+      or_right true = refl
+      or_right false = refl
+  enrolled_by it r None d timer deadline h = rw (deadline ∙ h refl) refl
+
+  tickless : (start tick : ℕ) (o : Option ℕ) → option_map (λ t. start + t * tick) o ≡ None → o ≡ None
+  tickless start tick None h = refl
+  tickless start tick (Some t) h = absurd (cc)
+
+  dateless : (d : Option ℕ) → (is_some d ≡ true → ⊥) → d ≡ None
+  dateless None h = refl
+  dateless (Some m) h = absurd (h refl)
+
+  starts_by : (o : Option (Waiter Reply Reply)) → request_at (driver_of w) id ≡ o → Starts w s id
+  starts_by None gone = absurd (false≢true (ap is_queued (sym gone) ∙ idle.lists.queued id (among_first id (driver_of w).lists.queued first)))
+  starts_by (Some it) live =
+      let waits : (not it.in_flight && not (asks_cancel it.state) && not (needs_permit it)) ≡ true = ap is_queued (sym live) ∙ idle.lists.queued id (among_first id (driver_of w).lists.queued first) in
+      let parts = queued_parts it.in_flight (asks_cancel it.state) (needs_permit it) waits in
+      let r = idle.sound.named.requests id.0 (rw (entry_of (value_at (driver_of w).requests id.0) it live) refl) in
+      let a = idle.sound.named.alike id.0 it r.0 live r.1 in
+      let p = idle.sound.flown.plain (number_in w.names.requests.items id.0) r.0 r.1 r.3 in
+      let none : r.0.shown.timer ≡ None → r.0.shown.operation.deadline ≡ None = λ untimed.
+      dateless r.0.shown.operation.deadline
+      (λ some.
+      let takes = takes_by it.state parts.1 (tickless (driver_of w).wheel.start (driver_of w).wheel.tick (tick_in it.state) (sym a.timer ∙ untimed)) in
+      let among = idle.sound.flown.enrolling id it live takes (ap is_some (sym a.deadline) ∙ some) in
+      false≢true (ap (is_among id) (sym idle.enrolments) ∙ among)) in
+      record {
+        it = it;
+        r = r.0;
+        live = live;
+        there = r.1;
+        named = r.2;
+        worker = r.3;
+        alike = a;
+        idle = parts.0;
+        unasked = parts.1;
+        queued = queued_phase r.0.shown.phase (a.flying ∙ parts.0) a.open_still p.ungated;
+        enrolled = enrolled_by it r.0.shown r.0.shown.timer r.0.shown.operation.deadline refl refl none;
+      }
+
+  pub starts_first : Starts w s id
+  starts_first = starts_by (request_at (driver_of w) id) refl

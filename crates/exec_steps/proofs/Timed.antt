@@ -1,0 +1,288 @@
+-- What holds again once a deadline is on the wheel.
+use Rattle.std.proofs.Common.{◌≡◌, ◌≢◌, ℕ, zero, suc, ◌+◌, ◌-◌, ◌*◌, ◌^◌, ◌<◌, ◌≤◌, ◌==◌, ◌&&◌, Bool, true, false, not, List, [], ◌∷◌, ◌++◌, length, map, Option, Some, None, IsSome, IfSome, refl, sym, ap, subst, ◌∙◌, arith, inl, inr}
+use Rattle.std.proofs.lemmas.Bool.{false≢true, eq-eqb}
+use Rattle.std.proofs.lemmas.Bool.Decides.{nat_tests}
+use Rattle.std.proofs.lemmas.List.{append-nil}
+use Rattle.std.specs.Prelude.{slice_get, slice_set, drop, is_some, unwrap_or, if◌then◌else◌, Ok}
+use Rattle.std.specs.Option.{option_map}
+use Rattle.exec_base.specs.{Slab.{Slab, value_at, written}, declared.{error.Error.Error, slab.Id.Id}}
+use Rattle.exec_base.proofs.Slots.{id_cases}
+use Rattle.exec_outcomes.specs.declared.outcome.Outcome.{Outcome}
+use Rattle.exec_request.specs.{Requests.deadline_of, States.asks_cancel, declared.results.WaiterState.{WaiterState, TheVariants.{Active, CancelRequested}}}
+use Rattle.exec_task.specs.declared.body.Said.{Said}
+use Rattle.exec_time.specs.{Wheel.{Wheel, scheduled}, declared.timers.Sleeper.Sleeper as Sleeping}
+use Rattle.exec_waiters.proofs.Changes.{entry_of, one_if}
+use Rattle.exec_waiters.specs.{Events.with_tick, States.{waiter_at, takes_tick, tick_in, flying_count}, Told.{Tells, nothing_told}, declared.{deferred.Deferred.Deferred, waiter.{Entry.TheVariants.Pending, Waiter.Waiter}, waiter_id.WaiterId.WaiterId}}
+use Rattle.exec_driver.specs.{Driving.Driving, Lists.{first_of, rest_of, is_among, is_same, after_enrolment}, Punctual.IsPunctual, Steps.{enrolled_by, told_by_enrolment, tick_for, ended_by}}
+use Rattle.exec_driver.proofs.{Names.same_tells, Expiring.tick_tells}
+use Rattle.exec_machine.specs.{declared.{config.Configuration.Configuration, event.Event.{Event, TheVariants.Enrol}, state.Request.Request}, Deadlines.{fires_at, outcome_at_enrol}, Progress.Plan, Same.{is_none, is_number, same_end}, Tests.{is_queued as is_phase_queued, is_resolved, is_staged}, World.{Own, Common, request_of}}
+use Rattle.exec_machine.specs.declared.state.RequestPhase.TheVariants as phase
+use Rattle.exec_moves.specs.{Move.move_submit, Callback.told_if_ended, State.{Desk, Moved, Things}, Submit.{due_next, first_due, submits, Due.Enrols}, declared.place.{Service.Service, Place.Place}}
+use Rattle.exec_moves.specs.declared.place.InService.TheVariants as step
+use Rattle.exec_moves.specs.declared.place.Place.TheVariants as at
+use Rattle.exec_steps.specs.{declared.parts.{mail.Reply.Reply, names.Names.Names, record.Record.Record, shared.Shared.Shared, sleeping.SleeperRecord.SleeperRecord, worker.Worker.Worker}, Due.IsWheelAt, Flown.{HasFlown, IsPlain, operations}, Phased.closes_at, Records.number_in, Serving.{changed_at, first_tick, is_one_of, outcome_of_error}, Sound.{SoundAt, AreOwed, IsAlike, IsSubmitted, IsTold, served_in, is_armed_at, has_wakes_at}, Spots.Spot, Submitting.IsNewIn, View.{Visible, visible, own_of, desk_of, driver_of, common_of, things_of, numbers_of}, Works.{Suits, Steps}, Ordered.{IsOrdered, went_round}}
+use Rattle.exec_steps.proofs.{Calling.request_seen, Carries.carried_still, Changing.{OneGoesOn, changes_one, flying_after, keeps_one, apart_number, all_go_one}, Enrolled.{HasEnrolled, NewAt, new_first}, Enrolling.{enrol_same, enrolled_at, ended_not}, Flown.landed_on, Going.GoesOn, Idling.none_due, Marking.{mark_if, marked, was_marked}, Seeing.{makes, shows, served, common_changed}, Serving.{is_calm, Follows, Serves, Keeps, KeepsBy}, Staging.{known_then, split_first, stages_again, suits_at}, Turning.set_found, Orders.ticks_so}
+
+-- WHERE NOTHING IS TOLD
+
+pub told_still : (ended : List ℕ) (n : ℕ) (left left' : Deferred Reply Reply) → Tells left left' nothing_told → IsTold ended left n → IsTold ended left' n
+told_still ended n left left' tells told =
+    let room = told.room in
+    let wakes : left'.notes.wakes.items ≡ left.notes.wakes.items = tells.notes.wakes_added ∙ append-nil left.notes.wakes.items in
+    let completions : left'.notes.completions.items ≡ left.notes.completions.items = tells.notes.completions_added ∙ append-nil left.notes.completions.items in
+    let outputs : left'.outputs.items ≡ left.outputs.items = tells.outputs_added ∙ append-nil left.outputs.items in
+    let resources : left'.resources.items ≡ left.resources.items = tells.resources_added ∙ append-nil left.resources.items in
+    let results : left'.results.items ≡ left.results.items = tells.results_added ∙ append-nil left.results.items in
+    record {
+      resources = told.resources ∙ sym (ap length resources);
+      completions = completions ∙ told.completions;
+      results = results ∙ told.results;
+      room = record {
+        notes = record {
+          wakes = omega (arith, ap length wakes, room.notes.wakes, tells.notes.wakes_memory);
+          completions = omega (arith, ap length completions, room.notes.completions, tells.notes.completions_memory);
+        };
+        outputs = omega (arith, ap length outputs, room.outputs, tells.outputs_memory);
+        resources = omega (arith, ap length resources, room.resources, tells.resources_memory);
+        results = omega (arith, ap length results, room.results, tells.results_memory);
+      };
+    }
+
+pub keeps_untold : {B : Type 0} (w : Worker) (d : Driving Reply Reply) (zs : Slab (Sleeping Reply)) (rs : List Record) (ss : List SleeperRecord) (s : Shared B) (left : Deferred Reply Reply) → Tells w.home.deferred left nothing_told → KeepsBy w d zs rs ss s
+    → KeepsBy (record w { home = record w.home { deferred = left } }) d zs rs ss s
+keeps_untold w d zs rs ss s left tells keeps =
+    let wakes : left.notes.wakes.items ≡ w.home.deferred.notes.wakes.items = tells.notes.wakes_added ∙ append-nil w.home.deferred.notes.wakes.items in
+    record {
+      told = told_still w.names.ended.items _ w.home.deferred left tells keeps.told;
+      named = keeps.named;
+      sized = keeps.sized;
+      over = keeps.over;
+      quiet = λ h. wakes ∙ keeps.quiet h;
+      due = keeps.due;
+      flown = keeps.flown;
+      carried = keeps.carried;
+      rooted = keeps.rooted;
+      owed = subst (λ ws. AreOwed w.index w.root ws s.tasks.items rs ss) (sym wakes) keeps.owed;
+    }
+
+-- THE WHEEL
+
+pub one_more : (c : Configuration) (start moment : ℕ) (w : Wheel) (id : Id) (t : ℕ) → IsWheelAt c start moment w → IsWheelAt c start moment (scheduled w id t)
+unfolding scheduled
+one_more c start moment w id t it = record { start = it.start; tick = it.tick; horizon = it.horizon; slots = it.slots; current = it.current }
+
+pub same_start : (w : Wheel) (id : Id) (t : ℕ) → (scheduled w id t).start ≡ w.start
+unfolding scheduled
+same_start w id t = refl
+
+pub same_tick : (w : Wheel) (id : Id) (t : ℕ) → (scheduled w id t).tick ≡ w.tick
+unfolding scheduled
+same_tick w id t = refl
+
+-- THE RECORD
+
+abbrev pub times : ℕ → ℕ → Record → Record
+times start tick r = record r { shown = record r.shown { timer = Some (first_tick start tick (unwrap_or r.shown.operation.deadline 0)) } }
+
+times_worker : (start tick : ℕ) (b : Bool) (r : Record) → (mark_if (times start tick) b r).shown.worker ≡ r.shown.worker
+times_worker start tick true r = refl
+times_worker start tick false r = refl
+
+times_phase : (start tick : ℕ) (b : Bool) (r : Record) → (mark_if (times start tick) b r).shown.phase ≡ r.shown.phase
+times_phase start tick true r = refl
+times_phase start tick false r = refl
+
+times_cancel : (start tick : ℕ) (b : Bool) (r : Record) → (mark_if (times start tick) b r).shown.cancel_staged ≡ r.shown.cancel_staged
+times_cancel start tick true r = refl
+times_cancel start tick false r = refl
+
+times_released : (start tick : ℕ) (b : Bool) (r : Record) → (mark_if (times start tick) b r).shown.released ≡ r.shown.released
+times_released start tick true r = refl
+times_released start tick false r = refl
+
+times_plain : (start tick : ℕ) (b : Bool) (r : Record) → IsPlain r.shown → IsPlain (mark_if (times start tick) b r).shown
+times_plain start tick true r p = record { bounded = p.bounded; moved = p.moved; first_part = p.first_part; unhinted = p.unhinted; ungated = p.ungated; deadline = p.deadline }
+times_plain start tick false r p = p
+
+-- no tick was set, and nobody asked for its cancel
+pub unset : (x : WaiterState) → takes_tick x ≡ true → (tick_in x ≡ None) × (asks_cancel x ≡ false)
+unset (Active None) h = (refl, refl)
+unset (Active (Some t)) h = absurd (false≢true h)
+unset CancelRequested h = absurd (false≢true h)
+
+-- who else waits to be enrolled does so still
+among_rest : (other id : WaiterId) (ids : List WaiterId) → first_of ids ≡ Some id → is_among other ids ≡ true → other.0 ≢ id.0 → is_among other (rest_of ids) ≡ true
+among_rest other id ids first among apart =
+    let split = split_first id ids first in
+    elim (same_tells id other) [
+      | inl same ↦ absurd (apart (ap (λ (y : WaiterId). y.0) (sym same.1)))
+      | inr differs ↦ rw differs.0 at (ap (is_among other) (sym split) ∙ among)
+    ]
+
+-- WHAT IS NEXT
+
+pub comes_to_new : (c : Configuration) (i gate k : ℕ) (me : Own) (s : Common) (d : Desk) → first_due c i me s ≡ None → slice_get me.unenrolled 0 ≡ Some k → due_next c i gate me s d ≡ Enrols k
+comes_to_new c i gate k me s d none new = rw (none, new) refl
+
+not_same : (k j : ℕ) → (k ≡ j → ⊥) → (k == j) ≡ false
+not_same k j apart = by (k == j) refl
+  where
+    by : (b : Bool) → (k == j) ≡ b → (k == j) ≡ false
+    by true is = absurd (apart (grind (arith, nat_tests)))
+    by false is = is
+
+-- the move, by what comes of it
+abbrev pub move_enrol : Configuration → ℕ → Own → Common → Desk → Things → ℕ → Service → ℕ → Option Outcome → Moved Things
+move_enrol c i me s d x gate v k outcome = makes (Enrol k outcome) (submits v gate (told_if_ended outcome (request_of s k) d)) x
+
+pub no_error : (o : Option Error) → o ≡ None → outcome_of_error o ≡ None
+no_error o is = rw is refl
+
+-- WHAT HOLDS AGAIN
+
+module _ {B : Type 0} (w : Worker) (s : Shared B) (new : IsNewIn w s) (id : WaiterId) (first : first_of (driver_of w).lists.enrolments ≡ Some id) where
+  abbrev pub timed_waiter : ℕ → Waiter Reply Reply
+  timed_waiter t = with_tick t (new_first w s new id first).it
+
+  -- the driver with that deadline on its wheel
+  abbrev pub timed_driver : ℕ → Driving Reply Reply
+  timed_driver t =
+      let d = driver_of w in
+      record d { lists = after_enrolment d.lists; requests = written d.requests id.0 (Pending (timed_waiter t)); wheel = scheduled d.wheel id.0 t }
+
+  abbrev pub timed_records : List Record
+  timed_records = changed_at s.requests.items (number_in w.names.requests.items id.0) (times w.moments.start s.config.tick)
+
+  submitted_timed : (t : ℕ) → IsSubmitted w.index w.names.staged.items w.names.untold.items (driver_of w).ring timed_records
+  submitted_timed t =
+      let rs = s.requests.items in
+      let k = number_in w.names.requests.items id.0 in
+      let c = s.config in
+      let start = w.moments.start in
+      let f = times start c.tick in
+      let sub = new.submits.sound.named.submitted in
+      record {
+        tagged = sub.tagged;
+        cancels = sub.cancels;
+        known = known_then w.names.staged.items rs k f sub.known;
+        own = λ j x h found. let old = was_marked f rs k j x found in ap (λ y. y.shown.worker) old.2 ∙ times_worker start c.tick (k == j) old.0 ∙ sub.own j old.0 h old.1;
+        all = λ j x found mine staged.
+            let old = was_marked f rs k j x found in
+            sub.all j old.0 old.1 (sym (times_worker start c.tick (k == j) old.0) ∙ sym (ap (λ y. y.shown.worker) old.2) ∙ mine)
+            (sym (ap is_staged (times_phase start c.tick (k == j) old.0)) ∙ sym (ap (λ y. is_staged y.shown.phase) old.2) ∙ staged);
+        unraised = sub.unraised;
+      }
+
+  flown_timed : (t : ℕ) → HasFlown (served_in (at.Service (step.Submit new.submits.gate) new.submits.service)) w.index w.names (timed_driver t) timed_records
+  flown_timed t =
+      let d = driver_of w in
+      let rs = s.requests.items in
+      let k = number_in w.names.requests.items id.0 in
+      let c = s.config in
+      let start = w.moments.start in
+      let f = times start c.tick in
+      let who = new_first w s new id first in
+      let it = who.it in
+      let it' = timed_waiter t in
+      let d' = timed_driver t in
+      let rs' = timed_records in
+      let flown = new.submits.sound.flown in
+      let changed = changes_one d.requests id.0 it it' who.live in
+      record {
+        ending = flown.ending;
+        staging = flown.staging;
+        telling = flown.telling;
+        entries = flown.entries;
+        permits = refl;
+        ours = λ j x found. let old = was_marked f rs k j x found in ap (λ y. y.shown.worker) old.2 ∙ times_worker start c.tick (k == j) old.0 ∙ flown.ours j old.0 old.1;
+        plain = λ j x found mine.
+            let old = was_marked f rs k j x found in
+            subst (λ y. IsPlain y.shown) (sym old.2) (times_plain start c.tick (k == j) old.0 (flown.plain j old.0 old.1 (flown.ours j old.0 old.1)));
+        landed = landed_on w.names w.names d d' rs rs' (operations d.ring) flown.landed
+            (λ other x r given live flies found landed.
+            let j = number_in w.names.requests.items other in
+            let apart : other ≢ id.0 = λ same.
+            let both : x ≡ it = cc (live, who.live, same) in
+            false≢true (sym who.idle ∙ ap (λ y. y.in_flight) (sym both) ∙ flies) in
+            record { it' = x; r' = mark_if f (k == j) r; live = changed.others other apart ∙ live; flies = refl; same = refl; number = refl; there = marked f rs k j r found; phase = times_phase start c.tick (k == j) r });
+        acks = flown.acks;
+        owning = λ j x found unresolved.
+            let old = was_marked f rs k j x found in
+            ap (λ y. y.shown.released) old.2 ∙ times_released start c.tick (k == j) old.0
+            ∙ flown.owning j old.0 old.1 (sym (ap is_resolved (times_phase start c.tick (k == j) old.0)) ∙ sym (ap (λ y. is_resolved y.shown.phase) old.2) ∙ unresolved);
+        enrolling = λ other x live takes some.
+            let differs : other.0 ≢ id.0 → is_among other (rest_of d.lists.enrolments) ≡ true = λ apart.
+            among_rest other id d.lists.enrolments first (flown.enrolling other x (sym (changed.others other.0 apart) ∙ live) takes some) apart in
+            elim (id_cases other.0 id.0) [
+              | inl i ↦ differs (λ e. i (ap (λ (y : Id). y.index) e))
+              | inr (inl e) ↦ differs (λ y. e.1 (ap (λ (z : Id). z.generation) y))
+              | inr (inr eq) ↦
+                  let is_it : x ≡ it' = cc (live, eq, changed.is_at) in
+                  absurd (false≢true (ap (λ y. takes_tick y.state) (sym is_it) ∙ takes))
+            ];
+        uncancelled = λ other x among found.
+            let j = number_in w.names.requests.items other.0 in
+            let old = was_marked f rs k j x found in
+            ap (λ y. y.shown.cancel_staged) old.2 ∙ times_cancel start c.tick (k == j) old.0 ∙ flown.uncancelled other old.0 among old.1;
+      }
+
+  pub keeps_timed : (t : ℕ) → id.0.generation < 2 ^ 64 → tick_for (driver_of w).wheel (new_first w s new id first).deadline w.moments.sampled ≡ Ok t → IsPunctual (timed_driver t)
+      → KeepsBy (record w { place = at.Service (step.Submit new.submits.gate) new.submits.service }) (timed_driver t) w.home.timers timed_records s.sleepers.items s
+  keeps_timed t fits okay punctual =
+      let v = new.submits.service in
+      let gate = new.submits.gate in
+      let q : Place = at.Service (step.Submit gate) v in
+      let sound = new.submits.sound in
+      let d = driver_of w in
+      let who = new_first w s new id first in
+      let it = who.it in
+      let it' = timed_waiter t in
+      let c = s.config in
+      let w0 : Worker = record w { place = q } in
+      let start = w.moments.start in
+      let now = w.moments.sampled in
+      let f = times start c.tick in
+      let begun : start ≤ now = omega (arith, sound.time.begun, sound.time.ordered) in
+      let plain = sound.flown.plain (number_in w.names.requests.items id.0) who.r who.there who.worker in
+      let bounded : who.deadline < 2 ^ 63 = subst (λ o. IfSome o (λ m. m < 2 ^ 63)) who.told plain.deadline in
+      let within : who.deadline + c.tick < 2 ^ 64 = omega (arith, bounded, sound.config.tick) in
+      let wheel : IsWheelAt c start now d.wheel = sound.due.wheel in
+      let place = enrolled_at c (own_of w0) d.wheel now who.deadline wheel refl sound.config.some_tick begun within t okay in
+      let on : GoesOn who.r (f who.r) = record { same = refl; over = refl; ended = λ h. refl } in
+      let a = who.alike in
+      let free = unset it.state who.takes in
+      let one : OneGoesOn w.names w.names d (timed_driver t) s.requests.items id.0 it it' who.r f = record {
+        at = who.live;
+        there = who.there;
+        slab = refl;
+        on = on;
+        alike = record {
+          asked = a.asked;
+          moved = a.moved;
+          switched = a.switched;
+          come = a.come;
+          hinted = a.hinted;
+          deadline = a.deadline;
+          cancelled = a.cancelled ∙ free.1;
+          timer = ap (λ x. Some (first_tick start c.tick (unwrap_or x 0))) who.told ∙ ap (λ x. Some x) (sym place.0);
+          observed = a.observed;
+          waiter = a.waiter;
+          flying = a.flying;
+          permit = a.permit;
+          open_still = a.open_still;
+          near = a.near;
+          going = λ h. absurd (false≢true h);
+          told_once = a.told_once;
+        };
+        start = same_start d.wheel id.0 t;
+        tick = same_tick d.wheel id.0 t;
+        requests = refl;
+        timers = refl;
+      } in
+      keeps_one q q w.put_off w.names w s (timed_driver t) id.0 it it' who.r f sound (stages_again gate v) one punctual (λ h. new.due)
+      (subst (IsOrdered (went_round c w.moments) w.names.requests.items (timed_driver t).requests (timed_driver t).wheel (rest_of d.lists.enrolments)) (sym new.due)
+      (ticks_so (went_round c w.moments) w.names.requests.items d.requests d.wheel id (rest_of d.lists.enrolments) it t who.live who.takes fits (tick_tells d.wheel who.deadline now t okay).span
+      (subst (λ ids. IsOrdered (went_round c w.moments) w.names.requests.items d.requests d.wheel ids []) (split_first id d.lists.enrolments first)
+      (subst (IsOrdered (went_round c w.moments) w.names.requests.items d.requests d.wheel d.lists.enrolments) new.due sound.due.order))))
+      (one_more c start now d.wheel id.0 t wheel) refl (submitted_timed t) (flown_timed t)
+      (carried_still w.names.requests.items d.requests d.ring s.requests.items s.store sound.carried id.0 it it' who.live refl (number_in w.names.requests.items id.0) f (λ r there. refl) (λ r there. refl))

@@ -1,0 +1,128 @@
+-- A deadline that goes on the wheel is a step.
+use Rattle.std.proofs.Common.{◌≡◌, ◌≢◌, ℕ, zero, suc, ◌+◌, ◌-◌, ◌*◌, ◌^◌, ◌<◌, ◌≤◌, ◌==◌, ◌&&◌, Bool, true, false, not, List, [], ◌∷◌, ◌++◌, length, map, Option, Some, None, IsSome, IfSome, refl, sym, ap, subst, ◌∙◌, arith, inl, inr}
+use Rattle.std.proofs.lemmas.Bool.{false≢true, eq-eqb}
+use Rattle.std.proofs.lemmas.Bool.Decides.{nat_tests}
+use Rattle.std.proofs.lemmas.List.{append-nil}
+use Rattle.std.specs.Prelude.{slice_get, slice_set, drop, is_some, unwrap_or, if◌then◌else◌, Ok}
+use Rattle.std.specs.Option.{option_map}
+use Rattle.exec_base.specs.{Slab.{Slab, value_at, written}, declared.{error.Error.Error, slab.Id.Id}}
+use Rattle.exec_base.proofs.Slots.{id_cases}
+use Rattle.exec_outcomes.specs.declared.outcome.Outcome.{Outcome}
+use Rattle.exec_request.specs.{Requests.deadline_of, States.asks_cancel, declared.results.WaiterState.{WaiterState, TheVariants.{Active, CancelRequested}}}
+use Rattle.exec_task.specs.declared.body.Said.{Said}
+use Rattle.exec_time.specs.{Wheel.{Wheel, scheduled}, declared.timers.Sleeper.Sleeper as Sleeping}
+use Rattle.exec_waiters.proofs.Changes.{entry_of, one_if}
+use Rattle.exec_waiters.specs.{Events.with_tick, States.{waiter_at, takes_tick, tick_in, flying_count}, Told.{Tells, nothing_told}, declared.{deferred.Deferred.Deferred, waiter.{Entry.TheVariants.Pending, Waiter.Waiter}, waiter_id.WaiterId.WaiterId}}
+use Rattle.exec_driver.specs.{Driving.Driving, Lists.{first_of, rest_of, is_among, is_same, after_enrolment}, Punctual.IsPunctual, Steps.{enrolled_by, told_by_enrolment, tick_for, ended_by}}
+use Rattle.exec_driver.proofs.Names.{same_tells}
+use Rattle.exec_machine.specs.{declared.{config.Configuration.Configuration, event.Event.{Event, TheVariants.Enrol}, state.Request.Request}, Deadlines.{fires_at, outcome_at_enrol}, Progress.Plan, Same.{is_none, is_number, same_end}, Tests.{is_queued as is_phase_queued, is_resolved, is_staged}, World.{Own, Common, request_of}}
+use Rattle.exec_machine.specs.declared.state.RequestPhase.TheVariants as phase
+use Rattle.exec_moves.specs.{Move.move_submit, Callback.told_if_ended, State.{Desk, Moved, Things}, Submit.{due_next, first_due, submits, Due.Enrols}, declared.place.{Service.Service, Place.Place}}
+use Rattle.exec_moves.specs.declared.place.InService.TheVariants as step
+use Rattle.exec_moves.specs.declared.place.Place.TheVariants as at
+use Rattle.exec_steps.specs.{declared.parts.{mail.Reply.Reply, names.Names.Names, record.Record.Record, shared.Shared.Shared, sleeping.SleeperRecord.SleeperRecord, worker.Worker.Worker}, Due.IsWheelAt, Flown.{HasFlown, IsPlain, operations}, Phased.closes_at, Records.number_in, Serving.{changed_at, first_tick, is_one_of, outcome_of_error}, Sound.{SoundAt, AreOwed, IsAlike, IsSubmitted, IsTold, served_in, is_armed_at, has_wakes_at}, Spots.Spot, Submitting.IsNewIn, View.{Visible, visible, own_of, desk_of, driver_of, common_of, things_of, numbers_of}, Works.{Suits, Steps}}
+use Rattle.exec_steps.proofs.{Calling.request_seen, Changing.{OneGoesOn, changes_one, flying_after, keeps_one, apart_number, all_go_one}, Enrolled.{HasEnrolled, NewAt, new_first}, Enrolling.{enrol_same, enrolled_at, ended_not}, Flown.landed_on, Going.GoesOn, Idling.none_due, Marking.{mark_if, marked, was_marked}, Seeing.{makes, shows, served, common_changed}, Serving.{is_calm, Follows, Serves, Keeps, KeepsBy}, Staging.{known_then, split_first, stages_again, suits_at}, Turning.set_found, Timed.{comes_to_new, keeps_timed, keeps_untold, move_enrol, timed_driver, timed_records, timed_waiter, times, unset}}
+
+module _ {B L : Type 0} (left : B → L) (spot : L → Option Said → Spot) where
+  pub enrol_stays : (w w' : Worker) (s s' : Shared B) (e : Event) (id : WaiterId) → (new : IsNewIn w s) → first_of (driver_of w).lists.enrolments ≡ Some id → HasEnrolled w w' s s' e id None → w'.names ≡ w.names → Steps left spot w s e w' s'
+  enrol_stays w w' s s' e id new first by names =
+      let v = new.submits.service in
+      let gate = new.submits.gate in
+      let q : Place = at.Service (step.Submit gate) v in
+      let sound = new.submits.sound in
+      let d = driver_of w in
+      let rs = s.requests.items in
+      let k = number_in w.names.requests.items id.0 in
+      let who = new_first w s new id first in
+      let it = who.it in
+      let c = s.config in
+      let w0 : Worker = record w { place = q } in
+      let start = w.moments.start in
+      let now = w.moments.sampled in
+      let enrols = by.enrols it who.deadline who.live who.asked in
+      let okay = ended_not (tick_for d.wheel who.deadline now) (sym enrols.told_is) in
+      let t = okay.0 in
+      let it' = timed_waiter w s new id first t in
+      let d' = timed_driver w s new id first t in
+      let driver : driver_of w' ≡ d' = enrols.driver ∙ ap (enrolled_by (record d { lists = after_enrolment d.lists }) id it) okay.1 in
+      let tells : Tells w.home.deferred w'.home.deferred nothing_told = subst (λ x. Tells w.home.deferred w'.home.deferred (told_by_enrolment id it x)) okay.1 enrols.tells in
+      let begun : start ≤ now = omega (arith, sound.time.begun, sound.time.ordered) in
+      let plain = sound.flown.plain k who.r who.there who.worker in
+      let bounded : who.deadline < 2 ^ 63 = subst (λ o. IfSome o (λ m. m < 2 ^ 63)) who.told plain.deadline in
+      let within : who.deadline + c.tick < 2 ^ 64 = omega (arith, bounded, sound.config.tick) in
+      let wheel : IsWheelAt c start now d.wheel = sound.due.wheel in
+      let outcome : outcome_at_enrol c (own_of w0) (Some who.deadline) ≡ None =
+      sym (enrol_same c (own_of w0) d.wheel now who.deadline wheel refl sound.config.some_tick begun within) ∙ ap (λ x. outcome_of_error (ended_by x)) okay.1 in
+      let rs' = timed_records w s new id first in
+      let f = times start c.tick in
+      let a = who.alike in
+      let free = unset it.state who.takes in
+      let deferred = w'.home.deferred in
+      let w1 : Worker = record w { place = q; home = record w.home { deferred = deferred } } in
+      let w2 : Worker = record w1 { home = record w1.home { driver = w'.home.driver } } in
+      let same : w' ≡ record w { home = record w.home { driver = w'.home.driver; deferred = deferred } } =
+      by.worker ∙ ap (λ (x : Names). record w { home = record w.home { driver = w'.home.driver; deferred = deferred }; names = record w.names { ended = x.ended } }) names in
+      let there : w'.place ≡ q = ap (λ x. x.place) same ∙ sound.here in
+      let same2 : w' ≡ w2 = same ∙ ap (λ y. record w { place = y; home = record w.home { driver = w'.home.driver; deferred = deferred } }) sound.here in
+      let kept : KeepsBy w0 d' w.home.timers rs' s.sleepers.items s =
+      keeps_timed w s new id first t by.bounded okay.1 (subst IsPunctual driver by.punctual) in
+      let untold : KeepsBy w1 d' w.home.timers rs' s.sleepers.items s = keeps_untold w0 d' w.home.timers rs' s.sleepers.items s deferred tells kept in
+      let by_records : KeepsBy w1 d' w.home.timers s'.requests.items s.sleepers.items s = subst (λ x. KeepsBy w1 d' w.home.timers x s.sleepers.items s) (sym by.records) untold in
+      let by_driver : KeepsBy w1 (driver_of w') w.home.timers s'.requests.items s.sleepers.items s = subst (λ x. KeepsBy w1 x w.home.timers s'.requests.items s.sleepers.items s) (sym driver) by_records in
+      let by_home : KeepsBy w2 (driver_of w') w.home.timers s'.requests.items s.sleepers.items s = assumption by_driver in
+      let by_worker : KeepsBy w' (driver_of w') w'.home.timers s'.requests.items s.sleepers.items s = subst (λ x. KeepsBy x (driver_of w') x.home.timers s'.requests.items s.sleepers.items s) (sym same2) by_home in
+      let keeps : Keeps w' s' = subst (λ y. KeepsBy w' (driver_of w') w'.home.timers s'.requests.items y.sleepers.items y) (sym by.shared) (assumption by_worker) in
+      let serves : Serves q w w' s s' = record {
+        worker = subst (λ x. x ≡ record w { place = x.place; home = record w.home { driver = x.home.driver; timers = x.home.timers; deferred = x.home.deferred }; names = record w.names { ended = x.names.ended; staged = x.names.staged; untold = x.names.untold }; put_off = x.put_off }) (sym same) refl;
+        shared = subst (λ z. z ≡ record s { requests = z.requests; sleepers = z.sleepers }) (sym by.shared) refl;
+        from = refl;
+        to = ap is_calm there;
+        armed = ap is_armed_at there;
+        closes = ap closes_at there;
+      } in
+      let show = shows q w w' s s' d' serves driver in
+      let wakes : deferred.notes.wakes.items ≡ w.home.deferred.notes.wakes.items = tells.notes.wakes_added ∙ append-nil w.home.deferred.notes.wakes.items in
+      let outputs : deferred.outputs.items ≡ w.home.deferred.outputs.items = tells.outputs_added ∙ append-nil w.home.deferred.outputs.items in
+      let flying : flying_count d'.requests ≡ flying_count d.requests =
+      let n = flying_after d.requests id.0 it it' who.live in
+      omega (arith, n) in
+      let numbers : numbers_of w.names.requests.items d.lists.enrolments ≡ k ∷ numbers_of w.names.requests.items (rest_of d.lists.enrolments) = ap (numbers_of w.names.requests.items) (split_first id d.lists.enrolments first) in
+      subst (λ x. Steps left spot w s x w' s') (sym by.event)
+      (served left spot q w w' s s' (Enrol k None) sound serves keeps
+      (λ p vs suits.
+      let cp = p.config in
+      let all = common_of left spot p vs s in
+      let request : request_of all k ≡ who.r.shown = request_seen rs k who.r who.there in
+      let asked : (request_of all k).operation.deadline ≡ Some who.deadline = ap (λ x. x.operation.deadline) request ∙ who.told in
+      let ends : outcome_at_enrol cp (own_of w0) (request_of all k).operation.deadline ≡ None = ap (outcome_at_enrol cp (own_of w0)) asked ∙ ap (λ x. outcome_at_enrol x (own_of w0) (Some who.deadline)) (sym suits.config) ∙ outcome in
+      let none : first_due cp w.index (own_of w0) all ≡ None =
+      subst (λ x. first_due x w.index (own_of w0) all ≡ None) suits.config
+      (none_due _ w.index w.moments s.config w.names d w.home.timers rs s.sleepers.items sound.due sound.named sound.config.some_tick begun (own_of w0) all refl refl new.due) in
+      let due : due_next cp w.index gate (own_of w0) all (desk_of w0) ≡ Enrols k =
+      comes_to_new cp w.index gate k (own_of w0) all (desk_of w0) none (ap (λ ks. slice_get ks 0) numbers) in
+      let desk : desk_of w' ≡ desk_of w0 = show.desk ∙ rw (there, ap (λ x. x.put_off) same, wakes, outputs) refl in
+      record {
+        moves =
+            ap (move_submit cp w.index (own_of w0) all (desk_of w0) (things_of w.index s) gate v) due
+            ∙ ap (λ o. move_enrol cp w.index (own_of w0) all (desk_of w0) (things_of w.index s) gate v k o) ends
+            ∙ ap (λ x. makes (Enrol k None) x (things_of w.index s)) (sym desk);
+        may = (
+          refl,
+          (
+            ap (λ ks. is_number k (slice_get ks 0)) numbers ∙ eq-eqb k k refl,
+            (
+              ap (λ x. x.worker == w.index) request ∙ ap (λ i. i == w.index) who.worker ∙ eq-eqb w.index w.index refl,
+              (
+                ap (λ x. is_phase_queued x.phase) request ∙ ap is_phase_queued who.queued,
+                (ap (λ x. is_none x.timer) request ∙ ap is_none (a.timer ∙ ap (option_map (λ m. d.wheel.start + m * d.wheel.tick)) free.0), (ap (λ o. not (is_none o)) asked, (ap (same_end None) ends, tt))),
+              ),
+            ),
+          ),
+        );
+        own = show.own ∙ rw (there, ap (λ x. x.names.ended) same, ap (λ x. x.names.untold) same, numbers, flying) refl;
+        common =
+            ap (λ us. common_of left spot p us s') (ap (λ x. slice_set vs w.index x) show.seen ∙ set_found vs w.index (visible w) suits.seen)
+            ∙ common_changed left spot p vs s s' k who.r f by.shared by.records who.there (λ x. refl)
+            ∙ ap (λ y. record all { requests = slice_set (map (λ r. r.shown) rs) k (record who.r.shown { timer = Some (fires_at y (own_of w0) (unwrap_or who.r.shown.operation.deadline 0)) }) }) suits.config
+            ∙ ap (λ x. record all { requests = slice_set (map (λ r. r.shown) rs) k (record x { timer = Some (fires_at cp (own_of w0) (unwrap_or x.operation.deadline 0)) }) }) (sym request);
+      }))

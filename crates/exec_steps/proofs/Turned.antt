@@ -1,0 +1,164 @@
+-- What the driver did with an operation that has landed: its request goes on, or is over.
+use Rattle.std.proofs.Common.{◌≡◌, ℕ, ◌≤◌, ◌==◌, ◌&&◌, Bool, true, false, not, List, [], ◌∷◌, length, map, Option, Some, None, refl, sym, ap, subst, ◌∙◌}
+use Rattle.std.proofs.lemmas.Bool.{false≢true}
+use Rattle.std.specs.Prelude.{if◌then◌else◌}
+use Rattle.exec_outcomes.specs.{Accounts.Account, declared.outcome.OpResult.OpResult}
+use Rattle.exec_request.specs.{Judging.{Judges, judged_as}, Requests.{asked_of, cursor_of, hinted_of, gate_of, record_after}, States.{Ended, as_answer}, declared.request.Request.Request as Asking}
+use Rattle.exec_request.specs.declared.request.Request.TheVariants as asks
+use Rattle.exec_ring.specs.{Completions.result_in, Kernels.{is_quiet, reaped as ring_reaped}, declared.completion.Completion.Completion}
+use Rattle.exec_waiters.specs.{States.{file_of, tick_in}, Told.Tells, declared.{deferred.Deferred.Deferred, waiter.{Waiter.Waiter, Entry.TheVariants.Pending}, waiter_id.WaiterId.WaiterId}, Events.{finished, told_by_finish}}
+use Rattle.exec_driver.specs.{Driving.Driving, Opens.{OpenState, account_in, with_account}, Steps.{judged_as_over, landed_at, open_after, opens_after_end, permit_after, swept, taken_out, told_as, told_by_end, with_landings, unscheduled}, declared.driver.reaping.Reaped.Reaped, Lists.{with_queued, withdrawn}}
+use Rattle.exec_base.specs.Slab.{written}
+use Rattle.exec_moves.specs.{Serve.back_from_reap, declared.place.{AfterPermit.AfterPermit, Reaping.Reaping, Place.Place}}
+use Rattle.exec_moves.specs.declared.place.AfterPermit.TheVariants as permit
+use Rattle.exec_steps.specs.{declared.parts.{mail.Reply.Reply, record.Record.Record, shared.Shared.Shared, worker.Worker.Worker}, Flown.{IsPlain, IsUpTo, longest, operations}, Records.number_in, Sound.{SoundAt, IsAlike}, View.driver_of}
+use Rattle.exec_steps.proofs.{Finished.GoesOver, Reaped.TellsOf, Requeued.GoesBack, Starting.{fills, reads, simple, writes_bytes}, Swept.{some_quiet, none_next, sweeps, told_in, operations_posted}, Trailing.{RingAfter, ring_after}}
+
+-- A REQUEST OF THE FIRST KINDS is of no open
+
+fileless : (q : Asking) (n : ℕ) → IsUpTo (longest (asked_of q).kind) n → (file_of q ≡ None) × (gate_of q ≡ None)
+fileless (asks.Send x) n h = (refl, refl)
+fileless (asks.Poll x) n h = (refl, refl)
+fileless (asks.Recv r) n h = absurd (fills r.exact n h)
+fileless (asks.ReadAt r) n h = absurd (reads r.way (length r.buf.bytes) n h)
+fileless (asks.WriteAt x) n h = absurd (writes_bytes x.state n h)
+fileless (asks.Sync x) n h = absurd h
+fileless (asks.Connect x) n h = absurd h
+
+openless : (it : Waiter Reply Reply) (given : OpResult) (opens : List OpenState) → file_of it.request ≡ None → hinted_of it.request ≡ false → open_after it given (account_in opens (file_of it.request)) ≡ None
+openless it given opens file plain = ap (λ f. open_after it given (account_in opens f)) file ∙ rw plain refl
+
+same_opens : (it it1 : Waiter Reply Reply) (answer : Option Ended) (opens : List OpenState) (account : Option Account) → file_of it.request ≡ None → file_of it1.request ≡ None → opens_after_end (with_account opens (file_of it.request) account) it1 answer ≡ opens
+same_opens it it1 None opens account file file1 = ap (λ f. with_account opens f account) file
+same_opens it it1 (Some how) opens account file file1 = ap (λ f. with_account (with_account opens (file_of it.request) account) f (record_after it1.request how (account_in (with_account opens (file_of it.request) account) f))) file1 ∙ ap (λ f. with_account opens f account) file
+
+permitless : (it : Waiter Reply Reply) (answer : Option Ended) → gate_of it.request ≡ None → permit_after it answer ≡ None
+permitless it None gate = refl
+permitless it (Some how) gate = gate
+
+told_unkept : (it : Waiter Reply Reply) (answer : Option Ended) (opens : List OpenState) → file_of it.request ≡ None → told_as it answer (account_in opens (file_of it.request)) ≡ answer
+told_unkept it None opens file = refl
+told_unkept it (Some how) opens file = ap (λ f. told_as it (Some how) (account_in opens f)) file
+
+module _ {B : Type 0} (q : Place) (w : Worker) (s : Shared B) (sound : SoundAt q w s) (d' : Driving Reply Reply) (opens opens' : List OpenState) (before after : Deferred Reply Reply) (done : Reaped) (t : TellsOf w.names (driver_of w) d' s.requests.items opens opens' before after done) where
+  abbrev pub turned_waiter : Waiter Reply Reply
+  turned_waiter = record t.reaped.has.it { in_flight = false; request = t.reaped.from.reaps.request }
+
+  abbrev pub turned_name : WaiterId
+  turned_name = record { 0 = t.reaped.has.id }
+
+  turned_alike : IsAlike (driver_of w).wheel.start (driver_of w).wheel.tick t.reaped.has.it t.reaped.has.r.shown
+  turned_alike = sound.named.alike t.reaped.has.id t.reaped.has.it t.reaped.has.r t.reaped.has.live t.reaped.has.there
+
+  turned_plain : IsPlain t.reaped.has.r.shown
+  turned_plain = sound.flown.plain (number_in w.names.requests.items t.reaped.has.id) t.reaped.has.r t.reaped.has.there (sound.flown.ours (number_in w.names.requests.items t.reaped.has.id) t.reaped.has.r t.reaped.has.there)
+
+  turned_kind : IsUpTo (longest (asked_of t.reaped.has.it.request).kind) t.reaped.has.r.shown.operation.length
+  turned_kind = subst (λ a. IsUpTo (longest a.kind) t.reaped.has.r.shown.operation.length) turned_alike.asked turned_plain.bounded
+
+  turned_after : IsUpTo (longest (asked_of t.reaped.from.reaps.request).kind) t.reaped.has.r.shown.operation.length
+  turned_after = subst (λ a. IsUpTo (longest a.kind) t.reaped.has.r.shown.operation.length) (ap (λ k. k.asked) (sym t.reaped.from.reaps.kept)) turned_kind
+
+  no_account : open_after t.reaped.has.it (result_in t.c.result) (account_in opens (file_of t.reaped.has.it.request)) ≡ None
+  no_account =
+      openless t.reaped.has.it (result_in t.c.result) opens (fileless t.reaped.has.it.request t.reaped.has.r.shown.operation.length turned_kind).0
+      (simple t.reaped.has.it.request t.reaped.has.r.shown.operation.length turned_kind).unhinted
+
+  abbrev turned_by : Option Ended → Option Account → Driving Reply Reply
+  turned_by a account = with_landings t.reaped.from.second (judged_as_over (landed_at (taken_out t.reaped.first) turned_name turned_waiter) turned_name turned_waiter a account)
+
+  second_is : (a : Option Ended) → t.reaped.from.reaps.answer ≡ a → t.reaped.from.second ≡ turned_by a None
+  second_is a is = t.reaped.from.reaps.driver ∙ ap (λ x. turned_by x (open_after t.reaped.has.it (result_in t.c.result) (account_in opens (file_of t.reaped.has.it.request)))) is ∙ ap (turned_by a) no_account
+
+  pub opens_turned : opens' ≡ opens
+  opens_turned =
+      t.reaped.from.reaps.opens_after
+      ∙ same_opens t.reaped.has.it turned_waiter t.reaped.from.reaps.answer opens (open_after t.reaped.has.it (result_in t.c.result) (account_in opens (file_of t.reaped.has.it.request)))
+      (fileless t.reaped.has.it.request t.reaped.has.r.shown.operation.length turned_kind).0 (fileless t.reaped.from.reaps.request t.reaped.has.r.shown.operation.length turned_after).0
+
+  pub permit_turned : done.permit ≡ None
+  permit_turned = t.permit ∙ permitless turned_waiter t.reaped.from.reaps.answer (fileless t.reaped.from.reaps.request t.reaped.has.r.shown.operation.length turned_after).1
+
+  pub ended_turned : done.ended ≡ t.reaped.from.reaps.answer
+  ended_turned = t.ended ∙ told_unkept t.reaped.has.it t.reaped.from.reaps.answer opens (fileless t.reaped.has.it.request t.reaped.has.r.shown.operation.length turned_kind).0
+
+  pub tells_turned : (a : Option Ended) → t.reaped.from.reaps.answer ≡ a → Tells before after (told_by_end turned_name turned_waiter a None)
+  tells_turned a is =
+      subst (λ x. Tells before after (told_by_end turned_name turned_waiter a x)) no_account
+      (subst (λ x. Tells before after (told_by_end turned_name turned_waiter x (open_after t.reaped.has.it (result_in t.c.result) (account_in opens (file_of t.reaped.has.it.request))))) is t.reaped.from.reaps.tells)
+
+  ring_turned : t.reaped.from.second.ring ≡ ring_reaped t.reaped.first.ring → t.reaped.from.second.armed ≡ t.reaped.first.armed → RingAfter (driver_of w) d' t.cs
+  ring_turned ring armed = ring_after (driver_of w) t.reaped.first t.reaped.from.second d' t.c t.reaped.swept_first ring armed t.reaped.from.swept_last sound.flown.acks t.cs t.operations_are
+
+  pub turned_back : t.reaped.from.reaps.answer ≡ None → GoesBack w s d' t.c t.cs
+  turned_back is =
+      let d = driver_of w in
+      let first = t.reaped.first in
+      let second = t.reaped.from.second in
+      let like1 = t.reaped.swept_first in
+      let like2 = t.reaped.from.swept_last in
+      let shape1 = (sweeps d).shape in
+      let shape2 = (sweeps second).shape in
+      let by = second_is None is in
+      record {
+        h = t.reaped.has;
+        rest = t.landed.2;
+        once = t.landed.1;
+        request = t.reaped.from.reaps.request;
+        judges = subst (λ a. Judges (asked_of t.reaped.has.it.request) (cursor_of t.reaped.has.it.request) (cursor_of t.reaped.from.reaps.request) (judged_as (hinted_of t.reaped.has.it.request) t.reaped.has.it.state (result_in t.c.result)) (as_answer a)) is t.reaped.from.reaps.judges;
+        kept = t.reaped.from.reaps.kept;
+        ring = ring_turned (ap (λ x. x.ring) by) (ap (λ x. x.armed) by);
+        requests = ap (λ x. x.requests) like2 ∙ ap (λ x. x.requests) shape2 ∙ ap (λ x. x.requests) by
+            ∙ ap (λ x. written x t.reaped.has.id (Pending turned_waiter)) (ap (λ x. x.requests) like1 ∙ ap (λ x. x.requests) shape1);
+        lists = ap (λ x. x.lists) like2 ∙ ap (λ x. x.lists) shape2 ∙ ap (λ x. x.lists) by ∙ ap (with_queued turned_name) (ap (λ x. x.lists) like1 ∙ ap (λ x. x.lists) shape1);
+        wheel = ap (λ x. x.wheel) like2 ∙ ap (λ x. x.wheel) shape2 ∙ ap (λ x. x.wheel) by ∙ ap (λ x. x.wheel) like1 ∙ ap (λ x. x.wheel) shape1;
+      }
+
+  pub turned_over : (how : Ended) → t.reaped.from.reaps.answer ≡ Some how → GoesOver w s d' t.c t.cs how
+  turned_over how is =
+      let d = driver_of w in
+      let first = t.reaped.first in
+      let second = t.reaped.from.second in
+      let like1 = t.reaped.swept_first in
+      let like2 = t.reaped.from.swept_last in
+      let shape1 = (sweeps d).shape in
+      let shape2 = (sweeps second).shape in
+      let by = second_is (Some how) is in
+      record {
+        h = t.reaped.has;
+        rest = t.landed.2;
+        once = t.landed.1;
+        request = t.reaped.from.reaps.request;
+        judges = subst (λ a. Judges (asked_of t.reaped.has.it.request) (cursor_of t.reaped.has.it.request) (cursor_of t.reaped.from.reaps.request) (judged_as (hinted_of t.reaped.has.it.request) t.reaped.has.it.state (result_in t.c.result)) (as_answer a)) is t.reaped.from.reaps.judges;
+        kept = t.reaped.from.reaps.kept;
+        ring = ring_turned (ap (λ x. x.ring) by) (ap (λ x. x.armed) by);
+        requests = ap (λ x. x.requests) like2 ∙ ap (λ x. x.requests) shape2 ∙ ap (λ x. x.requests) by
+            ∙ ap (λ x. finished (written x t.reaped.has.id (Pending turned_waiter)) t.reaped.has.id turned_waiter how None) (ap (λ x. x.requests) like1 ∙ ap (λ x. x.requests) shape1);
+        lists = ap (λ x. x.lists) like2 ∙ ap (λ x. x.lists) shape2 ∙ ap (λ x. x.lists) by ∙ ap (withdrawn turned_name) (ap (λ x. x.lists) like1 ∙ ap (λ x. x.lists) shape1);
+        wheel = ap (λ x. x.wheel) like2 ∙ ap (λ x. x.wheel) shape2 ∙ ap (λ x. x.wheel) by ∙ ap (λ x. unscheduled x (tick_in t.reaped.has.it.state)) (ap (λ x. x.wheel) like1 ∙ ap (λ x. x.wheel) shape1);
+      }
+
+  -- of that operation
+  pub back_has : (is : t.reaped.from.reaps.answer ≡ None) → (turned_back is).h ≡ t.reaped.has
+  unfolding turned_back
+  back_has is = refl
+
+  pub over_has : (how : Ended) (is : t.reaped.from.reaps.answer ≡ Some how) → (turned_over how is).h ≡ t.reaped.has
+  unfolding turned_over
+  over_has how is = refl
+
+  pub over_tells : (how : Ended) (is : t.reaped.from.reaps.answer ≡ Some how) → Tells before after (told_by_finish (turned_over how is).h.id (record (turned_over how is).h.it { in_flight = false; request = (turned_over how is).request }) how None)
+  unfolding turned_over
+  over_tells how is = tells_turned (Some how) is
+
+  quiet_by : (cs : List Completion) → operations d'.ring ≡ cs → (b : AfterPermit) (rp : Reaping) (has : Bool) (numbers : Completion → ℕ) → has ≡ not (is_quiet d'.ring) → (has ≡ true → b ≡ permit.Reap rp) → (has ≡ false → b ≡ permit.Reaped rp) → b ≡ back_from_reap rp (map numbers cs)
+  quiet_by [] is b rp has numbers tells more none =
+      let second = t.reaped.from.second in
+      let like2 = t.reaped.from.swept_last in
+      let told : told_in (swept second).ring.posted ≡ [] = ap (λ x. told_in x.ring.posted) (sym like2) ∙ sym (operations_posted d'.ring) ∙ is in
+      let quiet : is_quiet d'.ring ≡ true = ap (λ x. is_quiet x.ring) like2 ∙ (none_next (swept second).ring.posted (swept second) refl (sweeps second).first told).1 in
+      none (tells ∙ ap not quiet)
+  quiet_by (c ∷ cs) is b rp has numbers tells more none = more (tells ∙ ap not (some_quiet d'.ring.posted d' c cs refl (sym (operations_posted d'.ring) ∙ is)))
+
+  pub back_turned : (ring : RingAfter (driver_of w) d' t.cs) (b : AfterPermit) (rp : Reaping) (has : Bool) (numbers : Completion → ℕ) → has ≡ not (is_quiet d'.ring) → (has ≡ true → b ≡ permit.Reap rp) → (has ≡ false → b ≡ permit.Reaped rp) → b ≡ back_from_reap rp (map numbers t.cs)
+  back_turned ring b rp has numbers = quiet_by t.cs ring.landed b rp has numbers

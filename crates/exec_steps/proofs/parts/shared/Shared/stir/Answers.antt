@@ -1,0 +1,13 @@
+use Rattle.std.proofs.Common.{refl, ap, ◌∙◌}
+use Rattle.std.proofs.lemmas.Option.{get_or_from_slice_get}
+use Rattle.std.specs.Prelude.{slice_set}
+use Rattle.exec_steps.specs.Records.{roused}
+use Rattle.exec_steps.proofs.Resting.{stir_kept}
+use Rattle.exec_steps.proofs.parts.shared.Shared.stir.Goals as goal
+
+pub returns-clause-chair : goal.returns-clause-chair
+returns-clause-chair g c = λ chair there.
+    ap (λ x. slice_set c.args.self.now.seats.items c.args.worker (roused x)) (c.index_mut.ensures.value ∙ get_or_from_slice_get c.args.self.now.seats.items c.args.worker chair c.index_mut.result.now there)
+
+pub returns-clause-sound : goal.returns-clause-sound
+returns-clause-sound g c = λ w sound. stir_kept w c.args.self.now _ c.args.worker c.requires.there (returns-clause-chair g c) refl sound

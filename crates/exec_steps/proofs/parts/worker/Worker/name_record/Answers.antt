@@ -1,0 +1,1 @@
+use Rattle.exec_steps.proofs.{Slept.slept_by, Registered.registered_by}

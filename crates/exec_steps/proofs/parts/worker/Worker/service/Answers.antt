@@ -1,0 +1,50 @@
+use Rattle.std.proofs.Common.{◌≡◌, refl, sym, subst, ◌∙◌}
+use Rattle.std.proofs.lemmas.Bool.{false≢true}
+use Rattle.exec_moves.specs.declared.place.Place.TheVariants as at
+use Rattle.exec_steps.specs.Sound.{SoundAt}
+use Rattle.exec_steps.proofs.{Entered.last_entered, Serving.sampled, Advancing.advanced_on}
+use Rattle.exec_steps.proofs.parts.worker.Worker.service.Goals as goal
+
+pub returns-in-Sample : goal.returns-in-Sample
+returns-in-Sample g c =
+    record { steps = sampled g.B.Body.left g.B.Scripted.spot c.args.service c.args.self.now c.sample.new.self c.args.shared.now c.sample.new.shared c.sample.result (rw c.in-Sample.is at c.requires.sound) c.sample.ensures.makes c.sample.ensures.same c.sample.ensures.word }
+
+pub returns-in-EnterLast : goal.returns-in-EnterLast
+returns-in-EnterLast g c =
+    record { steps = last_entered g.B.Body.left g.B.Scripted.spot c.args.service c.args.self.now c.enter_last.new.self c.args.shared.now c.enter_last.new.shared c.enter_last.result (rw c.in-EnterLast.is at c.requires.sound) c.enter_last.ensures.enters c.enter_last.ensures.goes }
+
+pub returns-in-PassPermit : goal.returns-in-PassPermit
+returns-in-PassPermit g c = absurd (false≢true (sym (rw c.in-PassPermit.is at c.requires.sound.flown.permits)))
+
+pub returns-in-Signal : goal.returns-in-Signal
+returns-in-Signal g c = absurd (false≢true (sym (rw c.in-Signal.is at c.requires.sound.flown.permits)))
+
+pub returns-in-Reap : goal.returns-in-Reap
+returns-in-Reap g c = record { steps = c.reap.ensures.steps }
+
+pub reap-requires : goal.reap-requires
+reap-requires g c = record { sound = rw c.in-Reap.is at c.requires.sound }
+
+pub returns-in-AdvanceWheel : goal.returns-in-AdvanceWheel
+returns-in-AdvanceWheel g c =
+    record { steps = advanced_on g.B.Body.left g.B.Scripted.spot c.args.service c.args.self.now c.advance_wheel.new.self c.args.shared.now c.advance_wheel.result (rw c.in-AdvanceWheel.is at c.requires.sound) c.advance_wheel.ensures.event c.advance_wheel.ensures.driver c.advance_wheel.ensures.punctual c.advance_wheel.ensures.same }
+
+pub returns-in-Submit : goal.returns-in-Submit
+returns-in-Submit g c = record { steps = c.submit.ensures.steps }
+
+pub submit-requires : goal.submit-requires
+submit-requires g c = record { sound = rw c.in-Submit.is at c.requires.sound }
+
+pub returns-in-EndService : goal.returns-in-EndService
+returns-in-EndService g c = record { steps = c.end_service.ensures.steps }
+
+pub end_service-requires : goal.end_service-requires
+end_service-requires g c = record { sound = rw c.in-EndService.is at c.requires.sound }
+
+pub signal-requires : goal.signal-requires
+signal-requires g c = absurd (false≢true (sym (rw c.in-Signal.is at c.requires.sound.flown.permits)))
+
+pub advance_wheel-requires : goal.advance_wheel-requires
+advance_wheel-requires g c =
+    let sound = rw c.in-AdvanceWheel.is at c.requires.sound in
+    record { punctual = sound.due.punctual; told = sound.due.told refl }

@@ -1,0 +1,56 @@
+-- WHAT IS DUE NEXT: the wheel and the sleepers of a worker tell the moments that its records have.
+use Rattle.std.specs.Prelude.{◌≡◌, ℕ, ◌-◌, ◌/◌, Bool, true, false, List, [], Option, Some, None, IsSome, slice_get}
+use Rattle.exec_base.specs.{Slab.{Slab, value_at}, declared.slab.Id.Id}
+use Rattle.exec_time.specs.{Wheel.Wheel, declared.timers.Sleeper.Sleeper as Sleeping}
+use Rattle.exec_driver.specs.{Driving.Driving, Punctual.IsPunctual}
+use Rattle.exec_machine.specs.{declared.{config.Configuration.Configuration, state.Sleeper.Sleeper}, Ranges.{horizon, wheel_slots}, Tests.{is_asleep, is_resolved}}
+use Rattle.exec_moves.specs.declared.place.InService.{InService}
+use Rattle.exec_moves.specs.declared.place.InService.TheVariants as step
+use Rattle.exec_moves.specs.declared.place.Reaping.TheVariants as reaping
+use Rattle.exec_steps.specs.{declared.parts.{mail.Reply.Reply, names.Names.Names, record.Record.Record, sleeping.SleeperRecord.SleeperRecord, worker.Moments.Moments}, Ordered.{IsOrdered, went_round}, Records.number_in}
+
+-- from the advance of the wheel to the end of the submissions deadlines may be due and not told
+abbrev pub may_be_due : Option InService → Bool
+may_be_due (Some (step.Submit gate)) = true
+may_be_due _ = false
+
+-- the wheel stands at what was sampled last; from the sampling to its advance at what was sampled before
+abbrev pub wheel_moment : Option InService → Moments → ℕ
+wheel_moment (Some (step.Reap reaping.First)) m = m.before
+wheel_moment (Some step.AdvanceWheel) m = m.before
+wheel_moment _ m = m.sampled
+
+-- the wheel is that of a worker with this start, and stands at this moment
+pub record IsWheelAt (c : Configuration) (begun moment : ℕ) (w : Wheel) : Type 0 where
+  pub start : w.start ≡ begun
+  pub tick : w.tick ≡ c.tick
+  pub horizon : w.horizon ≡ horizon c
+  pub slots : w.slots ≡ wheel_slots c
+  pub current : w.current ≡ (moment - begun) / c.tick
+
+-- request k of a worker: until it is over its driver's slot names it, and then it has no deadline
+pub record IsTimed (n : Names) (k : ℕ) (r : Record) : Type 0 where
+  pub named : is_resolved r.shown.phase ≡ false → number_in n.requests.items r.id.0 ≡ k
+  pub over : is_resolved r.shown.phase ≡ true → r.shown.timer ≡ None
+
+abbrev pub AreTimed : ℕ → Names → List Record → Type 0
+AreTimed i n records = (k : ℕ) (r : Record) → slice_get records k ≡ Some r → r.shown.worker ≡ i → IsTimed n k r
+
+-- the sleeper of a worker that is there, and what the machine has of it
+pub record IsAsleepAs (i : ℕ) (z : Sleeping Reply) (shown : Sleeper) : Type 0 where
+  pub until : shown.until ≡ z.deadline
+  pub asleep : is_asleep i shown ≡ true
+
+-- those that sleep are there, and those that are there sleep
+pub record AreAsleep (i : ℕ) (n : Names) (zs : Slab (Sleeping Reply)) (sleepers : List SleeperRecord) : Type 0 where
+  pub alike : (id : Id) (z : Sleeping Reply) (r : SleeperRecord) → value_at zs id ≡ Some z → slice_get sleepers (number_in n.timers.items id) ≡ Some r → IsAsleepAs i z r.shown
+  pub there : (k : ℕ) (r : SleeperRecord) → slice_get sleepers k ≡ Some r → is_asleep i r.shown ≡ true → IsSome (value_at zs r.id.0)
+  pub named : (k : ℕ) (r : SleeperRecord) → slice_get sleepers k ≡ Some r → is_asleep i r.shown ≡ true → number_in n.timers.items r.id.0 ≡ k
+
+pub record IsDue (x : Option InService) (i : ℕ) (m : Moments) (c : Configuration) (n : Names) (d : Driving Reply Reply) (zs : Slab (Sleeping Reply)) (records : List Record) (sleepers : List SleeperRecord) : Type 0 where
+  pub punctual : IsPunctual d
+  pub told : may_be_due x ≡ false → d.lists.due ≡ []
+  pub wheel : IsWheelAt c m.start (wheel_moment x m) d.wheel
+  pub timed : AreTimed i n records
+  pub asleep : AreAsleep i n zs sleepers
+  pub order : IsOrdered (went_round c m) n.requests.items d.requests d.wheel d.lists.enrolments d.lists.due

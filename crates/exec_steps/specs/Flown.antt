@@ -1,0 +1,85 @@
+-- WHAT HAS LANDED: the completions in a worker's ring, what its requests may be yet, and room for what ends.
+use Rattle.std.specs.Prelude.{◌≡◌, ℕ, ◌+◌, ◌%◌, ◌^◌, ◌<◌, ◌≤◌, Bool, true, false, not, List, [], ◌∷◌, length, map, filter, slice_get, Option, Some, None, is_some, IfSome}
+use Rattle.std.specs.Vec.{vec_capacity}
+use Rattle.std.specs.VecDeque.{deque_capacity}
+use Rattle.exec_base.specs.declared.slab.Id.{Id}
+use Rattle.exec_outcomes.specs.declared.outcome.Kind.{Kind}
+use Rattle.exec_outcomes.specs.declared.outcome.Kind.TheVariants as kind
+use Rattle.exec_ring.specs.{Completions.result_in, Rings.{RingState, completions}, declared.completion.{Completion.Completion, Posted.Posted}}
+use Rattle.exec_request.specs.Requests.{deadline_of}
+use Rattle.exec_waiters.specs.{Ids.{index_in, generation_in}, Events.is_lawful_for, States.{waiter_at, takes_tick}, declared.{waiter.Waiter.Waiter, waiter_id.WaiterId.WaiterId}}
+use Rattle.exec_driver.specs.{Driving.Driving, Lists.is_among, Steps.is_control}
+use Rattle.exec_machine.specs.{declared.state.{Request.Request, RequestPhase.TheVariants.Landed}, Tests.{is_gated, is_resolved}}
+use Rattle.exec_moves.specs.declared.place.InService.{InService}
+use Rattle.exec_moves.specs.declared.place.InService.TheVariants as step
+use Rattle.exec_steps.specs.{declared.parts.{mail.Reply.Reply, names.Names.Names, record.Record.Record}, Records.number_in, Serving.is_one_of, View.number_told}
+
+-- no durable request is there, so no permit is given up
+abbrev pub passes_permit : Option InService → Bool
+passes_permit (Some (step.PassPermit file back)) = true
+passes_permit (Some (step.Signal worker back)) = true
+passes_permit _ = false
+
+-- So long a request of this kind is at most; no other kind is there yet.
+abbrev pub longest : Kind → Option ℕ
+longest kind.Poll = Some 1
+longest kind.Send = Some 18446744073709551615
+longest _ = None
+
+abbrev pub IsUpTo : Option ℕ → ℕ → Type 0
+IsUpTo None n = ⊥
+IsUpTo (Some most) n = n ≤ most
+
+-- a request whose operations count bytes within its length, at no gate
+pub record IsPlain (r : Request) : Type 0 where
+  pub bounded : IsUpTo (longest r.operation.kind) r.operation.length
+  pub moved : r.operation.moved ≤ r.operation.length
+  pub first_part : r.operation.switched ≡ false
+  pub unhinted : r.operation.hinted ≡ false
+  pub ungated : is_gated r.phase ≡ false
+  pub deadline : IfSome r.operation.deadline (λ moment. moment < 2 ^ 63)
+
+-- the completions of operations, in order
+abbrev pub operations : RingState → List Completion
+operations r = filter (λ c. not (is_control c)) (completions r)
+
+-- A completion is of a request that flies, whose record has landed with its result.
+pub record HasLanded (n : Names) (d : Driving Reply Reply) (records : List Record) (c : Completion) : Type 0 where
+  pub id : Id
+  pub it : Waiter Reply Reply
+  pub r : Record
+  pub index : id.index ≡ index_in c.user_data
+  pub generation : id.generation % 4294967296 ≡ generation_in c.user_data
+  pub live : waiter_at d.requests id ≡ Some it
+  pub flies : it.in_flight ≡ true
+  pub lawful : is_lawful_for it (result_in c.result) ≡ true
+  pub there : slice_get records (number_in n.requests.items id) ≡ Some r
+  pub landed : r.shown.phase ≡ Landed (result_in c.result)
+
+-- each is so, of another request
+abbrev pub AreLanded : Names → Driving Reply Reply → List Record → List Completion → Type 0
+AreLanded n d records [] = Unit {0}
+AreLanded n d records (c ∷ cs) =
+    HasLanded n d records c
+    × (is_one_of (number_told n.requests.items c) (map (number_told n.requests.items) cs) ≡ false)
+    × AreLanded n d records cs
+
+-- A completion of no operation acknowledges a cancel: nobody raises a wake.
+abbrev pub AreAcks : List Posted → Type 0
+AreAcks [] = Unit {0}
+AreAcks (p ∷ ps) = (is_control p.completion ≡ true → p.completion.user_data ≡ 4294967295) × AreAcks ps
+
+-- what is not released has room to end in, and what is in the submission queue has room in the lists
+pub record HasFlown (x : Option InService) (i : ℕ) (n : Names) (d : Driving Reply Reply) (records : List Record) : Type 0 where
+  pub ending : n.unreleased ≤ deque_capacity n.ended
+  pub staging : d.ring.size ≤ vec_capacity n.staged
+  pub telling : d.ring.size ≤ vec_capacity n.untold
+  pub entries : length n.staged.items + length n.untold.items ≤ length d.ring.staged
+  pub permits : passes_permit x ≡ false
+  pub ours : (k : ℕ) (r : Record) → slice_get records k ≡ Some r → r.shown.worker ≡ i
+  pub plain : (k : ℕ) (r : Record) → slice_get records k ≡ Some r → r.shown.worker ≡ i → IsPlain r.shown
+  pub landed : AreLanded n d records (operations d.ring)
+  pub enrolling : (id : WaiterId) (it : Waiter Reply Reply) → waiter_at d.requests id.0 ≡ Some it → takes_tick it.state ≡ true → is_some (deadline_of it.request) ≡ true → is_among id d.lists.enrolments ≡ true
+  pub acks : AreAcks d.ring.posted
+  pub owning : (k : ℕ) (r : Record) → slice_get records k ≡ Some r → is_resolved r.shown.phase ≡ false → r.shown.released ≡ false
+  pub uncancelled : (id : WaiterId) (r : Record) → is_among id d.lists.cancels ≡ true → slice_get records (number_in n.requests.items id.0) ≡ Some r → r.shown.cancel_staged ≡ false

@@ -1,0 +1,33 @@
+-- What a task can be told next, and what it holds then.
+use Rattle.std.specs.Prelude.{◌≡◌, ℕ, List, Option, Some, None, slice_get}
+use Rattle.exec_task.specs.declared.body.Said.{Said}
+use Rattle.exec_task.specs.declared.body.Said.TheVariants as said
+use Rattle.exec_machine.specs.{declared.state.Waiting.Waiting, Tasks.without_newest}
+use Rattle.exec_machine.specs.declared.state.Waiting.TheVariants as waiting
+use Rattle.exec_steps.specs.{declared.parts.{shared.Shared.Shared, task_slot.TaskSlot.TaskSlot, worker.Worker.Worker}, View.body_in}
+
+-- what a task is told that waits for this; where it is known already, that
+abbrev pub CanHear : Option Said → Waiting → Said → Type 0
+CanHear (Some told) u answer = answer ≡ told
+CanHear None (waiting.Request r) (said.Output output) = Unit {0}
+CanHear None (waiting.Timer z) said.Slept = Unit {0}
+CanHear None waiting.Wake said.Pass = Unit {0}
+CanHear None waiting.Woken said.Pass = Unit {0}
+CanHear None u answer = ⊥
+
+-- what it holds once what it waits for has come
+abbrev pub held_once_come : Waiting → List ℕ → List ℕ
+held_once_come (waiting.Request r) held = without_newest held
+held_once_come _ held = held
+
+module _ {B : Type 0} where
+  -- A slot that became this has the same body. What that can be told it could be told before, and holds the same then.
+  pub record Hears (slot slot' : TaskSlot B) : Type 0 where
+    pub body : body_in slot'.cell.phase slot'.body ≡ body_in slot.cell.phase slot.body
+    pub told : (answer : Said) → CanHear slot'.told slot'.waiting answer → CanHear slot.told slot.waiting answer × (held_once_come slot.waiting slot.held.items ≡ held_once_come slot'.waiting slot'.held.items)
+
+  -- The root of a worker made no act; and the configuration stays.
+  pub record StillHears (w : Worker) (s : Shared B) (w' : Worker) (s' : Shared B) : Type 0 where
+    pub root : w'.root ≡ w.root
+    pub config : s'.config ≡ s.config
+    pub hears : (slot slot' : TaskSlot B) → slice_get s.tasks.items w.root ≡ Some slot → slice_get s'.tasks.items w.root ≡ Some slot' → Hears slot slot'

@@ -1,0 +1,90 @@
+-- What the stagings of a service do to a worker and to the records of its requests, and where a request that is over leads.
+use Rattle.std.specs.Prelude.{◌≡◌, ◌≢◌, ℕ, ◌<◌, ◌&&◌, ◌||◌, Bool, true, false, not, List, [], ◌∷◌, ◌++◌, length, map, Option, Some, None, if◌then◌else◌}
+use Rattle.exec_machine.specs.{declared.event.Event.{Event, TheVariants.{Cancel, Stage}}, Deadlines.is_first_due}
+use Rattle.exec_machine.specs.declared.state.RequestPhase.TheVariants as phase
+use Rattle.exec_moves.specs.{Serve.{after_permit, first_numbered}, declared.place.{AfterPermit.AfterPermit, InService.InService, Service.Service}}
+use Rattle.exec_moves.specs.declared.place.InService.TheVariants as step
+use Rattle.exec_moves.specs.declared.place.Place.TheVariants as at
+use Rattle.exec_driver.specs.{Driving.{Driving, request_at, is_full, may_stage_one}, Lists.{first_of, has_first}, Opens.account_in, Placed.ListsRequests, Steps.{cancel_staged, poll_staged, StagesOne}}
+use Rattle.exec_waiters.specs.{States.file_of, declared.{waiter.Waiter.Waiter, waiter_id.WaiterId.WaiterId}}
+use Rattle.exec_steps.specs.{declared.parts.{mail.Reply.Reply, record.Record.Record, shared.Shared.Shared, worker.Worker.Worker}, Records.number_in, Serving.{changed_at, with_staging_ended}, Sound.SoundAt, View.{driver_of, own_of}}
+
+-- a request that gives a permit up, and one that doesn't
+abbrev pub after_giving_up : Option ℕ → AfterPermit → InService
+after_giving_up None b = after_permit b
+after_giving_up (Some file) b = step.PassPermit file b
+
+-- each of these has the number of a record
+abbrev pub AreNamed : List ℕ → List WaiterId → List Record → Type 0
+AreNamed numbers [] rs = Unit {0}
+AreNamed numbers (id ∷ ids) rs = (number_in numbers id.0 < length rs) × AreNamed numbers ids rs
+
+-- the submission queue has no room for what is to go into it
+abbrev pub must_flush : {S F : Type 0} → Driving S F → Bool
+must_flush d = is_full d && (has_first d.lists.cancels || may_stage_one d || not d.armed)
+
+-- a staging ends where the kernel took nothing
+abbrev pub after_flush : Service → Bool → Worker → Worker
+after_flush v true w = with_staging_ended v w
+after_flush v false w = w
+
+-- the wake poll goes in last, where it must and there is room
+abbrev pub with_wake_poll : {S F : Type 0} → Driving S F → Driving S F
+with_wake_poll d = if d.armed then d else (if is_full d then d else poll_staged d)
+
+pub record EndsStaging (w w' : Worker) : Type 0 where
+  pub driver : driver_of w' ≡ record (with_wake_poll (driver_of w)) { landings = (driver_of w').landings }
+  pub worker : w' ≡ record w { home = record w.home { driver = w'.home.driver } }
+
+module _ {B : Type 0} where
+  -- the cancel of request id went into the submission queue
+  pub record StagesCancel (w : Worker) (s : Shared B) (e : Event) (w' : Worker) (s' : Shared B) (id : WaiterId) : Type 0 where
+    pub event : e ≡ Cancel (number_in w.names.requests.items id.0)
+    pub driver : driver_of w' ≡ record (cancel_staged (driver_of w) id) { landings = (driver_of w').landings }
+    pub untold : w'.names.untold.items ≡ w.names.untold.items ++ number_in w.names.requests.items id.0 ∷ []
+    pub records : s'.requests.items ≡ changed_at s.requests.items (number_in w.names.requests.items id.0) (λ r. record r { shown = record r.shown { cancel_staged = true } })
+    pub worker : w' ≡ record w { home = record w.home { driver = w'.home.driver }; names = record w.names { untold = w'.names.untold } }
+    pub shared : s' ≡ record s { requests = s'.requests }
+
+  -- its operation, without a hint
+  pub record StagesRequest (w : Worker) (s : Shared B) (e : Event) (w' : Worker) (s' : Shared B) (id : WaiterId) : Type 0 where
+    pub event : e ≡ Stage (number_in w.names.requests.items id.0)
+    pub driver : (it : Waiter Reply Reply) → request_at (driver_of w) id ≡ Some it → StagesOne (driver_of w) (driver_of w') id it (account_in s.opens (file_of it.request))
+    pub staged : w'.names.staged.items ≡ w.names.staged.items ++ number_in w.names.requests.items id.0 ∷ []
+    pub records : s'.requests.items ≡ changed_at s.requests.items (number_in w.names.requests.items id.0) (λ r. record r { shown = record r.shown { operation = record r.shown.operation { hinted = false }; phase = phase.Staged } })
+    pub worker : w' ≡ record w { home = record w.home { driver = w'.home.driver }; names = record w.names { staged = w'.names.staged } }
+    pub shared : s' ≡ record s { requests = s'.requests }
+
+  -- No deadline has come, none is new, and no request waits at a gate.
+  pub record IsIdle (v : Service) (w : Worker) (s : Shared B) : Type 0 where
+    pub gate : ℕ
+    pub sound : SoundAt (at.Service (step.Submit gate) v) w s
+    pub lists : ListsRequests (driver_of w)
+    pub due : (driver_of w).lists.due ≡ []
+    pub enrolments : (driver_of w).lists.enrolments ≡ []
+
+  -- The middle of a service, where a deadline has come; where none has, and one is new; and where a request waits at a gate.
+  pub record Submits (w : Worker) (s : Shared B) : Type 0 where
+    pub gate : ℕ
+    pub service : Service
+    pub sound : SoundAt (at.Service (step.Submit gate) service) w s
+    pub lists : ListsRequests (driver_of w)
+
+  pub record IsDueIn (w : Worker) (s : Shared B) : Type 0 where
+    pub submits : Submits w s
+    pub due : has_first (driver_of w).lists.due ≡ true
+
+  -- what is due first at the driver is what the machine tells first
+  abbrev pub IsInOrder : Worker → Shared B → Type 0
+  IsInOrder w s =
+      let rs = map (λ r. r.shown) s.requests.items in
+      (id : WaiterId) → first_of (driver_of w).lists.due ≡ Some id → first_numbered (λ r it. is_first_due s.config (own_of w) w.index rs r) 0 rs ≡ Some (number_in w.names.requests.items id.0)
+
+  pub record IsNewIn (w : Worker) (s : Shared B) : Type 0 where
+    pub submits : Submits w s
+    pub due : (driver_of w).lists.due ≡ []
+    pub enrolments : has_first (driver_of w).lists.enrolments ≡ true
+
+  pub record IsGatedIn (w : Worker) (s : Shared B) : Type 0 where
+    pub submits : Submits w s
+    pub gated : (driver_of w).lists.gated ≢ []

@@ -1,0 +1,72 @@
+-- What a step of a worker does.
+--
+-- A leaf says that it is its move, what else of the worker stays, and what becomes of the one thing that it names. From
+-- these follows, at the dispatcher, what a step is to the machine (`Works`).
+use Rattle.std.specs.Prelude.{◌≡◌, ℕ, Bool, true, false, not, List, [], Option, Some, None, slice_get, slice_set, slice_index_or, map, filter, length}
+use Rattle.exec_words.specs.{Idle.Idle, declared.word.PureWord.PureWord}
+use Rattle.exec_task.specs.declared.{body.Said.Said, runnable.Runnable.Runnable}
+use Rattle.exec_machine.specs.{declared.event.Event.Event, Choice.Choice, World.{Own, Common}, Tests.AllTrue, Allowed.allowed, After.{own_after, common_after}, Progress.Plan}
+use Rattle.exec_moves.specs.{State.{Desk, Things, Moved}, Move.move, declared.place.Place.Place}
+use Rattle.exec_steps.specs.{declared.parts.{seat.Seat.Seat as Chair, shared.Shared.Shared, task_slot.TaskSlot.TaskSlot, worker.Worker.Worker}, Hearing.StillHears, Spots.Spot, Sound.Sound, View.{Visible, visible, own_of, desk_of, common_of, tasks_of, things_of}}
+
+-- A step is this move: its event, and what stands on the worker's desk then.
+pub record Makes {T : Type 0} (m : Moved T) (e : Event) (w : Worker) : Type 0 where
+  pub event : e ≡ m.event
+  pub desk : desk_of w ≡ m.desk
+
+-- The worker goes to another place, and nothing else of it changes.
+abbrev pub Goes : Worker → Worker → Type 0
+Goes w w' = w' ≡ record w { place = w'.place }
+
+-- THE ONE THING
+
+module _ {B : Type 0} where
+  -- the chair of a worker that has one
+  abbrev pub HasChair : ℕ → Shared B → Chair → Type 0
+  HasChair i s chair = slice_get s.seats.items i ≡ Some chair
+
+  -- nothing that can be seen has changed; a list may have other memory
+  pub record SameShared (s s' : Shared B) : Type 0 where
+    pub kept : s' ≡ record s { seats = s'.seats }
+    pub seats : s'.seats.items ≡ s.seats.items
+
+  -- the wake word of worker i has become this, and nothing else has changed
+  pub record TurnsWord (i : ℕ) (s s' : Shared B) (word : PureWord) : Type 0 where
+    pub kept : s' ≡ record s { seats = s'.seats }
+    pub seats : (chair : Chair) → HasChair i s chair → s'.seats.items ≡ slice_set s.seats.items i (record chair { mailbox = record chair.mailbox { waker = word } })
+
+  -- the slot of task t has become what this makes of it, and nothing else has changed
+  pub record TurnsSlot (t : ℕ) (s s' : Shared B) (change : TaskSlot B → TaskSlot B) : Type 0 where
+    pub kept : s' ≡ record s { tasks = s'.tasks }
+    pub tasks : (slot : TaskSlot B) → slice_get s.tasks.items t ≡ Some slot → s'.tasks.items ≡ slice_set s.tasks.items t (change slot)
+
+-- THE WHOLE STEP
+
+module _ {B : Type 0} where
+  -- The executor is one of the plan, and this is visible of its workers.
+  pub record Suits (p : Plan) (vs : List Visible) (w : Worker) (s : Shared B) : Type 0 where
+    pub config : s.config ≡ p.config
+    pub seen : slice_get vs w.index ≡ Some (visible w)
+    pub workers : length vs ≡ length s.seats.items
+
+module _ {B L : Type 0} (left : B → L) (spot : L → Option Said → Spot) where
+  -- A step of worker w, of a plan and beside workers of whom this is visible: it is the worker's move; the machine allows
+  -- its event; and worker and all show what the machine makes of them.
+  pub record Works (p : Plan) (vs : List Visible) (w : Worker) (s : Shared B) (e : Event) (w' : Worker) (s' : Shared B) : Type 0 where
+    pub choice : Choice
+    pub moves : move p.config w.index (own_of w) (common_of left spot p vs s) (desk_of w) (things_of w.index s) ≡ record { event = e; choice = choice; desk = desk_of w'; thing = things_of w'.index s' }
+    pub may : AllTrue (allowed p.config (own_of w) (common_of left spot p vs s) w.index e choice)
+    pub own : own_of w' ≡ own_after p.config (own_of w) (common_of left spot p vs s) w.index e choice
+    pub common : common_of left spot p (slice_set vs w.index (visible w')) s' ≡ common_after p.config (own_of w) (common_of left spot p vs s) w.index e choice
+
+  -- What a step that is no act does for each plan that suits, and what holds then.
+  abbrev pub Steps : Worker → Shared B → Event → Worker → Shared B → Type 0
+  Steps w s e w' s' = ((p : Plan) (vs : List Visible) → Suits p vs w s → Works p vs w s e w' s') × Sound w' s' × StillHears w s w' s'
+
+  -- What can be seen is as before.
+  pub record Same (w : Worker) (s : Shared B) (w' : Worker) (s' : Shared B) : Type 0 where
+    pub own : own_of w' ≡ own_of w
+    pub desk : desk_of w' ≡ desk_of w
+    pub things : things_of w.index s' ≡ things_of w.index s
+    pub common : (p : Plan) (vs : List Visible) → common_of left spot p vs s' ≡ common_of left spot p vs s
+    pub visible_same : visible w' ≡ visible w

@@ -1,0 +1,12 @@
+//! The state of an executor, part by part.
+
+pub mod around;
+pub mod mail;
+pub mod names;
+pub mod record;
+pub mod role;
+pub mod seat;
+pub mod shared;
+pub mod sleeping;
+pub mod task_slot;
+pub mod worker;

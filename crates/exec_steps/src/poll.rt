@@ -1,0 +1,222 @@
+//! A poll: its beginning, the acts of the body, and its end where the task waits.
+//!
+//! The section that begins a poll says how it goes on: a task that waits for nothing acts at once, any other looks first
+//! whether what it waits for has come (`resuming`). An act is decided in the step that makes it. What the body is told
+//! next lies with the task, so this worker carries nothing between two acts.
+//!
+//! An act that wants memory and gets none changes nothing that can be seen: the body has asked, and is told that it was
+//! refused, so it stands where it stood.
+
+ghost use Rattle.std.specs.Prelude.{◌≡◌, ◌<◌, length, false, IfOk, OnErr, Some, None, IsSome, IsTrue};
+ghost use Rattle.exec_base.specs.declared.error.Error.TheVariants.{NoMemory};
+ghost use Rattle.exec_task.specs.Phases.{is_polled, queued_body, runnable_of, pend_answer};
+ghost use Rattle.exec_task.specs.declared.body.Said.TheVariants as said;
+ghost use Rattle.exec_machine.specs.declared.state.Waiting.TheVariants as waiting;
+ghost use Rattle.exec_machine.specs.Tasks.{begun_waiting};
+ghost use Rattle.exec_moves.specs.Poll.{after_begin};
+ghost use Rattle.exec_steps.specs.{Acting.{PerformsOne, StepsOf}, Awaits.{AwaitsNewest, DropsRequest, HasNewest, OfNewest, newest_of}, Polls.{MadeAct, OfSlot, flag_after, begun_slot, pended_slot, yielded_slot}, Sound.SoundAt, Works.{Same, TurnsSlot}};
+
+use crate::parts::around::Sighted;
+use crate::parts::shared::Shared;
+use crate::parts::worker::Worker;
+use crate::scripted::Scripted;
+use exec_base::error::Error;
+use exec_machine::event::Event;
+use exec_machine::state::Waiting;
+use exec_moves::place::{AfterCallbacks, InCallbacks, InPoll, Place};
+use exec_task::body::{Act, Said};
+use exec_task::runnable::AfterPoll;
+use std::alloc::{AllocError, Global};
+
+impl Worker {
+    /// Takes the next step of the poll of a task.
+    pub(crate) fn poll<B: Scripted + Drop>(
+        &mut self,
+        alloc: Global,
+        task: usize,
+        at: InPoll,
+        shared: &mut Shared<B>,
+    ) -> Result<Event, AllocError>
+        requires sound { SoundAt (Place.Poll task at) self.old shared.old }
+        requires performs { PerformsOne B.left B.runs B.holds self.old.root shared.old }
+        ensures steps { IfOk result (λ event. StepsOf B.left B.runs B.holds B.spot self.old shared.old event self.new shared.new) }
+        ensures same { OnErr result (Same B.left B.spot self.old shared.old self.new shared.new) }
+    {
+        match at {
+            InPoll::BeginPoll => Ok(self.begin_poll(task, shared)),
+            InPoll::Resume => Ok(self.resume(task, shared)),
+            InPoll::Act => self.act(alloc, task, shared),
+            InPoll::JoinGate { .. } => unreachable!(),
+            InPoll::Pend => Ok(self.pend(task, shared)),
+        }
+    }
+
+    /// The poll begins. What waits for nothing acts; any other looks at what it waits for.
+    fn begin_poll<B: Scripted + Drop>(&mut self, task: usize, shared: &mut Shared<B>) -> Event
+        requires there { task < length shared.old.tasks.items }
+        requires hand { IsSome self.old.hand }
+        requires right { OfSlot task shared.old (λ slot. self.old.hand ≡ Some (runnable_of slot.cell)) }
+        requires queued { OfSlot task shared.old (λ slot. IsSome (queued_body slot.cell.phase)) }
+        ensures event { result ≡ Event.Begin task }
+        ensures place { OfSlot task shared.old (λ slot. self.new.place ≡ Place.Poll task (after_begin (begun_waiting slot.waiting))) }
+        ensures worker { self.new ≡ record self.old { place = self.new.place; hand = None } }
+        ensures task { TurnsSlot task shared.old shared.new (begun_slot self.old.index) }
+    {
+        let Some(runnable) = self.hand.take() else {
+            unreachable!()
+        };
+        let slot = &mut shared.tasks[task];
+        if !slot.begin(runnable, self.index) {
+            unreachable!()
+        }
+        self.place = Place::Poll(task, first_step(slot.waiting()));
+        Event::Begin { task }
+    }
+
+    /// The body makes its next act.
+    fn act<B: Scripted + Drop>(
+        &mut self,
+        alloc: Global,
+        task: usize,
+        shared: &mut Shared<B>,
+    ) -> Result<Event, AllocError>
+        requires sound { SoundAt (Place.Poll task InPoll.Act) self.old shared.old }
+        requires performs { PerformsOne B.left B.runs B.holds self.old.root shared.old }
+        ensures steps { IfOk result (λ event. StepsOf B.left B.runs B.holds B.spot self.old shared.old event self.new shared.new) }
+        ensures same { OnErr result (Same B.left B.spot self.old shared.old self.new shared.new) }
+    {
+        match self.next_act(alloc, task, shared)? {
+            Act::Register(request) => self.register(alloc, task, request, shared),
+            Act::Await(_) => Ok(self.await_newest(task, shared)),
+            Act::Drop(_) => Ok(self.drop_newest(task, shared)),
+            Act::Sleep(0) => Ok(self.pass(task, shared)),
+            Act::Sleep(time) => self.sleep_for(alloc, task, time, shared),
+            Act::Yield => Ok(self.yield_task(task, shared)),
+            Act::Done(_) => Ok(self.finish(task, shared)),
+            Act::Fault(code) => Ok(self.fail(task, code, shared)),
+            Act::Spawn(_) | Act::Dedicated(_) | Act::Wake(_) => unreachable!(),
+        }
+    }
+
+    /// The next act of the body. Where it wants memory and gets none, it is as before.
+    fn next_act<B: Scripted + Drop>(
+        &self,
+        alloc: Global,
+        task: usize,
+        shared: &mut Shared<B>,
+    ) -> Result<Act<B>, AllocError>
+        requires there { task < length shared.old.tasks.items }
+        requires told { OfSlot task shared.old (λ slot. IsSome slot.told) }
+        requires body { OfSlot task shared.old (λ slot. IsSome slot.body) }
+        ensures acts { IfOk result (λ act. MadeAct B.left B.gives task self.now.moments.sampled shared.old shared.new act) }
+        ensures kept { OnErr result (TurnsSlot task shared.old shared.new (λ slot. slot)) }
+    {
+        let mut around = Sighted {
+            moment: self.moments.sampled,
+            opens: &shared.opens,
+        };
+        shared.tasks[task].step(alloc, &mut around)
+    }
+
+    /// The task waits for the newest request that it holds, or for a wake where it holds none. Its body knows which that
+    /// is without its number.
+    fn await_newest<B: Scripted + Drop>(&mut self, task: usize, shared: &mut Shared<B>) -> Event
+        requires there { task < length shared.old.tasks.items }
+        requires newest { OfNewest task shared.old (λ k. HasNewest task k self.old shared.old) }
+        ensures awaits { OfSlot task shared.old (λ slot. AwaitsNewest task (newest_of slot) self.old self.new shared.old shared.new result) }
+    {
+        match shared.tasks[task].newest() {
+            Some(request) => self.await_request(task, request, shared),
+            None => self.await_wake(task, shared),
+        }
+    }
+
+    /// The task lets go of the newest request that it holds.
+    fn drop_newest<B: Scripted + Drop>(&mut self, task: usize, shared: &mut Shared<B>) -> Event
+        requires there { task < length shared.old.tasks.items }
+        requires some { OfSlot task shared.old (λ slot. IsSome (newest_of slot)) }
+        requires newest { OfNewest task shared.old (λ k. HasNewest task k self.old shared.old) }
+        ensures drops { OfNewest task shared.old (λ k. DropsRequest task k self.old self.new shared.old shared.new result) }
+    {
+        let Some(request) = shared.tasks[task].newest() else {
+            unreachable!()
+        };
+        self.drop_request(task, request, shared)
+    }
+
+    /// The task waits for a wake alone.
+    fn await_wake<B: Scripted + Drop>(&mut self, task: usize, shared: &mut Shared<B>) -> Event
+        requires there { task < length shared.old.tasks.items }
+        ensures event { result ≡ Event.Wait None }
+        ensures worker { self.new ≡ record self.old { place = Place.Poll task InPoll.Pend } }
+        ensures task { TurnsSlot task shared.old shared.new (λ slot. record slot { waiting = waiting.Wake }) }
+    {
+        shared.tasks[task].wait_for(Waiting::Wake);
+        self.place = Place::Poll(task, InPoll::Pend);
+        Event::Wait { request: None }
+    }
+
+    /// The task passes on, since it sleeps no time at all.
+    fn pass<B: Scripted + Drop>(&mut self, task: usize, shared: &mut Shared<B>) -> Event
+        requires there { task < length shared.old.tasks.items }
+        ensures event { result ≡ Event.Pass }
+        ensures worker { self.new ≡ record self.old { place = Place.Poll task InPoll.Act } }
+        ensures task { TurnsSlot task shared.old shared.new (λ slot. record slot { told = Some said.Pass }) }
+    {
+        shared.tasks[task].tell(Said::Pass);
+        self.place = Place::Poll(task, InPoll::Act);
+        Event::Pass
+    }
+
+    /// The task wakes itself, and lets others go first. Since it is polled, it has no runnable before the poll ends.
+    fn yield_task<B: Scripted + Drop>(&mut self, task: usize, shared: &mut Shared<B>) -> Event
+        requires there { task < length shared.old.tasks.items }
+        ensures event { result ≡ Event.Wake task }
+        ensures worker { self.new ≡ record self.old { place = Place.Poll task InPoll.Pend } }
+        ensures task { TurnsSlot task shared.old shared.new yielded_slot }
+    {
+        let slot = &mut shared.tasks[task];
+        slot.wait_for(Waiting::Yielded);
+        slot.tell(Said::Pass);
+        let _none = slot.wake();
+        self.place = Place::Poll(task, InPoll::Pend);
+        Event::Wake { task }
+    }
+
+    /// The poll ends. A root that was woken meanwhile has its flag set again.
+    pub(crate) fn pend<B: Scripted + Drop>(&mut self, task: usize, shared: &mut Shared<B>) -> Event
+        requires there { task < length shared.old.tasks.items }
+        requires polled { OfSlot task shared.old (λ slot. IsTrue (is_polled slot.cell.phase)) }
+        requires body { OfSlot task shared.old (λ slot. IsSome slot.body) }
+        requires kept { OfSlot task shared.old (λ slot. slot.cell.cancelled ≡ false) }
+        ensures event { result ≡ Event.Pend task }
+        ensures flag { OfSlot task shared.old (λ slot. self.new.root_ready ≡ flag_after (pend_answer slot.cell) self.old.root_ready) }
+        ensures worker { self.new ≡ record self.old { place = Place.Callbacks InCallbacks.TakeBatch AfterCallbacks.Look; root_ready = self.new.root_ready } }
+        ensures task { TurnsSlot task shared.old shared.new pended_slot }
+    {
+        match shared.tasks[task].pend() {
+            AfterPoll::Done => {}
+            AfterPoll::Requeue(runnable) => self.root_ready = Some(runnable),
+            AfterPoll::Retire(_, _) => unreachable!(),
+        }
+        self.place = Place::Callbacks(InCallbacks::TakeBatch, AfterCallbacks::Look);
+        Event::Pend { task }
+    }
+}
+
+/// The first step of a poll whose task waits for this.
+fn first_step(waiting: Waiting) -> InPoll
+    ensures { result ≡ after_begin waiting }
+{
+    match waiting {
+        Waiting::Nothing => InPoll::Act,
+        _ => InPoll::Resume,
+    }
+}
+
+/// A body whose act wanted memory is told so.
+pub(crate) fn refused() -> Said
+    ensures { result ≡ said.Refused NoMemory }
+{
+    Said::Refused(Error::NoMemory)
+}

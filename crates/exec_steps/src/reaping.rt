@@ -1,0 +1,143 @@
+//! The completions of a service, and the permits that they give up.
+//!
+//! A step judges one completion of an operation, and drops what stands before and after it that is none of an operation:
+//! wakes, and acknowledgements of cancels. So it finds whether another is there; what lands later is left to the next
+//! reaping. The permit of an open that a request gives up goes to the next that waits for it, and the worker of that one
+//! is signalled, the own one too.
+
+ghost use Rattle.std.specs.Prelude.{◌≡◌, ◌+◌, ◌^◌, ◌<◌, true, false, length, is_some, slice_get, None};
+ghost use Rattle.std.specs.VecDeque.{deque_capacity};
+ghost use Rattle.exec_machine.specs.Requests.{joined_if, reaped};
+ghost use Rattle.exec_moves.specs.Serve.{after_permit as place_after_permit};
+ghost use Rattle.exec_outcomes.specs.Outcomes.{bytes_of};
+ghost use Rattle.exec_request.specs.States.{as_answer};
+ghost use Rattle.exec_steps.specs.{Records.has_one_part, Submitting.after_giving_up, Sound.SoundAt, View.word_at, Works.{TurnsWord, Steps}};
+
+use crate::parts::record::Record;
+use crate::parts::shared::Shared;
+use crate::parts::worker::Worker;
+use crate::scripted::Scripted;
+use exec_base::error::Error;
+use exec_driver::driver::Reaped;
+use exec_machine::event::Event;
+use exec_moves::place::{AfterPermit, InService, Place, Reaping, Service};
+use exec_outcomes::outcome::Outcome;
+use exec_request::output::to_outcome;
+
+impl Worker {
+    /// Judges the next completion of an operation.
+    pub(crate) fn reap<B: Scripted + Drop>(
+        &mut self,
+        service: Service,
+        reaping: Reaping,
+        shared: &mut Shared<B>,
+    ) -> Event
+        requires sound { SoundAt (Place.Service (InService.Reap reaping) service) self.old shared.old }
+        ensures steps { Steps B.left B.spot self.old shared.old result self.new shared.new }
+    {
+        self.home.driver.lists_requests();
+        let reaped = self
+            .home
+            .driver
+            .reap(&mut shared.opens, &mut self.home.deferred);
+        let back = if self.home.driver.has_completion() {
+            AfterPermit::Reap { reaping }
+        } else {
+            AfterPermit::Reaped { reaping }
+        };
+        let Some(reaped) = reaped else {
+            self.after_permit(service, back);
+            return Event::Serve;
+        };
+        let request = self.names.request(reaped.id);
+        self.tell_reaped(
+            service,
+            request,
+            reaped,
+            back,
+            &mut shared.requests[request],
+        )
+    }
+
+    /// What a completion has made of its request.
+    fn tell_reaped(
+        &mut self,
+        service: Service,
+        request: usize,
+        done: Reaped,
+        back: AfterPermit,
+        it: &mut Record,
+    ) -> Event
+        requires room { length self.old.names.ended.items < deque_capacity self.old.names.ended }
+        requires lawful { bytes_of done.given + it.old.shown.operation.moved < 2 ^ 64 }
+        requires one_part { has_one_part it.old.shown.operation.kind ≡ true }
+        requires plain { it.old.shown.operation.hinted ≡ false }
+        ensures event { result ≡ Event.Reap request done.given (as_answer done.ended) }
+        ensures shown { it.new.shown ≡ reaped done.given (as_answer done.ended) it.old.shown }
+        ensures id { it.new.id ≡ it.old.id }
+        ensures capacity { deque_capacity self.new.names.ended ≡ deque_capacity self.old.names.ended }
+        ensures ended { self.new.names.ended.items ≡ joined_if (is_some (as_answer done.ended)) self.old.names.ended.items request }
+        ensures still { done.ended ≡ None → self.new.names ≡ self.old.names }
+        ensures same { self.new ≡ record self.old { place = Place.Service (after_giving_up done.permit back) service; names = record self.old.names { ended = self.new.names.ended } } }
+    {
+        let outcome = outcome_of(done.ended);
+        it.judge(done.given, outcome);
+        if outcome.is_some() {
+            self.names.end(request);
+        }
+        match done.permit {
+            Some(file) => self.go(service, InService::PassPermit { file, back }),
+            None => self.after_permit(service, back),
+        }
+        Event::Reap {
+            request,
+            result: done.given,
+            outcome,
+        }
+    }
+
+    /// What follows a completion or a permit that was given up.
+    pub(crate) fn after_permit(&mut self, service: Service, back: AfterPermit)
+        ensures { self.new ≡ record self.old { place = Place.Service (place_after_permit back) service } }
+    {
+        let next = match back {
+            AfterPermit::Reap { reaping } => InService::Reap { reaping },
+            AfterPermit::Reaped {
+                reaping: Reaping::First,
+            } => InService::AdvanceWheel,
+            AfterPermit::Reaped {
+                reaping: Reaping::Last,
+            } => InService::EndService,
+            AfterPermit::Submit { gate } => InService::Submit { gate },
+        };
+        self.go(service, next);
+    }
+
+    /// Signals the worker that has the permit of an open next: the latch goes into its wake word.
+    pub(crate) fn signal<B: Drop>(
+        &mut self,
+        service: Service,
+        worker: usize,
+        back: AfterPermit,
+        shared: &mut Shared<B>,
+    ) -> Event
+        requires there { worker < length shared.old.seats.items }
+        ensures event { result ≡ Event.Serve }
+        ensures goes { self.new ≡ record self.old { place = Place.Service (place_after_permit back) service } }
+        ensures word { TurnsWord worker shared.old shared.new (record (word_at (slice_get shared.old.seats.items worker)) { latch = true }) }
+    {
+        let _found = shared.seats[worker].mailbox.waker.wake();
+        self.after_permit(service, back);
+        Event::Serve
+    }
+}
+
+/// How a request ended, as the log tells it.
+pub(crate) fn outcome_of(ended: Option<Result<(), Error>>) -> Option<Outcome>
+    ensures { result ≡ as_answer ended }
+{
+    match ended {
+        Some(ended) => Some(to_outcome(ended)),
+        None => None,
+    }
+}

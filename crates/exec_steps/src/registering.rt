@@ -1,0 +1,263 @@
+//! Acts that make something, or let it go: requests and sleepers.
+//!
+//! What needs memory is made first, in one call that may be refused; then nothing else has changed. Requests and sleepers
+//! get the next numbers.
+
+ghost use Rattle.std.specs.Prelude.{◌≡◌, ◌+◌, ◌*◌, ◌^◌, ◌<◌, ◌≤◌, length, is_some, min, ℕ, IfOk, OnErr, OnOk};
+ghost use Rattle.std.specs.VecDeque.{deque_capacity};
+ghost use Rattle.exec_base.specs.{Slab.live_count, declared.limits.TheConstants.LONGEST_TIMEOUT};
+ghost use Rattle.exec_waiters.specs.Told.{HasPlaces, Tells, nothing_told};
+ghost use Rattle.exec_machine.specs.Requests.{new_request, outcome_if_late, resolved_if};
+ghost use Rattle.exec_steps.specs.{Admitting.{MayMake, MakesRoom, Refuses, HasRoomFor, HasRoomForSleep, TakesBed, TakesIn, NamesOne, Registers, Sleeps, most_told}, Awaits.{DropsRequest, HasNewest, LetsGo, MayLetGo}, Records.HasRequestRoom, Scripts.IsPlainRequest};
+
+use crate::parts::record::{Record, operation_of};
+use crate::parts::shared::Shared;
+use crate::parts::sleeping::SleeperRecord;
+use crate::parts::worker::Worker;
+use crate::poll::refused;
+use crate::scripted::Scripted;
+use exec_base::error::Error;
+use exec_base::limits::LONGEST_TIMEOUT;
+use exec_base::task_no::TaskNo;
+use exec_machine::event::Event;
+use exec_machine::state::{Operation, Waiting};
+use exec_moves::place::{InPoll, Place};
+use exec_outcomes::outcome::Outcome;
+use exec_request::request::Request;
+use exec_task::body::Said;
+use exec_time::timers::TimerId;
+use exec_waiters::observer::Observer;
+use exec_waiters::waiter_id::WaiterId;
+use std::alloc::{AllocError, Global};
+
+impl Worker {
+    /// The task makes a request. One whose deadline has passed is over at once.
+    pub(crate) fn register<B: Scripted + Drop>(
+        &mut self,
+        alloc: Global,
+        task: usize,
+        request: Request,
+        shared: &mut Shared<B>,
+    ) -> Result<Event, AllocError>
+        requires there { task < length shared.old.tasks.items }
+        requires plain { IsPlainRequest request }
+        requires may { MayMake self.old }
+        ensures made { IfOk result (Registers task request self.old self.new shared.old shared.new) }
+        ensures refused { OnErr result (Refuses task self.old self.new shared.old shared.new) }
+    {
+        let operation = operation_of(&request);
+        let number = shared.requests.len();
+        let Ok(id) = self.admit(alloc, task, request, shared) else {
+            shared.tasks[task].tell(refused());
+            return Err(AllocError);
+        };
+        let record = self.name_record(id, number, operation);
+        shared.requests.push_reserved(record);
+        let slot = &mut shared.tasks[task];
+        slot.hold(number);
+        slot.tell(Said::Admitted(number as u32));
+        self.place = Place::Poll(task, InPoll::Act);
+        Ok(Event::Admit {
+            request: number,
+            kind: operation.kind,
+            outcome: record.outcome(),
+        })
+    }
+
+    /// The record of a request that was admitted, which has this number from now on. It is over at once where its
+    /// deadline has passed.
+    fn name_record(&mut self, id: WaiterId, number: usize, operation: Operation) -> Record
+        requires room { HasRequestRoom self.old.names }
+        requires slot { id.0.index ≤ length self.old.names.requests.items }
+        requires over { length self.old.names.ended.items ≤ self.old.names.unreleased }
+        ensures id { result.id ≡ id }
+        ensures shown { result.shown ≡ resolved_if (outcome_if_late self.old.moments.sampled operation.deadline) (new_request self.old.index operation) }
+        ensures names { NamesOne id number (is_some (outcome_if_late self.old.moments.sampled operation.deadline)) self.old.names self.new.names }
+        ensures same { self.new ≡ record self.old { names = self.new.names } }
+    {
+        let mut record = Record::new(self.index, id, operation);
+        self.names.name_request(id, number);
+        if is_late(operation.deadline, self.moments.sampled) {
+            record.resolve(Outcome::Failure(Error::Timeout));
+            self.names.end(number);
+        }
+        record
+    }
+
+    /// Makes room for one more request everywhere, and takes it in. On Err nothing that can be seen has changed.
+    fn admit<B: Scripted + Drop>(
+        &mut self,
+        alloc: Global,
+        task: usize,
+        request: Request,
+        shared: &mut Shared<B>,
+    ) -> Result<WaiterId, AllocError>
+        requires there { task < length shared.old.tasks.items }
+        ensures admitted { IfOk result (λ id. TakesIn task request id self.old self.new shared.old shared.new) }
+        ensures kept { OnErr result (MakesRoom task (λ slot. slot.told) self.old self.new shared.old shared.new) }
+    {
+        self.make_room(alloc, task, shared)?;
+        self.home.driver.lists_requests();
+        let Ok(id) = self.home.driver.admit(
+            alloc,
+            request,
+            Observer::Local(None),
+            self.moments.sampled,
+            &mut shared.opens,
+            &mut self.home.deferred,
+            &mut shared.store,
+        )
+        else {
+            return Err(AllocError);
+        };
+        Ok(id)
+    }
+
+    /// Makes room for one more request everywhere but at the driver. A body is told of it by 32 bits.
+    fn make_room<B: Drop>(
+        &mut self,
+        alloc: Global,
+        task: usize,
+        shared: &mut Shared<B>,
+    ) -> Result<(), AllocError>
+        requires there { task < length shared.old.tasks.items }
+        ensures kept { MakesRoom task (λ slot. slot.told) self.old self.new shared.old shared.new }
+        ensures driver { self.new.home.driver ≡ self.old.home.driver }
+        ensures store { shared.new.store ≡ shared.old.store }
+        ensures room { OnOk result (HasRoomFor task self.new shared.new) }
+    {
+        if shared.requests.len() > u32::MAX as usize {
+            return Err(AllocError);
+        }
+        shared.requests.reserve(1)?;
+        shared.tasks[task].reserve()?;
+        self.names.reserve_request()?;
+        self.reserve_told(alloc)
+    }
+
+    /// Makes room for what one more request or sleeper leaves to be told.
+    fn reserve_told(&mut self, alloc: Global) -> Result<(), AllocError>
+        ensures untold { Tells self.old.home.deferred self.new.home.deferred nothing_told }
+        ensures same { self.new ≡ record self.old { home = record self.old.home { deferred = self.new.home.deferred } } }
+        ensures room { OnOk result (HasPlaces self.new.home.deferred (most_told self.new)) }
+    {
+        let most = untold_at_most(self.names.slots(), self.home.timers.len())?;
+        self.home.deferred.reserve(alloc, most)
+    }
+
+    /// The task lets go of the newest request that it holds.
+    pub(crate) fn drop_request<B: Scripted + Drop>(
+        &mut self,
+        task: usize,
+        request: usize,
+        shared: &mut Shared<B>,
+    ) -> Event
+        requires newest { HasNewest task request self.old shared.old }
+        ensures drops { DropsRequest task request self.old self.new shared.old shared.new result }
+    {
+        let slot = &mut shared.tasks[task];
+        slot.let_go();
+        slot.tell(Said::Pass);
+        self.orphan_request(request, &mut shared.requests);
+        self.place = Place::Poll(task, InPoll::Act);
+        Event::Drop { request }
+    }
+
+    /// Nobody holds the request any more.
+    pub(crate) fn orphan_request(&mut self, request: usize, requests: &mut Vec<Record>)
+        requires may { MayLetGo request requests.old.items self.old }
+        ensures lets { LetsGo request requests.old.items requests.new.items self.old self.new }
+    {
+        self.home.driver.lists_requests();
+        let record = &mut requests[request];
+        self.home.driver.orphan(record.id, &mut self.home.deferred);
+        let ended = record.let_go();
+        self.names.let_go();
+        if ended {
+            self.names.end(request);
+        }
+    }
+
+    /// The task sleeps for some nanoseconds, of which the most is the longest timeout.
+    pub(crate) fn sleep_for<B: Scripted + Drop>(
+        &mut self,
+        alloc: Global,
+        task: usize,
+        time: u64,
+        shared: &mut Shared<B>,
+    ) -> Result<Event, AllocError>
+        requires there { task < length shared.old.tasks.items }
+        requires early { self.old.moments.sampled ≤ 2 ^ 62 }
+        requires may { MayMake self.old }
+        ensures made { IfOk result (Sleeps task (self.old.moments.sampled + min time LONGEST_TIMEOUT) self.old self.new shared.old shared.new) }
+        ensures refused { OnErr result (Refuses task self.old self.new shared.old shared.new) }
+    {
+        let until = self.moments.sampled + time.min(LONGEST_TIMEOUT);
+        let waker = shared.tasks[task].number();
+        let Ok(id) = self.make_sleeper(alloc, until, waker, shared) else {
+            shared.tasks[task].tell(refused());
+            return Err(AllocError);
+        };
+        let timer = shared.sleepers.len();
+        self.names.name_timer(id, timer);
+        shared
+            .sleepers
+            .push_reserved(SleeperRecord::new(until, self.index, task, id));
+        shared.tasks[task].wait_for(Waiting::Timer(timer));
+        self.place = Place::Poll(task, InPoll::Pend);
+        Ok(Event::Timer { timer, until })
+    }
+
+    /// Makes room for one more sleeper everywhere, and makes it. On Err nothing that can be seen has changed.
+    fn make_sleeper<B: Drop>(
+        &mut self,
+        alloc: Global,
+        until: u64,
+        waker: TaskNo,
+        shared: &mut Shared<B>,
+    ) -> Result<TimerId, AllocError>
+        ensures made { IfOk result (λ id. (task : ℕ) → task < length shared.old.tasks.items → TakesBed task until waker id self.old self.new shared.old shared.new) }
+        ensures kept { OnErr result ((task : ℕ) → task < length shared.old.tasks.items → MakesRoom task (λ slot. slot.told) self.old self.new shared.old shared.new) }
+    {
+        self.make_room_for_sleep(alloc, shared)?;
+        let Ok(id) = self.home.timers.insert(alloc, until, waker) else {
+            return Err(AllocError);
+        };
+        Ok(id)
+    }
+
+    /// Makes room for one more sleeper everywhere but among the sleepers.
+    fn make_room_for_sleep<B: Drop>(
+        &mut self,
+        alloc: Global,
+        shared: &mut Shared<B>,
+    ) -> Result<(), AllocError>
+        ensures kept { (task : ℕ) → task < length shared.old.tasks.items → MakesRoom task (λ slot. slot.told) self.old self.new shared.old shared.new }
+        ensures driver { self.new.home.driver ≡ self.old.home.driver }
+        ensures store { shared.new.store ≡ shared.old.store }
+        ensures room { OnOk result (HasRoomForSleep self.new shared.new) }
+    {
+        shared.sleepers.reserve(1)?;
+        self.names.reserve_timer()?;
+        self.reserve_told(alloc)
+    }
+}
+
+/// So much may be told of so many requests and sleepers, and of one more. Err where there can be no room for that.
+fn untold_at_most(requests: usize, sleepers: usize) -> Result<usize, AllocError>
+    ensures { IfOk result (λ most. most ≡ 2 * requests + sleepers + 4) }
+{
+    let twice = requests.checked_mul(2).ok_or(AllocError)?;
+    let all = twice.checked_add(sleepers).ok_or(AllocError)?;
+    all.checked_add(4).ok_or(AllocError)
+}
+
+/// Whether a deadline has passed at this moment.
+fn is_late(deadline: Option<u64>, now: u64) -> bool
+    ensures { result ≡ is_some (outcome_if_late now deadline) }
+{
+    match deadline {
+        Some(deadline) => deadline <= now,
+        None => false,
+    }
+}

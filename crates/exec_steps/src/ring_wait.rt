@@ -1,0 +1,174 @@
+//! The wait of a worker that has requests: on its ring.
+//!
+//! The ring bit goes into the wake word, then the kernel takes what is staged, then the ring is looked at again, and only
+//! then does the worker sleep. Whoever signals it after the bit went in raises a wake in its ring; whatever landed before
+//! the last look is found by it. A worker that may not wait, since something is to be staged or the word had a latch or
+//! another batch, serves first.
+
+ghost use Rattle.std.specs.Prelude.{◌≡◌, ◌<◌, ◌^◌, true, false, length};
+ghost use Rattle.exec_moves.specs.Wait.{arm_ring, disarm_ring, after_wait as place_after_wait};
+ghost use Rattle.exec_ring.specs.Kernels.{is_quiet};
+ghost use Rattle.exec_steps.specs.{View.{driver_of, desk_of, things_of}, Sound.{SoundAt, IsAlone}, Tests.{ring_wait_of, after_enter_of, HasToldDue, TestsRing}, Serving.{AreKnown, Enters}, Waits.Sleeps, Works.{Makes, Goes, TurnsWord, Steps}};
+
+use crate::callbacks::serve;
+use crate::parts::shared::Shared;
+use crate::parts::worker::Worker;
+use crate::scripted::Scripted;
+use exec_machine::event::Event;
+use exec_machine::state::Rest;
+use exec_moves::place::{AfterService, AfterWait, InRingWait, Place, Stay};
+use exec_words::word::WaitTarget;
+
+impl Worker {
+    /// The first step of a wait on the ring. A full submission queue is entered first.
+    pub(crate) fn ring_wait(&self, stay: Stay) -> Place
+        ensures { result ≡ ring_wait_of stay self.now }
+    {
+        if self.home.driver.is_full() {
+            Place::RingWait(InRingWait::EnterFullRing, stay)
+        } else {
+            Place::RingWait(InRingWait::TestRing, stay)
+        }
+    }
+
+    /// Takes the next step of a wait on the ring.
+    pub(crate) fn wait_on_ring<B: Scripted + Drop>(
+        &mut self,
+        at: InRingWait,
+        stay: Stay,
+        shared: &mut Shared<B>,
+    ) -> Event
+        requires sound { SoundAt (Place.RingWait at stay) self.old shared.old }
+        ensures steps { Steps B.left B.spot self.old shared.old result self.new shared.new }
+    {
+        match at {
+            InRingWait::EnterFullRing => self.enter_full_ring(stay, shared),
+            InRingWait::TestRing => self.test_ring(stay),
+            InRingWait::ArmRing => self.arm_ring(stay, shared),
+            InRingWait::EnterRing => self.enter_ring(stay, shared),
+            InRingWait::SleepOnRing => self.sleep_on_ring(stay, shared),
+            InRingWait::DisarmRing { next } => self.disarm_ring(stay, next, shared),
+        }
+    }
+
+    /// Enters a full submission queue.
+    fn enter_full_ring<B: Drop>(&mut self, stay: Stay, shared: &mut Shared<B>) -> Event
+        requires known { AreKnown self.old.names.staged.items shared.old.requests.items }
+        ensures enters { Enters self.old shared.old result (record self.new { place = self.old.place }) shared.new }
+        ensures goes { self.new.place ≡ Place.RingWait InRingWait.TestRing stay }
+    {
+        let event = self.enter(shared);
+        self.place = Place::RingWait(InRingWait::TestRing, stay);
+        event
+    }
+
+    /// Tests for submissions, and stages the wake poll where that must be. Without room for it the worker serves.
+    fn test_ring(&mut self, stay: Stay) -> Event
+        ensures event { result ≡ Event.Turn }
+        ensures tests { TestsRing stay self.old self.new }
+    {
+        let driver = &mut self.home.driver;
+        self.place = if driver.has_pending_submissions() || !driver.stage_wake_poll() {
+            after_wait(stay, AfterWait::Serve)
+        } else {
+            Place::RingWait(InRingWait::ArmRing, stay)
+        };
+        Event::Turn
+    }
+
+    /// Puts the ring bit into the wake word.
+    fn arm_ring<B: Drop>(&mut self, stay: Stay, shared: &mut Shared<B>) -> Event
+        requires alone { IsAlone self.old.index false shared.old.seats.items shared.old.global.values }
+        requires processed { self.old.processed < 2 ^ 29 }
+        ensures makes { Makes (arm_ring stay (desk_of self.old) (things_of self.old.index shared.old).word) result self.new }
+        ensures goes { Goes self.old self.new }
+        ensures word { TurnsWord self.old.index shared.old shared.new (arm_ring stay (desk_of self.old) (things_of self.old.index shared.old).word).thing }
+    {
+        let found = shared.seats[self.index].mailbox.waker.arm(WaitTarget::Ring);
+        let next = if found.still_idle(self.processed) {
+            InRingWait::EnterRing
+        } else {
+            InRingWait::DisarmRing {
+                next: AfterWait::Serve,
+            }
+        };
+        self.place = Place::RingWait(next, stay);
+        Event::Turn
+    }
+
+    /// Enters, and where nothing is there goes on to sleep. After an enter that took nothing it doesn't sleep.
+    fn enter_ring<B: Drop>(&mut self, stay: Stay, shared: &mut Shared<B>) -> Event
+        requires known { AreKnown self.old.names.staged.items shared.old.requests.items }
+        ensures enters { Enters self.old shared.old result (record self.new { place = self.old.place }) shared.new }
+        ensures goes { self.new.place ≡ after_enter_of result (is_quiet (driver_of self.new).ring) stay }
+    {
+        let event = self.enter(shared);
+        self.place = self.after_enter(event, stay);
+        event
+    }
+
+    /// What follows the enter of a wait.
+    fn after_enter(&self, event: Event, stay: Stay) -> Place
+        ensures { result ≡ after_enter_of event (is_quiet (driver_of self.now).ring) stay }
+    {
+        let next = match event {
+            Event::Enter if !self.home.driver.has_completion() => InRingWait::SleepOnRing,
+            _ => InRingWait::DisarmRing {
+                next: AfterWait::Begin,
+            },
+        };
+        Place::RingWait(next, stay)
+    }
+
+    /// Sleeps where still nothing is there and no deadline is due.
+    fn sleep_on_ring<B: Scripted + Drop>(&mut self, stay: Stay, shared: &mut Shared<B>) -> Event
+        requires sound { SoundAt (Place.RingWait InRingWait.SleepOnRing stay) self.old shared.old }
+        ensures steps { Steps B.left B.spot self.old shared.old result self.new shared.new }
+    {
+        let next = AfterWait::Begin;
+        self.place = Place::RingWait(InRingWait::DisarmRing { next }, stay);
+        if self.home.driver.has_completion() {
+            return Event::Turn;
+        }
+        self.sleep(shared)
+    }
+
+    /// Sleeps until the first moment at which something is due, unless that has come.
+    pub(crate) fn sleep<B: Drop>(&mut self, shared: &mut Shared<B>) -> Event
+        requires told { HasToldDue self.old }
+        requires there { self.old.index < length shared.old.seats.items }
+        ensures sleeps { Sleeps self.old shared.old result shared.new }
+        ensures same { self.new ≡ self.old }
+    {
+        let until = self.next_moment();
+        let rest = match until {
+            Some(moment) if moment <= shared.clock => return Event::Turn,
+            Some(moment) => Rest::Until(moment),
+            None => Rest::Forever,
+        };
+        shared.seats[self.index].rest = rest;
+        Event::Sleep { until }
+    }
+
+    /// Takes the wait bits out of the wake word.
+    fn disarm_ring<B: Drop>(&mut self, stay: Stay, next: AfterWait, shared: &mut Shared<B>) -> Event
+        requires alone { IsAlone self.old.index true shared.old.seats.items shared.old.global.values }
+        ensures makes { Makes (disarm_ring stay next (desk_of self.old) (things_of self.old.index shared.old).word) result self.new }
+        ensures goes { Goes self.old self.new }
+        ensures word { TurnsWord self.old.index shared.old shared.new (disarm_ring stay next (desk_of self.old) (things_of self.old.index shared.old).word).thing }
+    {
+        let _found = shared.seats[self.index].mailbox.waker.disarm();
+        self.place = after_wait(stay, next);
+        Event::Turn
+    }
+}
+
+/// What follows a wait on the ring. A closing worker has no bit to withdraw, and serves again.
+fn after_wait(stay: Stay, next: AfterWait) -> Place
+    ensures { result ≡ place_after_wait stay next }
+{
+    match stay {
+        Stay::Turn => Place::Withdraw(next),
+        Stay::Closing => serve(AfterService::Finish),
+    }
+}

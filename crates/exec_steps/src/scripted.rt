@@ -1,0 +1,31 @@
+//! Bodies that run scripts.
+//!
+//! The abstract machine knows tasks by their scripts: which one, and how far. A body shows where it stands by what it is
+//! left to do and by what it is told next. So a body whose act got no memory stands where it stood, though it has made
+//! the act: it will be told that it was refused.
+
+use exec_task::body::Body;
+
+/// A body that runs a script.
+pub trait Scripted: Body {
+    ghost use Rattle.std.specs.Prelude.{ℕ, List, Option};
+    ghost use Rattle.exec_task.specs.declared.body.Said.{Said};
+    ghost use Rattle.exec_machine.specs.Progress.{Plan};
+    ghost use Rattle.exec_steps.specs.Spots.{Spot};
+    ghost use Rattle.exec_steps.specs.Scripts.{IsAnswered, Plays};
+
+    // It runs the script of a task of this plan.
+    ghost runs: { Self.Left → Plan → Type 0 };
+
+    // The requests that it holds once it is told this next, the oldest first.
+    ghost holds: { Self.Left → Option Said → List ℕ };
+
+    // Where it stands once it is told this next. Where nothing is known of that yet, it waits.
+    ghost spot: { Self.Left → Option Said → Spot };
+
+    // What it is told changes that only where there was no memory.
+    ghost answered: { IsAnswered spot };
+
+    // It does what its script says.
+    ghost plays: { Plays runs holds spot Self.gives };
+}

@@ -1,0 +1,45 @@
+//! One step of a worker: its place says which.
+
+ghost use Rattle.std.specs.Prelude.{IfOk, OnErr};
+ghost use Rattle.exec_steps.specs.{Acting.{PerformsOne, StepsOf}, Phased.IsGoing, Sound.Sound, Works.Same};
+
+use crate::parts::shared::Shared;
+use crate::parts::worker::Worker;
+use crate::scripted::Scripted;
+use exec_machine::event::Event;
+use exec_moves::place::Place;
+use std::alloc::{AllocError, Global};
+
+impl Worker {
+    /// Takes the next step of the worker, which must not have ended, and answers what happens. On Err nothing that can be
+    /// seen has changed.
+    pub fn step<B: Scripted + Drop>(
+        &mut self,
+        alloc: Global,
+        shared: &mut Shared<B>,
+    ) -> Result<Event, AllocError>
+        requires sound { Sound self.old shared.old }
+        requires performs { PerformsOne B.left B.runs B.holds self.old.root shared.old }
+        requires going { IsGoing self.old.index shared.old.seats.items }
+        ensures steps { IfOk result (λ event. StepsOf B.left B.runs B.holds B.spot self.old shared.old event self.new shared.new) }
+        ensures same { OnErr result (Same B.left B.spot self.old shared.old self.new shared.new) }
+    {
+        match self.place {
+            Place::BeginTurn => Ok(self.begin_turn()),
+            Place::Pick(at) => Ok(self.pick(at, shared)),
+            Place::TakeRootFlag => Ok(self.take_root_flag()),
+            Place::Poll(task, at) => self.poll(alloc, task, at, shared),
+            Place::Callbacks(at, then) => Ok(self.callbacks(at, then, shared)),
+            Place::Loads(at, round) => Ok(self.load(at, round, shared)),
+            Place::Service(at, service) => Ok(self.service(at, service, shared)),
+            Place::Mail(at) => Ok(self.mail(at, shared)),
+            Place::TestForWork { found } => Ok(self.test_for_work(found)),
+            Place::ReadClock => Ok(self.read_clock(shared.clock)),
+            Place::Look(at) => Ok(self.look(at, shared)),
+            Place::RingWait(at, stay) => Ok(self.wait_on_ring(at, stay, shared)),
+            Place::WordWait(at) => Ok(self.wait_on_word(at, shared)),
+            Place::Withdraw(then) => Ok(self.withdraw(then, &mut shared.idle)),
+            Place::Closing(at) => Ok(self.close_down(alloc, at, shared)),
+        }
+    }
+}

@@ -1,0 +1,187 @@
+//! The wait of a worker without requests: on its wake word.
+//!
+//! It looks for a while, unless a deadline is near or it has no budget for that; each look is two loads, first for
+//! another batch of messages and then for a latch. Then the sleeping bit goes in, and a last look follows before the
+//! sleep. Whoever signals after the bit went in rouses the worker.
+
+ghost use Rattle.std.specs.Prelude.{◌≡◌, ◌<◌, ◌≤◌, ◌^◌, true, false, None, Option, ℕ, IfSome};
+ghost use Rattle.exec_moves.specs.Wait.{spin_on_batch, spin_on_latch, take_latch, arm_word, after_sleep, disarmed};
+ghost use Rattle.exec_steps.specs.{View.{driver_of, desk_of, things_of}, Tests.{HasToldDue, IsNextMoment, is_within, word_wait_of, slept_after}, Sound.{SoundAt, IsAlone}, Works.{Makes, Goes, TurnsWord, Steps}};
+
+use crate::parts::shared::Shared;
+use crate::parts::worker::Worker;
+use crate::scripted::Scripted;
+use exec_machine::event::Event;
+use exec_moves::place::{AfterWait, InWordWait, Place};
+use exec_words::word::{PureWord, WaitTarget};
+
+impl Worker {
+    /// The first step of a wait on the wake word: a look, where there is a budget for some and no deadline is near.
+    pub(crate) fn word_wait(&mut self, longest_spin: u64) -> Place
+        requires told { HasToldDue self.old }
+        ensures place { (moment : Option ℕ) × IsNextMoment self.old moment × (result ≡ word_wait_of longest_spin moment self.old) }
+        ensures same { self.new ≡ self.old }
+    {
+        let left = self.spinner.budget();
+        let is_near = self.is_near(longest_spin);
+        if left > 0 && !is_near {
+            Place::WordWait(InWordWait::SpinOnBatch { left })
+        } else {
+            Place::WordWait(InWordWait::ArmWord)
+        }
+    }
+
+    /// Whether a deadline is at most so many microseconds after what it last read off the clock.
+    fn is_near(&mut self, longest_spin: u64) -> bool
+        requires told { HasToldDue self.old }
+        ensures near { (moment : Option ℕ) × IsNextMoment self.old moment × (result ≡ is_within longest_spin self.old.moments.read moment) }
+        ensures same { self.new ≡ self.old }
+    {
+        match self.next_moment() {
+            Some(moment) => {
+                moment.saturating_sub(self.moments.read).div_ceil(1000) <= longest_spin
+            }
+            None => false,
+        }
+    }
+
+    /// Takes the next step of a wait on the wake word.
+    pub(crate) fn wait_on_word<B: Scripted + Drop>(
+        &mut self,
+        at: InWordWait,
+        shared: &mut Shared<B>,
+    ) -> Event
+        requires sound { SoundAt (Place.WordWait at) self.old shared.old }
+        ensures steps { Steps B.left B.spot self.old shared.old result self.new shared.new }
+    {
+        match at {
+            InWordWait::SpinOnBatch { left } => {
+                self.spin_on_batch(left, &shared.seats[self.index].mailbox.waker)
+            }
+            InWordWait::SpinOnLatch { left } => {
+                self.spin_on_latch(left, &shared.seats[self.index].mailbox.waker)
+            }
+            InWordWait::TakeLatch => self.take_latch(shared),
+            InWordWait::ArmWord => self.arm_word(shared),
+            InWordWait::SleepOnWord => self.sleep_on_word(shared),
+            InWordWait::DisarmWord => self.disarm_word(shared),
+        }
+    }
+
+    /// Looks for another batch.
+    fn spin_on_batch(&mut self, left: u64, word: &PureWord) -> Event
+        requires processed { self.old.processed < 2 ^ 29 }
+        ensures makes { Makes (spin_on_batch left (desk_of self.old) word.now) result self.new }
+        ensures same { self.new ≡ record self.old { place = self.new.place; spinner = self.new.spinner } }
+    {
+        self.place = Place::WordWait(if self.has_mail(word) {
+            self.spinner.on_hit();
+            InWordWait::TakeLatch
+        } else {
+            InWordWait::SpinOnLatch { left }
+        });
+        Event::Turn
+    }
+
+    /// Looks for a latch.
+    fn spin_on_latch(&mut self, left: u64, word: &PureWord) -> Event
+        ensures makes { Makes (spin_on_latch left (desk_of self.old) word.now) result self.new }
+        ensures same { self.new ≡ record self.old { place = self.new.place; spinner = self.new.spinner } }
+    {
+        self.place = Place::WordWait(if word.latch {
+            self.spinner.on_hit();
+            InWordWait::TakeLatch
+        } else if left > 1 {
+            InWordWait::SpinOnBatch { left: left - 1 }
+        } else {
+            self.spinner.on_miss();
+            InWordWait::ArmWord
+        });
+        Event::Turn
+    }
+
+    /// Takes the latch out of the wake word.
+    fn take_latch<B: Drop>(&mut self, shared: &mut Shared<B>) -> Event
+        requires alone { IsAlone self.old.index false shared.old.seats.items shared.old.global.values }
+        ensures makes { Makes (take_latch (desk_of self.old) (things_of self.old.index shared.old).word) result self.new }
+        ensures goes { Goes self.old self.new }
+        ensures word { TurnsWord self.old.index shared.old shared.new (take_latch (desk_of self.old) (things_of self.old.index shared.old).word).thing }
+    {
+        let _found = shared.seats[self.index].mailbox.waker.consume_signal();
+        self.place = Place::Withdraw(AfterWait::Begin);
+        Event::Turn
+    }
+
+    /// Puts the sleeping bit into the wake word.
+    fn arm_word<B: Drop>(&mut self, shared: &mut Shared<B>) -> Event
+        requires alone { IsAlone self.old.index false shared.old.seats.items shared.old.global.values }
+        requires processed { self.old.processed < 2 ^ 29 }
+        ensures makes { Makes (arm_word (desk_of self.old) (things_of self.old.index shared.old).word) result self.new }
+        ensures same { self.new ≡ record self.old { place = self.new.place; slept = None } }
+        ensures word { TurnsWord self.old.index shared.old shared.new (arm_word (desk_of self.old) (things_of self.old.index shared.old).word).thing }
+    {
+        let word = &mut shared.seats[self.index].mailbox.waker;
+        let found = word.arm(WaitTarget::Sleeping);
+        self.slept = None;
+        self.place = Place::WordWait(if found.still_idle(self.processed) {
+            InWordWait::SleepOnWord
+        } else {
+            InWordWait::DisarmWord
+        });
+        Event::Turn
+    }
+
+    /// A worker that slept and was signalled learns how long it slept.
+    fn wake_up(&mut self, latch: bool, clock: u64)
+        requires asleep { IfSome self.old.slept (λ moment. moment ≤ clock) }
+        ensures desk { desk_of self.new ≡ after_sleep clock latch self.old.slept (desk_of self.old) }
+        ensures same { self.new ≡ record self.old { spinner = self.new.spinner; slept = None } }
+    {
+        match self.slept.take() {
+            Some(slept) if latch => self.spinner.on_wake(clock - slept),
+            _ => {}
+        }
+    }
+
+    /// Sleeps where the word is as it was left and no deadline is due.
+    fn sleep_on_word<B: Scripted + Drop>(&mut self, shared: &mut Shared<B>) -> Event
+        requires sound { SoundAt (Place.WordWait InWordWait.SleepOnWord) self.old shared.old }
+        ensures steps { Steps B.left B.spot self.old shared.old result self.new shared.new }
+    {
+        self.place = Place::WordWait(InWordWait::DisarmWord);
+        if !shared.seats[self.index]
+            .mailbox
+            .waker
+            .still_idle(self.processed)
+        {
+            return Event::Turn;
+        }
+        let event = self.sleep(shared);
+        self.note_sleep(&event, shared.clock);
+        event
+    }
+
+    /// Where it sleeps, the moment at which it went to sleep is kept.
+    fn note_sleep(&mut self, event: &Event, clock: u64)
+        ensures { self.new ≡ record self.old { slept = slept_after event.now clock self.old.slept } }
+    {
+        if let Event::Sleep { .. } = event {
+            self.slept = Some(clock);
+        }
+    }
+
+    /// Takes the wait bits out of the wake word.
+    fn disarm_word<B: Drop>(&mut self, shared: &mut Shared<B>) -> Event
+        requires alone { IsAlone self.old.index true shared.old.seats.items shared.old.global.values }
+        requires asleep { IfSome self.old.slept (λ moment. moment ≤ shared.old.clock) }
+        ensures event { result ≡ Event.Turn }
+        ensures desk { desk_of self.new ≡ record (after_sleep shared.old.clock (things_of self.old.index shared.old).word.latch self.old.slept (desk_of self.old)) { place = Place.Withdraw AfterWait.Begin } }
+        ensures same { self.new ≡ record self.old { place = self.new.place; spinner = self.new.spinner; slept = None } }
+        ensures word { TurnsWord self.old.index shared.old shared.new (disarmed (things_of self.old.index shared.old).word) }
+    {
+        let found = shared.seats[self.index].mailbox.waker.disarm();
+        self.wake_up(found.latch, shared.clock);
+        self.place = Place::Withdraw(AfterWait::Begin);
+        Event::Turn
+    }
+}

@@ -1,0 +1,5 @@
+//! Tests of the reader of traces, apart from its crate, so that it is proved once.
+#![tactic(auto)]
+
+#[cfg(test)]
+mod read_trace;
