@@ -1,26 +1,15 @@
 -- Buckets and active entries, as lists grow and shrink.
-use Rattle.std.proofs.Common.{◌≡◌, ℕ, ◌+◌, ◌-◌, ◌<◌, ◌≤◌, Bool, true, false, not, cond, if◌then◌else◌, ◌==◌, List, [], ◌∷◌, ◌++◌, length, take, get_or, map, filter, remove, refl, arith, inl, inr, zero, suc, sym, nat_lt, ◌%◌, Result, Ok, Err, IfOk, IfErr, MatchResult}
+use Rattle.std.proofs.Common.{◌≡◌, ℕ, ◌+◌, ◌-◌, ◌<◌, ◌≤◌, true, not, cond, if◌then◌else◌, ◌==◌, List, [], ◌∷◌, ◌++◌, length, get_or, filter, remove, refl, arith, inl, inr, zero, suc, sym, nat_lt, ◌%◌, Result, Ok, Err, IfOk, IfErr, MatchResult}
 use Rattle.std.proofs.lemmas.Bool.{cases_lt, cases_eq, lt-ltb}
 use Rattle.std.specs.Result.{is_ok}
-use Rattle.std.specs.List.{insert}
+use Rattle.std.specs.List.{insert, remove_range}
+use Rattle.std.specs.Prelude.{slice_range}
 use Rattle.std.proofs.lemmas.Grind.{common_steps}
-use Rattle.std.proofs.lemmas.List.{map-append}
-use Rattle.std.proofs.lemmas.List.Elements.{filter-append}
 use Rattle.std.proofs.lemmas.List.Sums.{sum_by-insert, sum_by-remove, sum_by-le}
-use Rattle.std.proofs.lemmas.List.{take_more, get_or_default}
+use Rattle.std.proofs.lemmas.List.{get_or_default}
 use Rattle.std.proofs.lemmas.List.Edits.{get_or-remove_below, get_or-remove_above, length-remove}
 use Rattle.exec_time.specs.{Entries.{is_in_slot, bucket_in, active_in, IsRising, IsPlaceOf}, declared.entries.Entry.Entry}
 use Rattle.exec_time.proofs.Ranges.{active_among}
-
--- one more entry
-pub bucket_in_push : (entries : List Entry) (slots slot : ℕ) (e : Entry) → bucket_in (entries ++ e ∷ []) slots slot ≡ bucket_in entries slots slot ++ (if is_in_slot slots slot e then e.id ∷ [] else [])
-unfolding bucket_in
-bucket_in_push entries slots slot e =
-    rw (filter-append (is_in_slot slots slot) entries (e ∷ []), map-append) (one (is_in_slot slots slot e))
-  where
-    one : (b : Bool) → map (λ (x : Entry). x.id) (filter (is_in_slot slots slot) entries) ++ map (λ (x : Entry). x.id) (cond b (e ∷ []) []) ≡ map (λ (x : Entry). x.id) (filter (is_in_slot slots slot) entries) ++ (if b then e.id ∷ [] else [])
-    one true = refl
-    one false = refl
 
 -- the entries of one slot discarded
 pub bucket_in_discard : (entries : List Entry) (slots gone slot : ℕ) → bucket_in (filter (λ e. not (is_in_slot slots gone e)) entries) slots slot ≡ (if gone == slot then [] else bucket_in entries slots slot)
@@ -64,6 +53,42 @@ none_there (e ∷ es) slots slot (suc i) below past =
     let here : (e.tick % slots) < slot = below 0 e (omega arith) in
     grind (arith, common_steps, here, none_there es slots slot i (λ k d less. below (suc k) d (omega arith)) (λ k d low inside. past (suc k) d (omega arith) (omega arith)))
 
+-- where the entries of a slot stand: from i up to j, after those below and before those above
+pub record StandsIn (entries : List Entry) (slots slot i j : ℕ) : Type 0 where
+  pub ordered : i ≤ j
+  pub inside : slice_range entries i j ≡ filter (is_in_slot slots slot) entries
+  pub outside : remove_range entries i j ≡ filter (λ e. not (is_in_slot slots slot e)) entries
+
+stands_in : (entries : List Entry) (slots slot i j : ℕ) → i ≤ j → ((k : ℕ) (d : Entry) → k < i → ((get_or entries k d).tick % slots) < slot) → ((k : ℕ) (d : Entry) → i ≤ k → k < length entries → slot ≤ (get_or entries k d).tick % slots) → ((k : ℕ) (d : Entry) → k < j → (get_or entries k d).tick % slots ≤ slot) → ((k : ℕ) (d : Entry) → j ≤ k → k < length entries → slot < ((get_or entries k d).tick % slots)) → StandsIn entries slots slot i j
+stands_in [] slots slot i j le below from upto past =
+    record { ordered = le; inside = grind (arith, common_steps); outside = grind (arith, common_steps) }
+stands_in (e ∷ es) slots slot zero zero le below from upto past =
+    let above : slot < (e.tick % slots) = past 0 e (omega arith) (omega arith) in
+    let rest = stands_in es slots slot 0 0 le (λ k d less. absurd (omega arith)) (λ k d low inside. from (suc k) d (omega arith) (omega arith)) (λ k d less. absurd (omega arith)) (λ k d low inside. past (suc k) d (omega arith) (omega arith)) in
+    record { ordered = le; inside = grind (arith, common_steps, above, rest.inside); outside = grind (arith, common_steps, above, rest.outside) }
+stands_in (e ∷ es) slots slot zero (suc j) le below from upto past =
+    let low : slot ≤ e.tick % slots = from 0 e (omega arith) (omega arith) in
+    let high : e.tick % slots ≤ slot = upto 0 e (omega arith) in
+    let here : (e.tick % slots) ≡ slot = omega arith in
+    let rest = stands_in es slots slot 0 j (omega arith) (λ k d less. absurd (omega arith)) (λ k d low inside. from (suc k) d (omega arith) (omega arith)) (λ k d less. upto (suc k) d (omega arith)) (λ k d low inside. past (suc k) d (omega arith) (omega arith)) in
+    record { ordered = le; inside = grind (arith, common_steps, here, rest.inside); outside = grind (arith, common_steps, here, rest.outside) }
+stands_in (e ∷ es) slots slot (suc i) zero le below from upto past = absurd (omega arith)
+stands_in (e ∷ es) slots slot (suc i) (suc j) le below from upto past =
+    let under : (e.tick % slots) < slot = below 0 e (omega arith) in
+    let rest = stands_in es slots slot i j (omega arith) (λ k d less. below (suc k) d (omega arith)) (λ k d low inside. from (suc k) d (omega arith) (omega arith)) (λ k d less. upto (suc k) d (omega arith)) (λ k d low inside. past (suc k) d (omega arith) (omega arith)) in
+    record { ordered = le; inside = grind (arith, common_steps, under, rest.inside); outside = grind (arith, common_steps, under, rest.outside) }
+
+-- they stand between where those below end and where those up to the slot end
+pub stands_between : (entries : List Entry) (slots slot i j : ℕ) → i ≤ length entries → ((k : ℕ) (d : Entry) → k < i → ((get_or entries k d).tick % slots) < slot) → ((k : ℕ) (d : Entry) → i ≤ k → k < length entries → slot ≤ (get_or entries k d).tick % slots) → ((k : ℕ) (d : Entry) → k < j → (get_or entries k d).tick % slots ≤ slot) → ((k : ℕ) (d : Entry) → j ≤ k → k < length entries → slot < ((get_or entries k d).tick % slots)) → StandsIn entries slots slot i j
+stands_between entries slots slot i j within below from upto past =
+    elim (cases_lt j i) [
+      | inl back ↦ absurd (let under = below j none back in let over = past j none (omega arith) (omega arith) in omega (arith, under, over))
+      | inr le ↦ stands_in entries slots slot i j le below from upto past
+    ]
+  where
+    none : Entry
+    none = record { tick = 0; id = record { index = 0; generation = 0 } }
+
 -- one more active tick
 pub active_in_insert : (ticks : List ℕ) (i tick t : ℕ) → active_in (insert ticks i tick) t ≡ (if t == tick then active_in ticks t + 1 else active_in ticks t)
 unfolding active_in
@@ -73,10 +98,6 @@ active_in_insert ticks i tick t = grind (arith, common_steps, sum_by-insert (λ 
 pub active_in_remove : (ticks : List ℕ) (i tick t : ℕ) → i < length ticks → get_or ticks i tick ≡ tick → active_in (remove ticks i) t ≡ (if t == tick then active_in ticks t - 1 else active_in ticks t)
 unfolding active_in
 active_in_remove ticks i tick t h e = grind (arith, common_steps, sum_by-remove (λ x. cond (x == t) 1 0) ticks i tick h)
-
--- the entries up to the next one
-pub bucket_in_more : (entries : List Entry) (slots slot i : ℕ) (d : Entry) → i < length entries → bucket_in (take (i + 1) entries) slots slot ≡ bucket_in (take i entries) slots slot ++ (if is_in_slot slots slot (get_or entries i d) then (get_or entries i d).id ∷ [] else [])
-bucket_in_more entries slots slot i d h = rw (take_more entries i d) (bucket_in_push (take i entries) slots slot (get_or entries i d))
 
 -- what holds of each active tick, with one more
 pub active_below_more : (ticks ticks' : List ℕ) (tick : ℕ) (f : ℕ → ℕ) (limit : ℕ) → ((t : ℕ) → active_in ticks' t ≡ (if t == tick then active_in ticks t + 1 else active_in ticks t)) → ((t : ℕ) → 0 < active_in ticks t → f t < limit) → f tick < limit → (t : ℕ) → 0 < active_in ticks' t → f t < limit

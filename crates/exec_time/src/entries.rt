@@ -1,9 +1,10 @@
 //! The entries of a wheel: what is scheduled, by slot, and in a slot in order of scheduling.
 //!
 //! The bucket of a slot is the entries whose tick falls into it, in their order. Since they stand by slot, one is put in
-//! behind its bucket, and whether a slot has any is found by halving.
+//! behind its bucket, and where a bucket begins and ends is found by halving.
 
-ghost use Rattle.std.specs.Prelude.{◌≡◌, ℕ, ◌+◌, ◌<◌, ◌≤◌, ◌%◌, [], ◌∷◌, ◌++◌, false, length, filter, not, vec_len, slice_index_or, ◌==◌, if◌then◌else◌};
+ghost use Rattle.std.specs.Prelude.{◌≡◌, ℕ, ◌+◌, ◌<◌, ◌≤◌, ◌%◌, [], ◌∷◌, ◌++◌, false, length, filter, not, vec_len, slice_index_or, ◌==◌, if◌then◌else◌, slice_range};
+ghost use Rattle.std.specs.List.{remove_range};
 ghost use Rattle.std.specs.Vec.{vec_capacity};
 ghost use Rattle.std.specs.VecDeque.{deque_len, deque_capacity};
 ghost use Rattle.exec_time.specs.Entries.{bucket_in, is_in_slot, IsBySlot};
@@ -11,6 +12,7 @@ ghost use Rattle.exec_time.specs.Entries.{bucket_in, is_in_slot, IsBySlot};
 use crate::wheel::Tick;
 use exec_base::slab::Id;
 use std::collections::VecDeque;
+use std::ops::Range;
 
 /// An id that is scheduled at a tick.
 #[derive(Clone, Copy)]
@@ -24,14 +26,13 @@ pub(crate) struct Entry {
 /// Appends the ids of the entries in this slot to those that are ready.
 pub(crate) fn collect(entries: &[Entry], slots: u64, slot: u64, ready: &mut VecDeque<Id>)
     requires has_slots { 0 < slots }
+    requires by_slot { IsBySlot slots entries.now }
     requires room { deque_len ready.old + length entries.now ≤ deque_capacity ready.old }
     ensures ids { ready.new.items ≡ ready.old.items ++ bucket_in entries.now slots slot }
     ensures capacity { deque_capacity ready.new ≡ deque_capacity ready.old }
 {
-    for entry in entries {
-        if entry.tick % slots == slot {
-            ready.push_back_reserved(entry.id);
-        }
+    for entry in &entries[bucket_of(entries, slots, slot)] {
+        ready.push_back_reserved(entry.id);
     }
 }
 
@@ -44,6 +45,32 @@ fn end_of(entries: &[Entry], slots: u64, slot: u64) -> usize
     ensures past { (k : ℕ) (d : _) → result ≤ k → k < length entries.now → slot < (slice_index_or entries.now k d).tick % slots }
 {
     entries.partition_point(|entry| entry.tick % slots <= slot)
+}
+
+/// Where the entries of the slots below this one end.
+fn start_of(entries: &[Entry], slots: u64, slot: u64) -> usize
+    requires has_slots { 0 < slots }
+    requires by_slot { IsBySlot slots entries.now }
+    ensures within { result ≤ length entries.now }
+    ensures before { (k : ℕ) (d : _) → k < result → (slice_index_or entries.now k d).tick % slots < slot }
+    ensures past { (k : ℕ) (d : _) → result ≤ k → k < length entries.now → slot ≤ (slice_index_or entries.now k d).tick % slots }
+{
+    match slot.checked_sub(1) {
+        Some(below) => end_of(entries, slots, below),
+        None => 0,
+    }
+}
+
+/// Where the entries of this slot stand.
+fn bucket_of(entries: &[Entry], slots: u64, slot: u64) -> Range<usize>
+    requires has_slots { 0 < slots }
+    requires by_slot { IsBySlot slots entries.now }
+    ensures ordered { result.start ≤ result.end }
+    ensures within { result.end ≤ length entries.now }
+    ensures inside { slice_range entries.now result.start result.end ≡ filter (is_in_slot slots slot) entries.now }
+    ensures outside { remove_range entries.now result.start result.end ≡ filter (λ entry. not (is_in_slot slots slot entry)) entries.now }
+{
+    start_of(entries, slots, slot)..end_of(entries, slots, slot)
 }
 
 /// Whether a slot has any entry.
@@ -83,7 +110,8 @@ pub(crate) fn discard(entries: &mut Vec<Entry>, slots: u64, slot: u64)
     ensures fewer { vec_len entries.new ≤ vec_len entries.old }
     ensures capacity { vec_capacity entries.new ≡ vec_capacity entries.old }
 {
-    entries.retain(|entry| entry.tick % slots != slot);
+    let bucket = bucket_of(entries, slots, slot);
+    entries.drain(bucket);
 }
 
 /// Discards the entries in this slot unless one of them is active.

@@ -1,10 +1,9 @@
-use Rattle.std.proofs.Common.{◌≡◌, ◌≤◌, ◌+◌, ◌++◌, take}
+use Rattle.std.proofs.Common.{◌≡◌, ◌≤◌, ◌+◌, ◌++◌, take, map}
 use Rattle.std.specs.VecDeque.{deque_len, deque_capacity}
-use Rattle.exec_time.specs.Entries.{bucket_in}
 use Rattle.exec_time.proofs.entries.collect.Given as goal
 
 abbrev pub invariant-loop-entry : goal.invariant-loop-entry
 invariant-loop-entry l =
-    (l.ready.items ≡ l.initial.ready.items ++ bucket_in (take l.entry-index l.entries) l.slots l.slot)
+    (l.ready.items ≡ l.initial.ready.items ++ map (λ entry. entry.id) (take l.entry-index l.entry-items))
     × (deque_len l.ready ≤ deque_len l.initial.ready + l.entry-index)
     × (deque_capacity l.ready ≡ deque_capacity l.initial.ready)
