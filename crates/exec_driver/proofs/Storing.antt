@@ -1,6 +1,6 @@
 -- Room in a store that was made, and given up again.
 use Rattle.std.proofs.Common.{◌≡◌, ℕ, ◌+◌, ◌-◌, eqb, Bool, true, false, cond, refl, ap, ◌∙◌, arith}
-use Rattle.exec_request.specs.{Windows.cancel_window, declared.window.{Opcode.{Opcode, TheVariants.{Send, Recv, Read, Write, Sync, Connect, Poll, Cancel, Wake}}, Window.Window}}
+use Rattle.exec_request.specs.{Windows.{cancel_window, wake_window}, declared.window.{Opcode.{Opcode, TheVariants.{Send, Recv, Read, Write, Sync, Connect, Poll, Cancel, Wake}}, Window.Window}}
 use Rattle.exec_ring.specs.{Sockets.SocketState, Stores.{SameFiles, Same, Reserves, Releases, MakesStretch, with_room, without_room, socket_of}, declared.store.Store.Store}
 
 same_files : (a b c : Store) → SameFiles a b → SameFiles b c → SameFiles a c
@@ -17,13 +17,17 @@ pub same_both : (a b c : Store) → Same a b → Same b c → Same a c
 same_both a b c one other =
     record { sockets = λ s. other.sockets s ∙ one.sockets s; files = same_files a b c one.files other.files }
 
--- the window of a cancel wants no room
+-- the windows of a cancel and of the wake poll want no room
 either_way : (b : Bool) (s : SocketState) → cond b s s ≡ s
 either_way true s = refl
 either_way false s = refl
 
 pub reserved_none : (user_data : ℕ) (a b : Store) → Reserves (cancel_window user_data) a b → Same a b
 reserved_none user_data a b one =
+    record { sockets = λ s. one.sockets s ∙ either_way (eqb s 0) (socket_of a s); files = one.files }
+
+pub reserved_wake : (a b : Store) → Reserves wake_window a b → Same a b
+reserved_wake a b one =
     record { sockets = λ s. one.sockets s ∙ either_way (eqb s 0) (socket_of a s); files = one.files }
 
 pub released_none : (user_data : ℕ) (a b : Store) → Releases (cancel_window user_data) a b → Same a b

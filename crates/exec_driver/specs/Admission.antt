@@ -1,5 +1,5 @@
 -- What an admission does, what it needs, and what it answers where it can't be made.
-use Rattle.std.specs.Prelude.{◌≡◌, ℕ, true, ◌+◌, ◌≤◌, List, length}
+use Rattle.std.specs.Prelude.{◌≡◌, ℕ, true, ◌+◌, ◌*◌, ◌≤◌, List, length}
 use Rattle.exec_base.specs.{Slab.Slab, declared.slab.InsertError.{InsertError, TheVariants.{Full, NoMemory}}}
 use Rattle.exec_request.specs.{Requests.gate_of, declared.request.Request.Request}
 use Rattle.exec_waiters.specs.{States.{is_full, pending_count}, declared.{observer.Observer.Observer, waiter.{Entry.Entry, Refused.Refused}, waiter_id.WaiterId.WaiterId}}
@@ -23,6 +23,10 @@ module _ {S F : Type 0} where
   -- the ring has two places more than the requests that aren't over, their cancels and the wake poll need
   abbrev pub HasTwoMore : Driving S F → Type 0
   HasTwoMore d = pending_count d.requests + count_of is_uncancelled d.requests + length d.lists.cancels + d.cancels_under_way + 3 ≤ d.ring.places
+
+  -- the ring has no more places than two for each request that isn't over, one for each cancel under way and one more
+  abbrev pub HasFewSpare : Driving S F → Type 0
+  HasFewSpare d = d.ring.places ≤ pending_count d.requests * 2 + d.cancels_under_way + 1
 
   -- The request and its observer are back: no request can be named any more, or there was no memory, be it in the slab,
   -- the ring, the line of the open, the lists, the wheel or what is to be told.

@@ -26,7 +26,7 @@
 //! nanoseconds.
 
 ghost use Rattle.std.specs.Prelude.{◌≡◌, ℕ, ◌+◌, ◌==◌, not, [], IfOk, IfErr, IsTrue, IsSome, ◌↔◌};
-ghost use Rattle.exec_ring.specs.{Kernels.{with_wake, is_quiet}, Rings.fresh as fresh_ring};
+ghost use Rattle.exec_ring.specs.{Kernels.{with_wake, is_quiet}, Rings.fresh as fresh_ring, Stores.Same};
 ghost use Rattle.exec_time.specs.{Layouts.slots_of, Wheel.{IsSettled, next_moment}};
 ghost use Rattle.exec_waiters.specs.States.{pending_count};
 ghost use Rattle.exec_driver.specs.{Driving.{seen, has_pending, may_stage_one, is_full}, Lists.has_first, Punctual.IsPunctual, Steps.IsFresh};
@@ -103,7 +103,7 @@ impl<R: Ring, S, F> Model for Driver<R, S, F> {
 impl<R: Ring + Drop, S: Drop, F: Drop> Driver<R, S, F> {
     /// A driver without requests, over a ring in which nothing happened. No deadline may be further ahead than
     /// `horizon`, and each is rounded up to a `tick` from the moment `now` on; the caller must have a layout that
-    /// `TimeoutWheel::validate_layout` takes. Err with the ring only for want of memory.
+    /// `TimeoutWheel::validate_layout` takes. Err with the ring only for want of memory. The store stays as it is.
     pub fn new(
         alloc: Global,
         mut ring: R,
@@ -117,6 +117,7 @@ impl<R: Ring + Drop, S: Drop, F: Drop> Driver<R, S, F> {
         ensures made { IfOk result (λ d. IsFresh (seen d) (R.state ring).size horizon tick now) }
         ensures punctual { IfOk result (λ d. IsPunctual (seen d)) }
         ensures ring { IfErr result (λ back. R.state back ≡ R.state ring) }
+        ensures store { Same store.old store.new }
     {
         let limit = ring.room();
         let Ok(wheel) = TimeoutWheel::new(alloc, horizon, tick, now) else {

@@ -5,7 +5,7 @@ ghost use Rattle.exec_base.specs.Slab.{next_id, live_count, IsPast, TakesId};
 ghost use Rattle.exec_request.specs.Requests.{gate_of};
 ghost use Rattle.exec_ring.specs.{Rings.taken_places, Stores.{Same, Reserves, Releases}};
 ghost use Rattle.exec_waiters.specs.{States.{suits, gate_in, pending_count, is_full}, Told.{HasPlaces, Tells, nothing_told}};
-ghost use Rattle.exec_driver.specs.{Opens.{open_named, with_named, placed, displaced, joined}, Driving.{seen, request_at}, Punctual.IsPunctual, Steps.{placed_at, told_at_admission, newcomer, plainly_written, footprint_of, widened, taken_in, is_late}, Admission.{IsRefused, Admits, with_rooms, HasTwoMore}};
+ghost use Rattle.exec_driver.specs.{Opens.{open_named, with_named, placed, displaced, joined}, Driving.{seen, request_at}, Punctual.IsPunctual, Steps.{placed_at, told_at_admission, newcomer, plainly_written, footprint_of, widened, taken_in, is_late}, Admission.{IsRefused, Admits, with_rooms, HasTwoMore, HasFewSpare}};
 
 use super::Driver;
 use crate::opens::{Opens, WaiterKey};
@@ -30,8 +30,8 @@ impl<R: Ring + Drop, S: Drop, F: Drop> Driver<R, S, F> {
     /// its open is told that a change begins.
     ///
     /// `Full` comes just where no request can be named any more, `NoMemory` only where there is no memory; the request
-    /// and who waits for it come back then, and nothing changes. The caller must have a sync where its outcome alone
-    /// is to be sent. Ports `admit`.
+    /// and who waits for it come back then, and nothing changes. The ring keeps few places that requests left which are
+    /// over, however many there were. The caller must have a sync where its outcome alone is to be sent. Ports `admit`.
     pub fn admit(
         &mut self,
         alloc: Global,
@@ -55,6 +55,8 @@ impl<R: Ring + Drop, S: Drop, F: Drop> Driver<R, S, F> {
         ensures refused { IfErr result (IsRefused (seen self.old).requests (record { request = request; observer = observer })) }
         ensures kept { OnErr result (seen self.new ≡ with_rooms (seen self.new) (seen self.old)) }
         ensures opens { OnErr result (opens.new ≡ opens.old) }
+        ensures spare { OnOk result (HasFewSpare (seen self.new)) }
+        ensures spots { OnErr result ((seen self.new).ring.places ≡ (seen self.old).ring.places) }
         ensures untold { OnErr result (Tells deferred.old deferred.new nothing_told) }
         ensures unstored { OnErr result (Same store.old store.new) }
         ensures joins { IfOk result (λ id. IfSome (open_named opens.new (gate_in (request_at (seen self.new) id))) (λ o. 0 < o.coming)) }
@@ -151,6 +153,7 @@ impl<R: Ring + Drop, S: Drop, F: Drop> Driver<R, S, F> {
     // Gives up the places in the ring that requests left which are over.
     fn trim(&mut self, store: &mut Store)
         ensures same { seen self.new ≡ with_rooms (seen self.new) (seen self.old) }
+        ensures spare { HasFewSpare (seen self.new) }
         ensures store { Same store.old store.new }
     {
         let wanted = self

@@ -1,5 +1,6 @@
-use Rattle.std.proofs.Common.{refl, sym, ap, ◌∙◌}
+use Rattle.std.proofs.Common.{refl, sym, ap, ◌∙◌, arith}
 use Rattle.exec_base.specs.Slab.{live_count}
+use Rattle.exec_ring.specs.Rings.{RingState}
 use Rattle.exec_waiters.specs.States.{gate_in}
 use Rattle.exec_driver.specs.{Driving.{Driving, seen, request_at}, Steps.{placed_at, taken_in, newcomer}}
 use Rattle.exec_driver.proofs.{Admitting.{on_ok, small_slot}, Arriving.{placed_over, rooms_over, refused_over, takes_over, takes_still, two_still}, Lines.{placed_back, placed_there}, Storing.{reserved_still, given_back}, Keeping.{rooms_punctual, place_made}}
@@ -65,6 +66,13 @@ returns-in-Err-clause-refused g c =
 pub returns-in-Err-clause-kept : goal.returns-in-Err-clause-kept
 returns-in-Err-clause-kept g c =
     rooms_over (seen c.args.self.now) (seen c.take_in.new.self) (seen c.give_up_places.new.self) (rooms_over (seen c.args.self.now) (seen c.make_room.new.self) (seen c.take_in.new.self) c.make_room.ensures.same c.in-Err.ensures.kept) c.give_up_places.ensures.same
+
+pub returns-in-Err-clause-spots : goal.returns-in-Err-clause-spots
+returns-in-Err-clause-spots g c =
+    let made = sym c.is_err.ensures.value ∙ c.if-is_err.false in
+    let two = on_ok c.make_room.result made c.make_room.ensures.ok in
+    let same = ap (λ (s : RingState). s.places) c.in-Err.ensures.spots in
+    omega (arith, two, same, c.give_up_places.ensures.places)
 
 pub returns-in-Err-clause-opens : goal.returns-in-Err-clause-opens
 returns-in-Err-clause-opens g c =

@@ -1,7 +1,7 @@
 use Rattle.std.proofs.Common.{◌+◌, false, length, refl, sym, ap, ◌∙◌, arith}
 use Rattle.exec_ring.specs.Rings.{RingState}
 use Rattle.exec_time.specs.{Layouts.slots_of, WheelView.wheel_of}
-use Rattle.exec_driver.proofs.{Admitting.{held_fresh, is_fresh, unused, on_ok}, Keeping.fresh_punctual}
+use Rattle.exec_driver.proofs.{Admitting.{held_fresh, is_fresh, unused, on_ok, on_err}, Keeping.fresh_punctual, Storing.reserved_wake}
 use Rattle.exec_driver.proofs.driver.Driver.new.Goals as goal
 
 pub invariant_of-result : goal.invariant_of-result
@@ -18,3 +18,12 @@ returns-clause-made g c =
 
 pub returns-clause-punctual : goal.returns-clause-punctual
 returns-clause-punctual g c = fresh_punctual _ c.in-Ok-new.ensures.slots
+
+pub returns-then-is_err-clause-store : goal.returns-then-is_err-clause-store
+returns-then-is_err-clause-store g c =
+    on_err c.reserve.result (sym c.is_err.ensures.value ∙ c.if-is_err.true) c.reserve.ensures.same
+
+pub returns-clause-store : goal.returns-clause-store
+returns-clause-store g c =
+    let made = sym c.is_err.ensures.value ∙ c.if-is_err.false in
+    reserved_wake _ _ (rw c.wake.ensures at (on_ok c.reserve.result made c.reserve.ensures.stored))
