@@ -105,9 +105,22 @@ impl<R: Ring + Drop, S: Drop, F: Drop> Driver<R, S, F> {
             return false;
         }
         let calm = word.arm(processed);
-        self.enter_if(calm);
+        self.enter_armed(calm, word);
         word.disarm();
         calm
+    }
+
+    // Lets the kernel work, where the word stood calm. The worker waits until then: who sends it something meanwhile must
+    // raise a wake in its ring.
+    fn enter_armed<A: Armed>(&mut self, calm: bool, word: &A)
+        requires armed { A.is_armed word.now ≡ true }
+        ensures going { GoesOn (seen self.old) (seen self.new) }
+        ensures entered { IsTrue calm → (seen self.old).ring.busy ≡ false → (seen self.new).ring.staged ≡ [] }
+        ensures works { seen self.new ≡ with_landings (seen self.new) (entered_if calm (seen self.old)) }
+        ensures same { seen self.new ≡ record (seen self.old) { ring = (seen self.new).ring; landings = (seen self.new).landings } }
+    {
+        let _armed = word;
+        self.enter_if(calm);
     }
 
     // Lets the kernel work, where this is set.

@@ -17,10 +17,10 @@ returns-clause-answer g c =
 pub returns-clause-entered : goal.returns-clause-entered
 returns-clause-entered g c = λ yes free.
     let way = way_free (seen c.args.self.now) (seen c.make_way.new.self) c.make_way.ensures free in
-    c.enter_if.ensures.entered yes ((poll_any (seen c.make_way.new.self) (seen c.stage_wake_poll.new.self) c.stage_wake_poll.ensures.staged).eases.keeps.free way)
+    c.enter_armed.ensures.entered yes ((poll_any (seen c.make_way.new.self) (seen c.stage_wake_poll.new.self) c.stage_wake_poll.ensures.staged).eases.keeps.free way)
 
 pub returns-clause-punctual : goal.returns-clause-punctual
-returns-clause-punctual g c = λ p. c.enter_if.ensures.going.punctual (c.stage_wake_poll.ensures.punctual (way_punctual _ _ c.make_way.ensures p))
+returns-clause-punctual g c = λ p. c.enter_armed.ensures.going.punctual (c.stage_wake_poll.ensures.punctual (way_punctual _ _ c.make_way.ensures p))
 
 pub returns-then-has_pending_submissions-clause-parks : goal.returns-then-has_pending_submissions-clause-parks
 returns-then-has_pending_submissions-clause-parks g c =
@@ -36,4 +36,4 @@ pub returns-clause-parks : goal.returns-clause-parks
 returns-clause-parks g c =
     let is : c.has_pending_submissions.result ≡ false = search rules in
     let poll : c.stage_wake_poll.result ≡ true = search rules in
-    waited _ _ (seen c.make_way.new.self) (seen c.stage_wake_poll.new.self) _ c.make_way.ensures (sym c.has_pending_submissions.ensures ∙ is) (sym c.stage_wake_poll.ensures.answer ∙ poll) c.stage_wake_poll.ensures.staged (rw c.arm-calm.ensures.calm at c.enter_if.ensures.works)
+    waited _ _ (seen c.make_way.new.self) (seen c.stage_wake_poll.new.self) _ c.make_way.ensures (sym c.has_pending_submissions.ensures ∙ is) (sym c.stage_wake_poll.ensures.answer ∙ poll) c.stage_wake_poll.ensures.staged (rw c.arm-calm.ensures.calm at c.enter_armed.ensures.works)
