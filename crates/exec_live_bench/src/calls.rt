@@ -1,6 +1,6 @@
 //! What the owner of a run queue does.
 
-ghost use Rattle.std.specs.Prelude.{◌≡◌, ◌≢◌, ◌≤◌, ◌<◌, []};
+ghost use Rattle.std.specs.Prelude.{◌≡◌, ◌≢◌, ◌≤◌, ◌<◌, [], false};
 ghost use Rattle.exec_live_idle.specs.{Idle.{knows, IsSeatOf}, Live.first_view};
 ghost use Rattle.exec_live_queue.specs.{Kinds.{first_of, handed}, Lent.{left_of, lender}};
 
@@ -36,13 +36,13 @@ impl Rouse for Bell {
 }
 
 /// Who kicks: a seat at an idle set.
-#[derive(Drop)]
 pub struct Kicker<'a> {
     idle: &'a Idle,
     seat: IdleSeat,
     bell: Bell,
     ghost at: { IsSeatOf idle.now seat },
-    ghost free: { (knows seat).held < 2 },
+    ghost free: { (knows seat).held ≡ 0 },
+    ghost unpublished: { (knows seat).published ≡ false },
     ghost workers: { (knows seat).workers ≤ bell.workers },
 }
 
@@ -63,6 +63,16 @@ impl<'a> Kicker<'a> {
 
     fn kick<R: Wait>(&mut self, rt: &R) {
         self.idle.notify(rt, &mut self.seat, &mut self.bell);
+    }
+
+    /// Lets the seat go.
+    pub fn end(self) {
+        let Kicker {
+            idle: _,
+            seat,
+            bell: _,
+        } = self;
+        drop(seat.leave());
     }
 }
 

@@ -60,9 +60,13 @@ fn measure_alone<R: Clock + Eprint + Wait>(
     requires { first ≡ first_of queue.now }
 {
     let (idle, seat) = Idle::new(alloc, 4).ok()?;
+    let Some(mut caller) = Caller::new(queue, first) else {
+        drop(seat.leave());
+        return None;
+    };
     let mut kicker = Kicker::new(&idle, seat);
-    let mut caller = Caller::new(queue, first)?;
     let sum = time_alone(rt, kind, &mut caller, &mut kicker, values);
+    kicker.end();
     caller.end(rt);
     sum
 }

@@ -1,5 +1,4 @@
-pub mod Totals
 pub mod Sets
 pub mod Keeps
-pub mod Seats
 pub mod Allowed
+pub mod Stands

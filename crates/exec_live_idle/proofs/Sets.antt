@@ -1,18 +1,10 @@
 -- The set as a word: what the or, the and and the exchange of one bit make of it.
-use Rattle.std.proofs.Common.{◌≡◌, ◌≢◌, ℕ, zero, suc, ◌-◌, ◌*◌, ◌/◌, ◌%◌, ◌^◌, ◌<◌, ◌≤◌, ◌==◌, Bool, true, false, List, length, get_or, set, bit_or, bit_and, sym, refl, ap, ◌∙◌, arith}
+use Rattle.std.{proofs.{Common.{◌≡◌, ◌≢◌, ℕ, zero, suc, ◌-◌, ◌*◌, ◌/◌, ◌%◌, ◌^◌, ◌<◌, ◌≤◌, ◌==◌, Bool, true, false, List, length, get_or, set, bit_or, bit_and, sym, refl, ap, ◌∙◌, subst, arith}, lemmas.{List.Sums.{position_or_len_is}, Bool.{lt-ltb}, Nat.Bits.{bit_at_lowest, bit_at-zero, bit_at-suc, bit_at_set_same, bit_at_set_other, bit_at_clear_same, bit_at_clear_other, bit_at-trailing_zeros, shr_and_one}, List.{ext_get_or, get_or-set_same, get_or-set_other, length-set, get_or_past}}}, specs.{Prelude.{Some, None, cond}, List.{position_or_len}, Int.{bit_at, bit_not, trailing_zeros}}}
 use native.Mathlib.Decide.{dec_le, ℕ_discrete}
 use mathlib.Core.Logic.{dite}
 use mir.Syntax.{w64}
-use Rattle.std.specs.Prelude.{Some, None, cond}
-use Rattle.std.specs.List.{position_or_len}
-use Rattle.std.proofs.lemmas.List.Sums.{position_or_len_is}
-use Rattle.std.proofs.lemmas.Bool.{lt-ltb}
-use Rattle.std.specs.Int.{bit_at, bit_not, trailing_zeros}
-use Rattle.std.proofs.lemmas.Nat.Bits.{bit_at_lowest, bit_at-zero, bit_at-suc, bit_at_set_same, bit_at_set_other, bit_at_clear_same, bit_at_clear_other, bit_at-trailing_zeros}
-use Rattle.std.proofs.lemmas.List.{ext_get_or, get_or-set_same, get_or-set_other, length-set, get_or_past}
 use Rattle.exec_words.specs.Idle.{is_in, lowest_of}
-use Rattle.std.proofs.lemmas.Nat.{one_shl}
-use Rattle.exec_live_idle.specs.Words.{bits_of, set_of, publish, withdraw, MovesSet}
+use Rattle.exec_live_idle.specs.Words.{bits_of, set_of}
 
 length-bits : (n word : ℕ) → length (bits_of n word) ≡ n
 length-bits zero word = refl
@@ -66,9 +58,17 @@ set_without word k within = bits_with 64 word (bit_and word (bit_not w64 (bit_of
     (ap (λ (b : ℕ). b == 1) (bit_at_clear_same w64 word k within))
     (λ i inside ne. bit_at_clear_other w64 word k within i inside ne)
 
-pub lowest_in : (word : ℕ) → 0 < word → word < 2 ^ 64 → (trailing_zeros w64 word < 64) × (lowest_of (set_of word) ≡ Some (trailing_zeros w64 word))
+pub lowest_low : (word : ℕ) → 0 < word → word < 2 ^ 64 → trailing_zeros w64 word < 64
+lowest_low word some_bit small = (bit_at-trailing_zeros w64 word some_bit small).0
+
+pub lowest_in : (word : ℕ) → 0 < word → word < 2 ^ 64 → lowest_of (set_of word) ≡ Some (trailing_zeros w64 word)
 unfolding set_of
-lowest_in word some_bit small = let t = bit_at-trailing_zeros w64 word some_bit small in (t.0, lowest-bits 64 word (trailing_zeros w64 word) t.0 t.1 t.2)
+lowest_in word some_bit small = let t = bit_at-trailing_zeros w64 word some_bit small in lowest-bits 64 word (trailing_zeros w64 word) t.0 t.1 t.2
+
+-- the lowest worker is one
+pub lowest_is : (seen n worker : ℕ) → 0 < seen → seen < 2 ^ 64 → n ≡ seen → lowest_of (set_of n) ≡ Some worker → worker ≡ trailing_zeros w64 seen
+lowest_is seen n worker some_bit small same one = let two = subst (λ (m : ℕ). lowest_of (set_of m) ≡ Some worker) same one in
+    let e : Some worker ≡ Some (trailing_zeros w64 seen) = sym two ∙ lowest_in seen some_bit small in cc
 
 -- a set with one place changed
 pub in_changed : (set_ : List Bool) (k i : ℕ) (b : Bool) → i ≢ k → is_in (set set_ k b) i ≡ is_in set_ i
@@ -81,6 +81,13 @@ length-set_of word = length-bits 64 word
 pub in_changed_here : (word k : ℕ) (b : Bool) → k < 64 → is_in (set (set_of word) k b) k ≡ b
 in_changed_here word k b within = get_or-set_same (set_of word) k b false (omega (arith, length-set_of word))
 
+-- a bit that isn't in is taken out
+pub set_same : (word k : ℕ) → k < 64 → is_in (set_of word) k ≡ false → set (set_of word) k false ≡ set_of word
+set_same word k within out = ext_get_or false (set (set_of word) k false) (set_of word) (length-set (set_of word) k false)
+    (λ i inside. dite (ℕ_discrete i k)
+    (λ (e : i ≡ k). ap (is_in (set (set_of word) k false)) e ∙ in_changed_here word k false within ∙ sym out ∙ ap (is_in (set_of word)) (sym e))
+    (λ (ne : i ≢ k). in_changed (set_of word) k i false ne))
+
 pub in_lowest : (word : ℕ) → 0 < word → word < 2 ^ 64 → is_in (set_of word) (trailing_zeros w64 word) ≡ true
 in_lowest word some_bit small = let t = bit_at-trailing_zeros w64 word some_bit small in in_set word (trailing_zeros w64 word) t.0 ∙ ap (λ (d : ℕ). d == 1) t.1
 
@@ -88,9 +95,6 @@ in_lowest word some_bit small = let t = bit_at-trailing_zeros w64 word some_bit 
 pub none_in : (i : ℕ) → is_in (set_of 0) i ≡ false
 none_in i = dite (dec_le 64 i) (λ (past : 64 ≤ i). out_of_set 0 i past) (λ within. in_set 0 i (omega arith) ∙ ap (λ (d : ℕ). d == 1) (bit_at-zero i))
 
--- what the or, and the and of a bit make of the set
-pub moves_publish : (word k : ℕ) → k < 64 → MovesSet (publish k) word (bit_or word (2 ^ k))
-moves_publish word k within count = let bit : bit_of k ≡ 2 ^ k = one_shl k 64 within in let e : set_of (bit_or word (2 ^ k)) ≡ set (set_of word) k true = rw bit at (set_with word k within) in rw e refl
-
-pub moves_withdraw : (word k : ℕ) → k < 64 → MovesSet (withdraw k) word (bit_and word (2 ^ 64 - 1 - 2 ^ k))
-moves_withdraw word k within count = let bit : bit_of k ≡ 2 ^ k = one_shl k 64 within in let e : set_of (bit_and word (2 ^ 64 - 1 - 2 ^ k)) ≡ set (set_of word) k false = rw bit at (set_without word k within) in rw e refl
+-- the test of a bit
+pub in_word : (word i : ℕ) → i < 64 → (bit_and (word / 2 ^ i) 1 == 1) ≡ is_in (set_of word) i
+in_word word i within = ap (λ (d : ℕ). d == 1) (shr_and_one word i) ∙ sym (in_set word i within)

@@ -14,3 +14,7 @@ IsSeatOf idle seat = (seat.place.table_id ≡ (padded_value idle.words).shared.t
 -- it is at the same idle set, and has the same number
 abbrev pub IsSame : IdleSeat → IdleSeat → Type 0
 IsSame old new = (new.place.table_id ≡ old.place.table_id) × (new.place.id ≡ old.place.id)
+
+-- it is the same seat, and knows this
+abbrev pub Becomes : IdleSeat → IdleSeat → View → Type 0
+Becomes old new v = IsSame old new × (knows new ≡ v)

@@ -1,7 +1,6 @@
 pub mod Words
 pub mod Live
 pub mod Plays
-pub mod Seats
 pub mod Idle
 pub mod Notify
 pub mod Search

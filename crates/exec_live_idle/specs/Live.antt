@@ -22,7 +22,7 @@
 -- way.
 --
 -- The count fits its word, since a seat holds at most two counts and there are at most 2^32 seats (`few`).
-use Rattle.std.specs.Prelude.{◌≡◌, ℕ, ◌+◌, ◌-◌, ◌^◌, ◌<◌, ◌≤◌, ◌==◌, nat_le, nat_lt, Bool, true, false, if◌then◌else◌, List, [], ◌∷◌}
+use Rattle.std.specs.Prelude.{◌≡◌, ℕ, ◌+◌, ◌-◌, ◌^◌, ◌<◌, ◌≤◌, ◌==◌, nat_le, nat_lt, Bool, true, false, if◌then◌else◌, None, List, [], ◌∷◌}
 use mathlib.Core.Option.{some}
 use lib.ListN.{get_elem?}
 use Rattle.atomic_table.specs.Table.{State}
@@ -81,20 +81,24 @@ pub record LiveIdle {S : Type 0} (workers : ℕ) (s : State S View) : Type 0 whe
   pub words : s.words ≡ set ∷ count ∷ []
   pub kept : Kept workers (set_of set) count s.views
 
+-- a seat that has done nothing yet, with the numbers from here to there
+abbrev pub fresh : ℕ → ℕ → ℕ → View
+fresh workers number end = record { workers = workers; number = number; end = end; published = false; held = 0; saw = 0; last = None; before = None; claims = [] }
+
 -- the first seat has all numbers
 abbrev pub first_view : ℕ → View
-first_view workers = record { workers = workers; number = 0; end = 2 ^ 32; published = false; held = 0; saw = 0; empty = false; claims = [] }
+first_view workers = fresh workers 0 (2 ^ 32)
 
 -- a seat is made: the seat that it comes from goes on with the next number, and the new one has its number
 abbrev pub next_number : View → View
 next_number v = record v { number = v.number + 1 }
 
 abbrev pub own_number : View → View
-own_number v = record { workers = v.workers; number = v.number; end = v.number + 1; published = false; held = 0; saw = 0; empty = false; claims = [] }
+own_number v = fresh v.workers v.number (v.number + 1)
 
 -- a seat is joined to another: its counts go over, and nothing is left of it
 abbrev pub with_counts : View → View → View
 with_counts v w = record v { held = v.held + w.held }
 
 abbrev pub joined : View
-joined = record { workers = 0; number = 0; end = 0; published = false; held = 0; saw = 0; empty = false; claims = [] }
+joined = fresh 0 0 0

@@ -1,27 +1,30 @@
 -- What each step of an idle set tells the seat that makes it: which transition it was, of the word that it found, and
 -- what the seat knows then.
-use Rattle.std.specs.Prelude.{◌≡◌, ◌≢◌, ℕ, ◌+◌, ◌-◌, ◌%◌, ◌^◌, ◌<◌, ◌==◌, if◌then◌else◌, Bool, true, false, [], ◌∷◌, ◌++◌, Some, bit_or, bit_and}
+use Rattle.std.specs.Prelude.{◌≡◌, ◌≢◌, ℕ, ◌+◌, ◌-◌, ◌%◌, ◌^◌, ◌<◌, ◌==◌, if◌then◌else◌, Bool, true, false, [], ◌∷◌, ◌++◌, Some, None, bit_or, bit_and}
 use Rattle.atomic_table.specs.Table.{Me, Step}
 use Rattle.exec_words.specs.Idle.{is_in, lowest_of}
 use Rattle.exec_live_idle.specs.{declared.view.View.View, Words.{set_of, MovesSet, MovesCount, publish, withdraw, add, subtract}}
 
 -- the views after the steps
 abbrev pub published : View → View
-published v = record v { published = true; empty = false }
+published v = record v { published = true; last = None }
 
 abbrev pub looked : View → ℕ → View
-looked v word = record v { empty = word == 0 }
+looked v word = record v { last = Some word }
 
 -- a withdrawal takes over the count of whoever claimed the worker
 abbrev pub withdrawn : View → Bool → View
-withdrawn v found = record v { published = false; held = v.held + (if found then 0 else 1); empty = false }
+withdrawn v found = record v { published = false; held = v.held + (if found then 0 else 1); last = None }
 
 -- a claim hands a count over
 abbrev pub claimed : View → ℕ → View
-claimed v worker = record v { held = v.held - 1; claims = v.claims ++ worker ∷ []; empty = false }
+claimed v worker = record v { held = v.held - 1; claims = v.claims ++ worker ∷ []; last = None }
 
 abbrev pub counted : View → ℕ → ℕ → View
-counted v saw held = record v { held = held; saw = saw; empty = false }
+counted v saw held = record v { held = held; saw = saw; last = None; before = None }
+
+abbrev pub returned : View → ℕ → View
+returned v saw = record v { held = v.held - 1; saw = saw; last = None; before = v.last }
 
 module _ {S : Type 0} where
   -- a load of the set
@@ -49,7 +52,7 @@ module _ {S : Type 0} where
   adds st m n m' = (n + 1 < 2 ^ 64) × MovesCount add n ((n + st.first) % 2 ^ 64) × (m' ≡ (counted m.0 m.0.saw (m.0.held + 1), m.1))
 
   abbrev pub subtracts : Step S → Me S View → ℕ → Me S View → Type 0
-  subtracts st m n m' = (0 < n) × MovesCount subtract n ((n + (2 ^ 64 - st.first)) % 2 ^ 64) × (m' ≡ (counted m.0 (n - 1) (m.0.held - 1), m.1))
+  subtracts st m n m' = (0 < n) × MovesCount subtract n ((n + (2 ^ 64 - st.first)) % 2 ^ 64) × (m' ≡ (returned m.0 (n - 1), m.1))
 
   -- the exchange of the count 0 to 1; or the count was another
   abbrev pub begins : Step S → Me S View → ℕ → Me S View → Type 0

@@ -1,7 +1,7 @@
 -- What the calls of a searcher make of its seat's view v and of the backlog b that it reaches: w and d.
-use Rattle.std.specs.Prelude.{◌≡◌, ◌≢◌, ℕ, ◌*◌, ◌/◌, ◌%◌, ◌^◌, ◌<◌, ◌≤◌, ◌⊎◌, Bool, true, false, if◌then◌else◌, bit_xor}
+use Rattle.std.specs.Prelude.{◌≡◌, ◌≢◌, ℕ, ◌*◌, ◌/◌, ◌%◌, ◌^◌, ◌<◌, ◌≤◌, ◌⊎◌, Bool, true, false, if◌then◌else◌, None, bit_xor}
 use Rattle.exec_words.specs.declared.idle.Park.{Park, TheVariants.{Wait, Run, Search}}
-use Rattle.exec_live_idle.specs.{declared.view.View.View, Plays.counted}
+use Rattle.exec_live_idle.specs.{declared.view.View.View, Plays.counted, Notify.HoldsStill}
 
 -- the next number of the generator that picks where a search starts
 abbrev pub xorshift : ℕ → ℕ
@@ -21,7 +21,7 @@ MayNot v w = ((v.workers ≡ 1) × (w ≡ v)) ⊎ ((v.held ≡ 0) × (w ≡ coun
 
 -- the seat is as before, but for its counts, and what it saw and claimed
 abbrev pub StaysUp : View → View → Type 0
-StaysUp v w = w ≡ record v { held = w.held; saw = w.saw; empty = w.empty; claims = w.claims }
+StaysUp v w = HoldsStill (record v { held = w.held }) w
 
 module _ {B : Type 0} where
   -- a search that goes over the queues, from the worker on that the generator picks
@@ -34,24 +34,24 @@ module _ {B : Type 0} where
 
   -- A count is returned, if there is one. The last is handed on by a kick
   abbrev pub Leaves : (B → B → Type 0) → View → B → View → B → Type 0
-  Leaves kicks v b w d = (w ≡ record v { held = 0; saw = w.saw; empty = w.empty; claims = w.claims })
+  Leaves kicks v b w d = HoldsStill (record v { held = 0 }) w
       × (((v.held ≡ 0) × (w ≡ v) × (d ≡ b)) ⊎ (((v.held ≡ 1) × (0 < w.saw) × (d ≡ b)) ⊎ ((v.held ≡ 1) × kicks b d)))
 
   module _ (looks peers : B → Bool → B → Type 0) (kicks : B → B → Type 0) where
     -- The last look, after the bit is in and a held count is returned. b is what the look at the global queue left.
     -- Wait: a search count was there, at the load or at the exchange; or no other queue could be stolen from
     abbrev pub Waits : View → B → View → B → Type 0
-    Waits v b w d = (w ≡ record v { published = true; held = 0; saw = w.saw; empty = false })
+    Waits v b w d = (w ≡ record v { published = true; held = 0; saw = w.saw; last = None; before = w.before })
         × (((0 < w.saw) × (d ≡ b)) ⊎ (peers b false d ⊎ ((0 < w.saw) × peers b true d)))
 
     -- Run: the bit is out again. A claim's count is kept; where none came and the last was returned, it is handed on
     abbrev pub Reruns : View → B → View → B → Type 0
-    Reruns v b w d = (w ≡ record v { held = w.held; saw = w.saw; empty = w.empty; claims = w.claims })
+    Reruns v b w d = StaysUp v w
         × (((d ≡ b) × ((v.held ≡ 0) ⊎ ((w.held ≡ 1) ⊎ (0 < w.saw)))) ⊎ ((v.held ≡ 1) × (w.held ≡ 0) × kicks b d))
 
     -- Search: the bit is out again, and a count was taken where there was none
     abbrev pub Finds : View → B → View → B → Type 0
-    Finds v b w d = (w ≡ record v { held = 1; saw = w.saw; empty = false }) × peers b true d
+    Finds v b w d = (w ≡ record v { held = 1; saw = w.saw; last = None; before = w.before }) × peers b true d
 
     abbrev pub Parks : View → B → Park → View → B → Type 0
     Parks v b Wait w d = (seen : B) × looks b false seen × Waits v seen w d

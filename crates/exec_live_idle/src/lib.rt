@@ -7,12 +7,11 @@
 //! keeps is `specs/Live.antt`, which begins with a page on what each word means, who may do what,
 //! and why no count is lost.
 //!
-//! - `seat`, `idle`: an idle set, a seat at it, and the calls that are one step, or a claim.
+//! - `seat`, `idle`: an idle set, a seat at it, and the calls that are one atomic step, or a claim.
 //! - `notify`: how a worker is woken for a backlog, or for a push into the global queue.
 //! - `searcher`, `park`: a worker's part in searching and parking, over what `backlog` says of its
 //!   pool.
-//! - `steps`: the atomic steps. `view` and `plays`: what a seat knows, and what each step tells it,
-//!   for the proofs alone.
+//! - `view`, `plays`: what a seat knows, and what each step tells it, for the proofs alone.
 //! - `laws`: the steps' transitions are those of `PureIdle`. `examples`: worked examples.
 #![tactic(auto)]
 
@@ -25,7 +24,6 @@ pub mod park;
 pub mod plays;
 pub mod searcher;
 pub mod seat;
-pub mod steps;
 pub mod view;
 
 /// The word of a table that is the idle set.

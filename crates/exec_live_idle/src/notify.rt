@@ -9,7 +9,7 @@
 //! count looks again. Ports `notify` and `notify_global` of `commonware_runtime`'s `iouring::idle`.
 
 ghost use Rattle.std.specs.Prelude.{◌≡◌, ℕ, ◌<◌, ◌≤◌, ◌+◌, IsTrue, IsFalse};
-ghost use Rattle.exec_live_idle.specs.{Idle.{knows, IsSeatOf, IsSame}, Notify.{Notified, ReturnedOne, HandedOver}};
+ghost use Rattle.exec_live_idle.specs.{Idle.{knows, IsSeatOf, IsSame}, Notify.{Kicked, Notified, HoldsLess, WokeNobody, HandedOver}};
 
 use crate::seat::{Idle, IdleSeat};
 use std::sync::Wait;
@@ -38,7 +38,7 @@ impl Idle {
         requires workers { (knows seat.old).workers ≤ W.workers rouse.old }
         ensures same { IsSame seat.old seat.new }
         ensures workers { W.workers rouse.new ≡ W.workers rouse.old }
-        ensures notified { Notified W.wakes (knows seat.old) rouse.old (knows seat.new) rouse.new }
+        ensures kicked { Kicked W.wakes (knows seat.old) rouse.old (knows seat.new) rouse.new }
     {
         for _ in rt.forever() {
             if self.count(seat) != 0 {
@@ -93,8 +93,8 @@ impl Idle {
         requires workers { (knows seat.old).workers ≤ W.workers rouse.old }
         ensures same { IsSame seat.old seat.new }
         ensures workers { W.workers rouse.new ≡ W.workers rouse.old }
-        ensures again { IsTrue result → (rouse.new ≡ rouse.old)
-            × ReturnedOne (knows seat.old) (knows seat.new) }
+        ensures again { IsTrue result → HoldsLess (knows seat.old) (knows seat.new)
+            × WokeNobody (knows seat.old) rouse.old (knows seat.new) rouse.new }
         ensures done { IsFalse result
             → HandedOver W.wakes (knows seat.old) rouse.old (knows seat.new) rouse.new }
     {

@@ -8,8 +8,8 @@
 //! Where a count is there, the worker waits without a look at the run queues: whoever holds the
 //! count finds the backlog, or hands the duty on with its last return.
 
-ghost use Rattle.std.specs.Prelude.{◌≡◌, ◌≢◌, ◌+◌, ◌-◌, ◌<◌, ◌≤◌, ◌⊎◌, true, false, IsTrue, IsFalse, not, ◌↔◌, if◌then◌else◌};
-ghost use Rattle.exec_live_idle.specs.{Idle.{knows, IsSame}, Plays.{published, withdrawn, counted}, Search.{Leaves, Parks, LooksTo, SearchesTo}};
+ghost use Rattle.std.specs.Prelude.{◌≡◌, ◌≢◌, ◌+◌, ◌-◌, ◌<◌, ◌≤◌, ◌⊎◌, true, false, IsTrue, IsFalse, not, ◌↔◌, if◌then◌else◌, None};
+ghost use Rattle.exec_live_idle.specs.{Idle.{knows, IsSame}, Plays.{published, withdrawn, counted}, Notify.HoldsStill, Search.{Leaves, Parks, LooksTo, SearchesTo}};
 ghost use Rattle.exec_words.specs.declared.idle.Park.TheVariants.{Wait, Run};
 
 use crate::backlog::Backlog;
@@ -87,7 +87,8 @@ impl<'a> Searcher<'a> {
           published = true;
           held = 0;
           saw = (knows self.new.seat).saw;
-          empty = false;
+          last = None;
+          before = (knows self.new.seat).before;
         } }
         ensures last { IsTrue result
             ↔ (((knows self.old.seat).held ≡ 1) × ((knows self.new.seat).saw ≡ 0)) }
@@ -111,7 +112,8 @@ impl<'a> Searcher<'a> {
         ensures view { knows self.new.seat ≡ record (knows self.old.seat) {
           published = false;
           saw = (knows self.new.seat).saw;
-          empty = false;
+          last = None;
+          before = (knows self.new.seat).before;
         } }
     {
         if !self.idle.withdraw(&mut self.seat) {
@@ -129,13 +131,9 @@ impl<'a> Searcher<'a> {
         ensures idle { self.new.idle ≡ self.old.idle }
         ensures seat { IsSame self.old.seat self.new.seat }
         ensures pool { B.pool backlog.new ≡ B.pool backlog.old }
-        ensures view { knows self.new.seat ≡ record (knows self.old.seat) {
-          published = not result;
-          held = (knows self.new.seat).held;
-          saw = (knows self.new.seat).saw;
-          empty = (knows self.new.seat).empty;
-          claims = (knows self.new.seat).claims;
-        } }
+        ensures view { HoldsStill
+            (record (knows self.old.seat) { published = not result; held = (knows self.new.seat).held })
+            (knows self.new.seat) }
         ensures free { IsFalse result → (knows self.new.seat).held ≡ 0 }
         ensures waits { IsFalse result
             → LooksTo B.looks B.peers B.steals B.kicks (knows self.old.seat) backlog.old self.old.rng

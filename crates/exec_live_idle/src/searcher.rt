@@ -11,7 +11,7 @@ ghost use Rattle.exec_base.specs.Io.{Rose};
 ghost use Rattle.exec_live_idle.specs.{Idle.{knows, IsSeatOf, IsSame}, Plays.{published, withdrawn, counted}, Search.{xorshift, counts_of, MaySearch, MayNot, Scans, Skips, Leaves, Reruns, Finds, Parks}};
 
 use crate::backlog::Backlog;
-use crate::seat::{Idle, IdleSeat};
+use crate::seat::{FreeSeat, Idle, IdleSeat};
 use exec_words::idle::Park;
 use std::sync::Wait;
 
@@ -48,10 +48,10 @@ impl<'a> Searcher<'a> {
     }
 
     /// Gives the seat back. The caller must have ended a publication, and left the search.
-    pub fn into_seat(self) -> IdleSeat
+    pub fn into_seat(self) -> FreeSeat
         requires unpublished { (knows self.seat).published ≡ false }
         requires free { (knows self.seat).held ≡ 0 }
-        ensures { result ≡ self.entry.seat }
+        ensures { result.place ≡ self.entry.seat.place }
     {
         let Searcher {
             idle: _,
@@ -59,7 +59,7 @@ impl<'a> Searcher<'a> {
             searching: _,
             rng: _,
         } = self;
-        seat
+        seat.leave()
     }
 
     /// Whether the worker holds a search count.

@@ -1,6 +1,6 @@
 //! An idle set, and a seat at it.
 
-ghost use Rattle.std.specs.Prelude.{◌≡◌, ◌^◌, ◌≤◌, []};
+ghost use Rattle.std.specs.Prelude.{◌≡◌, ◌^◌, ◌≤◌, [], false};
 ghost use Rattle.crossbeam_utils.specs.Padded.{padded_value};
 
 use crate::view::{Live, Place, View};
@@ -16,7 +16,9 @@ pub struct Idle {
 }
 
 /// A seat at an idle set, with what it knows of the set and the count.
-#[derive(Drop)]
+///
+/// No type drops it by itself, since its counts would be lost, and whoever claims its worker would
+/// hand a count to nobody. It is let go by `leave`, or joined to another (`Idle::join`).
 pub struct IdleSeat {
     pub(crate) place: Place,
     pub(crate) number: u64,
@@ -32,5 +34,39 @@ impl IdleSeat {
         ensures { result ≡ self.now.place.me.0.number }
     {
         self.number
+    }
+
+    /// Lets the seat go. The caller must have ended a publication, and hold no count.
+    pub fn leave(self) -> FreeSeat
+        requires unpublished { self.place.me.0.published ≡ false }
+        requires free { self.place.me.0.held ≡ 0 }
+        ensures { result.place ≡ self.place }
+    {
+        let IdleSeat { place, number } = self;
+        FreeSeat { place, number }
+    }
+}
+
+/// A seat whose worker isn't published, and which holds no count. It may be dropped, or go to a
+/// thread of its own and be taken there.
+#[derive(Drop)]
+pub struct FreeSeat {
+    pub(crate) place: Place,
+    number: u64,
+    ghost empty: { place.me.1 ≡ [] },
+    ghost numbered: { number ≡ place.me.0.number },
+    ghost workers: { place.me.0.workers ≤ 64 },
+    ghost last: { place.me.0.end ≤ 2 ^ 32 },
+    ghost unpublished: { place.me.0.published ≡ false },
+    ghost free: { place.me.0.held ≡ 0 },
+}
+
+impl FreeSeat {
+    /// Takes the seat.
+    pub fn take(self) -> IdleSeat
+        ensures { result.place ≡ self.place }
+    {
+        let FreeSeat { place, number } = self;
+        IdleSeat { place, number }
     }
 }

@@ -18,8 +18,10 @@ pub struct View {
     /// The search count as its last load, exchange or return of a count left it or found it. To add
     /// one tells nothing.
     pub saw: u64,
-    /// Its last step of all found the set empty.
-    pub empty: bool,
+    /// The set, where its last step of all found it: by a load, or a lost exchange.
+    pub last: Option<u64>,
+    /// Where its last step at the count returned one: the set, where the step before found it.
+    pub before: Option<u64>,
     /// The workers that it claimed, in order. The field stands for a list of any length.
     pub claims: [u64; 0],
 }

@@ -37,6 +37,10 @@ fn a_claim_takes_the_lowest_worker(rt: HostRuntime) -> Result<(), Fail> {
     assert_eq!(rt; idle.claim(&rt, &mut caller), Some(1));
     idle.add(&mut caller);
     assert_eq!(rt; idle.claim(&rt, &mut caller), None);
+    assert!(rt; !idle.withdraw(&mut one));
+    assert!(rt; !idle.subtract(&mut one));
+    assert!(rt; idle.subtract(&mut caller));
+    drop((zero.leave(), one.leave(), two.leave(), caller.leave()));
     Ok(())
 }
 
@@ -87,6 +91,7 @@ fn a_park_looks_at_four_things(rt: HostRuntime) -> Result<(), Fail> {
     zero.leave(&rt, &mut pool);
     zero.end(&rt);
     one.end(&rt);
+    drop(caller.leave());
     Ok(())
 }
 

@@ -273,5 +273,6 @@ fn three_workers_share_five_values(rt: HostRuntime) -> Result<(), Fail> {
     zero.end(&rt);
     one.end(&rt);
     two.end(&rt);
+    drop(caller.leave());
     Ok(())
 }

@@ -29,6 +29,7 @@ pub fn put<R: Wait>(
     requires workers { (knows caller.old).workers ≡ pool.old.bell.workers }
     ensures at { IsSeatOf idle.now caller.new }
     ensures free { (knows caller.new).held ≡ 0 }
+    ensures published { (knows caller.new).published ≡ (knows caller.old).published }
     ensures same { (knows caller.new).workers ≡ (knows caller.old).workers }
     ensures workers { pool.new.bell.workers ≡ pool.old.bell.workers }
 {

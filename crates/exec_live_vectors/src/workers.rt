@@ -46,6 +46,7 @@ pub fn play<R: Wait>(
         player.end(rt, alloc);
     }
     players.destroy_empty();
+    drop(caller.leave());
     Ok(())
 }
 
@@ -62,7 +63,10 @@ fn play_lines<R: Wait>(
 )
     requires at { IsSeatOf idle.now caller.old }
     requires free { (knows caller.old).held ≡ 0 }
+    requires unpublished { (knows caller.old).published ≡ false }
     requires workers { (knows caller.old).workers ≡ pool.old.bell.workers }
+    ensures free { (knows caller.new).held ≡ 0 }
+    ensures unpublished { (knows caller.new).published ≡ false }
 {
     for _ in 0..script.len() {
         let Some(line) = script.next() else {
@@ -86,6 +90,7 @@ fn gather<'a, R: Wait>(
     requires view { knows caller.old ≡ first_view workers }
     ensures at { IsSeatOf idle.now caller.new }
     ensures free { (knows caller.new).held ≡ 0 }
+    ensures unpublished { (knows caller.new).published ≡ false }
     ensures workers { (knows caller.new).workers ≡ workers }
 {
     let mut players = Vec::new(alloc);
@@ -111,9 +116,11 @@ fn answer<R: Wait>(
 ) -> Result<String, Fault>
     requires at { IsSeatOf idle.now caller.old }
     requires free { (knows caller.old).held ≡ 0 }
+    requires unpublished { (knows caller.old).published ≡ false }
     requires workers { (knows caller.old).workers ≡ pool.old.bell.workers }
     ensures at { IsSeatOf idle.now caller.new }
     ensures free { (knows caller.new).held ≡ 0 }
+    ensures unpublished { (knows caller.new).published ≡ false }
     ensures workers { (knows caller.new).workers ≡ pool.new.bell.workers }
 {
     pool.begin();
@@ -140,9 +147,11 @@ fn make<R: Wait>(
 ) -> Result<String, Fault>
     requires at { IsSeatOf idle.now caller.old }
     requires free { (knows caller.old).held ≡ 0 }
+    requires unpublished { (knows caller.old).published ≡ false }
     requires workers { (knows caller.old).workers ≡ pool.old.bell.workers }
     ensures at { IsSeatOf idle.now caller.new }
     ensures free { (knows caller.new).held ≡ 0 }
+    ensures unpublished { (knows caller.new).published ≡ false }
     ensures workers { (knows caller.new).workers ≡ pool.new.bell.workers }
 {
     match operation {

@@ -62,6 +62,7 @@ pub fn play<R: Wait + Abort>(
         player.end(rt);
     }
     players.destroy_empty();
+    drop(caller.leave());
     Ok(())
 }
 
@@ -78,6 +79,7 @@ fn gather<'a, R: Abort>(
     requires view { knows caller.old ≡ first_view workers }
     ensures at { IsSeatOf idle.now caller.new }
     ensures free { (knows caller.new).held ≡ 0 }
+    ensures unpublished { (knows caller.new).published ≡ false }
     ensures workers { (knows caller.new).workers ≡ workers }
 {
     let mut players = Vec::new(alloc);
@@ -103,7 +105,10 @@ fn replay<R: Wait + Abort>(
     requires at { IsSeatOf idle.now caller.old }
     requires workers { workers ≤ 8 }
     requires free { (knows caller.old).held ≡ 0 }
+    requires unpublished { (knows caller.old).published ≡ false }
     requires pool { (knows caller.old).workers ≡ workers }
+    ensures free { (knows caller.new).held ≡ 0 }
+    ensures unpublished { (knows caller.new).published ≡ false }
 {
     let mut pool = FakePool::new(workers);
     for line in lines {
@@ -132,6 +137,7 @@ fn push<R: Wait>(rt: &R, idle: &Idle, caller: &mut IdleSeat, pool: &mut FakePool
     requires pool { (knows caller.old).workers ≡ pool.old.bell.workers }
     ensures at { IsSeatOf idle.now caller.new }
     ensures free { (knows caller.new).held ≡ 0 }
+    ensures published { (knows caller.new).published ≡ (knows caller.old).published }
     ensures workers { (knows caller.new).workers ≡ (knows caller.old).workers }
 {
     pool.global = pool.global.saturating_add(1);

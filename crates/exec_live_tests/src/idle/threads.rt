@@ -10,7 +10,6 @@ use std::thread::join;
 
 /// A worker's seat at an idle set, which remembers what it did. It holds a count where it was
 /// claimed.
-#[derive(Drop)]
 struct Hand<'a> {
     idle: &'a Idle,
     seat: IdleSeat,
@@ -40,39 +39,44 @@ impl<'a> Hand<'a> {
         }
     }
 
-    fn publish(mut self, rt: &impl Abort) -> Self {
+    fn publish(&mut self, rt: &impl Abort) {
         assert!(rt; !self.published);
         self.idle.set_bit(&mut self.seat);
         self.published = true;
-        self
     }
 
-    fn withdraw(mut self, rt: &impl Abort) -> Self {
+    fn withdraw(&mut self, rt: &impl Abort) {
         assert!(rt; self.published && !self.claimed);
         self.claimed = !self.idle.withdraw(&mut self.seat);
         self.published = false;
-        self
     }
 
     /// Ends the hand. Answers whether it was claimed, and then returned the last count.
-    fn end(self) -> Option<bool> {
+    fn end(self, rt: &impl Abort) -> Option<bool> {
+        assert!(rt; !self.published);
         let Hand {
             idle,
             mut seat,
             published: _,
             claimed,
         } = self;
-        claimed.then(|| idle.subtract(&mut seat))
+        if !claimed {
+            drop(seat.leave());
+            return None;
+        }
+        let last = idle.subtract(&mut seat);
+        drop(seat.leave());
+        Some(last)
     }
 }
 
 #[test]
 fn three_threads_publish_at_once(rt: HostRuntime) -> Result<(), Fail> {
     let (idle, mut caller) = Idle::new(rt.alloc(), 3)?;
-    let zero = Hand::new(&idle, &mut caller);
-    let one = Hand::new(&idle, &mut caller);
-    let two = Hand::new(&idle, &mut caller);
-    let ((zero, one), two) = join(
+    let mut zero = Hand::new(&idle, &mut caller);
+    let mut one = Hand::new(&idle, &mut caller);
+    let mut two = Hand::new(&idle, &mut caller);
+    join(
         &rt,
         || join(&rt, || zero.publish(&rt), || one.publish(&rt)),
         || two.publish(&rt),
@@ -80,35 +84,37 @@ fn three_threads_publish_at_once(rt: HostRuntime) -> Result<(), Fail> {
     assert_eq!(rt; idle.look(&mut caller), 7);
     idle.add(&mut caller);
     assert_eq!(rt; idle.claim(&rt, &mut caller), Some(0));
-    let ((zero, one), two) = join(
+    join(
         &rt,
         || join(&rt, || zero.withdraw(&rt), || one.withdraw(&rt)),
         || two.withdraw(&rt),
     );
     assert_eq!(rt;
-        [zero.end(), one.end(), two.end()],
+        [zero.end(&rt), one.end(&rt), two.end(&rt)],
         [Some(true), None, None]
     );
+    drop(caller.leave());
     Ok(())
 }
 
 #[test]
 fn three_threads_publish_in_turn(rt: HostRuntime) -> Result<(), Fail> {
     let (idle, mut caller) = Idle::new(rt.alloc(), 3)?;
-    let zero = Hand::new(&idle, &mut caller);
-    let one = Hand::new(&idle, &mut caller);
-    let two = Hand::new(&idle, &mut caller);
-    let (zero, ()) = join(&rt, || zero.publish(&rt), || {});
-    let (one, ()) = join(&rt, || one.publish(&rt), || {});
-    let (two, ()) = join(&rt, || two.publish(&rt), || {});
+    let mut zero = Hand::new(&idle, &mut caller);
+    let mut one = Hand::new(&idle, &mut caller);
+    let mut two = Hand::new(&idle, &mut caller);
+    join(&rt, || zero.publish(&rt), || {});
+    join(&rt, || one.publish(&rt), || {});
+    join(&rt, || two.publish(&rt), || {});
     idle.add(&mut caller);
     assert_eq!(rt; idle.claim(&rt, &mut caller), Some(0));
-    let (zero, ()) = join(&rt, || zero.withdraw(&rt), || {});
-    let (two, ()) = join(&rt, || two.withdraw(&rt), || {});
-    let (one, ()) = join(&rt, || one.withdraw(&rt), || {});
+    join(&rt, || zero.withdraw(&rt), || {});
+    join(&rt, || two.withdraw(&rt), || {});
+    join(&rt, || one.withdraw(&rt), || {});
     assert_eq!(rt;
-        [zero.end(), one.end(), two.end()],
+        [zero.end(&rt), one.end(&rt), two.end(&rt)],
         [Some(true), None, None]
     );
+    drop(caller.leave());
     Ok(())
 }
