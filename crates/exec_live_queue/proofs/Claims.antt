@@ -5,17 +5,12 @@ use Rattle.exec_live_queue.specs.Plays.{take_all}
 
 -- k more labels below the front
 claimed_weight : (w : ℕ → ℕ) (start real k : ℕ) (ls : List ℕ) → start ≤ real → sum_by w (ls ++ labels real k) + sum_by w (labels start (real - start)) ≡ sum_by w ls + sum_by w (labels start (real + k - start))
-claimed_weight w start real k ls le =
-    let n : ℕ = real - start in let e : real + k - start ≡ n + k = omega arith in let h : start + n ≡ real = omega arith in
-    let a = sum_by-append w ls (labels real k) in let b = weigh_runs w start n k in let c : sum_by w (labels (start + n) k) ≡ sum_by w (labels real k) = ap (λ (x : ℕ). sum_by w (labels x k)) h in rw e (omega (arith, a, b, c))
+claimed_weight w start real k ls le = let e : real + k - start ≡ real - start + k = omega arith in let h : start + (real - start) ≡ real = omega arith in
+    let b = weigh_runs w start (real - start) k in rw (e, sum_by-append w ls (labels real k), b, h) (omega arith)
 
 -- no other seat holds a claim where there is no gap
 others_know : {T : Type 0} (tail real claimed holder k j id : ℕ) (t : Theft T) (st : Stage) → Knows tail real 0 claimed holder j t st → Knows tail (real + k) k k id j t st
-others_know tail real claimed holder k j id t Owns n = n
-others_know tail real claimed holder k j id t Idle n = tt
-others_know tail real claimed holder k j id t SawHead n = omega (arith, n)
-others_know tail real claimed holder k j id t SawTail n = (omega (arith, n.0), n.1)
-others_know tail real claimed holder k j id t Claimed n = absurd (omega (arith, n.1))
+others_know tail real claimed holder k j id t st n = grind arith
 
 module _ {T : Type 0} where
   -- the oldest k values that the owner has queued at this front
@@ -23,11 +18,10 @@ module _ {T : Type 0} where
   Oldest d real k = take k (take (d.tail - real) (drop (real - d.start) d.log))
 
   at_oldest : (d : Own T) (real k j : ℕ) → j < k → real + k ≤ d.tail → get_elem? (Oldest d real k) j ≡ get_elem? d.log (real - d.start + j)
-  at_oldest d real k j lt few = let le : real + k ≤ d.tail = few in at_take (take (d.tail - real) (drop (real - d.start) d.log)) k j lt ∙ at_take (drop (real - d.start) d.log) (d.tail - real) j (omega arith) ∙ at_drop d.log (real - d.start) j
+  at_oldest d real k j lt few = grind (arith, at_take, at_drop)
 
   oldest_length : (d : Own T) (real k : ℕ) → d.start ≤ real → d.start + length d.log ≡ d.tail → real + k ≤ d.tail → length (Oldest d real k) ≡ k
-  oldest_length d real k begun long few = let a : d.start ≤ real = begun in let b : d.start + length d.log ≡ d.tail = long in let c : real + k ≤ d.tail = few in
-      let wide = window_length d.log (real - d.start) (d.tail - real) (omega arith) in length-take-le k (take (d.tail - real) (drop (real - d.start) d.log)) (omega (arith, wide))
+  oldest_length d real k begun long few = grind (arith, window_length, length-take-le)
 
   -- what a thief has taken, with the values of k more labels
   logged_more : (d : Own T) (t t' : Theft T) (real k : ℕ) (xs : List T) → AsLogged d t → t'.claims ≡ t.claims ++ labels real k → t'.lot ≡ t.lot ++ xs → length xs ≡ k
@@ -51,24 +45,26 @@ module _ {T : Type 0} where
       → half v.theft ≡ k → v.theft.at ≡ q.kept.real → q.kept.gap ≡ 0 → 0 < k → k ≤ 128 → q.kept.real + k + k ≤ q.view.own.tail → xs ≡ Oldest q.view.own q.kept.real k
       → LiveQueue start record { words = words_of (head_word (q.kept.real + k) k) q.view.own.tail; homes = homes_after s.homes [] (take_all q.kept.real (map Some xs)); views = set s.views id (claimed_view v xs) }
   claimed_kept start s q id k v xs at thief halves sees unclaimed pos small few is =
-      let n = q.kept in let real : ℕ = n.real in let d : Own T = q.view.own in let t : ℕ = d.tail in let order : InOrder d real 0 n.claimed = subst (λ (g : ℕ). InOrder d real g n.claimed) unclaimed n.order in
-      let w : t + 0 ≤ real + 256 = order.within in let begun : d.start ≤ real = order.begun in let long : d.start + length d.log ≡ t + d.aside = n.long in
-      let z : d.aside ≡ 0 = ⊎_elim (λ (e : d.aside ≡ 0). e) (λ (kept : (d.aside ≡ 128) × (real ≡ t) × (0 ≡ 0)). let e : real ≡ t = kept.1 in absurd (omega arith)) order.aside in
-      let len : length xs ≡ k = ap length is ∙ oldest_length d real k begun (omega arith) (omega arith) in let many : length (map {A = T} Some xs) ≡ k = length-map xs Some ∙ len in
+      let n = q.kept in let real : ℕ = n.real in let d : Own T = q.view.own in let t : ℕ = d.tail in
+      let order : InOrder d real 0 n.claimed = subst (λ (g : ℕ). InOrder d real g n.claimed) unclaimed n.order in let long = n.long in
+      let z : d.aside ≡ 0 = grind arith in let len : length xs ≡ k = ap length is ∙ oldest_length d real k order.begun (grind arith) (grind arith) in
+      let many : length (map {A = T} Some xs) ≡ k = length-map xs Some ∙ len in
       let homes' : Homes T = homes_after s.homes [] (take_all real (map Some xs)) in let new : View T = claimed_view v xs in
-      moved start s q id v new (words_of (head_word (real + k) k) t) homes' (real + k) k k id at thief (take_length (map Some xs) s.homes [] real ∙ n.slots) refl (claimed_order d real n.claimed k order z pos small few)
-      (λ l le (lt : l < t + d.aside). let f = n.full l (omega arith) lt in (f.0, f.1, take_behind (map Some xs) s.homes [] real l (omega (arith, many)) (omega arith) ∙ f.2))
-      (λ l (le : t + d.aside ≤ l) lt beside outside. ⊎_elim
-      (λ (before : l + k < real + k + 256). take_behind (map Some xs) s.homes [] real l (omega (arith, many)) (omega arith) ∙ n.free l le (omega arith) (inl (omega (arith, unclaimed))) outside)
-      (λ (behind : real + k + 256 + k ≤ l + k). absurd (omega arith)) beside)
-      (λ j u ne e. others_know t real n.claimed n.holder k j id u.theft u.stage (subst (λ (g : ℕ). Knows t real g n.claimed n.holder j u.theft u.stage) unclaimed (n.each_seat j u e)))
+      moved start s q id v new (words_of (head_word (real + k) k) t) homes' (real + k) k k id at thief
+      (take_length (map Some xs) s.homes [] real ∙ n.slots) refl (claimed_order d real n.claimed k order z pos small few)
+      (λ l le lt. let f = n.full l (grind arith) lt in (f.0, f.1, take_behind (map Some xs) s.homes [] real l (grind arith) (grind arith) ∙ f.2))
+      (λ l (le : t + d.aside ≤ l) lt beside outside.
+      take_behind (map Some xs) s.homes [] real l (grind arith) (grind arith) ∙ n.free l le (grind arith) (grind arith) outside)
+      (λ j u ne e. others_know t real n.claimed n.holder k j id u.theft u.stage
+      (subst (λ (g : ℕ). Knows t real g n.claimed n.holder j u.theft u.stage) unclaimed (n.each_seat j u e)))
       (refl, pos, ap (λ (a : ℕ). a + k) sees, ap (λ (h : ℕ). v.theft.at + h) halves, (let e : half v.theft ≤ k = omega (arith, halves) in e))
       (logged_more d v.theft new.theft real k xs (n.each_lot id v at) (λ i. v.theft.claims ++ labels (sees i) (halves i)) refl len
-      (λ j lt. let f = n.full (real + j) (omega arith) (omega arith) in let index : real - d.start + j ≡ real + j - d.start = omega arith in
-      (f.0, ap (λ (ys : List T). get_elem? ys j) is ∙ at_oldest d real k j lt (omega arith) ∙ ap (get_elem? d.log) index ∙ f.1, f.1)))
+      (λ j lt. let f = n.full (real + j) (grind arith) (grind arith) in let index : real - d.start + j ≡ real + j - d.start = grind arith in
+      (f.0, ap (λ (ys : List T). get_elem? ys j) is ∙ at_oldest d real k j lt (grind arith) ∙ ap (get_elem? d.log) index ∙ f.1, f.1)))
       (λ _. (new, set_here s.views id new (there s.views id v at), refl))
-      (λ weigh. let starts : d.start ≡ start = n.from in let p = claimed_weight weigh start real k v.theft.claims (omega arith) in
-      let e : sum_by weigh (v.theft.claims ++ labels v.theft.at (half v.theft)) ≡ sum_by weigh (v.theft.claims ++ labels real k) = λ i. sum_by weigh (v.theft.claims ++ labels (sees i) (halves i)) in omega (arith, p, e))
+      (λ weigh. let p = claimed_weight weigh start real k v.theft.claims (grind arith) in
+      let e : sum_by weigh (v.theft.claims ++ labels v.theft.at (half v.theft)) ≡ sum_by weigh (v.theft.claims ++ labels real k)
+      = λ i. sum_by weigh (v.theft.claims ++ labels (sees i) (halves i)) in grind arith)
 
   -- the slots of the claim were home
   claim_home : (start : ℕ) (s : State (Option T) (View T)) (q : LiveQueue start s) (k : ℕ) (xs : List T) → q.kept.real + k ≤ q.view.own.tail → xs ≡ Oldest q.view.own q.kept.real k → length xs ≡ k
@@ -79,11 +75,8 @@ module _ {T : Type 0} where
       subst (λ (y : T). HomeAt s.homes (real + j) (Some y)) same f.2)
 
   claimed_pure : (d : Own T) (real k : ℕ) → d.start ≤ real → real + k ≤ d.tail → claimed (queue_at d real 0) k ≡ queue_at d (real + k) k
-  claimed_pure d real k begun few = let a : d.start ≤ real = begun in let b : real + k ≤ d.tail = few in
-      let m : ℕ = d.tail - (real + k) in let e : real + k - d.start ≡ real - d.start + k = omega arith in let h : d.tail - real ≡ k + m = omega arith in
-      let values : drop k (take (d.tail - real) (drop (real - d.start) d.log)) ≡ take m (drop (real + k - d.start) d.log)
-      = ap (λ (n : ℕ). drop k (take n (drop (real - d.start) d.log))) h ∙ sym (window d.log (real - d.start) k m) ∙ ap (λ (n : ℕ). take m (drop n d.log)) (sym e) in
-      ap (λ (xs : List T). record { real = real + k; gap = k; values = xs; held = take d.aside (drop (d.tail - d.start) d.log) }) values
+  claimed_pure d real k begun few = let m : ℕ = d.tail - (real + k) in let h : d.tail - real ≡ k + m = omega arith in
+      let e : real + k - d.start ≡ real - d.start + k = omega arith in rw (h, e, window d.log (real - d.start) k m) refl
 
   pub claims_rule : (start id : ℕ) (me : Sat T) (old new : ℕ) → me.0.stage ≡ SawTail → me.1 ≡ [] → old / 512 ≡ me.0.theft.at → old % 512 ≡ 0 → me.0.theft.at + 2 ≤ me.0.theft.upto → new ≡ head_word (me.0.theft.at + half me.0.theft) (half me.0.theft)
       → Allows (LiveQueue start) 256 id me 11 (λ n. either (eqb n old) new n) (claims (step 256 11 old new none) me)

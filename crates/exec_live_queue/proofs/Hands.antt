@@ -131,5 +131,4 @@ module _ {T : Type 0} where
   -- the slot in front is written, and turned behind the others
   pub turned_on : (l : List (ℕ × Option T)) (a b : ℕ) (x y : Option T) (xs ys : List (Option T)) → l ≡ hand a (x ∷ xs) ++ hand b ys → a ≡ b + length ys
       → rest l ++ (a % 256, y) ∷ [] ≡ hand (a + 1) xs ++ hand b (ys ++ y ∷ [])
-  turned_on l a b x y xs ys e is = let next : suc a ≡ a + 1 = omega arith in
-      ap (λ (c : List (ℕ × Option T)). rest c ++ (a % 256, y) ∷ []) e ∙ append_assoc (hand (suc a) xs) (hand b ys) ((a % 256, y) ∷ []) ∙ ap (λ (n : ℕ). hand (suc a) xs ++ (hand b ys ++ (n % 256, y) ∷ [])) is ∙ ap (λ (c : List (ℕ × Option T)). hand (suc a) xs ++ c) (hand_snoc b ys y) ∙ ap (λ (n : ℕ). hand n xs ++ hand b (ys ++ y ∷ [])) next
+  turned_on l a b x y xs ys e is = grind (arith, append_assoc, hand_snoc)

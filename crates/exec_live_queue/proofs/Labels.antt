@@ -56,9 +56,7 @@ module _ {X : Type 0} where
 
   -- a window over the end of a list, and over what was appended
   pub window_grows : (xs ys : List X) (a m n : ℕ) → a + m ≡ length xs → n ≡ length ys → take (m + n) (drop a (xs ++ ys)) ≡ take m (drop a xs) ++ ys
-  window_grows xs ys a m n e h =
-      let fits : a ≤ length xs = omega arith in let len : length (drop a xs) ≤ m = omega (arith, length-drop a xs) in let all : length (drop a xs ++ ys) ≤ m + n = omega (arith, length-append (drop a xs) ys) in
-      ap (take (m + n)) (drop-append-le a xs ys fits) ∙ take_all (m + n) (drop a xs ++ ys) all ∙ ap (λ (l : List X). l ++ ys) (sym (take_all m (drop a xs) len))
+  window_grows xs ys a m n e h = grind (arith, length-drop, length-append, drop-append-le, take_all)
 
   -- the end of a list that was appended
   pub window_of_end : (xs ys : List X) (a n : ℕ) → a ≡ length xs → n ≡ length ys → take n (drop a (xs ++ ys)) ≡ ys

@@ -20,23 +20,22 @@ module _ {T : Type 0} where
       → v.own.aside ≡ 0 → v.own.out_len ≡ 0 → n ≤ room v.own.tail k.real k.gap
       → LiveQueue start record { words = s.words; homes = homes_after s.homes [] (take_all v.own.tail (Vacant n)); views = set s.views 0 (out (saw v k.real k.gap) v.own.tail n) }
   laid_kept start s v k n at owns aside none_out small =
-      let t : ℕ = v.own.tail in let real : ℕ = k.real in let gap : ℕ = k.gap in let o = k.order in let w : t + gap ≤ real + 256 = o.within in let b : real ≤ t = o.behind in
-      let len : length (Vacant n) ≡ n = length-replicate n None in let z : v.own.aside ≡ 0 = aside in let spare : n ≤ real + 256 - (t + gap) = small in let fits : t + n + gap ≤ real + 256 = omega arith in
-      rebuilt start s v (out (saw v real gap) t n) k s.words (homes_after s.homes [] (take_all t (Vacant n))) real gap at owns owns k.from
-      (take_length (Vacant n) s.homes [] t ∙ k.slots) k.words (laid_order v.own real gap k.claimed n o aside small) k.long (le_refl t) (le_refl real) (λ pos. (pos, refl)) (λ pos. pos)
-      (λ l le (lt : l < t + v.own.aside). let f = k.full l le lt in let lt' : l < t = omega arith in (f.0, f.1, take_before (Vacant n) s.homes [] t l lt' (omega (arith, len)) ∙ f.2))
-      (λ l (le : t + v.own.aside ≤ l) lt beside outside. let ge : t ≤ l = omega arith in let near : l < t + 256 = omega arith in
-      ⊎_elim (λ (before : l < t). absurd (omega arith))
-      (λ (behind : t + n ≤ l). take_behind (Vacant n) s.homes [] t l (omega (arith, len)) near ∙ k.free l le lt beside (outside_none v.own.out_at v.own.out_len l none_out)) outside)
+      let t : ℕ = v.own.tail in let len : length (Vacant n) ≡ n = length-replicate n None in let o = k.order in
+      rebuilt start s v (out (saw v k.real k.gap) t n) k s.words (homes_after s.homes [] (take_all t (Vacant n))) k.real k.gap at owns owns k.from
+      (take_length (Vacant n) s.homes [] t ∙ k.slots) k.words (laid_order v.own k.real k.gap k.claimed n o aside small) k.long (le_refl t) (le_refl k.real)
+      (λ pos. (pos, refl)) (λ pos. pos)
+      (λ l le lt. let f = k.full l le lt in (f.0, f.1, take_before (Vacant n) s.homes [] t l (grind arith) (grind arith) ∙ f.2))
+      (λ l (le : t + v.own.aside ≤ l) lt beside (outside : Outside t n l). take_behind (Vacant n) s.homes [] t l (grind arith) (grind arith)
+      ∙ k.free l le lt beside (outside_none v.own.out_at v.own.out_len l none_out))
       refl (λ l x e. e) (λ weight. refl)
 
   -- the slots that went out were home and empty
   laid_valid : (start : ℕ) (s : State (Option T) (View T)) (v : View T) (k : Kept start v s) (n : ℕ) → v.own.aside ≡ 0 → v.own.out_len ≡ 0 → n ≤ room v.own.tail k.real k.gap
       → Valid s.homes [] (take_all v.own.tail (Vacant n))
   laid_valid start s v k n aside none_out small =
-      let t : ℕ = v.own.tail in let real : ℕ = k.real in let gap : ℕ = k.gap in let o = k.order in let w : t + gap ≤ real + 256 = o.within in let b : real ≤ t = o.behind in
-      let len : length (Vacant n) ≡ n = length-replicate n None in let z : v.own.aside ≡ 0 = aside in let spare : n ≤ real + 256 - (t + gap) = small in let fits : t + n + gap ≤ real + 256 = omega arith in
-      take_valid (Vacant n) s.homes [] t (omega (arith, len)) (all_free n s.homes t (λ l le lt. k.free l (omega arith) (omega arith) (inl (omega arith)) (outside_none v.own.out_at v.own.out_len l none_out)))
+      let t : ℕ = v.own.tail in let len : length (Vacant n) ≡ n = length-replicate n None in let o = k.order in
+      take_valid (Vacant n) s.homes [] t (grind arith) (all_free n s.homes t (λ l le lt.
+      k.free l (grind arith) (grind arith) (grind arith) (outside_none v.own.out_at v.own.out_len l none_out)))
 
   -- the seat after such a load
   abbrev Laid : View T → ℕ → ℕ → (ℕ → ℕ) → Sat T → Type 0
@@ -47,19 +46,17 @@ module _ {T : Type 0} where
       → (s : State (Option T) (View T)) (k : Kept start me.0 s) → get_elem? s.views 0 ≡ some me.0
       → Gives start s 11 (λ n. n) (laid f (step 256 11 0 0 none) me) (words_of (head_word k.real k.gap) me.0.own.tail) [] 0
   lays_here start me f most owns aside none_out s k at0 =
-      let real : ℕ = k.real in let gap : ℕ = k.gap in let v : View T = me.0 in let t : ℕ = v.own.tail in let small : gap < 512 = gap_fits v.own real gap k.claimed k.order in
-      let n : ℕ = f (room t real gap) in let slots : List (Option T) = Vacant n in let hw : ℕ = head_word real gap in
-      let c : real ≡ hw / 512 = sym (count_of_word real gap small) in let g : gap ≡ hw % 512 = sym (gap_of_word real gap small) in
-      let told : (R G : ℕ) → real ≡ R → gap ≡ G → ((claimed : ℕ) × InOrder v.own R G claimed) × Laid v R G f (out (saw v real gap) t n, hand t slots)
-      = λ R G e h. subst (λ (R' : ℕ). ((claimed : ℕ) × InOrder v.own R' G claimed) × Laid v R' G f (out (saw v real gap) t n, hand t slots)) e
-      (subst (λ (G' : ℕ). ((claimed : ℕ) × InOrder v.own real G' claimed) × Laid v real G' f (out (saw v real gap) t n, hand t slots)) h ((k.claimed, k.order), refl)) in
-      let got = told (hw / 512) (hw % 512) c g in let carried : hand t slots ++ [] ≡ hand t slots = append-nil (hand t slots) in (
-        out (saw v real gap) t n,
-        take_all t slots,
+      let real : ℕ = k.real in let gap : ℕ = k.gap in let v : View T = me.0 in let t : ℕ = v.own.tail in
+      let small : gap < 512 = gap_fits v.own real gap k.claimed k.order in let n : ℕ = f (room t real gap) in let w : View T = out (saw v real gap) t n in
+      let got : ((claimed : ℕ) × InOrder v.own (head_word real gap / 512) (head_word real gap % 512) claimed)
+      × Laid v (head_word real gap / 512) (head_word real gap % 512) f (w, hand t (Vacant n))
+      = rw (count_of_word real gap small, gap_of_word real gap small) ((k.claimed, k.order), refl) in (
+        w,
+        take_all t (Vacant n),
         laid_valid start s v k n aside none_out (most (room t real gap)),
-        subst (λ (ws : List ℕ). LiveQueue start record { words = ws; homes = homes_after s.homes [] (take_all t slots); views = set s.views 0 (out (saw v real gap) t n) }) k.words
-            (laid_kept start s v k n at0 owns aside none_out (most (room t real gap))),
-        (got.0, ap (λ (c' : List (ℕ × Option T)). (out (saw v real gap) t n, c')) (take_carried slots [] t ∙ carried) ∙ got.1),
+        subst (λ (ws : List ℕ). LiveQueue start record { words = ws; homes = homes_after s.homes [] (take_all t (Vacant n)); views = set s.views 0 w })
+            k.words (laid_kept start s v k n at0 owns aside none_out (most (room t real gap))),
+        (got.0, ap (λ (c : List (ℕ × Option T)). (w, c)) (take_carried (Vacant n) [] t ∙ append-nil (hand t (Vacant n))) ∙ got.1),
       )
 
   pub lays : (start : ℕ) (id : ℕ) (me : Sat T) (f : ℕ → ℕ) → ((r : ℕ) → f r ≤ r) → me.0.stage ≡ Owns → me.0.own.aside ≡ 0 → me.0.own.out_len ≡ 0 → me.1 ≡ []

@@ -17,30 +17,22 @@ module _ {T : Type 0} where
 
   -- the first slot in the middle of an overflow
   pub hands_front : (m : Sat T) (j label : ℕ) (x : T) (xs : List T) → AtHand m j (x ∷ xs) → label ≡ m.0.own.tail + j → m.1 ≡ (label % 256, Some x) ∷ rest m.1
-  hands_front m j label x xs h is = let t : ℕ = m.0.own.tail in
-      fronted m.1 (hand (suc (t + j)) (map Some xs) ++ hand t (replicate j None)) (label % 256) (Some x) (h.6 ∙ ap (λ (n : ℕ). (n % 256, Some x) ∷ (hand (suc (t + j)) (map Some xs) ++ hand t (replicate j None))) (sym is))
+  hands_front m j label x xs h is = grind arith
 
   -- all were handed out
   pub handed_all : (m : Sat T) (j : ℕ) → AtHand m j [] → 0 < j → (0 < m.0.own.out_len) × (m.1 ≡ hand m.0.own.out_at (replicate m.0.own.out_len None))
-  handed_all m j h pos = let is : m.0.own.out_len ≡ j = h.5 ∙ (let e : 0 + j ≡ j = omega arith in e) in
-      (omega (arith, is, pos), h.6 ∙ (λ i. hand (sym h.4 i) (replicate {A = Option T} (sym is i) None)))
+  handed_all m j h pos = grind arith
 
   pub handed_back : (m m' : Sat T) (j n : ℕ) → AtHand m j [] → returned (step 256 11 0 0 none) m n m' → AtRest m' × HasLooked m.0.own m'.0.own
-  handed_back m m' j n h back = subst (λ (z : Sat T). AtRest z × HasLooked m.0.own z.0.own) (sym back.1) ((h.0, refl, h.1, refl, h.2, h.3), (refl, back.0.1.saw_before))
+  handed_back m m' j n h back = grind arith
 
   -- one more free slot was filled
   pub filled_next : (m m1 : Sat T) (v : View T) (tail r label : ℕ) (done : List T) (x : T) → Fills m v tail (suc r) done → label ≡ tail + length done → m1 ≡ (m.0, rest m.1 ++ (label % 256, Some x) ∷ []) → Fills m1 v tail r (done ++ x ∷ [])
-  filled_next m m1 v tail r label done x f is e =
-      let len : length (map {A = T} Some done) ≡ length done = length-map done Some in
-      let on = turned_on m.1 (tail + length done) tail None (Some x) (replicate r None) (map Some done) (ap (λ (z : Sat T). z.1) f) (ap (λ (n : ℕ). tail + n) (sym len)) in
-      let more : length (done ++ x ∷ []) ≡ length done + 1 = length-append done (x ∷ []) in let next : tail + length done + 1 ≡ tail + length (done ++ x ∷ []) = omega arith in
-      e ∙ (λ i. ((ap (λ (z : Sat T). z.0) f) i, rest m.1 ++ (is i % 256, Some x) ∷ [])) ∙ ap (λ (c : List (ℕ × Option T)). (v, c)) (on ∙ ap (λ (n : ℕ). hand n (replicate {A = Option T} r None) ++ hand tail (map Some done ++ Some x ∷ [])) next
-      ∙ ap (λ (l : List (Option T)). hand (tail + length (done ++ x ∷ [])) (replicate r None) ++ hand tail l) (sym (map-append Some done (x ∷ []))))
+  filled_next m m1 v tail r label done x f is e = grind (arith, length-map, turned_on, length-append, map-append)
 
   -- the next of the free slots
   pub fills_front : (m : Sat T) (v : View T) (tail r label : ℕ) (done : List T) → Fills m v tail (suc r) done → label ≡ tail + length done → m.1 ≡ (label % 256, None) ∷ rest m.1
-  fills_front m v tail r label done f is =
-      fronted m.1 (hand (suc (tail + length done)) (replicate r None) ++ hand tail (map Some done)) (label % 256) None (ap (λ (z : Sat T). z.1) f ∙ ap (λ (n : ℕ). (n % 256, None) ∷ (hand (suc (tail + length done)) (replicate {A = Option T} r None) ++ hand tail (map Some done))) (sym is))
+  fills_front m v tail r label done f is = grind arith
 
   -- one more value of a claim was taken
   pub emptied_next : (m m1 : Sat T) (v : View T) (at n label : ℕ) (x : T) (xs : List T) → Empties m v at n (x ∷ xs) → label ≡ at + n → m1 ≡ (m.0, rest m.1 ++ (label % 256, None) ∷ []) → Empties m1 v at (n + 1) xs
@@ -52,8 +44,7 @@ module _ {T : Type 0} where
 
   -- the next of the slots of a claim
   pub empties_front : (m : Sat T) (v : View T) (at n label : ℕ) (x : T) (xs : List T) → Empties m v at n (x ∷ xs) → label ≡ at + n → m.1 ≡ (label % 256, Some x) ∷ rest m.1
-  empties_front m v at n label x xs f is =
-      fronted m.1 (hand (suc (at + n)) (map Some xs) ++ hand at (replicate n None)) (label % 256) (Some x) (ap (λ (z : Sat T). z.1) f ∙ ap (λ (k : ℕ). (k % 256, Some x) ∷ (hand (suc (at + n)) (map Some xs) ++ hand at (replicate {A = Option T} n None))) (sym is))
+  empties_front m v at n label x xs f is = grind arith
 
   -- an empty slot was turned past
   pub turned_past : (c : List (ℕ × Option T)) (b i r : ℕ) (ys : List (Option T)) → c ≡ hand (b + length ys + i) (replicate (suc r) None) ++ hand b (ys ++ replicate i None)
@@ -70,7 +61,7 @@ module _ {T : Type 0} where
 
   -- turning past all empty slots of a run: at the start, after one more, and at the end
   pub skip_first : (c : List (ℕ × Option T)) (b count : ℕ) (ys : List (Option T)) → c ≡ hand (b + length ys) (replicate count None) ++ hand b ys → c ≡ hand (b + length ys + 0) (replicate (count - 0) None) ++ hand b (ys ++ [])
-  skip_first c b count ys e = let p : b + length ys ≡ b + length ys + 0 = omega arith in let q : count ≡ count - 0 = omega arith in e ∙ (λ i. hand (p i) (replicate {A = Option T} (q i) None) ++ hand b (sym (append-nil ys) i))
+  skip_first c b count ys e = grind (arith, append-nil)
 
   pub skip_more : (c : List (ℕ × Option T)) (b i count : ℕ) (ys : List (Option T)) → i < count → c ≡ hand (b + length ys + i) (replicate (count - i) None) ++ hand b (ys ++ replicate i None)
       → turned c ≡ hand (b + length ys + (i + 1)) (replicate (count - (i + 1)) None) ++ hand b (ys ++ replicate (i + 1) None)
@@ -78,13 +69,12 @@ module _ {T : Type 0} where
       turned_past c b i (count - (i + 1)) ys (e ∙ ap (λ (n : ℕ). hand (b + length ys + i) (replicate {A = Option T} n None) ++ hand b (ys ++ replicate i None)) q)
 
   pub skip_last : (c : List (ℕ × Option T)) (b i count : ℕ) (ys : List (Option T)) → i ≡ count → c ≡ hand (b + length ys + i) (replicate (count - i) None) ++ hand b (ys ++ replicate i None) → c ≡ hand b (ys ++ replicate count None)
-  skip_last c b i count ys is e = let q : count - i ≡ 0 = omega arith in e ∙ ap (λ (n : ℕ). hand (b + length ys + i) (replicate {A = Option T} n None) ++ hand b (ys ++ replicate i None)) q ∙ ap (λ (n : ℕ). hand b (ys ++ replicate {A = Option T} n None)) is
+  skip_last c b i count ys is e = grind arith
 
   -- the values that were put, with the spare slots behind them
   pub laden : (m m1 : Sat T) (tail r : ℕ) (xs : List T) → Fills m m.0 tail r xs
       → ((b : ℕ) (ys : List (Option T)) → m.1 ≡ hand (b + length ys) (replicate r None) ++ hand b ys → m1 ≡ (m.0, hand b (ys ++ replicate r None))) → m1 ≡ (m.0, hand tail (map Some xs ++ replicate r None))
-  laden m m1 tail r xs f turns = let len : length (map {A = T} Some xs) ≡ length xs = length-map xs Some in
-      turns tail (map Some xs) (ap (λ (z : Sat T). z.1) f ∙ ap (λ (n : ℕ). hand (tail + n) (replicate {A = Option T} r None) ++ hand tail (map Some xs)) (sym len))
+  laden m m1 tail r xs f turns = grind (arith, length-map)
 
   pub laden_values : (v : View T) (tail r : ℕ) (xs : List T) → ◌≡◌ {A = Sat T} (published_view v (values_of (hand tail (map Some xs ++ replicate r None))), []) (published_view v xs, [])
   laden_values v tail r xs = ap (λ (l : List T). (published_view v l, [])) (values_in xs r tail)
@@ -119,7 +109,7 @@ module _ {T : Type 0} where
   Carrying m v at m1 w tail r all i = (left : List T) × Filling m1 w tail r all i left × Empties m v at i left
 
   pub carry_start : (m : Sat T) (v : View T) (at : ℕ) (m1 : Sat T) (w : View T) (tail r count : ℕ) (all : List T) → length all ≡ count → Empties m v at 0 all → Fills m1 w tail (count + r) [] → Carrying m v at m1 w tail r all 0
-  carry_start m v at m1 w tail r count all len e f = (all, ([], refl, refl, f ∙ ap (λ (n : ℕ). (w, hand (tail + 0) (replicate {A = Option T} (n + r) None) ++ [])) (sym len)), e)
+  carry_start m v at m1 w tail r count all len e f = grind arith
 
   filling_count : (m1 : Sat T) (w : View T) (tail r i : ℕ) (all left : List T) → Filling m1 w tail r all i left → i + length left ≡ length all
   filling_count m1 w tail r i all left f = let a = f.1 in let b = length-append f.0 left in let c = ap length f.2 in omega (arith, a, b, c)

@@ -31,20 +31,7 @@ module _ {T : Type 0} where
           from = refl;
           slots = len ∙ wide;
           words = words;
-          order = record {
-            begun = le_refl start;
-            behind = le_refl start;
-            within = omega arith;
-            counted = omega arith;
-            claim = inl (refl, refl);
-            aside = inl refl;
-            out_free = inl refl;
-            out_beside = inl refl;
-            saw_before = le_refl start;
-            saw_room = le_refl (start + 0);
-            saw_still = λ _. inl refl;
-            saw_lone = λ _ _. (refl, refl);
-          };
+          order = grind arith;
           long = refl;
           full = λ l le lt. absurd (omega arith);
           free = λ l le lt beside outside. ap (λ (ys : List (Option T)). get_elem? (map some ys) (l % 256)) free ∙ home_among n (l % 256) (let m : l % 256 < 256 = mod-lt l (omega arith) in omega (arith, wide, m));

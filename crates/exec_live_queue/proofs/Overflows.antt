@@ -15,11 +15,10 @@ overflowed_weight w start real tail handed kept le full =
 module _ {T : Type 0} where
   -- the values of a full queue: what the log has at its labels
   at_whole : (d : Own T) (j : ℕ) → d.saw_real + 256 ≡ d.tail → j < 256 → get_elem? (whole d) j ≡ get_elem? d.log (d.saw_real - d.start + j)
-  at_whole d j full lt = let h : d.saw_real + 256 ≡ d.tail = full in at_take (drop (d.saw_real - d.start) d.log) (d.tail - d.saw_real) j (omega arith) ∙ at_drop d.log (d.saw_real - d.start) j
+  at_whole d j full lt = grind (arith, at_take, at_drop)
 
   pub whole_length : (d : Own T) → d.start ≤ d.saw_real → d.start + length d.log ≡ d.tail → d.saw_real + 256 ≡ d.tail → length (whole d) ≡ 256
-  whole_length d begun long full = let a : d.start ≤ d.saw_real = begun in let b : d.start + length d.log ≡ d.tail = long in let c : d.saw_real + 256 ≡ d.tail = full in
-      let e : 256 ≡ d.tail - d.saw_real = omega arith in window_length d.log (d.saw_real - d.start) (d.tail - d.saw_real) (omega arith) ∙ sym e
+  whole_length d begun long full = grind (arith, window_length)
 
   -- the rule after the exchange, at which the newest half went out with the owner
   overflowed_kept : (start : ℕ) (s : State (Option T) (View T)) (v : View T) (k : Kept start v s) → get_elem? s.views 0 ≡ some v → v.stage ≡ Owns
@@ -98,8 +97,7 @@ module _ {T : Type 0} where
       (λ l le lt. k.full l le (omega arith)) (λ l le lt beside outside. k.free l (omega arith) lt beside outside) refl (λ l x e. e) (λ weight. refl)
 
   restored_pure : (v : View T) (gap : ℕ) → queue_at (restored_view v).own v.own.tail gap ≡ restored (queue_at v.own v.own.tail gap)
-  restored_pure v gap = let d = v.own in let e : d.tail + d.aside - d.tail ≡ d.aside = omega arith in
-      ap (λ (n : ℕ). record { real = d.tail; gap = gap; values = take n (drop (d.tail - d.start) d.log); held = [] }) e
+  restored_pure v gap = grind arith
 
   pub restore_rule : (start id : ℕ) (me : Sat T) (new : ℕ) → me.0.stage ≡ Owns → me.0.own.aside ≡ 128 → new ≡ me.0.own.tail + me.0.own.aside
       → Allows (LiveQueue start) 256 id me 12 (λ _. new) (λ _. restores (step 256 12 new 0 none) me new)

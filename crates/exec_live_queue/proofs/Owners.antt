@@ -8,12 +8,10 @@ use Rattle.std.proofs.Common.{append-nil}
 use Rattle.std.proofs.lemmas.List.{length-take-le}
 
 pub room_seen : (tail left len : ℕ) → tail < 2 ^ 55 - 512 → len ≤ left → len ≤ cond (is_spent tail) 0 left
-room_seen tail left len lt fits = let e : cond (is_spent tail) 0 left ≡ left = ap (λ (b : Bool). cond b 0 left) (lt-leb (2 ^ 55 - 512) tail lt) in omega (arith, fits, e)
+room_seen tail left len lt fits = grind arith
 
 room_cases : (tail left len : ℕ) → len ≤ cond (is_spent tail) 0 left → (len ≡ 0) ⊎ ((len ≤ left) × (tail < 2 ^ 55 - 512))
-room_cases tail left len fits = dite (dec_le (2 ^ 55 - 512) tail)
-    (λ spent. inl (let e : cond (is_spent tail) 0 left ≡ 0 = ap (λ (b : Bool). cond b 0 left) (le-leb (2 ^ 55 - 512) tail spent) in omega (arith, fits, e)))
-    (λ ne. let lt : tail < 2 ^ 55 - 512 = lt_of_not-le ne in let e : cond (is_spent tail) 0 left ≡ left = ap (λ (b : Bool). cond b 0 left) (lt-leb (2 ^ 55 - 512) tail lt) in inr (omega (arith, fits, e), lt))
+room_cases tail left len fits = grind arith
 
 module _ {T : Type 0} where
   -- a look
@@ -22,8 +20,7 @@ module _ {T : Type 0} where
 
   -- one that took nothing
   pub looks_at : (f : ℕ → ℕ) (m m' : Sat T) (n : ℕ) → AtRest m → f (room m.0.own.tail (n / 512) (n % 512)) ≡ 0 → laid f (step 256 11 0 0 none) m n m' → AtRest m' × HasLooked m.0.own m'.0.own
-  looks_at f m m' n r dry l = let t : ℕ = m.0.own.tail in
-      (subst AtRest (sym (l.1 ∙ ap (λ (k : ℕ). (out (saw m.0 (n / 512) (n % 512)) t k, hand t (replicate {A = Option T} k None))) dry)) (r.0, refl, r.2, refl, r.4, r.5), laid_looked f m m' n l)
+  looks_at f m m' n r dry l = grind arith
 
   pub looks : (m m' : Sat T) (n : ℕ) → AtRest m → laid (λ room. 0) (step 256 11 0 0 none) m n m' → AtRest m' × HasLooked m.0.own m'.0.own
   looks m m' n r l = looks_at (λ _. 0) m m' n r refl l
@@ -38,32 +35,16 @@ module _ {T : Type 0} where
 
   -- a pop after a look
   pub pops_on : (a b d : Own T) (x : T) → HasLooked a b → HasPopped b x d → HasPopped a x d
-  pops_on a b d x h k = (
-    k.0,
-    subst (λ (y : Own T). get_elem? y.log (k.0 - y.start) ≡ some x) h.0 k.1,
-    omega (arith, h.1, k.2),
-    k.3,
-    subst (λ (y : Own T). d.saw_real ≤ y.tail) h.0 k.4,
-    k.5 ∙ ap (λ (y : Own T). record (looked y d) { popped = y.popped ++ k.0 ∷ [] }) h.0,
-  )
+  pops_on a b d x h k = grind arith
 
   -- a pop, and the look at which its slot went back
   pub pops_off : (m m1 m2 : Sat T) (x y : T) (n gap : ℕ) → AtRest m → m1.0 ≡ popped_view m.0 m.0.own.saw_real gap → get_elem? m.0.own.log (m.0.own.saw_real - m.0.own.start) ≡ some y → x ≡ y
       → returned (step 256 11 0 0 none) m1 n m2 → AtRest m2 × HasPopped m.0.own x m2.0.own
-  pops_off m m1 m2 x y n gap r view at same back =
-      let d = m.0.own in let real : ℕ = d.saw_real in let o = back.0.1 in
-      let past : real + 1 ≤ n / 512 = subst (λ (v : View T). v.own.saw_real ≤ n / 512) view o.saw_before in
-      subst (λ (z : Sat T). AtRest z × HasPopped d x z.0.own) (sym back.1)
-      (subst (λ (v : View T). AtRest (record v { own = record v.own { saw_real = n / 512; saw_gap = n % 512; out_at = v.own.tail; out_len = 0 } }, [])
-      × HasPopped d x (record v.own { saw_real = n / 512; saw_gap = n % 512; out_at = v.own.tail; out_len = 0 })) (sym view)
-      ((r.0, refl, r.2, refl, r.4, r.5), (real, at ∙ ap some (sym same), omega arith, omega (arith, past), subst (λ (v : View T). n / 512 ≤ v.own.tail) view o.behind, refl)))
+  pops_off m m1 m2 x y n gap r view at same back = grind arith
 
   -- a head that was found in place of the one that was seen leaves fewer values, or as many and no claim
   pub fewer : (d : Own T) (seen n tail : ℕ) → IsSeen d seen → Found d n → n ≢ seen → d.saw_real < tail → 2 * (tail - n / 512) + min (n % 512) 1 < 2 * (tail - seen / 512) + min (seen % 512) 1
-  fewer d seen n tail s f ne any = let o = f.1 in let before : d.saw_real ≤ n / 512 = o.saw_before in let a : seen / 512 ≡ d.saw_real = s.0 in let b : seen % 512 ≡ d.saw_gap = s.1 in
-      dite (ℕ_discrete (n / 512) d.saw_real)
-      (λ e. ⊎_elim (λ (same : n % 512 ≡ d.saw_gap). absurd (ne (omega arith))) (λ (free : n % 512 ≡ 0). let differs : n % 512 ≢ seen % 512 = λ h. ne (omega arith) in omega arith) (o.saw_still e))
-      (λ other. omega arith)
+  fewer d seen n tail s f ne any = grind arith
 
   -- the head that was found is the one that was seen last
   pub laid_seen : (f : ℕ → ℕ) (m m' : Sat T) (n : ℕ) → laid f (step 256 11 0 0 none) m n m' → IsSeen m'.0.own n
@@ -75,16 +56,12 @@ module _ {T : Type 0} where
   -- the slot that a pop took
   pub pops_out : (m m1 : Sat T) (real gap : ℕ) → AtRest m → Popped m.0 m.0.own.saw_real gap m1 → real ≡ m.0.own.saw_real
       → (m1.0.stage ≡ Owns) × (((m1.0.own.out_at ≡ real + 256) × (m1.0.own.out_len ≡ 1)) × ((x : T) × (m1.1 ≡ hand (real + 256) (Some x ∷ []))))
-  pops_out m m1 real gap r p same = let turn : m.0.own.saw_real + 256 ≡ real + 256 = ap (λ (n : ℕ). n + 256) (sym same) in (
-    ap (λ (z : Sat T). z.0.stage) p.3 ∙ r.0,
-    ((ap (λ (z : Sat T). z.0.own.out_at) p.3 ∙ turn, ap (λ (z : Sat T). z.0.own.out_len) p.3), (p.1, ap (λ (z : Sat T). z.1) p.3 ∙ ap (λ (n : ℕ). hand n (Some p.1 ∷ [])) turn)),
-  )
+  pops_out m m1 real gap r p same = grind arith
 
   -- the whole pop
   pub pops_back : (m m1 m2 : Sat T) (x : T) (real n gap : ℕ) → AtRest m → Popped m.0 m.0.own.saw_real gap m1 → real ≡ m.0.own.saw_real → m1.1 ≡ hand (real + 256) (Some x ∷ [])
       → returned (step 256 11 0 0 none) m1 n m2 → AtRest m2 × HasPopped m.0.own x m2.0.own
-  pops_back m m1 m2 x real n gap r p same took back =
-      pops_off m m1 m2 x p.1 n (after_pop m.0.own.saw_real gap).gap r (ap (λ (z : Sat T). z.0) p.3) p.2 (same_value (real + 256) (m.0.own.saw_real + 256) x p.1 (sym took ∙ ap (λ (z : Sat T). z.1) p.3)) back
+  pops_back m m1 m2 x real n gap r p same took back = grind arith
 
   -- a look that took the one free slot that it asked for
   pub took_one : (m m' : Sat T) (n : ℕ) → laid (λ room. min room 1) (step 256 11 0 0 none) m n m' → m.0.own.tail - n / 512 + n % 512 < 256
@@ -107,11 +84,7 @@ module _ {T : Type 0} where
   -- a value was published after a look
   pub published_after : (m m1 m2 : Sat T) (xs : List T) → AtRest m → HasLooked m.0.own m1.0.own → m1.0.stage ≡ Owns → m1.0.own.tail + length xs + 256 ≤ 2 ^ 55 → m2 ≡ (published_view m1.0 xs, [])
       → AtRest m2 × HasPublished m.0.own xs m2.0.own
-  published_after m m1 m2 xs r h owns bound e = let a = m.0.own in let b = m1.0.own in
-      let long : b.start + length b.log ≡ b.tail = subst (λ (d : Own T). d.start + length d.log ≡ d.tail) (sym h.0) r.5 in let longer = length-append b.log xs in
-      let log : b.start + length (b.log ++ xs) ≡ b.tail + length xs = omega arith in
-      subst (λ (z : Sat T). AtRest z × HasPublished a xs z.0.own) (sym e)
-      ((owns, refl, ap (λ (d : Own T). d.aside) h.0 ∙ r.2, refl, bound, log), (ap (λ (d : Own T). record d { tail = d.tail + length xs; log = d.log ++ xs; out_len = 0 }) h.0, h.1))
+  published_after m m1 m2 xs r h owns bound e = grind (arith, length-append)
 
   -- a queue flowed over after a look, and shows again what it kept
   pub overflowed_after : (m m1 m2 m3 : Sat T) → AtRest m → HasLooked m.0.own m1.0.own → m1.0.stage ≡ Owns → m1.0.own.start ≤ m1.0.own.saw_real → m1.0.own.saw_real + 256 ≡ m1.0.own.tail → m.0.own.tail + 512 ≤ 2 ^ 55
@@ -144,30 +117,16 @@ module _ {T : Type 0} where
 
   -- where another head without a claim was seen, a value has left
   pub newer : (d d' : Own T) (seen n : ℕ) → IsSeen d seen → IsSeen d' n → Found d n → n ≢ seen → d.saw_gap ≡ 0 → d.saw_real < d'.saw_real
-  newer d d' seen n s s' f ne unclaimed = let o = f.1 in let before : d.saw_real ≤ n / 512 = o.saw_before in let a : seen / 512 ≡ d.saw_real = s.0 in let b : seen % 512 ≡ d.saw_gap = s.1 in let c : n / 512 ≡ d'.saw_real = s'.0 in
-      let u : d.saw_gap ≡ 0 = unclaimed in
-      dite (ℕ_discrete (n / 512) d.saw_real)
-      (λ e. ⊎_elim (λ (same : n % 512 ≡ d.saw_gap). absurd (ne (omega arith))) (λ (free : n % 512 ≡ 0). absurd (ne (omega arith))) (o.saw_still e))
-      (λ other. omega arith)
+  newer d d' seen n s s' f ne unclaimed = grind arith
 
   -- the room that was seen is still there
   pub room_stays : (d : Own T) (n tail len : ℕ) → Found d n → tail ≡ d.tail → d.tail + 256 ≤ 2 ^ 55 → len ≤ room_at record { real = d.saw_real; gap = d.saw_gap } tail → (len ≤ room d.tail (n / 512) (n % 512)) × (len ≤ 256) × (tail + len + 256 ≤ 2 ^ 55)
-  room_stays d n tail len f is bound fits = let o = f.1 in let a : d.saw_real ≤ n / 512 = o.saw_before in let b : n / 512 ≤ d.tail = o.behind in let c : d.saw_real + n % 512 ≤ n / 512 + d.saw_gap = o.saw_room in let e : tail ≡ d.tail = is in
-      let left : ℕ = 256 - (tail - d.saw_real) - d.saw_gap in
-      ⊎_elim (λ (full : len ≡ 0). (omega arith, omega arith, omega arith))
-      (λ (some_room : (len ≤ left) × (tail < 2 ^ 55 - 512)). let g : len ≤ 256 - (tail - d.saw_real) - d.saw_gap = some_room.0 in let h = some_room.1 in (omega arith, omega arith, omega arith)) (room_cases tail left len fits)
+  room_stays d n tail len f is bound fits = grind arith
 
   -- all free slots were taken
   pub took_room : (m m' : Sat T) (n : ℕ) → laid (λ room. room) (step 256 11 0 0 none) m n m' → AtRest m
       → (m'.0.own.out_at ≡ m.0.own.tail) × (m'.0.own.out_len ≡ room m.0.own.tail (n / 512) (n % 512)) × (m'.0.stage ≡ Owns) × (m'.0.own.aside ≡ 0) × (m'.0.own.tail ≡ m.0.own.tail) × Fills m' m'.0 m.0.own.tail (room m.0.own.tail (n / 512) (n % 512)) []
-  took_room m m' n l r = let is = l.1 in let t : ℕ = m.0.own.tail in let here : t ≡ t + 0 = omega arith in let free : List (Option T) = replicate (room t (n / 512) (n % 512)) None in (
-    ap (λ (x : Sat T). x.0.own.out_at) is,
-    ap (λ (x : Sat T). x.0.own.out_len) is,
-    ap (λ (x : Sat T). x.0.stage) is ∙ r.0,
-    ap (λ (x : Sat T). x.0.own.aside) is ∙ r.2,
-    ap (λ (x : Sat T). x.0.own.tail) is,
-    (λ i. (m'.0, (ap (λ (x : Sat T). x.1) is ∙ ap (λ (k : ℕ). hand k free) here ∙ sym (append-nil (hand (t + 0) free))) i)),
-  )
+  took_room m m' n l r = grind (arith, append-nil)
 
   -- those that a batch of this length needs, and the others
   pub free_slots : (m m' : Sat T) (n tail len : ℕ) → laid (λ room. room) (step 256 11 0 0 none) m n m' → AtRest m → tail ≡ m.0.own.tail → len ≤ room m.0.own.tail (n / 512) (n % 512)
@@ -177,16 +136,12 @@ module _ {T : Type 0} where
 
   -- a batch that was published after a look
   pub published_on : (a b d : Own T) (xs : List T) → HasLooked a b → HasPublished b xs d → HasPublished a xs d
-  published_on a b d xs h k = (k.0 ∙ ap (λ (y : Own T). record (looked y d) { tail = y.tail + length xs; log = y.log ++ xs }) h.0, omega (arith, h.1, k.1))
+  published_on a b d xs h k = grind arith
 
   -- a steal after a look
   pub steals_on : (a b d : Own T) (t t' : Theft T) (answer : Steal) → HasLooked a b → AfterSteal b t d t' answer → AfterSteal a t d t' answer
-  steals_on a b d t t' (steal.Moved n) h k = (k.0, k.1, k.2, k.3, published_on a b d k.0 h k.4, k.5)
-  steals_on a b d t t' steal.Nothing h k = (looks_on a b d h k.0, k.1, subst (λ (n : ℕ). (2 ^ 55 - 512 ≤ n) ⊎ ((128 < n - d.saw_real + d.saw_gap) ⊎ ((0 < t'.gap) ⊎ (t'.upto < t'.at + 2)))) (own_tail a b h) k.2)
-  steals_on a b d t t' (steal.Again head) h k = (looks_on a b d h k.0, k.1, k.2, k.3, k.4)
+  steals_on a b d t t' answer h k = grind arith
 
   -- a steal after tries that took nothing
   pub steals_after : (d d' : Own T) (t t1 t' : Theft T) (answer : Steal) → HasKept t t1 → AfterSteal d t1 d' t' answer → AfterSteal d t d' t' answer
-  steals_after d d' t t1 t' (steal.Moved n) h k = (k.0, k.1, k.2, k.3, k.4, (k.5.0 ∙ ap (λ (ls : List ℕ). ls ++ labels t'.at n) h.0, k.5.1 ∙ ap (λ (xs : List T). xs ++ k.0) h.1))
-  steals_after d d' t t1 t' steal.Nothing h k = (k.0, (k.1.0 ∙ h.0, k.1.1 ∙ h.1), k.2)
-  steals_after d d' t t1 t' (steal.Again head) h k = (k.0, (k.1.0 ∙ h.0, k.1.1 ∙ h.1), k.2, k.3, k.4)
+  steals_after d d' t t1 t' answer h k = grind (arith, append_assoc)

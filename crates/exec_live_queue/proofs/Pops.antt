@@ -4,15 +4,12 @@ use Rattle.exec_live_queue.specs.Plays.{take_all}
 
 -- one more label below the front
 popped_weight : (w : ℕ → ℕ) (start real : ℕ) (ls : List ℕ) → start ≤ real → sum_by w (ls ++ real ∷ []) + sum_by w (labels start (real - start)) ≡ sum_by w ls + sum_by w (labels start (real + 1 - start))
-popped_weight w start real ls le =
-    let n : ℕ = real - start in let e : real + 1 - start ≡ n + 1 = omega arith in let h : start + n ≡ real = omega arith in
-    let a = sum_by_push w ls real in let b = weigh_runs w start n 1 in let c = weigh_one w (start + n) in let d : w (start + n) ≡ w real = ap w h in rw e (omega (arith, a, b, c, d))
+popped_weight w start real ls le = let e : real + 1 - start ≡ real - start + 1 = omega arith in let h : start + (real - start) ≡ real = omega arith in
+    let b = weigh_runs w start (real - start) 1 in let c = weigh_one w (start + (real - start)) in rw (e, sum_by_push w ls real, b, c, h) (omega arith)
 
 -- free labels after a pop were free before it
 was_free : (real gap gap' claimed l : ℕ) → ((gap ≡ 0) × (gap' ≡ 0)) ⊎ ((0 < gap) × (gap' ≡ gap + 1)) → l < real + 256 → BesideClaim (real + 1) gap' claimed l → BesideClaim real gap claimed l
-was_free real gap gap' claimed l wide lt beside = ⊎_elim
-    (λ (e : (gap ≡ 0) × (gap' ≡ 0)). inl (omega (arith, e.0, lt)))
-    (λ (g : (0 < gap) × (gap' ≡ gap + 1)). ⊎_elim (λ (b : l + gap' < real + 1 + 256). inl (omega (arith, g.1, b))) (λ (b : real + 1 + 256 + claimed ≤ l + gap'). inr (omega (arith, g.1, b))) beside) wide
+was_free real gap gap' claimed l wide lt beside = grind arith
 
 module _ {T : Type 0} where
   -- the rule after a pop, at which the front slot went out with the owner
@@ -20,24 +17,21 @@ module _ {T : Type 0} where
       → ((k.gap ≡ 0) × (gap' ≡ 0)) ⊎ ((0 < k.gap) × (gap' ≡ k.gap + 1))
       → LiveQueue start record { words = words_of (head_word (k.real + 1) gap') v.own.tail; homes = homes_after s.homes [] (take_all k.real (Some x ∷ [])); views = set s.views 0 (popped_view v k.real gap') }
   popped_kept start s v k x gap' at owns aside none_out any wide =
-      let t : ℕ = v.own.tail in let real : ℕ = k.real in let gap : ℕ = k.gap in let o = k.order in let w : t + gap ≤ real + 256 = o.within in let z : v.own.aside ≡ 0 = aside in
-      let homes' : Homes T = homes_after s.homes [] (take_all real (Some x ∷ [])) in let b : v.own.start ≤ real = o.begun in
-      rebuilt start s v (popped_view v real gap') k (words_of (head_word (real + 1) gap') t) homes' (real + 1) gap' at owns owns k.from
-      (take_length (Some x ∷ []) s.homes [] real ∙ k.slots) refl (popped_order v.own real gap gap' k.claimed (v.own.popped ++ real ∷ []) o aside any wide) k.long (le_refl t) (omega arith)
-      (λ pos. ⊎_elim (λ (e : (gap ≡ 0) × (gap' ≡ 0)). absurd (omega (arith, pos, e.0))) (λ (g : (0 < gap) × (gap' ≡ gap + 1)). (omega (arith, g.1), omega (arith, g.1))) wide)
-      (λ pos. ⊎_elim (λ (e : (gap ≡ 0) × (gap' ≡ 0)). absurd (omega (arith, pos, e.1))) (λ (g : (0 < gap) × (gap' ≡ gap + 1)). g.0) wide)
-      (λ l le (lt : l < t + v.own.aside). let f = k.full l (omega arith) lt in (f.0, f.1, take_behind (Some x ∷ []) s.homes [] real l (omega arith) (omega arith) ∙ f.2))
-      (λ l (le : t + v.own.aside ≤ l) lt beside (outside : Outside (real + 256) 1 l). let near : l < real + 256 = ⊎_elim (λ (h : l < real + 256). h) (λ (h : real + 256 + 1 ≤ l). absurd (omega arith)) outside in
-      take_behind (Some x ∷ []) s.homes [] real l (omega arith) near ∙ k.free l le (omega arith) (was_free real gap gap' k.claimed l wide near beside) (outside_none v.own.out_at v.own.out_len l none_out))
-      refl (λ l y e. e)
-      (λ weigh. let starts : v.own.start ≡ start = k.from in let p = popped_weight weigh start real v.own.popped (omega arith) in omega (arith, p))
+      let t : ℕ = v.own.tail in let real : ℕ = k.real in let gap : ℕ = k.gap in let o = k.order in
+      rebuilt start s v (popped_view v real gap') k (words_of (head_word (real + 1) gap') t) (homes_after s.homes [] (take_all real (Some x ∷ [])))
+      (real + 1) gap' at owns owns k.from
+      (take_length (Some x ∷ []) s.homes [] real ∙ k.slots) refl (popped_order v.own real gap gap' k.claimed (v.own.popped ++ real ∷ []) o aside any wide)
+      k.long (le_refl t) (grind arith) (λ pos. grind arith) (λ pos. grind arith)
+      (λ l le lt. let f = k.full l (grind arith) lt in (f.0, f.1, take_behind (Some x ∷ []) s.homes [] real l (grind arith) (grind arith) ∙ f.2))
+      (λ l (le : t + v.own.aside ≤ l) lt beside (outside : Outside (real + 256) 1 l). let near : l < real + 256 = grind arith in
+      take_behind (Some x ∷ []) s.homes [] real l (grind arith) near
+      ∙ k.free l le near (was_free real gap gap' k.claimed l wide near beside) (outside_none v.own.out_at v.own.out_len l none_out))
+      refl (λ l y e. e) (λ weigh. let p = popped_weight weigh start real v.own.popped (grind arith) in grind arith)
 
   -- the queue after it is the one whose front value was popped
   popped_pure : (v : View T) (real gap : ℕ) → v.own.start ≤ real → real < v.own.tail
       → queue_at (popped_view v real (after_pop real gap).gap).own (real + 1) (after_pop real gap).gap ≡ popped (queue_at v.own real gap)
-  popped_pure v real gap begun any =
-      let m : ℕ = v.own.tail - (real + 1) in let e : real + 1 - v.own.start ≡ real - v.own.start + 1 = omega arith in let h : v.own.tail - real ≡ 1 + m = omega arith in
-      rw (e, h) (ap (λ (xs : List T). record (popped (queue_at v.own real gap)) { values = xs }) (window v.own.log (real - v.own.start) 1 m))
+  popped_pure v real gap begun any = grind (arith, window)
 
   hand_of : (real : ℕ) (x : T) → carried_after [] (take_all real (Some x ∷ [])) ≡ hand (real + 256) (Some x ∷ [])
   hand_of real x = ap (λ (n : ℕ). (n, Some x) ∷ []) (sym (add-mod_right real 256))

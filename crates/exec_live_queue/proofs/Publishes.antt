@@ -8,39 +8,38 @@ module _ {T : Type 0} where
   Laden xs r = map Some xs ++ replicate r None
 
   laden_length : (xs : List T) (r : ℕ) → length (Laden xs r) ≡ length xs + r
-  laden_length xs r = let a = length-append (map Some xs) (replicate {A = Option T} r None) in let b : length (map {A = T} Some xs) ≡ length xs = length-map xs Some in let c : length (replicate {A = Option T} r None) ≡ r = length-replicate r None in omega (arith, a, b, c)
+  laden_length xs r = grind (arith, length-append, length-map, length-replicate)
 
   -- the rule after the store, at which the values xs came home from the owner, and r slots that are empty
   published_kept : (start : ℕ) (s : State (Option T) (View T)) (v : View T) (k : Kept start v s) (xs : List T) (r : ℕ) → get_elem? s.views 0 ≡ some v → v.stage ≡ Owns
       → v.own.aside ≡ 0 → v.own.out_at ≡ v.own.tail → v.own.out_len ≡ length xs + r → v.own.tail + length xs + 256 ≤ 2 ^ 55
       → LiveQueue start record { words = words_of (head_word k.real k.gap) (v.own.tail + length xs); homes = homes_after s.homes (hand v.own.tail (Laden xs r)) (give_all (Laden xs r)); views = set s.views 0 (published_view v xs) }
   published_kept start s v k xs r at owns whole place many room =
-      let t : ℕ = v.own.tail in let n : ℕ = length xs in let real : ℕ = k.real in let gap : ℕ = k.gap in let o = k.order in let ys : List (Option T) = Laden xs r in let len : length ys ≡ n + r = laden_length xs r in
-      let got = published_order v.own real gap k.claimed n r (v.own.log ++ xs) o whole place many room in let fits : t + (n + r) + gap ≤ real + 256 = got.0 in let b : real ≤ t = o.behind in let z : v.own.aside ≡ 0 = whole in
-      let p : v.own.out_at ≡ t = place in let m : v.own.out_len ≡ n + r = many in let long : v.own.start + length v.own.log ≡ t + v.own.aside = k.long in let homes' : Homes T = homes_after s.homes (hand t ys) (give_all ys) in
-      let here : AllHome homes' t ys = give_here ys s.homes t (omega (arith, len)) k.slots in
-      let behind : AllHome homes' (t + n) (replicate r None) = subst (λ (j : ℕ). AllHome homes' (t + j) (replicate r None)) (length-map xs Some) (home_behind (map Some xs) (replicate r None) homes' t here) in
-      rebuilt start s v (published_view v xs) k (words_of (head_word real gap) (t + n)) homes' real gap at owns owns k.from (give_length ys s.homes t ∙ k.slots) refl got.1
-      (let a = length-append v.own.log xs in omega (arith, a)) (omega arith) (le_refl real) (λ q. (q, refl)) (λ q. q)
+      let t : ℕ = v.own.tail in let n : ℕ = length xs in let real : ℕ = k.real in let gap : ℕ = k.gap in let o = k.order in
+      let ys : List (Option T) = Laden xs r in let len : length ys ≡ n + r = laden_length xs r in let long = k.long in
+      let got = published_order v.own real gap k.claimed n r (v.own.log ++ xs) o whole place many room in
+      let homes' : Homes T = homes_after s.homes (hand t ys) (give_all ys) in
+      let here : AllHome homes' t ys = give_here ys s.homes t (grind arith) k.slots in
+      let behind : AllHome homes' (t + n) (replicate r None)
+      = subst (λ (j : ℕ). AllHome homes' (t + j) (replicate r None)) (length-map xs Some) (home_behind (map Some xs) (replicate r None) homes' t here) in
+      rebuilt start s v (published_view v xs) k (words_of (head_word real gap) (t + n)) homes' real gap at owns owns k.from
+      (give_length ys s.homes t ∙ k.slots) refl got.1
+      (grind (arith, length-append)) (omega arith) (le_refl real) (λ q. (q, refl)) (λ q. q)
       (λ l le (lt : l < t + n + v.own.aside). dite (dec_le t l)
-      (λ (ge : t ≤ l). let f = some_at xs (replicate r None) homes' t l here ge (omega arith) in let index : length v.own.log + (l - t) ≡ l - v.own.start = omega arith in
+      (λ (ge : t ≤ l). let f = some_at xs (replicate r None) homes' t l here ge (grind arith) in let index : length v.own.log + (l - t) ≡ l - v.own.start = grind arith in
       (f.0, subst (λ (i : ℕ). get_elem? (v.own.log ++ xs) i ≡ some f.0) index (at_appended v.own.log xs (l - t) f.0 f.1), f.2))
-      (λ ne. let lt' : l < t = lt_of_not-le ne in let f = k.full l le (omega arith) in
-      (f.0, at_longer v.own.log xs (l - v.own.start) f.0 f.1, give_before ys s.homes t l lt' (omega (arith, len)) ∙ f.2)))
+      (λ ne. let f = k.full l le (grind arith) in
+      (f.0, at_longer v.own.log xs (l - v.own.start) f.0 f.1, give_before ys s.homes t l (grind arith) (grind arith) ∙ f.2)))
       (λ l (le : t + n + v.own.aside ≤ l) lt beside outside. dite (dec_le (t + (n + r)) l)
-      (λ (far : t + (n + r) ≤ l). give_behind ys s.homes t l (omega (arith, len)) (omega arith) ∙ k.free l (omega arith) lt beside (inr (omega arith)))
-      (λ ne. let near : l < t + (n + r) = lt_of_not-le ne in free_at r homes' (t + n) l behind (omega arith) (omega arith)))
+      (λ (far : t + (n + r) ≤ l). give_behind ys s.homes t l (grind arith) (grind arith) ∙ k.free l (grind arith) lt beside (grind arith))
+      (λ ne. free_at r homes' (t + n) l behind (grind arith) (grind arith)))
       refl (λ l x e. at_longer v.own.log xs l x e) (λ weight. refl)
 
   -- the queue after it has the values behind its own
   published_pure : (d : Own T) (v : View T) (xs : List T) (real gap : ℕ) → v.own.aside ≡ 0 → v.own.start + length v.own.log ≡ v.own.tail → v.own.start ≤ real → real ≤ v.own.tail
       → queue_at (published_view v xs).own real gap ≡ published (queue_at v.own real gap) xs
-  published_pure d v xs real gap whole long begun behind =
-      let o = v.own in let m : ℕ = o.tail - real in let n : ℕ = length xs in let e : o.tail + n - real ≡ m + n = omega arith in
-      let values : take (o.tail + n - real) (drop (real - o.start) (o.log ++ xs)) ≡ take m (drop (real - o.start) o.log) ++ xs = ap (λ (j : ℕ). take j (drop (real - o.start) (o.log ++ xs))) e ∙ window_grows o.log xs (real - o.start) m n (omega arith) refl in
-      let held : take o.aside (drop (o.tail + n - o.start) (o.log ++ xs)) ≡ take o.aside (drop (o.tail - o.start) o.log)
-      = ap (λ (j : ℕ). take j (drop (o.tail + n - o.start) (o.log ++ xs))) whole ∙ sym (ap (λ (j : ℕ). take j (drop (o.tail - o.start) o.log)) whole) in
-      ap₂ (λ (a b : List T). record { real = real; gap = gap; values = a; held = b }) values held
+  published_pure d v xs real gap whole long begun behind = let o = v.own in let e : o.tail + length xs - real ≡ o.tail - real + length xs = omega arith in
+      let values = window_grows o.log xs (real - o.start) (o.tail - real) (length xs) (omega arith) refl in rw (e, values, whole) refl
 
   pub publish_rule : (start id : ℕ) (me : Sat T) (xs : List T) (r new : ℕ) → me.0.stage ≡ Owns → me.0.own.aside ≡ 0 → me.0.own.out_at ≡ me.0.own.tail → me.0.own.out_len ≡ length xs + r
       → me.1 ≡ hand me.0.own.tail (map Some xs ++ replicate r None) → me.0.own.tail + length xs + 256 ≤ 2 ^ 55 → new ≡ me.0.own.tail + length xs

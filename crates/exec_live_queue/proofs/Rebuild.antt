@@ -17,22 +17,16 @@ there (y ∷ xs) (suc i) x e = let h = there xs i x e in omega (arith, h)
 module _ {T : Type 0} where
   -- a seat whose view is the owner's is the first
   pub as_owner : (start : ℕ) (s : State (Option T) (View T)) (id : ℕ) (v : View T) → LiveQueue start s → get_elem? s.views id ≡ some v → v.stage ≡ Owns → (id ≡ 0) × Kept start v s
-  as_owner start s id v q at own =
-      let k = q.kept in let is : id ≡ 0 = subst (λ (st : Stage). Knows q.view.own.tail k.real k.gap k.claimed k.holder id v.theft st) own (k.each_seat id v at) in
-      let same : q.view ≡ v = some-injective q.view v (sym q.seated ∙ subst (λ (i : ℕ). get_elem? s.views i ≡ some v) is at) in (is, subst (λ (u : View T). Kept start u s) same k)
+  as_owner start s id v q at own = grind arith
 
   -- what a thief knows still holds where the owner popped or pushed
   knows_on : (tail real gap tail' real' gap' claimed holder j : ℕ) (t : Theft T) (st : Stage) → tail ≤ tail' → real ≤ real' → (0 < gap → (0 < gap') × (real' + gap ≡ real + gap'))
       → Knows tail real gap claimed holder j t st → Knows tail' real' gap' claimed holder j t st
-  knows_on tail real gap tail' real' gap' claimed holder j t Owns a b c k = k
-  knows_on tail real gap tail' real' gap' claimed holder j t Idle a b c k = tt
-  knows_on tail real gap tail' real' gap' claimed holder j t SawHead a b c k = omega (arith, k, b)
-  knows_on tail real gap tail' real' gap' claimed holder j t SawTail a b c k = (omega (arith, k.0, b), omega (arith, k.1, a))
-  knows_on tail real gap tail' real' gap' claimed holder j t Claimed a b c k = let m = c k.1 in (k.0, m.0, omega (arith, m.1, k.2), k.3, omega (arith, m.1, k.4, b))
+  knows_on tail real gap tail' real' gap' claimed holder j t st a b c k = grind arith
 
   -- a longer log of the same start says the same of what was taken
   logged_on : (d d' : Own T) (t : Theft T) → d'.start ≡ d.start → ((l : ℕ) (x : T) → get_elem? d.log l ≡ some x → get_elem? d'.log l ≡ some x) → AsLogged d t → AsLogged d' t
-  logged_on d d' t starts longer old = (old.0, λ i l e. let o = old.1 i l e in (o.0, o.1, subst (λ (a : ℕ). get_elem? d'.log (l - a) ≡ some o.0) (sym starts) (longer (l - d.start) o.0 o.2)))
+  logged_on d d' t starts longer old = grind arith
 
   -- the owner's view becomes v', and what the owner must show of its own numbers, slots and labels
   pub rebuilt : (start : ℕ) (s : State (Option T) (View T)) (v v' : View T) (k : Kept start v s) (ws : List ℕ) (homes : Homes T) (real gap : ℕ)

@@ -3,11 +3,7 @@ use Rattle.exec_live_queue.proofs.{Words.{◌≡◌, ◌≢◌, ℕ, ◌+◌, �
 
 -- no other seat holds this claim
 others_know : {T : Type 0} (tail real gap claimed holder j : ℕ) (t : Theft T) (st : Stage) → j ≢ holder → Knows tail real gap claimed holder j t st → Knows tail real 0 0 holder j t st
-others_know tail real gap claimed holder j t Owns ne n = n
-others_know tail real gap claimed holder j t Idle ne n = tt
-others_know tail real gap claimed holder j t SawHead ne n = n
-others_know tail real gap claimed holder j t SawTail ne n = n
-others_know tail real gap claimed holder j t Claimed ne n = absurd (ne n.0)
+others_know tail real gap claimed holder j t st ne n = grind arith
 
 module _ {T : Type 0} where
   abbrev Empty : ℕ → List (Option T)
@@ -19,20 +15,19 @@ module _ {T : Type 0} where
       → LiveQueue start record { words = words_of (head_word q.kept.real 0) q.view.own.tail; homes = homes_after s.homes (hand v.theft.at (Empty k)) (give_all (Empty k)); views = set s.views id (record v { stage = Idle }) }
   released_kept start s q id k v at st holds pos counts many =
       let n = q.kept in let real : ℕ = n.real in let gap : ℕ = n.gap in let d : Own T = q.view.own in let o = n.order in let a : ℕ = v.theft.at + 256 in
-      let w : d.tail + gap ≤ real + 256 = o.within in let b : real ≤ d.tail = o.behind in let c : k ≡ n.claimed = many in let h : v.theft.at + gap ≡ real = counts in
-      let few : n.claimed ≤ gap = ⊎_elim (λ (e : (gap ≡ 0) × (n.claimed ≡ 0)). let x : n.claimed ≡ 0 = e.1 in omega arith) (λ (e : (0 < n.claimed) × (n.claimed ≤ 128) × (n.claimed ≤ gap)). e.2) o.claim in
-      let z : d.aside ≡ 0 = ⊎_elim (λ (e : d.aside ≡ 0). e) (λ (kept : (d.aside ≡ 128) × (real ≡ d.tail) × (gap ≡ 0)). let e : gap ≡ 0 = kept.2 in absurd (omega arith)) o.aside in
+      let few : n.claimed ≤ gap = grind arith in let z : d.aside ≡ 0 = grind arith in
       let thief : v.stage ≢ Owns = λ e. let clash : Claimed ≡ Owns = sym st ∙ e in cc in let len : length (Empty k) ≡ k = length-replicate k None in
-      let turned : hand v.theft.at (Empty k) ≡ hand a (Empty k) = sym (hand_turn v.theft.at (Empty k)) in let homes' : Homes T = homes_after s.homes (hand a (Empty k)) (give_all (Empty k)) in
-      let here = give_here (Empty k) s.homes a (omega (arith, len)) n.slots in let new : View T = record v { stage = Idle } in
-      subst (λ (c : List (ℕ × Option T)). LiveQueue start record { words = words_of (head_word real 0) d.tail; homes = homes_after s.homes c (give_all (Empty k)); views = set s.views id new }) (sym turned)
-      (moved start s q id v new (words_of (head_word real 0) d.tail) homes' real 0 0 n.holder at thief (give_length (Empty k) s.homes a ∙ n.slots) refl (released_order d real gap n.claimed o pos)
-      (λ l le (lt : l < d.tail + d.aside). let f = n.full l le lt in (f.0, f.1, give_before (Empty k) s.homes a l (omega arith) (omega (arith, len)) ∙ f.2))
+      let homes' : Homes T = homes_after s.homes (hand a (Empty k)) (give_all (Empty k)) in
+      let here = give_here (Empty k) s.homes a (grind arith) n.slots in let new : View T = record v { stage = Idle } in
+      rw (← hand_turn v.theft.at (Empty k))
+      (moved start s q id v new (words_of (head_word real 0) d.tail) homes' real 0 0 n.holder at thief (give_length (Empty k) s.homes a ∙ n.slots) refl
+      (released_order d real gap n.claimed o pos)
+      (λ l le lt. let f = n.full l le lt in (f.0, f.1, give_before (Empty k) s.homes a l (grind arith) (grind arith) ∙ f.2))
       (λ l (le : d.tail + d.aside ≤ l) lt beside outside. dite (dec_le a l)
       (λ (ge : a ≤ l). dite (dec_le (a + k) l)
-      (λ (far : a + k ≤ l). give_behind (Empty k) s.homes a l (omega (arith, len)) (omega arith) ∙ n.free l le lt (inr (omega arith)) outside)
+      (λ (far : a + k ≤ l). give_behind (Empty k) s.homes a l (grind arith) (grind arith) ∙ n.free l le lt (grind arith) outside)
       (λ ne. free_at k homes' a l here ge (lt_of_not-le ne)))
-      (λ ne. let lt' : l < a = lt_of_not-le ne in give_before (Empty k) s.homes a l lt' (omega (arith, len)) ∙ n.free l le lt (inl (omega arith)) outside))
+      (λ ne. give_before (Empty k) s.homes a l (grind arith) (grind arith) ∙ n.free l le lt (grind arith) outside))
       (λ j u ne e. others_know d.tail real gap n.claimed n.holder j u.theft u.stage (λ x. ne (x ∙ sym holds)) (n.each_seat j u e))
       tt (n.each_lot id v at) (λ p. absurd (omega arith)) (λ weigh. refl))
 

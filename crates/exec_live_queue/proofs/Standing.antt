@@ -30,12 +30,11 @@ module _ {T P : Type 0} where
   -- the next value of an overflow
   pub next_of : (words : Shared (Option T) (View T) ℕ P) (seat : Place T) (tail left : ℕ) → Stands words seat tail left → 0 < left
       → (x : T) × (xs : List T) × HandsOut words seat (128 - left) (x ∷ xs) × (values_of seat.me.1 ≡ x ∷ xs) × (length xs + 1 ≡ left)
-  next_of words seat tail left s pos = let h = s.3 pos in let p = parts (values_of seat.me.1) (omega (arith, h.1, pos)) in let n = ap length p.2 in
-      (p.0, p.1, subst (HandsOut words seat (128 - left)) p.2 h.0, p.2, omega (arith, n, h.1))
+  next_of words seat tail left s pos = grind (arith, parts)
 
   -- the last one was handed out
   pub last_of : (words : Shared (Option T) (View T) ℕ P) (seat : Place T) (j left : ℕ) (xs : List T) → HandsOut words seat j xs → length xs + 1 ≡ left → left ≡ 1 → j ≡ 128 → HandsOut words seat 128 []
-  last_of words seat j left xs h len one is = let dry : xs ≡ [] = nothing_left xs (omega (arith, len, one)) in subst (λ (n : ℕ). HandsOut words seat n []) is (subst (HandsOut words seat j) dry h)
+  last_of words seat j left xs h len one is = grind (arith, nothing_left, one)
 
 -- what an exclusive queue hands out, by what its push answered
 pub handed_alone : {T : Type 0} (o : Alone T) (f : Fit) (x : T) → handed_out f o.queue ≡ handed_by (owner.Exclusive o) (push_answer f x)

@@ -23,27 +23,21 @@ idle_claimed e = cc
 module _ {T : Type 0} where
   -- a thief that loads the head
   pub heads : (m m1 : Sat T) (n : ℕ) → m.1 ≡ [] → m1 ≡ (at_head m.0 n, m.1) → IsThief m1 × HasKept m.0.theft m1.0.theft × (m1.0.theft.at ≡ n / 512) × (m1.0.theft.gap ≡ n % 512) × (m1.0.theft.was ≡ m.0.theft.at)
-  heads m m1 n empty e = subst (λ (z : Sat T). IsThief z × HasKept m.0.theft z.0.theft × (z.0.theft.at ≡ n / 512) × (z.0.theft.gap ≡ n % 512) × (z.0.theft.was ≡ m.0.theft.at)) (sym e)
-      ((saw_head_owns, saw_head_claimed, empty), (refl, refl), refl, refl, refl)
+  heads m m1 n empty e = grind arith
 
   -- and then the tail
   pub tails : (m m1 m2 : Sat T) (n t : ℕ) → m.1 ≡ [] → m1 ≡ (at_head m.0 n, m.1) → saw_tail (step 256 12 0 0 none) m1 t m2
       → IsThief m2 × HasKept m.0.theft m2.0.theft × (m2.0.theft.at ≡ n / 512) × (m2.0.theft.gap ≡ n % 512) × (m2.0.theft.upto ≡ t) × (m2.0.stage ≡ SawTail) × (t + 256 ≤ 2 ^ 55)
-  tails m m1 m2 n t empty e f = let h = heads m m1 n empty e in
-      subst (λ (z : Sat T). IsThief z × HasKept m.0.theft z.0.theft × (z.0.theft.at ≡ n / 512) × (z.0.theft.gap ≡ n % 512) × (z.0.theft.upto ≡ t) × (z.0.stage ≡ SawTail) × (t + 256 ≤ 2 ^ 55)) (sym f.1)
-      ((saw_tail_owns, saw_tail_claimed, h.0.2), h.1, h.2, h.3, refl, refl, f.0)
+  tails m m1 m2 n t empty e f = grind arith
 
   -- the claim
   pub claimed_slots : (m m1 : Sat T) (p : Claims m.0 m1) → Empties m1 m1.0 m.0.theft.at 0 p.2
-  claimed_slots m m1 p = let at : ℕ = m.0.theft.at in let here : at ≡ at + 0 = omega arith in let xs : List T = p.2 in
-      λ j. (m1.0, (ap (λ (z : Sat T). z.1) p.6 ∙ ap (λ (n : ℕ). hand n (map Some xs)) here ∙ sym (append-nil (hand (at + 0) (map Some xs)))) j)
+  claimed_slots m m1 p = grind (arith, append-nil)
 
   -- from the claim to the release
   pub taken_after : (a : Theft T) (m m1 m2 m3 : Sat T) (p : Claims m.0 m1) (count : ℕ) → HasKept a m.0.theft → count ≡ half m.0.theft → m2.0 ≡ m1.0 → HasKept m2.0.theft m3.0.theft → m3.0.theft.at ≡ m2.0.theft.at
       → HasTaken a count p.2 m3.0.theft
-  taken_after a m m1 m2 m3 p count kept is same later at =
-      let view : m2.0 ≡ claimed_view m.0 p.2 = same ∙ ap (λ (z : Sat T). z.0) p.6 in let first : m3.0.theft.at ≡ m.0.theft.at = at ∙ ap (λ (v : View T). v.theft.at) view in
-      (later.0 ∙ ap (λ (v : View T). v.theft.claims) view ∙ (λ j. kept.0 j ++ labels (sym first j) (sym is j)), later.1 ∙ ap (λ (v : View T). v.theft.lot) view ∙ ap (λ (l : List T). l ++ p.2) kept.1)
+  taken_after a m m1 m2 m3 p count kept is same later at = grind arith
 
   pub idle_thief : (m : Sat T) → m.0.stage ≡ Idle → m.1 ≡ [] → IsThief m
   idle_thief m st empty = ((λ e. idle_owns (sym st ∙ e)), (λ e. idle_claimed (sym st ∙ e)), empty)

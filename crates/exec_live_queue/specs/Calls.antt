@@ -1,13 +1,12 @@
 -- What the calls of an owner and of a thief do, as their seats know it.
-use Rattle.std.specs.Prelude.{◌≡◌, ◌≢◌, ℕ, ◌+◌, ◌-◌, ◌^◌, ◌<◌, ◌≤◌, ◌⊎◌, List, [], ◌∷◌, ◌++◌, length, map, take, drop, replicate, Option, Some, None}
+use Rattle.std.specs.Prelude.{◌≡◌, ◌≢◌, ℕ, ◌+◌, ◌-◌, ◌^◌, ◌<◌, ◌≤◌, ◌⊎◌, List, [], ◌∷◌, ◌++◌, length, map, take, drop, replicate, Option, Some, None, Result, Ok, Err}
 use mathlib.Core.Option.{some}
 use lib.ListN.{get_elem?}
 use Rattle.atomic_table.specs.declared.shared.Shared.{Shared}
 use Rattle.exec_words.specs.declared.queue.{Steal.Steal, PushAnswer.PushAnswer}
 use Rattle.exec_words.specs.declared.queue.Steal.TheVariants as steal
-use Rattle.exec_live_queue.specs.{declared.{view.{Own.Own, Theft.Theft, View.View, Stage.TheVariants.Owns}, answers.Try.Try}, Live.labels, Plays.{Sat, hand}, Pure.queue_at, Seats.{Place, IsAt, Rests}}
+use Rattle.exec_live_queue.specs.{declared.view.{Own.Own, Theft.Theft, View.View, Stage.TheVariants.Owns}, Live.labels, Plays.{Sat, hand}, Pure.queue_at, Seats.{Place, IsAt, Rests}}
 use Rattle.exec_words.specs.declared.queue.PushAnswer.TheVariants as answer
-use Rattle.exec_live_queue.specs.declared.answers.Try.TheVariants as tried
 
 module _ {T : Type 0} where
   -- what an owner knows once it has looked: as before, but for the head that it saw and for where slots were out
@@ -100,6 +99,6 @@ module _ {T P : Type 0} where
   PushLeaves words seat d (answer.Spent y) = Rests words seat
 
   -- what one try of a push of x answers and does
-  abbrev pub AfterTry : Shared (Option T) (View T) ℕ P → Own T → T → Place T → Try T → Type 0
-  AfterTry words d x seat (tried.Done push) = AfterPush d x seat.me.0.own push × PushLeaves words seat d push
-  AfterTry words d x seat (tried.Missed y) = (y ≡ x) × HasLooked d seat.me.0.own × (d.saw_real + 256 ≤ d.tail) × (d.tail < seat.me.0.own.saw_real + 256) × Rests words seat
+  abbrev pub AfterTry : Shared (Option T) (View T) ℕ P → Own T → T → Place T → Result (PushAnswer T) T → Type 0
+  AfterTry words d x seat (Ok push) = AfterPush d x seat.me.0.own push × PushLeaves words seat d push
+  AfterTry words d x seat (Err y) = (y ≡ x) × HasLooked d seat.me.0.own × (d.saw_real + 256 ≤ d.tail) × (d.tail < seat.me.0.own.saw_real + 256) × Rests words seat

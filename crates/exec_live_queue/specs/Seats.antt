@@ -2,7 +2,7 @@
 use Rattle.std.specs.Prelude.{◌≡◌, ◌≢◌, ℕ, ◌+◌, ◌/◌, ◌%◌, ◌^◌, ◌<◌, ◌≤◌, List, [], ◌∷◌, ◌++◌, length, map, replicate, Option, Some, None}
 use mathlib.Core.Option.{none}
 use Rattle.atomic_table.specs.{Table.{step, rest}, declared.shared.{Seat.Seat, Shared.Shared}}
-use Rattle.exec_live_queue.specs.{declared.view.{Own.Own, View.View, Stage.TheVariants.{Owns, SawTail, Claimed}}, Plays.{Sat, hand, laid, returned, pops, pops_last, flows_over, publishes, restores, saw_head, saw_tail, claims, releases}}
+use Rattle.exec_live_queue.specs.{declared.view.{Own.Own, View.View, Stage.TheVariants.{Owns, SawTail, Claimed}}, Plays.{Sat, Told, hand}}
 
 abbrev pub Place : Type 0 → Type 0
 Place T = Seat (Option T) (View T)
@@ -55,38 +55,9 @@ module _ {T : Type 0} where
   abbrev pub SameSeat : Place T → Place T → Type 0
   SameSeat old new = (new.table_id ≡ old.table_id) × (new.id ≡ old.id)
 
-  abbrev pub laid_by : (ℕ → ℕ) → Place T → ℕ → Place T → Type 0
-  laid_by f old n new = laid f (step 256 11 0 0 none) old.me n new.me
-
-  abbrev pub returned_by : Place T → ℕ → Place T → Type 0
-  returned_by old n new = returned (step 256 11 0 0 none) old.me n new.me
-
-  abbrev pub pops_by : ℕ → Place T → ℕ → Place T → Type 0
-  pops_by seen old n new = pops (step 256 11 seen 0 none) old.me n new.me
-
-  abbrev pub pops_last_by : Place T → Place T → Type 0
-  pops_last_by old new = pops_last (step 256 11 0 0 none) old.me 0 new.me
-
-  abbrev pub flows_over_by : ℕ → Place T → ℕ → Place T → Type 0
-  flows_over_by seen old n new = flows_over (step 256 11 seen 0 none) old.me n new.me
-
-  abbrev pub publishes_by : Place T → Place T → Type 0
-  publishes_by old new = publishes (step 256 12 0 0 none) old.me 0 new.me
-
-  abbrev pub restores_by : Place T → Place T → Type 0
-  restores_by old new = restores (step 256 12 0 0 none) old.me 0 new.me
-
-  abbrev pub sees_head_by : Place T → ℕ → Place T → Type 0
-  sees_head_by old n new = saw_head (step 256 11 0 0 none) old.me n new.me
-
-  abbrev pub sees_tail_by : Place T → ℕ → Place T → Type 0
-  sees_tail_by old n new = saw_tail (step 256 12 0 0 none) old.me n new.me
-
-  abbrev pub claims_by : ℕ → Place T → ℕ → Place T → Type 0
-  claims_by seen old n new = claims (step 256 11 seen 0 none) old.me n new.me
-
-  abbrev pub releases_by : ℕ → Place T → ℕ → Place T → Type 0
-  releases_by seen old n new = releases (step 256 11 seen 0 none) old.me n new.me
+  -- a step that went by the word `seen`, and found n, told its seat this
+  abbrev pub Tells : Told T → Place T → ℕ → ℕ → Place T → Type 0
+  Tells then old seen n new = SameSeat old new × then (step 256 11 seen 0 none) old.me n new.me
 
   -- the seat carries the slot of this label first
   abbrev pub FrontHas : Place T → ℕ → Option T → Type 0

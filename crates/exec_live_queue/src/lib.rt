@@ -19,11 +19,9 @@
 //! - `steps` and `thief`: the steps of the owner and of a thief, one function each.
 //! - `slots`: what a seat does with the slots that are out with it.
 //! - `head` and `inner`: the head as a word, and where the words and slots lie.
-//! - `answers`: what one try of a push answers.
 //! - `view` and `plays`: what a seat knows, and what each step tells it, for the proofs alone.
 #![tactic(auto)]
 
-pub mod answers;
 pub mod batch;
 pub mod examples;
 pub mod exclusive;

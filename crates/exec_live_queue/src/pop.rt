@@ -1,7 +1,7 @@
 //! The owner's pop.
 
 ghost use Rattle.std.specs.Prelude.{◌≡◌, ◌+◌, ◌^◌, ◌<◌, [], ◌∷◌, IfNone, IfSome, Some};
-ghost use Rattle.exec_live_queue.specs.{Calls.{HasPopped, WasEmpty}, Plays.hand, Seats.{IsAt, Rests, IsSeen, SameSeat, returned_by}, declared.view.Stage.TheVariants.Owns};
+ghost use Rattle.exec_live_queue.specs.{Calls.{HasPopped, WasEmpty}, Plays.{hand, returned}, Seats.{IsAt, Rests, SameSeat, Tells}, declared.view.Stage.TheVariants.Owns};
 
 use crate::SLOTS;
 use crate::head::{gap_of, real_of};
@@ -16,9 +16,8 @@ fn carry_off<T>(words: &Words<T>, seat: &mut Place<T>, real: u64) -> T
     requires out { (seat.old.me.0.own.out_at ≡ real + 256) × (seat.old.me.0.own.out_len ≡ 1) }
     requires popped { (x : _) × (seat.old.me.1 ≡ hand (real + 256) (Some x ∷ [])) }
     requires small { real < 2 ^ 55 }
-    ensures same { SameSeat seat.old seat.new }
     ensures value { seat.old.me.1 ≡ hand (real + 256) (Some result ∷ []) }
-    ensures returned { (n : _) × IsSeen seat.new.me.0.own n × returned_by seat.old n seat.new }
+    ensures returned { (n : _) × Tells returned seat.old 0 n seat.new }
 {
     let value = take(words, seat, real + SLOTS);
     give_back(words, seat);

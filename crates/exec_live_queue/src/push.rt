@@ -3,7 +3,6 @@
 ghost use Rattle.std.specs.Prelude.{◌≡◌, ◌-◌, ◌^◌, ◌<◌, [], ◌∷◌, None};
 ghost use Rattle.exec_live_queue.specs.{Calls.{AfterPush, AfterTry, PushLeaves}, Plays.{hand, published_view}, Seats.{IsAt, Rests, SameSeat}, declared.view.Stage.TheVariants.Owns};
 
-use crate::answers::Try;
 use crate::head::{gap_of, real_of};
 use crate::slots::put;
 use crate::steps::{flow_over, publish, restore, take_one};
@@ -24,37 +23,38 @@ pub fn push<T>(words: &Words<T>, seat: &mut Place<T>, tail: u64, value: T) -> Pu
         return PushAnswer::Spent(value);
     }
     match try_push(words, seat, tail, value) {
-        Try::Done(push) => push,
-        Try::Missed(value) => match try_push(words, seat, tail, value) {
-            Try::Done(push) => push,
+        Ok(push) => push,
+        Err(value) => match try_push(words, seat, tail, value) {
+            Ok(push) => push,
             // No second try misses.
-            Try::Missed(value) => PushAnswer::Claimed(value),
+            Err(value) => PushAnswer::Claimed(value),
         },
     }
 }
 
-fn try_push<T>(words: &Words<T>, seat: &mut Place<T>, tail: u64, value: T) -> Try<T>
+// Err with the value where the head changed between its load and its exchange.
+fn try_push<T>(words: &Words<T>, seat: &mut Place<T>, tail: u64, x: T) -> Result<PushAnswer<T>, T>
     requires rests { Rests words.now seat.old }
     requires tail { tail ≡ seat.old.me.0.own.tail }
     requires unspent { tail < 2 ^ 55 - 512 }
     ensures same { SameSeat seat.old seat.new }
-    ensures tried { AfterTry words.now seat.old.me.0.own value seat.new result }
+    ensures tried { AfterTry words.now seat.old.me.0.own x seat.new result }
 {
     let seen = take_one(words, seat);
     let len = tail - real_of(seen);
     let gap = gap_of(seen);
     if len + gap < SLOTS {
-        publish_one(words, seat, tail, value);
-        return Try::Done(PushAnswer::Pushed((len + 1) as usize));
+        publish_one(words, seat, tail, x);
+        return Ok(PushAnswer::Pushed((len + 1) as usize));
     }
     if gap > 0 {
-        return Try::Done(PushAnswer::Claimed(value));
+        return Ok(PushAnswer::Claimed(x));
     }
     if flow_over(words, seat, seen) != seen {
-        return Try::Missed(value);
+        return Err(x);
     }
     restore(words, seat, tail + HALF);
-    Try::Done(PushAnswer::Overflow(value))
+    Ok(PushAnswer::Overflow(x))
 }
 
 // Fills the one slot that is out with the owner, and shows it.

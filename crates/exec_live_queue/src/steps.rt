@@ -1,11 +1,11 @@
 //! The steps of a queue's owner, one atomic step each.
 //!
-//! A step names the table and the owner's seat. Its first clause says that the seat is the same,
-//! its second what the step told. Each takes the seat as the step before it left it: at rest,
-//! nothing is out with the owner, and no overflow is under way.
+//! A step names the table and the owner's seat. `Tells` says that the seat is the same, and what the
+//! step told it. Each takes the seat as the step before it left it: at rest, nothing is out with the
+//! owner, and no overflow is under way.
 
 ghost use Rattle.std.specs.Prelude.{◌≡◌, ◌+◌, ◌^◌, ◌<◌, ◌≤◌, min};
-ghost use Rattle.exec_live_queue.specs.Seats.{Rests, HasEmptied, HasFilled, FlowsOver, IsSeen, SameSeat, laid_by, returned_by, pops_by, pops_last_by, flows_over_by, publishes_by, restores_by};
+ghost use Rattle.exec_live_queue.specs.{Plays.{flows_over, laid, pops, pops_last, publishes, restores, returned}, Seats.{Rests, HasEmptied, HasFilled, FlowsOver, IsSeen, Tells}};
 
 use crate::head::{gap_after_pop, gap_of, head_of, real_of};
 use crate::plays::{FlowOver, GiveBack, Look, Pop, PopLast, Publish, Restore, TakeOne, TakeRoom};
@@ -15,9 +15,8 @@ use crate::{HEAD, SLOTS, TAIL};
 /// Loads the head.
 pub fn look<T>(words: &Words<T>, seat: &mut Place<T>) -> u64
     requires { Rests words.now seat.old }
-    ensures same { SameSeat seat.old seat.new }
     ensures seen { IsSeen seat.new.me.0.own result }
-    ensures laid { laid_by (λ room. 0) seat.old result seat.new }
+    ensures laid { Tells (laid (λ room. 0)) seat.old 0 result seat.new }
 {
     words.load::<Look>(seat, HEAD)
 }
@@ -25,9 +24,8 @@ pub fn look<T>(words: &Words<T>, seat: &mut Place<T>) -> u64
 /// Loads the head, and takes the free slot behind the tail, if there is one.
 pub fn take_one<T>(words: &Words<T>, seat: &mut Place<T>) -> u64
     requires { Rests words.now seat.old }
-    ensures same { SameSeat seat.old seat.new }
     ensures seen { IsSeen seat.new.me.0.own result }
-    ensures laid { laid_by (λ room. min room 1) seat.old result seat.new }
+    ensures laid { Tells (laid (λ room. min room 1)) seat.old 0 result seat.new }
 {
     words.load::<TakeOne>(seat, HEAD)
 }
@@ -35,9 +33,8 @@ pub fn take_one<T>(words: &Words<T>, seat: &mut Place<T>) -> u64
 /// Loads the head, and takes all free slots.
 pub fn take_room<T>(words: &Words<T>, seat: &mut Place<T>) -> u64
     requires { Rests words.now seat.old }
-    ensures same { SameSeat seat.old seat.new }
     ensures seen { IsSeen seat.new.me.0.own result }
-    ensures laid { laid_by (λ room. room) seat.old result seat.new }
+    ensures laid { Tells (laid (λ room. room)) seat.old 0 result seat.new }
 {
     words.load::<TakeRoom>(seat, HEAD)
 }
@@ -46,9 +43,8 @@ pub fn take_room<T>(words: &Words<T>, seat: &mut Place<T>) -> u64
 /// all must be empty.
 pub fn give_back<T>(words: &Words<T>, seat: &mut Place<T>) -> u64
     requires { HasEmptied words.now seat.old }
-    ensures same { SameSeat seat.old seat.new }
     ensures seen { IsSeen seat.new.me.0.own result }
-    ensures returned { returned_by seat.old result seat.new }
+    ensures returned { Tells returned seat.old 0 result seat.new }
 {
     words.load::<GiveBack>(seat, HEAD)
 }
@@ -59,8 +55,7 @@ pub fn pop_exchange<T>(words: &Words<T>, seat: &mut Place<T>, seen: u64) -> u64
     requires rests { Rests words.now seat.old }
     requires seen { IsSeen seat.old.me.0.own seen }
     requires value { seat.old.me.0.own.saw_real < seat.old.me.0.own.tail }
-    ensures same { SameSeat seat.old seat.new }
-    ensures popped { pops_by seen seat.old result seat.new }
+    ensures { Tells pops seat.old seen result seat.new }
 {
     let next = head_of(real_of(seen) + 1, gap_after_pop(gap_of(seen)));
     words.compare_exchange::<Pop>(seat, HEAD, seen, next)
@@ -72,8 +67,7 @@ pub fn pop_last<T>(words: &Words<T>, seat: &mut Place<T>, seen: u64)
     requires seen { IsSeen seat.old.me.0.own seen }
     requires unclaimed { seat.old.me.0.own.saw_gap ≡ 0 }
     requires lone { seat.old.me.0.own.saw_real + 1 ≡ seat.old.me.0.own.tail }
-    ensures same { SameSeat seat.old seat.new }
-    ensures popped { pops_last_by seat.old seat.new }
+    ensures { Tells pops_last seat.old 0 0 seat.new }
 {
     words.store::<PopLast>(seat, HEAD, head_of(real_of(seen) + 1, 0));
 }
@@ -87,8 +81,7 @@ pub fn flow_over<T>(words: &Words<T>, seat: &mut Place<T>, seen: u64) -> u64
     requires unclaimed { seat.old.me.0.own.saw_gap ≡ 0 }
     requires full { seat.old.me.0.own.saw_real + 256 ≡ seat.old.me.0.own.tail }
     requires unspent { seat.old.me.0.own.tail + 512 ≤ 2 ^ 55 }
-    ensures same { SameSeat seat.old seat.new }
-    ensures overflowed { flows_over_by seen seat.old result seat.new }
+    ensures { Tells flows_over seat.old seen result seat.new }
 {
     let next = head_of(real_of(seen) + SLOTS, 0);
     words.compare_exchange::<FlowOver>(seat, HEAD, seen, next)
@@ -98,8 +91,7 @@ pub fn flow_over<T>(words: &Words<T>, seat: &mut Place<T>, seen: u64) -> u64
 /// the last of them, and gives back the slots that it left empty.
 pub fn publish<T>(words: &Words<T>, seat: &mut Place<T>, tail: u64)
     requires { HasFilled words.now seat.old tail }
-    ensures same { SameSeat seat.old seat.new }
-    ensures published { publishes_by seat.old seat.new }
+    ensures { Tells publishes seat.old 0 0 seat.new }
 {
     words.store::<Publish>(seat, TAIL, tail);
 }
@@ -109,8 +101,7 @@ pub fn publish<T>(words: &Words<T>, seat: &mut Place<T>, tail: u64)
 pub fn restore<T>(words: &Words<T>, seat: &mut Place<T>, tail: u64)
     requires flows_over { FlowsOver words.now seat.old }
     requires tail { tail ≡ seat.old.me.0.own.tail + 128 }
-    ensures same { SameSeat seat.old seat.new }
-    ensures restored { restores_by seat.old seat.new }
+    ensures { Tells restores seat.old 0 0 seat.new }
 {
     words.store::<Restore>(seat, TAIL, tail);
 }

@@ -1,7 +1,7 @@
 //! The steps of a thief, one atomic step each.
 
 ghost use Rattle.std.specs.Prelude.{◌≡◌, ◌≢◌, ◌+◌, ◌/◌, ◌%◌, ◌^◌, ◌<◌, []};
-ghost use Rattle.exec_live_queue.specs.{Numbers.head_word, Plays.{half, newcomer}, declared.view.Stage.TheVariants.{Owns, SawHead, Claimed}, Seats.{IsAt, MayClaim, MayRelease, SameSeat, sees_head_by, sees_tail_by, claims_by, releases_by}};
+ghost use Rattle.exec_live_queue.specs.{Numbers.head_word, Plays.{claims, half, newcomer, releases, saw_head, saw_tail}, declared.view.Stage.TheVariants.{Owns, SawHead, Claimed}, Seats.{IsAt, MayClaim, MayRelease, SameSeat, Tells}};
 
 use crate::head::{GAPS, gap_of, real_of};
 use crate::plays::{Another, Claim, Release, SeeHead, SeeTail};
@@ -13,8 +13,7 @@ pub fn see_head<T>(words: &Words<T>, seat: &mut Place<T>) -> u64
     requires at { IsAt words.now seat.old }
     requires thief { seat.old.me.0.stage ≢ Owns }
     requires unclaimed { seat.old.me.0.stage ≢ Claimed }
-    ensures same { SameSeat seat.old seat.new }
-    ensures seen { sees_head_by seat.old result seat.new }
+    ensures { Tells saw_head seat.old 0 result seat.new }
 {
     words.load::<SeeHead>(seat, HEAD)
 }
@@ -23,8 +22,7 @@ pub fn see_head<T>(words: &Words<T>, seat: &mut Place<T>) -> u64
 pub fn see_tail<T>(words: &Words<T>, seat: &mut Place<T>) -> u64
     requires at { IsAt words.now seat.old }
     requires head { seat.old.me.0.stage ≡ SawHead }
-    ensures same { SameSeat seat.old seat.new }
-    ensures seen { sees_tail_by seat.old result seat.new }
+    ensures { Tells saw_tail seat.old 0 result seat.new }
 {
     words.load::<SeeTail>(seat, TAIL)
 }
@@ -36,8 +34,7 @@ pub fn claim<T>(words: &Words<T>, seat: &mut Place<T>, seen: u64, count: u64) ->
     requires seen { (seen / 512 ≡ seat.old.me.0.theft.at) × (seen % 512 ≡ 0) }
     requires half { count ≡ half seat.old.me.0.theft }
     requires small { seat.old.me.0.theft.at + count + count < 2 ^ 55 }
-    ensures same { SameSeat seat.old seat.new }
-    ensures claimed { claims_by seen seat.old result seat.new }
+    ensures { Tells claims seat.old seen result seat.new }
 {
     let next = real_of(seen) * GAPS + count * GAPS + count;
     words.compare_exchange::<Claim>(seat, HEAD, seen, next)
@@ -49,8 +46,7 @@ pub fn release<T>(words: &Words<T>, seat: &mut Place<T>, seen: u64) -> u64
     requires may { MayRelease words.now seat.old }
     requires seen { seen ≡ head_word (seat.old.me.0.theft.at + seat.old.me.0.theft.gap) seat.old.me.0.theft.gap }
     requires small { seat.old.me.0.theft.gap < 512 }
-    ensures same { SameSeat seat.old seat.new }
-    ensures released { releases_by seen seat.old result seat.new }
+    ensures { Tells releases seat.old seen result seat.new }
 {
     let next = seen - gap_of(seen);
     words.compare_exchange::<Release>(seat, HEAD, seen, next)

@@ -18,6 +18,6 @@ publish-requires g c = let q = c.requires in let s = c.skip.ensures in let m = c
 
 pub returns : goal.returns
 returns g c = let q = c.requires in let s = c.skip.ensures in let p = c.publish.ensures in let m = c.args.seat.now.me in let m1 = c.skip.new.seat.me in record {
-  same = (p.same.0 ∙ s.same.0, p.same.1 ∙ s.same.1);
-  shown = λ xs len e. let f = laden m m1 c.args.tail c.args.spare xs e s.turned in p.published.1 ∙ ap (λ z. (published_view z.0 (values_of z.1), [])) {x = m1} f ∙ laden_values m.0 c.args.tail c.args.spare xs;
+  same = (p.0.0 ∙ s.same.0, p.0.1 ∙ s.same.1);
+  shown = λ xs len e. let f = laden m m1 c.args.tail c.args.spare xs e s.turned in p.1.1 ∙ ap (λ z. (published_view z.0 (values_of z.1), [])) {x = m1} f ∙ laden_values m.0 c.args.tail c.args.spare xs;
 }

@@ -21,4 +21,4 @@ publish-requires g c = let q = c.requires in let s = c.put.ensures in let m = c.
 
 pub returns : goal.returns
 returns g c = let q = c.requires in let s = c.put.ensures in let p = c.publish.ensures in let e = filled_one c.args.seat.now.me c.put.new.seat.me c.args.tail c.args.value q.out.2 s.swapped.1 in
-    record { same = (p.same.0 ∙ s.same.0, p.same.1 ∙ s.same.1); published = p.published.1 ∙ ap (λ z. (published_view z.0 (values_of z.1), [])) {x = c.put.new.seat.me} e }
+    record { same = (p.0.0 ∙ s.same.0, p.0.1 ∙ s.same.1); published = p.1.1 ∙ ap (λ z. (published_view z.0 (values_of z.1), [])) {x = c.put.new.seat.me} e }

@@ -15,11 +15,11 @@ pub release-found-requires : goal.release-found-requires
 release-found-requires g c = let v = c.tries.invariant in record { may = v.may; seen = v.seen; small = omega (arith, v.small) }
 
 pub tries-smaller : goal.tries-smaller
-tries-smaller g c = let v = c.tries.invariant in let r = c.release-found.ensures.released.1 c.if-found-seen.false in let t = c.tries.seat.me.0.theft in
+tries-smaller g c = let v = c.tries.invariant in let r = c.release-found.ensures.1.1 c.if-found-seen.false in let t = c.tries.seat.me.0.theft in
     let now : c.tries.seen % 512 ≡ t.gap = ap (λ (n : ℕ). n % 512) v.seen ∙ gap_of_word (t.at + t.gap) t.gap (omega (arith, v.small)) in omega (arith, now, r.2, r.3, v.small)
 
 pub tries-preserved : goal.tries-preserved
-tries-preserved g c = let v = c.tries.invariant in let f = c.release-found in let r = f.ensures.released.1 c.if-found-seen.false in let m = c.tries.seat.me in let m1 = f.new.seat.me in let e = r.0 in let same = f.ensures.same in
+tries-preserved g c = let v = c.tries.invariant in let f = c.release-found in let r = f.ensures.1.1 c.if-found-seen.false in let m = c.tries.seat.me in let m1 = f.new.seat.me in let e = r.0 in let same = f.ensures.0 in
     let at : m1.0.theft.at ≡ m.0.theft.at = ap (λ z. z.0.theft.at) {x = m1} e in let gap : m1.0.theft.gap ≡ f.result % 512 = ap (λ z. z.0.theft.gap) {x = m1} e in record {
       same = (same.0 ∙ v.same.0, same.1 ∙ v.same.1);
       may = (
