@@ -1,5 +1,5 @@
 -- A thief's claim keeps the rule.
-use Rattle.exec_live_queue.proofs.{Words.{◌≡◌, ◌≢◌, ℕ, ◌+◌, ◌-◌, ◌/◌, ◌%◌, ◌<◌, ◌≤◌, eqb, List, [], ◌++◌, map, length, set, take, sym, refl, ap, ◌∙◌, subst, inl, ⊎_elim, length-append, arith, none, some, some-injective, get_elem?, length-map, either, Option, Some, sum_by, sum_by-append, State, step, homes_after, Allows, set_here, at_longer, claimed, Own, Theft, View, Stage, Owns, Idle, SawHead, SawTail, Claimed, head_word, InOrder, words_of, queue_at, labels, Homes, HomeAt, Knows, AsLogged, LiveQueue, Sat, half, hand, at_head, claimed_view, Claims, claims}, Hands.{AllHome, take_behind, take_valid, take_carried, take_length, all_full}, Orders.{gap_fits, claimed_order}, Labels.{weigh_runs, labels_at, labels_length, at_drop, at_take, at_within, at_appended, at_either, window, window_length}, Rebuild.{Puts, exchanges, thief_steps, there}, Looks.{count_of_word, gap_of_word}, Thieves.{moved, sees_here}}
+use Rattle.exec_live_queue.proofs.{Words.{◌≡◌, ◌≢◌, ℕ, ◌+◌, ◌-◌, ◌/◌, ◌%◌, ◌<◌, ◌≤◌, eqb, List, [], ◌++◌, map, length, set, take, sym, refl, ap, ◌∙◌, subst, inl, ⊎_elim, length-append, arith, none, some, some-injective, get_elem?, length-map, either, Option, Some, sum_by, sum_by-append, State, step, homes_after, Allows, set_here, at_longer, claimed, Own, Theft, View, Stage, Owns, Idle, SawHead, SawTail, Claimed, head_word, InOrder, words_of, queue_at, labels, Homes, HomeAt, Knows, AsLogged, LiveQueue, Sat, half, hand, at_head, claimed_view, Claims, claims}, Hands.{AllHome, take_behind, take_valid, take_carried, take_length, all_full}, Labels.{weigh_runs, labels_at, labels_length, at_drop, at_take, at_within, at_appended, at_either, window, window_length}, Rebuild.{Puts, exchanges, thief_steps, there}, Looks.{count_of_word, gap_of_word}, Thieves.{moved, sees_here}}
 use Rattle.std.proofs.Common.{drop, length-take-le, append-nil}
 use Rattle.exec_live_queue.specs.Plays.{take_all}
 
@@ -51,7 +51,7 @@ module _ {T : Type 0} where
       let many : length (map {A = T} Some xs) ≡ k = length-map xs Some ∙ len in
       let homes' : Homes T = homes_after s.homes [] (take_all real (map Some xs)) in let new : View T = claimed_view v xs in
       moved start s q id v new (words_of (head_word (real + k) k) t) homes' (real + k) k k id at thief
-      (take_length (map Some xs) s.homes [] real ∙ n.slots) refl (claimed_order d real n.claimed k order z pos small few)
+      (take_length (map Some xs) s.homes [] real ∙ n.slots) refl (grind arith)
       (λ l le lt. let f = n.full l (grind arith) lt in (f.0, f.1, take_behind (map Some xs) s.homes [] real l (grind arith) (grind arith) ∙ f.2))
       (λ l (le : t + d.aside ≤ l) lt beside outside.
       take_behind (map Some xs) s.homes [] real l (grind arith) (grind arith) ∙ n.free l le (grind arith) (grind arith) outside)
@@ -81,7 +81,7 @@ module _ {T : Type 0} where
   pub claims_rule : (start id : ℕ) (me : Sat T) (old new : ℕ) → me.0.stage ≡ SawTail → me.1 ≡ [] → old / 512 ≡ me.0.theft.at → old % 512 ≡ 0 → me.0.theft.at + 2 ≤ me.0.theft.upto → new ≡ head_word (me.0.theft.at + half me.0.theft) (half me.0.theft)
       → Allows (LiveQueue start) 256 id me 11 (λ n. either (eqb n old) new n) (claims (step 256 11 old new none) me)
   claims_rule start id me old new st empty sees_at unclaimed two writes = thief_steps start id 11 me [] (λ n. either (eqb n old) new n) (claims (step 256 11 old new none) me) empty (λ s q at.
-      let n = q.kept in let real : ℕ = n.real in let d : Own T = q.view.own in let v : View T = me.0 in let hw : ℕ = head_word real n.gap in let ws : List ℕ = words_of hw d.tail in let small : n.gap < 512 = gap_fits d real n.gap n.claimed n.order in
+      let n = q.kept in let real : ℕ = n.real in let d : Own T = q.view.own in let v : View T = me.0 in let hw : ℕ = head_word real n.gap in let ws : List ℕ = words_of hw d.tail in let small : n.gap < 512 = grind arith in
       let thief : v.stage ≢ Owns = λ e. let clash : SawTail ≡ Owns = sym st ∙ e in cc in let free : v.stage ≢ Claimed = λ e. let clash : SawTail ≡ Claimed = sym st ∙ e in cc in
       let k : ℕ = half v.theft in let knew : (v.theft.at ≤ real) × (v.theft.upto ≤ d.tail) = subst (λ (x : Stage). Knows d.tail real n.gap n.claimed n.holder id v.theft x) st (n.each_seat id v at) in
       exchanges start s ws [] id hw old new (Claims v) (λ m'. m' ≡ (at_head v hw, me.1))

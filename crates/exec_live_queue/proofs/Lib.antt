@@ -4,7 +4,6 @@ pub mod Labels
 pub mod Looks
 pub mod Moves
 pub mod Opened
-pub mod Orders
 pub mod Overflows
 pub mod Owners
 pub mod Pops

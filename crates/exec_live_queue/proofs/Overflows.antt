@@ -1,7 +1,6 @@
 -- A full queue flows over, and shows again what it kept: both keep the rule.
-use Rattle.exec_live_queue.proofs.{Words.{◌≡◌, ℕ, ◌+◌, ◌-◌, ◌/◌, ◌%◌, ◌^◌, ◌<◌, ◌≤◌, eqb, List, [], ◌++◌, map, length, set, take, sym, refl, ap, ◌∙◌, subst, ⊎_elim, le_refl, length-append, length-drop, arith, add-mod_right, none, some, some-injective, get_elem?, length-map, either, Option, Some, sum_by, sum_by-append, State, keeps, step, homes_after, Allows, at_longer, overflowed, restored, Own, View, Owns, head_word, Outside, InOrder, words_of, queue_at, labels, HomeAt, Kept, LiveQueue, Sat, hand, whole, overflowed_view, Overflowed, flows_over, missed, restored_view, restores}, Hands.{AllHome, take_before, take_valid, take_carried, take_length, hand_turn, all_full}, Orders.{gap_fits, overflowed_order, restored_order}, Labels.{weigh_runs, at_drop, at_take, at_within, at_appended, window_of_end, window_length}, Rebuild.{Puts, exchanges, rebuilt, owner_steps}, Looks.{count_of_word, gap_of_word, lays_here}}
-use Rattle.std.proofs.Common.{drop, append-nil}
-use Rattle.std.proofs.lemmas.List.{length-take-le}
+use Rattle.exec_live_queue.proofs.{Words.{◌≡◌, ℕ, ◌+◌, ◌-◌, ◌/◌, ◌%◌, ◌^◌, ◌<◌, ◌≤◌, eqb, List, [], ◌++◌, map, length, set, take, sym, refl, ap, ◌∙◌, subst, ⊎_elim, le_refl, length-append, length-drop, arith, add-mod_right, none, some, some-injective, get_elem?, length-map, either, Option, Some, sum_by, sum_by-append, State, keeps, step, homes_after, Allows, at_longer, overflowed, restored, Own, View, Owns, head_word, Outside, InOrder, words_of, queue_at, labels, HomeAt, Kept, LiveQueue, Sat, hand, whole, overflowed_view, Overflowed, flows_over, missed, restored_view, restores}, Hands.{AllHome, take_before, take_valid, take_carried, take_length, hand_turn, all_full}, Labels.{weigh_runs, at_drop, at_take, at_within, at_appended, window_of_end, window_length}, Rebuild.{Puts, exchanges, rebuilt, owner_steps}, Looks.{count_of_word, gap_of_word, lays_here}}
+use Rattle.std.proofs.{Common.{drop, append-nil}, lemmas.List.length-take-le}
 use Rattle.exec_live_queue.specs.Plays.{take_all}
 
 -- what left and what was relabelled are the 256 labels below the new front
@@ -25,33 +24,36 @@ module _ {T : Type 0} where
       → v.own.aside ≡ 0 → k.real ≡ v.own.saw_real → k.gap ≡ 0 → v.own.saw_real + 256 ≡ v.own.tail → v.own.tail + 128 + 256 ≤ 2 ^ 55
       → LiveQueue start record { words = words_of (head_word v.own.tail 0) v.own.tail; homes = homes_after s.homes [] (take_all (v.own.saw_real + 128) (map Some (drop 128 (whole v.own)))); views = set s.views 0 (overflowed_view v) }
   overflowed_kept start s v k at owns aside sees unclaimed full room =
-      let t : ℕ = v.own.tail in let real : ℕ = v.own.saw_real in let o = k.order in let z : v.own.aside ≡ 0 = aside in let is : k.real ≡ real = sees in let b : v.own.start ≤ k.real = o.begun in let f : real + 256 ≡ t = full in
-      let order : InOrder v.own k.real 0 k.claimed = subst (λ (g : ℕ). InOrder v.own k.real g k.claimed) unclaimed o in let long : v.own.start + length v.own.log ≡ t + v.own.aside = k.long in
-      let W : List T = whole v.own in let wide : length W ≡ 256 = whole_length v.own (omega arith) (omega arith) full in let kept : List T = take 128 W in
-      let half : length kept ≡ 128 = length-take-le 128 W (omega arith) in let out : List (Option T) = map Some (drop 128 W) in let many : length out ≡ 128 = length-map (drop 128 W) Some ∙ (let e = length-drop 128 W in omega (arith, e)) in
-      rebuilt start s v (overflowed_view v) k (words_of (head_word t 0) t) (homes_after s.homes [] (take_all (real + 128) out)) t 0 at owns owns k.from (take_length out s.homes [] (real + 128) ∙ k.slots) refl
-      (overflowed_order v.own k.real k.claimed (v.own.log ++ kept) (v.own.exported ++ labels (real + 128) 128) (v.own.relabelled ++ labels real 128) order o.behind room)
-      (let a = length-append v.own.log kept in omega (arith, a)) (le_refl t) o.behind (λ pos. absurd (omega (arith, pos, unclaimed))) (λ pos. absurd (omega (arith, pos)))
-      (λ l le (lt : l < t + 128). let j : ℕ = l - t in let old : ℕ = real + j in let back : old + 256 ≡ l = omega arith in let g = k.full old (omega arith) (omega arith) in
-      let index : real - v.own.start + j ≡ old - v.own.start = omega arith in let place : length v.own.log + j ≡ l - v.own.start = omega arith in
+      let t : ℕ = v.own.tail in let real : ℕ = v.own.saw_real in let o = k.order in let long = k.long in
+      let W : List T = whole v.own in let wide : length W ≡ 256 = whole_length v.own (grind arith) (grind arith) full in
+      let kept : List T = take 128 W in let half : length kept ≡ 128 = length-take-le 128 W (grind arith) in
+      let out : List (Option T) = map Some (drop 128 W) in
+      let many : length out ≡ 128 = length-map (drop 128 W) Some ∙ (let e = length-drop 128 W in omega (arith, e, wide)) in
+      rebuilt start s v (overflowed_view v) k (words_of (head_word t 0) t) (homes_after s.homes [] (take_all (real + 128) out)) t 0 at owns owns k.from
+      (take_length out s.homes [] (real + 128) ∙ k.slots) refl (grind arith)
+      (let a = length-append v.own.log kept in grind arith) (le_refl t) o.behind (λ pos. absurd (grind arith)) (λ pos. absurd (omega arith))
+      (λ l le (lt : l < t + 128). let j : ℕ = l - t in let old : ℕ = real + j in let g = k.full old (grind arith) (grind arith) in
+      let index : real - v.own.start + j ≡ old - v.own.start = grind arith in let place : length v.own.log + j ≡ l - v.own.start = grind arith in
       let here : get_elem? kept j ≡ some g.0 = at_take W 128 j (omega arith) ∙ at_whole v.own j full (omega arith) ∙ ap (get_elem? v.own.log) index ∙ g.1 in
-      let turn : l % 256 ≡ old % 256 = ap (λ (n : ℕ). n % 256) (sym back) ∙ add-mod_right old 256 in (
+      let back : l ≡ old + 256 = grind arith in let turn : l % 256 ≡ old % 256 = ap (λ (n : ℕ). n % 256) back ∙ add-mod_right old 256 in (
         g.0,
         subst (λ (i : ℕ). get_elem? (v.own.log ++ kept) i ≡ some g.0) place (at_appended v.own.log kept j g.0 here),
-        ap (get_elem? (homes_after s.homes [] (take_all (real + 128) out))) turn ∙ take_before out s.homes [] (real + 128) old (omega arith) (omega (arith, many)) ∙ g.2,
+        ap (get_elem? (homes_after s.homes [] (take_all (real + 128) out))) turn
+            ∙ take_before out s.homes [] (real + 128) old (omega arith) (omega (arith, many)) ∙ g.2,
       ))
-      (λ l (le : t + 128 ≤ l) (lt : l < t + 256) beside (outside : Outside (t + 128) 128 l). absurd (⊎_elim (λ (h : l < t + 128). omega arith) (λ (h : t + 128 + 128 ≤ l). omega arith) outside))
+      (λ l (le : t + 128 ≤ l) (lt : l < t + 256) beside (outside : Outside (t + 128) 128 l). absurd (grind arith))
       refl (λ l x e. at_longer v.own.log kept l x e)
-      (λ weigh. let starts : v.own.start ≡ start = k.from in let p = overflowed_weight weigh start real t v.own.exported v.own.relabelled (omega arith) full in let q : sum_by weigh (labels start (k.real - start)) ≡ sum_by weigh (labels start (real - start)) = ap (λ (n : ℕ). sum_by weigh (labels start (n - start))) sees in omega (arith, p, q))
+      (λ weigh. let p = overflowed_weight weigh start real t v.own.exported v.own.relabelled (grind arith) full in
+      let q : sum_by weigh (labels start (k.real - start)) ≡ sum_by weigh (labels start (real - start)) = ap (λ (n : ℕ). sum_by weigh (labels start (n - start))) sees in
+      grind arith)
 
   -- the newest half was home
   newest_home : (start : ℕ) (s : State (Option T) (View T)) (v : View T) (k : Kept start v s) → v.own.aside ≡ 0 → k.real ≡ v.own.saw_real → v.own.saw_real + 256 ≡ v.own.tail
       → AllHome s.homes (v.own.saw_real + 128) (map Some (drop 128 (whole v.own)))
-  newest_home start s v k aside sees full = let real : ℕ = v.own.saw_real in let o = k.order in let z : v.own.aside ≡ 0 = aside in let is : k.real ≡ real = sees in let b : v.own.start ≤ k.real = o.begun in let f : real + 256 ≡ v.own.tail = full in
-      let long : v.own.start + length v.own.log ≡ v.own.tail + v.own.aside = k.long in let wide : length (whole v.own) ≡ 256 = whole_length v.own (omega arith) (omega arith) full in
-      all_full (drop 128 (whole v.own)) s.homes (real + 128) (λ j x e.
-      let at : get_elem? (whole v.own) (128 + j) ≡ some x = sym (at_drop (whole v.own) 128 j) ∙ e in let near : 128 + j < length (whole v.own) = at_within (whole v.own) (128 + j) x at in
-      let l : ℕ = real + 128 + j in let g = k.full l (omega arith) (omega arith) in let index : real - v.own.start + (128 + j) ≡ l - v.own.start = omega arith in
+  newest_home start s v k aside sees full = let real : ℕ = v.own.saw_real in let o = k.order in let long = k.long in let W : List T = whole v.own in
+      let wide : length W ≡ 256 = whole_length v.own (grind arith) (grind arith) full in all_full (drop 128 W) s.homes (real + 128) (λ j x e.
+      let at : get_elem? W (128 + j) ≡ some x = sym (at_drop W 128 j) ∙ e in let near : 128 + j < length W = at_within W (128 + j) x at in
+      let l : ℕ = real + 128 + j in let g = k.full l (grind arith) (grind arith) in let index : real - v.own.start + (128 + j) ≡ l - v.own.start = grind arith in
       let same : g.0 ≡ x = some-injective g.0 x (sym g.1 ∙ ap (get_elem? v.own.log) (sym index) ∙ sym (at_whole v.own (128 + j) full (omega arith)) ∙ at) in
       subst (λ (y : T). HomeAt s.homes l (Some y)) same g.2)
 
@@ -69,7 +71,7 @@ module _ {T : Type 0} where
       → old / 512 ≡ me.0.own.saw_real → old % 512 ≡ 0 → me.0.own.saw_real + 256 ≡ me.0.own.tail → me.0.own.tail + 128 + 256 ≤ 2 ^ 55 → new ≡ head_word me.0.own.tail 0
       → Allows (LiveQueue start) 256 id me 11 (λ n. either (eqb n old) new n) (flows_over (step 256 11 old new none) me)
   flows_over_rule start id me old new owns aside none_out empty sees_real unclaimed full room writes = owner_steps start id 11 me [] (λ n. either (eqb n old) new n) (flows_over (step 256 11 old new none) me) owns empty (λ s k at0.
-      let v : View T = me.0 in let hw : ℕ = head_word k.real k.gap in let ws : List ℕ = words_of hw v.own.tail in let small : k.gap < 512 = gap_fits v.own k.real k.gap k.claimed k.order in
+      let v : View T = me.0 in let hw : ℕ = head_word k.real k.gap in let ws : List ℕ = words_of hw v.own.tail in let small : k.gap < 512 = grind arith in
       let out : List (Option T) = map Some (drop 128 (whole v.own)) in let z : v.own.aside ≡ 0 = aside in
       exchanges start s ws [] 0 hw old new (Overflowed v) (missed (step 256 11 old new none) me hw)
       (λ e. let r : k.real ≡ v.own.saw_real = sym (count_of_word k.real k.gap small) ∙ ap (λ (n : ℕ). n / 512) e ∙ sees_real in
@@ -87,21 +89,18 @@ module _ {T : Type 0} where
       ))
       (λ ne. lays_here start me (λ room. 0) (λ r. omega arith) owns aside none_out s k at0))
 
-  -- the rule after the store that shows again what was kept
-  restored_kept : (start : ℕ) (s : State (Option T) (View T)) (v : View T) (k : Kept start v s) → get_elem? s.views 0 ≡ some v → v.stage ≡ Owns → v.own.aside ≡ 128
-      → LiveQueue start record { words = words_of (head_word k.real k.gap) (v.own.tail + v.own.aside); homes = s.homes; views = set s.views 0 (restored_view v) }
-  restored_kept start s v k at owns half =
-      let t : ℕ = v.own.tail in let real : ℕ = k.real in let gap : ℕ = k.gap in let whole : t + v.own.aside + 0 ≡ t + v.own.aside = omega arith in
-      rebuilt start s v (restored_view v) k (words_of (head_word real gap) (t + v.own.aside)) s.homes real gap at owns owns k.from k.slots refl (restored_order v.own real gap k.claimed k.order half)
-      (k.long ∙ sym whole) (omega arith) (le_refl real) (λ q. (q, refl)) (λ q. q)
-      (λ l le lt. k.full l le (omega arith)) (λ l le lt beside outside. k.free l (omega arith) lt beside outside) refl (λ l x e. e) (λ weight. refl)
-
-  restored_pure : (v : View T) (gap : ℕ) → queue_at (restored_view v).own v.own.tail gap ≡ restored (queue_at v.own v.own.tail gap)
-  restored_pure v gap = grind arith
-
   pub restore_rule : (start id : ℕ) (me : Sat T) (new : ℕ) → me.0.stage ≡ Owns → me.0.own.aside ≡ 128 → new ≡ me.0.own.tail + me.0.own.aside
       → Allows (LiveQueue start) 256 id me 12 (λ _. new) (λ _. restores (step 256 12 new 0 none) me new)
-  restore_rule start id me new owns half writes = owner_steps start id 12 me me.1 (λ _. new) (λ _. restores (step 256 12 new 0 none) me new) owns refl (λ s k at.
-      let ws : List ℕ = words_of (head_word k.real k.gap) me.0.own.tail in
-      subst (λ (x : ℕ). Puts start s 12 x (restores (step 256 12 new 0 none) me new) ws me.1 0) (sym writes)
-      (restored_view me.0, keeps, tt, restored_kept start s me.0 k at owns half, ((λ gap. restored_pure me.0 gap), refl)))
+  restore_rule start id me new owns half writes =
+      let then : ℕ → Sat T → Type 0 = λ _. restores (step 256 12 new 0 none) me new in owner_steps start id 12 me me.1 (λ _. new) then owns refl (λ s k at.
+      let v : View T = me.0 in let d = v.own in let t : ℕ = d.tail in let w : View T = restored_view v in let o = k.order in let long = k.long in
+      let ws : List ℕ = words_of (head_word k.real k.gap) t in let e : t + d.aside - t ≡ d.aside = omega arith in
+      subst (λ (x : ℕ). Puts start s 12 x (then 0) ws me.1 0) (sym writes) (
+        w,
+        keeps,
+        tt,
+        rebuilt start s v w k (words_of (head_word k.real k.gap) (t + d.aside)) s.homes k.real k.gap at owns owns k.from k.slots refl (grind arith)
+            (grind arith) (omega arith) (le_refl k.real) (λ q. (q, refl)) (λ q. q)
+            (λ l le lt. k.full l le (grind arith)) (λ l le lt beside outside. k.free l (grind arith) lt beside outside) refl (λ l x h. h) (λ weight. refl),
+        ((λ gap. ap (λ (n : ℕ). record { real = t; gap = gap; values = take n (drop (t - d.start) d.log); held = [] }) e), refl),
+      ))

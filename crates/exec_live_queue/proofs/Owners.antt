@@ -1,17 +1,11 @@
 -- What an owner's calls do to its view, step after step.
-use Rattle.exec_live_queue.proofs.{Words.{◌≡◌, ◌≢◌, ℕ, ◌+◌, ◌-◌, ◌*◌, ◌/◌, ◌%◌, ◌^◌, ◌<◌, ◌≤◌, ◌⊎◌, List, [], ◌∷◌, ◌++◌, length, take, map, replicate, sym, refl, ap, ◌∙◌, subst, inl, inr, ⊎_elim, arith, none, some, dite, ℕ_discrete, dec_le, Bool, cond, lt_of_not-le, le-leb, get_elem?, Option, Some, None, step, Own, View, Owns, Sat, room, saw, out, hand, after_pop, laid, returned, Found, popped_view, Popped, values_of, published_view, Overflowed, overflowed_view, restored_view, whole, IsSeen, AtRest, looked, HasLooked, HasPopped, HasPublished, HasOverflowed, fully, AtHand, Fills, AfterSteal, HasKept, Theft, Steal, labels, rest, length-append, length-drop}, Overflows.whole_length}
-use Rattle.std.proofs.Common.{min, drop}
-use Rattle.std.proofs.lemmas.Bool.{lt-leb}
+use Rattle.exec_live_queue.proofs.{Words.{◌≡◌, ◌≢◌, ℕ, ◌+◌, ◌-◌, ◌*◌, ◌/◌, ◌%◌, ◌^◌, ◌<◌, ◌≤◌, ◌⊎◌, List, [], ◌∷◌, ◌++◌, length, take, map, replicate, sym, refl, ap, ◌∙◌, subst, inl, inr, ⊎_elim, arith, none, some, dite, ℕ_discrete, dec_le, Bool, cond, lt_of_not-le, le-leb, get_elem?, Option, Some, None, step, Own, View, Owns, Sat, room, saw, out, hand, after_pop, laid, returned, Found, popped_view, Popped, values_of, published_view, Overflowed, overflowed_view, restored_view, whole, IsSeen, AtRest, looked, HasLooked, HasPopped, HasPublished, HasOverflowed, fully, AtHand, Fills, AfterSteal, HasKept, Theft, Steal, labels, rest, length-append, length-drop, append_assoc}, Overflows.whole_length}
+use Rattle.std.proofs.{Common.{min, drop, append-nil}, lemmas.{Bool.lt-leb, List.length-take-le}}
 use Rattle.exec_words.specs.Head.{room_at, is_spent}
 use Rattle.exec_words.specs.declared.queue.Steal.TheVariants as steal
-use Rattle.std.proofs.Common.{append-nil}
-use Rattle.std.proofs.lemmas.List.{length-take-le}
 
 pub room_seen : (tail left len : ℕ) → tail < 2 ^ 55 - 512 → len ≤ left → len ≤ cond (is_spent tail) 0 left
 room_seen tail left len lt fits = grind arith
-
-room_cases : (tail left len : ℕ) → len ≤ cond (is_spent tail) 0 left → (len ≡ 0) ⊎ ((len ≤ left) × (tail < 2 ^ 55 - 512))
-room_cases tail left len fits = grind arith
 
 module _ {T : Type 0} where
   -- a look
@@ -37,11 +31,6 @@ module _ {T : Type 0} where
   pub pops_on : (a b d : Own T) (x : T) → HasLooked a b → HasPopped b x d → HasPopped a x d
   pops_on a b d x h k = grind arith
 
-  -- a pop, and the look at which its slot went back
-  pub pops_off : (m m1 m2 : Sat T) (x y : T) (n gap : ℕ) → AtRest m → m1.0 ≡ popped_view m.0 m.0.own.saw_real gap → get_elem? m.0.own.log (m.0.own.saw_real - m.0.own.start) ≡ some y → x ≡ y
-      → returned (step 256 11 0 0 none) m1 n m2 → AtRest m2 × HasPopped m.0.own x m2.0.own
-  pops_off m m1 m2 x y n gap r view at same back = grind arith
-
   -- a head that was found in place of the one that was seen leaves fewer values, or as many and no claim
   pub fewer : (d : Own T) (seen n tail : ℕ) → IsSeen d seen → Found d n → n ≢ seen → d.saw_real < tail → 2 * (tail - n / 512) + min (n % 512) 1 < 2 * (tail - seen / 512) + min (seen % 512) 1
   fewer d seen n tail s f ne any = grind arith
@@ -49,9 +38,6 @@ module _ {T : Type 0} where
   -- the head that was found is the one that was seen last
   pub laid_seen : (f : ℕ → ℕ) (m m' : Sat T) (n : ℕ) → laid f (step 256 11 0 0 none) m n m' → IsSeen m'.0.own n
   laid_seen f m m' n l = let o = l.0.1 in subst (λ (x : Sat T). IsSeen x.0.own n) (sym l.1) (refl, refl, o.begun, o.behind, o.within)
-
-  same_value : (a b : ℕ) (x y : T) → hand a (Some x ∷ []) ≡ hand b (Some y ∷ []) → x ≡ y
-  same_value a b x y e = let h : x ∷ [] ≡ y ∷ [] = ap values_of e in cc
 
   -- the slot that a pop took
   pub pops_out : (m m1 : Sat T) (real gap : ℕ) → AtRest m → Popped m.0 m.0.own.saw_real gap m1 → real ≡ m.0.own.saw_real
@@ -133,10 +119,6 @@ module _ {T : Type 0} where
       → Fills m' m'.0 tail (len + (room m.0.own.tail (n / 512) (n % 512) - len)) []
   free_slots m m' n tail len l r is fits = let all : ℕ = room m.0.own.tail (n / 512) (n % 512) in let split : all ≡ len + (all - len) = omega arith in
       (took_room m m' n l r).5 ∙ (λ j. (m'.0, hand (sym is j + 0) (replicate {A = Option T} (split j) None) ++ []))
-
-  -- a batch that was published after a look
-  pub published_on : (a b d : Own T) (xs : List T) → HasLooked a b → HasPublished b xs d → HasPublished a xs d
-  published_on a b d xs h k = grind arith
 
   -- a steal after a look
   pub steals_on : (a b d : Own T) (t t' : Theft T) (answer : Steal) → HasLooked a b → AfterSteal b t d t' answer → AfterSteal a t d t' answer

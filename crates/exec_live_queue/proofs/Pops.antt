@@ -1,5 +1,5 @@
 -- The owner's pops keep the rule: by an exchange, and of a lone value by a store.
-use Rattle.exec_live_queue.proofs.{Words.{◌≡◌, ℕ, ◌+◌, ◌-◌, ◌/◌, ◌%◌, ◌<◌, ◌≤◌, ◌⊎◌, eqb, List, [], ◌∷◌, ◌++◌, set, sym, refl, ap, ◌∙◌, subst, inl, inr, ⊎_elim, le_refl, arith, none, some, get_elem?, either, Option, Some, sum_by, sum_by_push, State, step, carried_after, homes_after, Allows, add-mod_right, popped, View, Owns, head_word, Outside, BesideClaim, words_of, queue_at, labels, Homes, Kept, LiveQueue, Sat, after_pop, hand, popped_view, Popped, pops, pops_last, missed}, Hands.{take_behind, take_length}, Orders.{outside_none, gap_fits, pop_gap, popped_order}, Labels.{weigh_runs, weigh_one, window}, Rebuild.{Puts, exchanges, rebuilt, owner_steps}, Looks.{count_of_word, gap_of_word, lays_here}}
+use Rattle.exec_live_queue.proofs.{Words.{◌≡◌, ℕ, ◌+◌, ◌-◌, ◌/◌, ◌%◌, ◌<◌, ◌≤◌, ◌⊎◌, eqb, List, [], ◌∷◌, ◌++◌, set, sym, refl, ap, ◌∙◌, subst, inl, inr, ⊎_elim, le_refl, arith, none, some, get_elem?, either, Option, Some, sum_by, sum_by_push, State, step, carried_after, homes_after, Allows, add-mod_right, popped, View, Owns, head_word, Outside, BesideClaim, words_of, queue_at, labels, Homes, Kept, LiveQueue, Sat, after_pop, hand, popped_view, Popped, pops, pops_last, missed}, Hands.{take_behind, take_length}, Labels.{weigh_runs, weigh_one, window}, Rebuild.{Puts, exchanges, rebuilt, owner_steps}, Looks.{count_of_word, gap_of_word, lays_here}}
 use Rattle.exec_live_queue.specs.Plays.{take_all}
 
 -- one more label below the front
@@ -7,53 +7,38 @@ popped_weight : (w : ℕ → ℕ) (start real : ℕ) (ls : List ℕ) → start �
 popped_weight w start real ls le = let e : real + 1 - start ≡ real - start + 1 = omega arith in let h : start + (real - start) ≡ real = omega arith in
     let b = weigh_runs w start (real - start) 1 in let c = weigh_one w (start + (real - start)) in rw (e, sum_by_push w ls real, b, c, h) (omega arith)
 
--- free labels after a pop were free before it
-was_free : (real gap gap' claimed l : ℕ) → ((gap ≡ 0) × (gap' ≡ 0)) ⊎ ((0 < gap) × (gap' ≡ gap + 1)) → l < real + 256 → BesideClaim (real + 1) gap' claimed l → BesideClaim real gap claimed l
-was_free real gap gap' claimed l wide lt beside = grind arith
-
 module _ {T : Type 0} where
-  -- the rule after a pop, at which the front slot went out with the owner
-  popped_kept : (start : ℕ) (s : State (Option T) (View T)) (v : View T) (k : Kept start v s) (x : T) (gap' : ℕ) → get_elem? s.views 0 ≡ some v → v.stage ≡ Owns → v.own.aside ≡ 0 → v.own.out_len ≡ 0 → k.real < v.own.tail
-      → ((k.gap ≡ 0) × (gap' ≡ 0)) ⊎ ((0 < k.gap) × (gap' ≡ k.gap + 1))
-      → LiveQueue start record { words = words_of (head_word (k.real + 1) gap') v.own.tail; homes = homes_after s.homes [] (take_all k.real (Some x ∷ [])); views = set s.views 0 (popped_view v k.real gap') }
-  popped_kept start s v k x gap' at owns aside none_out any wide =
-      let t : ℕ = v.own.tail in let real : ℕ = k.real in let gap : ℕ = k.gap in let o = k.order in
-      rebuilt start s v (popped_view v real gap') k (words_of (head_word (real + 1) gap') t) (homes_after s.homes [] (take_all real (Some x ∷ [])))
-      (real + 1) gap' at owns owns k.from
-      (take_length (Some x ∷ []) s.homes [] real ∙ k.slots) refl (popped_order v.own real gap gap' k.claimed (v.own.popped ++ real ∷ []) o aside any wide)
-      k.long (le_refl t) (grind arith) (λ pos. grind arith) (λ pos. grind arith)
-      (λ l le lt. let f = k.full l (grind arith) lt in (f.0, f.1, take_behind (Some x ∷ []) s.homes [] real l (grind arith) (grind arith) ∙ f.2))
-      (λ l (le : t + v.own.aside ≤ l) lt beside (outside : Outside (real + 256) 1 l). let near : l < real + 256 = grind arith in
-      take_behind (Some x ∷ []) s.homes [] real l (grind arith) near
-      ∙ k.free l le near (was_free real gap gap' k.claimed l wide near beside) (outside_none v.own.out_at v.own.out_len l none_out))
-      refl (λ l y e. e) (λ weigh. let p = popped_weight weigh start real v.own.popped (grind arith) in grind arith)
-
   -- the queue after it is the one whose front value was popped
   popped_pure : (v : View T) (real gap : ℕ) → v.own.start ≤ real → real < v.own.tail
       → queue_at (popped_view v real (after_pop real gap).gap).own (real + 1) (after_pop real gap).gap ≡ popped (queue_at v.own real gap)
   popped_pure v real gap begun any = grind (arith, window)
 
-  hand_of : (real : ℕ) (x : T) → carried_after [] (take_all real (Some x ∷ [])) ≡ hand (real + 256) (Some x ∷ [])
-  hand_of real x = ap (λ (n : ℕ). (n, Some x) ∷ []) (sym (add-mod_right real 256))
-
   -- what a pop gives, where it writes the head after it
   pops_here : (start : ℕ) (me : Sat T) (s : State (Option T) (View T)) (k : Kept start me.0 s) → get_elem? s.views 0 ≡ some me.0 → me.0.stage ≡ Owns → me.0.own.aside ≡ 0 → me.0.own.out_len ≡ 0 → k.real < me.0.own.tail
       → Puts start s 11 (head_word (k.real + 1) (after_pop k.real k.gap).gap) (Popped me.0 k.real k.gap) (words_of (head_word k.real k.gap) me.0.own.tail) [] 0
   pops_here start me s k at owns aside none_out any =
-      let v : View T = me.0 in let real : ℕ = k.real in let gap : ℕ = k.gap in let z : v.own.aside ≡ 0 = aside in let f = k.full real (le_refl real) (omega arith) in
-      let gap' : ℕ = (after_pop real gap).gap in (
-        popped_view v real gap',
-        take_all real (Some f.0 ∷ []),
+      let v : View T = me.0 in let t : ℕ = v.own.tail in let real : ℕ = k.real in let gap : ℕ = k.gap in let o = k.order in
+      let f = k.full real (le_refl real) (grind arith) in let xs : List (Option T) = Some f.0 ∷ [] in
+      let gap' : ℕ = (after_pop real gap).gap in let w : View T = popped_view v real gap' in
+      let wide : ((gap ≡ 0) × (gap' ≡ 0)) ⊎ ((0 < gap) × (gap' ≡ gap + 1)) = grind arith in (
+        w,
+        take_all real xs,
         (tt, f.2),
-        popped_kept start s v k f.0 gap' at owns aside none_out any (pop_gap real gap),
-        (popped_pure v real gap k.order.begun any, f.0, f.1, ap (λ (c : List (ℕ × Option T)). (popped_view v real gap', c)) (hand_of real f.0)),
+        rebuilt start s v w k (words_of (head_word (real + 1) gap') t) (homes_after s.homes [] (take_all real xs)) (real + 1) gap' at owns owns k.from
+            (take_length xs s.homes [] real ∙ k.slots) refl (grind arith)
+            k.long (le_refl t) (grind arith) (λ pos. grind arith) (λ pos. grind arith)
+            (λ l le lt. let g = k.full l (grind arith) lt in (g.0, g.1, take_behind xs s.homes [] real l (grind arith) (grind arith) ∙ g.2))
+            (λ l (le : t + v.own.aside ≤ l) lt beside (outside : Outside (real + 256) 1 l). let near : l < real + 256 = grind arith in
+            take_behind xs s.homes [] real l (grind arith) near ∙ k.free l le near (grind arith) (grind arith))
+            refl (λ l y e. e) (λ weigh. let p = popped_weight weigh start real v.own.popped (grind arith) in grind arith),
+        (popped_pure v real gap o.begun any, f.0, f.1, ap (λ (n : ℕ). (w, (n, Some f.0) ∷ [])) (sym (add-mod_right real 256))),
       )
 
   pub pops_rule : (start id : ℕ) (me : Sat T) (old new : ℕ) → me.0.stage ≡ Owns → me.0.own.aside ≡ 0 → me.0.own.out_len ≡ 0 → me.1 ≡ []
       → old / 512 ≡ me.0.own.saw_real → old % 512 ≡ me.0.own.saw_gap → me.0.own.saw_real < me.0.own.tail → new ≡ head_word (me.0.own.saw_real + 1) (after_pop me.0.own.saw_real me.0.own.saw_gap).gap
       → Allows (LiveQueue start) 256 id me 11 (λ n. either (eqb n old) new n) (pops (step 256 11 old new none) me)
   pops_rule start id me old new owns aside none_out empty sees_real sees_gap any writes = owner_steps start id 11 me [] (λ n. either (eqb n old) new n) (pops (step 256 11 old new none) me) owns empty (λ s k at0.
-      let hw : ℕ = head_word k.real k.gap in let ws : List ℕ = words_of hw me.0.own.tail in let small : k.gap < 512 = gap_fits me.0.own k.real k.gap k.claimed k.order in
+      let hw : ℕ = head_word k.real k.gap in let ws : List ℕ = words_of hw me.0.own.tail in let small : k.gap < 512 = grind arith in
       exchanges start s ws [] 0 hw old new (Popped me.0 me.0.own.saw_real me.0.own.saw_gap) (missed (step 256 11 old new none) me hw)
       (λ e. let r : k.real ≡ me.0.own.saw_real = sym (count_of_word k.real k.gap small) ∙ ap (λ (n : ℕ). n / 512) e ∙ sees_real in
       let g : k.gap ≡ me.0.own.saw_gap = sym (gap_of_word k.real k.gap small) ∙ ap (λ (n : ℕ). n % 512) e ∙ sees_gap in

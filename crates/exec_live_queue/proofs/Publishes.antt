@@ -1,5 +1,5 @@
 -- The owner's store of the tail, which shows what it wrote, keeps the rule.
-use Rattle.exec_live_queue.proofs.{Words.{◌≡◌, ℕ, ◌+◌, ◌-◌, ◌^◌, ◌<◌, ◌≤◌, List, [], ◌++◌, map, length, set, sym, refl, ap, ◌∙◌, subst, inr, le_refl, lt_of_not-le, length-append, arith, none, some, dite, dec_le, get_elem?, length-map, Option, Some, None, State, step, homes_after, Allows, length-replicate, ap₂, replicate, take, at_longer, Own, View, Owns, head_word, words_of, Homes, Kept, LiveQueue, published, queue_at, Sat, hand, give_all, values_of, published_view, publishes}, Hands.{AllHome, give_before, give_behind, give_here, give_length, give_valid, give_carried, home_behind, some_at, free_at, values_in}, Labels.{at_appended, window_grows}, Orders.published_order, Rebuild.{Puts, rebuilt, owner_steps}}
+use Rattle.exec_live_queue.proofs.{Words.{◌≡◌, ℕ, ◌+◌, ◌-◌, ◌^◌, ◌<◌, ◌≤◌, List, [], ◌++◌, map, length, set, sym, refl, ap, ◌∙◌, subst, inr, le_refl, lt_of_not-le, length-append, arith, none, some, dite, dec_le, get_elem?, length-map, Option, Some, None, State, step, homes_after, Allows, length-replicate, ap₂, replicate, take, at_longer, Own, View, Owns, head_word, words_of, Homes, Kept, LiveQueue, published, queue_at, Sat, hand, give_all, values_of, published_view, publishes}, Hands.{AllHome, give_before, give_behind, give_here, give_length, give_valid, give_carried, home_behind, some_at, free_at, values_in}, Labels.{at_appended, window_grows}, Rebuild.{Puts, rebuilt, owner_steps}}
 use Rattle.std.proofs.Common.{drop}
 
 module _ {T : Type 0} where
@@ -17,13 +17,13 @@ module _ {T : Type 0} where
   published_kept start s v k xs r at owns whole place many room =
       let t : ℕ = v.own.tail in let n : ℕ = length xs in let real : ℕ = k.real in let gap : ℕ = k.gap in let o = k.order in
       let ys : List (Option T) = Laden xs r in let len : length ys ≡ n + r = laden_length xs r in let long = k.long in
-      let got = published_order v.own real gap k.claimed n r (v.own.log ++ xs) o whole place many room in
+      let fits : t + (n + r) + gap ≤ real + 256 = grind arith in
       let homes' : Homes T = homes_after s.homes (hand t ys) (give_all ys) in
       let here : AllHome homes' t ys = give_here ys s.homes t (grind arith) k.slots in
       let behind : AllHome homes' (t + n) (replicate r None)
       = subst (λ (j : ℕ). AllHome homes' (t + j) (replicate r None)) (length-map xs Some) (home_behind (map Some xs) (replicate r None) homes' t here) in
       rebuilt start s v (published_view v xs) k (words_of (head_word real gap) (t + n)) homes' real gap at owns owns k.from
-      (give_length ys s.homes t ∙ k.slots) refl got.1
+      (give_length ys s.homes t ∙ k.slots) refl (grind arith)
       (grind (arith, length-append)) (omega arith) (le_refl real) (λ q. (q, refl)) (λ q. q)
       (λ l le (lt : l < t + n + v.own.aside). dite (dec_le t l)
       (λ (ge : t ≤ l). let f = some_at xs (replicate r None) homes' t l here ge (grind arith) in let index : length v.own.log + (l - t) ≡ l - v.own.start = grind arith in

@@ -1,5 +1,5 @@
 -- A thief's release keeps the rule.
-use Rattle.exec_live_queue.proofs.{Words.{◌≡◌, ◌≢◌, ℕ, ◌+◌, ◌%◌, ◌<◌, ◌≤◌, eqb, List, [], length, set, replicate, sym, refl, ap, ◌∙◌, subst, inl, inr, ⊎_elim, lt_of_not-le, arith, length-replicate, none, some, dite, dec_le, get_elem?, either, Option, None, State, keeps, step, homes_after, Allows, set_here, Own, Theft, View, Stage, Owns, Idle, SawHead, SawTail, Claimed, head_word, words_of, released, queue_at, Homes, Knows, LiveQueue, Sat, hand, give_all, Widened, releases}, Hands.{give_before, give_behind, give_here, give_valid, give_carried, give_length, free_at, hand_turn}, Orders.{gap_fits, released_order}, Rebuild.{Puts, exchanges, thief_steps, there}, Looks.gap_of_word, Thieves.moved}
+use Rattle.exec_live_queue.proofs.{Words.{◌≡◌, ◌≢◌, ℕ, ◌+◌, ◌%◌, ◌<◌, ◌≤◌, eqb, List, [], length, set, replicate, sym, refl, ap, ◌∙◌, subst, inl, inr, ⊎_elim, lt_of_not-le, arith, length-replicate, none, some, dite, dec_le, get_elem?, either, Option, None, State, keeps, step, homes_after, Allows, set_here, Own, Theft, View, Stage, Owns, Idle, SawHead, SawTail, Claimed, head_word, words_of, released, queue_at, Homes, Knows, LiveQueue, Sat, hand, give_all, Widened, releases}, Hands.{give_before, give_behind, give_here, give_valid, give_carried, give_length, free_at, hand_turn}, Rebuild.{Puts, exchanges, thief_steps, there}, Looks.gap_of_word, Thieves.moved}
 
 -- no other seat holds this claim
 others_know : {T : Type 0} (tail real gap claimed holder j : ℕ) (t : Theft T) (st : Stage) → j ≢ holder → Knows tail real gap claimed holder j t st → Knows tail real 0 0 holder j t st
@@ -20,8 +20,7 @@ module _ {T : Type 0} where
       let homes' : Homes T = homes_after s.homes (hand a (Empty k)) (give_all (Empty k)) in
       let here = give_here (Empty k) s.homes a (grind arith) n.slots in let new : View T = record v { stage = Idle } in
       rw (← hand_turn v.theft.at (Empty k))
-      (moved start s q id v new (words_of (head_word real 0) d.tail) homes' real 0 0 n.holder at thief (give_length (Empty k) s.homes a ∙ n.slots) refl
-      (released_order d real gap n.claimed o pos)
+      (moved start s q id v new (words_of (head_word real 0) d.tail) homes' real 0 0 n.holder at thief (give_length (Empty k) s.homes a ∙ n.slots) refl (grind arith)
       (λ l le lt. let f = n.full l le lt in (f.0, f.1, give_before (Empty k) s.homes a l (grind arith) (grind arith) ∙ f.2))
       (λ l (le : d.tail + d.aside ≤ l) lt beside outside. dite (dec_le a l)
       (λ (ge : a ≤ l). dite (dec_le (a + k) l)
@@ -49,7 +48,7 @@ module _ {T : Type 0} where
   releases_rule start id me k old new st many carries sees writes = let c : List (ℕ × Option T) = hand me.0.theft.at (Empty k) in
       thief_steps start id 11 me c (λ n. either (eqb n old) new n) (releases (step 256 11 old new none) me) carries (λ s q at.
       let n = q.kept in let real : ℕ = n.real in let gap : ℕ = n.gap in let d : Own T = q.view.own in let v : View T = me.0 in let hw : ℕ = head_word real gap in let ws : List ℕ = words_of hw d.tail in
-      let small : gap < 512 = gap_fits d real gap n.claimed n.order in let t = v.theft in
+      let small : gap < 512 = grind arith in let t = v.theft in
       let knew : (id ≡ n.holder) × (0 < gap) × (t.at + gap ≡ real) × (t.upto ≡ t.at + n.claimed) × (t.gap ≤ gap) = subst (λ (x : Stage). Knows d.tail real gap n.claimed n.holder id t x) st (n.each_seat id v at) in
       let fits : t.gap < 512 = omega (arith, knew.4) in let count : k ≡ n.claimed = omega (arith, knew.3, many) in
       let w : d.tail + gap ≤ real + 256 = n.order.within in let b : real ≤ d.tail = n.order.behind in

@@ -1,47 +1,33 @@
 -- The owner's load of the head at which it gives its empty slots back keeps the rule.
-use Rattle.exec_live_queue.proofs.{Words.{◌≡◌, ℕ, ◌+◌, ◌/◌, ◌%◌, ◌<◌, ◌≤◌, List, length, set, replicate, sym, refl, ◌∙◌, subst, inl, inr, ⊎_elim, le_refl, lt_of_not-le, arith, length-replicate, none, some, dite, dec_le, get_elem?, Option, None, State, step, homes_after, Allows, Own, View, Owns, head_word, filled, InOrder, Homes, Kept, LiveQueue, Sat, hand, give_all, saw, out, returned}, Hands.{give_before, give_behind, give_here, give_valid, give_carried, give_length, free_at}, Orders.{gap_fits, returned_order}, Rebuild.{rebuilt, owner_steps}, Looks.{count_of_word, gap_of_word}}
+use Rattle.exec_live_queue.proofs.{Words.{◌≡◌, ℕ, ◌+◌, ◌/◌, ◌%◌, ◌<◌, ◌≤◌, List, length, set, replicate, sym, refl, ◌∙◌, subst, inl, inr, ⊎_elim, le_refl, lt_of_not-le, arith, length-replicate, none, some, dite, dec_le, get_elem?, Option, None, State, step, homes_after, Allows, Own, View, Owns, head_word, filled, InOrder, Homes, Kept, LiveQueue, Sat, hand, give_all, saw, out, returned}, Hands.{give_before, give_behind, give_here, give_valid, give_carried, give_length, free_at}, Rebuild.{rebuilt, owner_steps}, Looks.{count_of_word, gap_of_word}}
 
 module _ {T : Type 0} where
   abbrev Empty : ℕ → List (Option T)
   Empty n = replicate n None
 
-  -- where the slots that are out with the owner lie
-  out_lies : (d : Own T) (real gap claimed : ℕ) → InOrder d real gap claimed → 0 < d.out_len → (d.tail + d.aside ≤ d.out_at) × (d.out_at + d.out_len ≤ real + 256)
-  out_lies d real gap claimed o pos = grind arith
-
-  -- the rule after a load at which n empty slots came home from the owner
-  returned_kept : (start : ℕ) (s : State (Option T) (View T)) (v : View T) (k : Kept start v s) (n : ℕ) → get_elem? s.views 0 ≡ some v → v.stage ≡ Owns → v.own.out_len ≡ n → 0 < n
-      → LiveQueue start record { words = s.words; homes = homes_after s.homes (hand v.own.out_at (Empty n)) (give_all (Empty n)); views = set s.views 0 (out (saw v k.real k.gap) v.own.tail 0) }
-  returned_kept start s v k n at owns is pos =
-      let a : ℕ = v.own.out_at in let o = k.order in let len : length (Empty n) ≡ n = length-replicate n None in
-      let lies = out_lies v.own k.real k.gap k.claimed o (grind arith) in let room : n ≤ 256 = grind arith in
-      let homes' : Homes T = homes_after s.homes (hand a (Empty n)) (give_all (Empty n)) in
-      let here = give_here (Empty n) s.homes a (grind arith) k.slots in
-      rebuilt start s v (out (saw v k.real k.gap) v.own.tail 0) k s.words homes' k.real k.gap at owns owns k.from
-      (give_length (Empty n) s.homes a ∙ k.slots) k.words
-      (returned_order v.own k.real k.gap k.claimed o) k.long (le_refl v.own.tail) (le_refl k.real) (λ q. (q, refl)) (λ q. q)
-      (λ l le lt. let f = k.full l le lt in (f.0, f.1, give_before (Empty n) s.homes a l (grind arith) (grind arith) ∙ f.2))
-      (λ l le lt beside outside. dite (dec_le a l)
-      (λ (ge : a ≤ l). dite (dec_le (a + n) l)
-      (λ (far : a + n ≤ l). give_behind (Empty n) s.homes a l (grind arith) (grind arith) ∙ k.free l le lt beside (grind arith))
-      (λ ne. free_at n homes' a l here ge (lt_of_not-le ne)))
-      (λ ne. give_before (Empty n) s.homes a l (grind arith) (grind arith) ∙ k.free l le lt beside (grind arith)))
-      refl (λ l x e. e) (λ weight. refl)
-
   pub returns : (start id : ℕ) (me : Sat T) (n : ℕ) → me.0.stage ≡ Owns → me.0.own.out_len ≡ n → 0 < n → me.1 ≡ hand me.0.own.out_at (replicate n None)
       → Allows (LiveQueue start) 256 id me 11 (λ x. x) (returned (step 256 11 0 0 none) me)
   returns start id me n owns is pos carries =
-      let back : List (ℕ × Option T) = hand me.0.own.out_at (Empty n) in
+      let a : ℕ = me.0.own.out_at in let back : List (ℕ × Option T) = hand a (Empty n) in let len : length (Empty n) ≡ n = length-replicate n None in
       owner_steps start id 11 me back (λ x. x) (returned (step 256 11 0 0 none) me) owns carries (λ s k at0.
-      let real : ℕ = k.real in let gap : ℕ = k.gap in let v : View T = me.0 in let w : View T = out (saw v real gap) v.own.tail 0 in
-      let small : gap < 512 = gap_fits v.own real gap k.claimed k.order in
+      let v : View T = me.0 in let real : ℕ = k.real in let gap : ℕ = k.gap in let o = k.order in let w : View T = out (saw v real gap) v.own.tail 0 in
+      let small : gap < 512 = grind arith in let lies : (v.own.tail + v.own.aside ≤ a) × (a + n ≤ real + 256) = grind arith in
+      let homes' : Homes T = homes_after s.homes back (give_all (Empty n)) in let here = give_here (Empty n) s.homes a (grind arith) k.slots in
       let got : ((claimed : ℕ) × InOrder v.own (head_word real gap / 512) (head_word real gap % 512) claimed)
       × (w ≡ out (saw v (head_word real gap / 512) (head_word real gap % 512)) v.own.tail 0)
-      = rw (count_of_word real gap small, gap_of_word real gap small) ((k.claimed, k.order), refl) in (
+      = rw (count_of_word real gap small, gap_of_word real gap small) ((k.claimed, o), refl) in (
         w,
         give_all (Empty n),
         give_valid (Empty n) s.homes back,
-        subst (λ (ws : List ℕ). LiveQueue start record { words = ws; homes = homes_after s.homes back (give_all (Empty n)); views = set s.views 0 w })
-            k.words (returned_kept start s v k n at0 owns is pos),
-        (got.0, λ j. (got.1 j, give_carried (Empty n) v.own.out_at j)),
+        subst (λ (ws : List ℕ). LiveQueue start record { words = ws; homes = homes'; views = set s.views 0 w }) k.words
+            (rebuilt start s v w k s.words homes' real gap at0 owns owns k.from (give_length (Empty n) s.homes a ∙ k.slots) k.words
+            (grind arith) k.long (le_refl v.own.tail) (le_refl real) (λ q. (q, refl)) (λ q. q)
+            (λ l le lt. let f = k.full l le lt in (f.0, f.1, give_before (Empty n) s.homes a l (grind arith) (grind arith) ∙ f.2))
+            (λ l le lt beside outside. dite (dec_le a l)
+            (λ (ge : a ≤ l). dite (dec_le (a + n) l)
+            (λ (far : a + n ≤ l). give_behind (Empty n) s.homes a l (grind arith) (grind arith) ∙ k.free l le lt beside (grind arith))
+            (λ ne. free_at n homes' a l here ge (lt_of_not-le ne)))
+            (λ ne. give_before (Empty n) s.homes a l (grind arith) (grind arith) ∙ k.free l le lt beside (grind arith)))
+            refl (λ l x e. e) (λ weight. refl)),
+        (got.0, λ j. (got.1 j, give_carried (Empty n) a j)),
       ))

@@ -2,24 +2,6 @@
 use Rattle.exec_live_queue.proofs.Words.{◌≡◌, ◌≢◌, ℕ, ◌+◌, ◌/◌, ◌%◌, ◌^◌, ◌≤◌, List, [], ◌++◌, map, sym, refl, ap, ◌∙◌, subst, arith, none, Some, step, Theft, View, Owns, Idle, SawHead, SawTail, Claimed, labels, Sat, hand, half, at_head, saw_tail, claimed_view, Claims, IsThief, HasKept, HasTaken, Empties}
 use Rattle.std.proofs.Common.{append-nil}
 
-saw_head_owns : SawHead ≢ Owns
-saw_head_owns e = cc
-
-saw_head_claimed : SawHead ≢ Claimed
-saw_head_claimed e = cc
-
-saw_tail_owns : SawTail ≢ Owns
-saw_tail_owns e = cc
-
-saw_tail_claimed : SawTail ≢ Claimed
-saw_tail_claimed e = cc
-
-idle_owns : Idle ≢ Owns
-idle_owns e = cc
-
-idle_claimed : Idle ≢ Claimed
-idle_claimed e = cc
-
 module _ {T : Type 0} where
   -- a thief that loads the head
   pub heads : (m m1 : Sat T) (n : ℕ) → m.1 ≡ [] → m1 ≡ (at_head m.0 n, m.1) → IsThief m1 × HasKept m.0.theft m1.0.theft × (m1.0.theft.at ≡ n / 512) × (m1.0.theft.gap ≡ n % 512) × (m1.0.theft.was ≡ m.0.theft.at)
@@ -40,4 +22,4 @@ module _ {T : Type 0} where
   taken_after a m m1 m2 m3 p count kept is same later at = grind arith
 
   pub idle_thief : (m : Sat T) → m.0.stage ≡ Idle → m.1 ≡ [] → IsThief m
-  idle_thief m st empty = ((λ e. idle_owns (sym st ∙ e)), (λ e. idle_claimed (sym st ∙ e)), empty)
+  idle_thief m st empty = grind arith

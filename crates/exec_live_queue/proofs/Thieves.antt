@@ -1,5 +1,5 @@
 -- The loads of a thief keep the rule, and one lemma for all steps of a thief that leave the head as it is.
-use Rattle.exec_live_queue.proofs.{Words.{◌≡◌, ◌≢◌, ℕ, ◌+◌, ◌-◌, ◌/◌, ◌^◌, ◌<◌, ◌≤◌, List, [], ◌∷◌, length, set, sym, refl, ap, ◌∙◌, subst, ⊎_elim, le_refl, arith, none, some, some-injective, some-ne-none, get_elem?, Option, None, sum_by, ◌++◌, sum_by-append, State, keeps, step, Allows, Splits, at_set, at_snoc, at_longer, set_else, set_again, View, Stage, Owns, SawHead, SawTail, Claimed, head_word, filled, Outside, BesideClaim, InOrder, words_of, labels, Homes, HomeAt, FullAt, weight_of, Knows, AsLogged, LiveQueue, Sat, at_head, saw_head, saw_tail, newcomer}, Orders.gap_fits, Looks.count_of_word, Rebuild.{Gives, sum_set, thief_steps}}
+use Rattle.exec_live_queue.proofs.{Words.{◌≡◌, ◌≢◌, ℕ, ◌+◌, ◌-◌, ◌/◌, ◌^◌, ◌<◌, ◌≤◌, List, [], ◌∷◌, length, set, sym, refl, ap, ◌∙◌, subst, ⊎_elim, le_refl, arith, none, some, some-injective, some-ne-none, get_elem?, Option, None, sum_by, ◌++◌, sum_by-append, State, keeps, step, Allows, Splits, at_set, at_snoc, at_longer, set_else, set_again, View, Stage, Owns, SawHead, SawTail, Claimed, head_word, filled, Outside, BesideClaim, InOrder, words_of, labels, Homes, HomeAt, FullAt, weight_of, Knows, AsLogged, LiveQueue, Sat, at_head, saw_head, saw_tail, newcomer}, Looks.count_of_word, Rebuild.{Gives, sum_set, thief_steps}}
 
 module _ {T : Type 0} where
   -- the view of a thief becomes v', and what its step must show of the numbers, slots and labels
@@ -61,7 +61,7 @@ module _ {T : Type 0} where
       → (s : State (Option T) (View T)) (q : LiveQueue start s) → get_elem? s.views id ≡ some me.0
       → Gives start s 11 (λ n. n) (saw_head (step 256 11 0 0 none) me) (words_of (head_word q.kept.real q.kept.gap) q.view.own.tail) c id
   sees_here start id me c thief free carries s q at =
-      let k = q.kept in let real : ℕ = k.real in let gap : ℕ = k.gap in let hw : ℕ = head_word real gap in let small : gap < 512 = gap_fits q.view.own real gap k.claimed k.order in
+      let k = q.kept in let real : ℕ = k.real in let gap : ℕ = k.gap in let hw : ℕ = head_word real gap in let small : gap < 512 = grind arith in
       let w : View T = at_head me.0 hw in let seen : hw / 512 ≤ real = subst (λ (c : ℕ). c ≤ real) (sym (count_of_word real gap small)) (le_refl real) in (
         w,
         keeps,

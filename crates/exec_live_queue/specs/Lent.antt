@@ -1,6 +1,5 @@
 -- What a push answers, and how its owner stands after it: lent to what flows over, or not lent.
-use Rattle.std.specs.Prelude.{◌≡◌, List, [], ⊤}
-use Rattle.std.specs.Borrow.{Fml, GName, MutBor, RattleType, follows_so}
+use Rattle.std.specs.{Prelude.{◌≡◌, List, [], ⊤}, Borrow.{Fml, GName, MutBor, RattleType, follows_so}}
 use mathlib.Core.Option as maybe
 use Rattle.exec_words.specs.declared.queue.PushAnswer.{PushAnswer}
 use Rattle.exec_words.specs.declared.queue.PushAnswer.TheVariants as answer

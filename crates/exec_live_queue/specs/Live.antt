@@ -29,11 +29,10 @@
 -- weigh (`told`). The values that a thief took are the log's at the labels of its claims (`each_lot`). A step changes
 -- its own seat's view alone, and these lists only grow. So each label leaves once, with the value that the owner put
 -- there.
-use Rattle.std.specs.Prelude.{◌≡◌, ℕ, zero, suc, ◌+◌, ◌-◌, ◌%◌, ◌<◌, ◌≤◌, List, [], ◌∷◌, length, Option, Some, None}
+use Rattle.std.specs.{Prelude.{◌≡◌, ℕ, zero, suc, ◌+◌, ◌-◌, ◌%◌, ◌<◌, ◌≤◌, List, [], ◌∷◌, length, Option, Some, None}, List.sum_by}
 use mathlib.Core.Option.{some}
 use mathlib.Core.Option as maybe
 use lib.ListN.{get_elem?}
-use Rattle.std.specs.List.{sum_by}
 use Rattle.atomic_table.specs.Table.{State}
 use Rattle.exec_live_queue.specs.{declared.view.{Own.Own, Theft.Theft, View.View, Stage.{Stage, TheVariants.{Owns, Idle, SawHead, SawTail, Claimed}}}, Numbers.{head_word, filled, Outside, BesideClaim, InOrder, words_of}}
 
