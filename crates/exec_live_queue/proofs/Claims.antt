@@ -1,5 +1,5 @@
 -- A thief's claim keeps the rule.
-use Rattle.exec_live_queue.proofs.{Words.{◌≡◌, ◌≢◌, ℕ, ◌+◌, ◌-◌, ◌/◌, ◌%◌, ◌<◌, ◌≤◌, eqb, List, [], ◌++◌, map, length, set, take, sym, refl, ap, ◌∙◌, subst, inl, ⊎_elim, length-append, arith, none, some, some-injective, get_elem?, length-map, either, Option, Some, sum_by, sum_by-append, State, step, homes_after, Allows, set_here, at_longer, claimed, Own, Theft, View, Stage, Owns, Idle, SawHead, SawTail, Claimed, head_word, InOrder, words_of, queue_at, labels, Homes, HomeAt, Knows, AsLogged, LiveQueue, Sat, half, hand, at_head, claimed_view, Claims, claims}, Hands.{AllHome, take_behind, take_valid, take_carried, take_length, all_full}, Labels.{weigh_runs, labels_at, labels_length, at_drop, at_take, at_within, at_appended, at_either, window, window_length}, Rebuild.{Puts, exchanges, thief_steps, there}, Looks.{count_of_word, gap_of_word}, Thieves.{moved, sees_here}}
+use Rattle.exec_live_queue.proofs.{Words.{◌≡◌, ◌≢◌, ℕ, ◌+◌, ◌-◌, ◌/◌, ◌%◌, ◌<◌, ◌≤◌, eqb, List, [], ◌++◌, map, length, set, take, sym, refl, ap, ◌∙◌, subst, inl, ⊎_elim, length-append, arith, none, some, some-injective, get_elem?, length-map, either, Option, Some, sum_by, sum_by-append, State, step, homes_after, Allows, set_here, at_longer, claimed, Own, Theft, View, Stage, Owns, Idle, SawHead, SawTail, Claimed, head_word, InOrder, words_of, queue_at, labels, Homes, HomeAt, Knows, AsLogged, LiveQueue, Sat, half, hand, at_head, claimed_view, Claims, claims, le_refl}, Hands.{AllHome, take_behind, take_valid, take_carried, take_length, all_full}, Labels.{weigh_runs, labels_at, labels_length, at_drop, at_take, at_within, at_appended, at_either, window, window_length}, Rebuild.{Puts, exchanges, thief_steps}, Looks.{count_of_word, gap_of_word}, Thieves.{moved, sees_here}}
 use Rattle.std.proofs.Common.{drop, length-take-le, append-nil}
 use Rattle.exec_live_queue.specs.Plays.{take_all}
 
@@ -40,64 +40,56 @@ module _ {T : Type 0} where
         (at_either t.claims (labels real k) i l (subst (λ (ls : List ℕ). get_elem? ls i ≡ some l) cs e)),
   )
 
-  -- the rule after the exchange, at which the slots of the claim went out with the thief
-  claimed_kept : (start : ℕ) (s : State (Option T) (View T)) (q : LiveQueue start s) (id k : ℕ) (v : View T) (xs : List T) → get_elem? s.views id ≡ some v → v.stage ≢ Owns
-      → half v.theft ≡ k → v.theft.at ≡ q.kept.real → q.kept.gap ≡ 0 → 0 < k → k ≤ 128 → q.kept.real + k + k ≤ q.view.own.tail → xs ≡ Oldest q.view.own q.kept.real k
-      → LiveQueue start record { words = words_of (head_word (q.kept.real + k) k) q.view.own.tail; homes = homes_after s.homes [] (take_all q.kept.real (map Some xs)); views = set s.views id (claimed_view v xs) }
-  claimed_kept start s q id k v xs at thief halves sees unclaimed pos small few is =
-      let n = q.kept in let real : ℕ = n.real in let d : Own T = q.view.own in let t : ℕ = d.tail in
-      let order : InOrder d real 0 n.claimed = subst (λ (g : ℕ). InOrder d real g n.claimed) unclaimed n.order in let long = n.long in
-      let z : d.aside ≡ 0 = grind arith in let len : length xs ≡ k = ap length is ∙ oldest_length d real k order.begun (grind arith) (grind arith) in
-      let many : length (map {A = T} Some xs) ≡ k = length-map xs Some ∙ len in
-      let homes' : Homes T = homes_after s.homes [] (take_all real (map Some xs)) in let new : View T = claimed_view v xs in
-      moved start s q id v new (words_of (head_word (real + k) k) t) homes' (real + k) k k id at thief
-      (take_length (map Some xs) s.homes [] real ∙ n.slots) refl (grind arith)
-      (λ l le lt. let f = n.full l (grind arith) lt in (f.0, f.1, take_behind (map Some xs) s.homes [] real l (grind arith) (grind arith) ∙ f.2))
-      (λ l (le : t + d.aside ≤ l) lt beside outside.
-      take_behind (map Some xs) s.homes [] real l (grind arith) (grind arith) ∙ n.free l le (grind arith) (grind arith) outside)
-      (λ j u ne e. others_know t real n.claimed n.holder k j id u.theft u.stage
-      (subst (λ (g : ℕ). Knows t real g n.claimed n.holder j u.theft u.stage) unclaimed (n.each_seat j u e)))
-      (refl, pos, ap (λ (a : ℕ). a + k) sees, ap (λ (h : ℕ). v.theft.at + h) halves, (let e : half v.theft ≤ k = omega (arith, halves) in e))
-      (logged_more d v.theft new.theft real k xs (n.each_lot id v at) (λ i. v.theft.claims ++ labels (sees i) (halves i)) refl len
-      (λ j lt. let f = n.full (real + j) (grind arith) (grind arith) in let index : real - d.start + j ≡ real + j - d.start = grind arith in
-      (f.0, ap (λ (ys : List T). get_elem? ys j) is ∙ at_oldest d real k j lt (grind arith) ∙ ap (get_elem? d.log) index ∙ f.1, f.1)))
-      (λ _. (new, set_here s.views id new (there s.views id v at), refl))
-      (λ weigh. let p = claimed_weight weigh start real k v.theft.claims (grind arith) in
-      let e : sum_by weigh (v.theft.claims ++ labels v.theft.at (half v.theft)) ≡ sum_by weigh (v.theft.claims ++ labels real k)
-      = λ i. sum_by weigh (v.theft.claims ++ labels (sees i) (halves i)) in grind arith)
-
-  -- the slots of the claim were home
-  claim_home : (start : ℕ) (s : State (Option T) (View T)) (q : LiveQueue start s) (k : ℕ) (xs : List T) → q.kept.real + k ≤ q.view.own.tail → xs ≡ Oldest q.view.own q.kept.real k → length xs ≡ k
-      → AllHome s.homes q.kept.real (map Some xs)
-  claim_home start s q k xs few is len = let n = q.kept in let real : ℕ = n.real in let d : Own T = q.view.own in let begun : d.start ≤ real = n.order.begun in
-      all_full xs s.homes real (λ j x e. let lt : j < length xs = at_within xs j x e in let f = n.full (real + j) (omega arith) (omega arith) in let index : real - d.start + j ≡ real + j - d.start = omega arith in
-      let same : f.0 ≡ x = some-injective f.0 x (sym f.1 ∙ ap (get_elem? d.log) (sym index) ∙ sym (at_oldest d real k j (omega arith) few) ∙ ap (λ (ys : List T). get_elem? ys j) (sym is) ∙ e) in
-      subst (λ (y : T). HomeAt s.homes (real + j) (Some y)) same f.2)
-
   claimed_pure : (d : Own T) (real k : ℕ) → d.start ≤ real → real + k ≤ d.tail → claimed (queue_at d real 0) k ≡ queue_at d (real + k) k
   claimed_pure d real k begun few = let m : ℕ = d.tail - (real + k) in let h : d.tail - real ≡ k + m = omega arith in
       let e : real + k - d.start ≡ real - d.start + k = omega arith in rw (h, e, window d.log (real - d.start) k m) refl
 
   pub claims_rule : (start id : ℕ) (me : Sat T) (old new : ℕ) → me.0.stage ≡ SawTail → me.1 ≡ [] → old / 512 ≡ me.0.theft.at → old % 512 ≡ 0 → me.0.theft.at + 2 ≤ me.0.theft.upto → new ≡ head_word (me.0.theft.at + half me.0.theft) (half me.0.theft)
       → Allows (LiveQueue start) 256 id me 11 (λ n. either (eqb n old) new n) (claims (step 256 11 old new none) me)
-  claims_rule start id me old new st empty sees_at unclaimed two writes = thief_steps start id 11 me [] (λ n. either (eqb n old) new n) (claims (step 256 11 old new none) me) empty (λ s q at.
-      let n = q.kept in let real : ℕ = n.real in let d : Own T = q.view.own in let v : View T = me.0 in let hw : ℕ = head_word real n.gap in let ws : List ℕ = words_of hw d.tail in let small : n.gap < 512 = grind arith in
-      let thief : v.stage ≢ Owns = λ e. let clash : SawTail ≡ Owns = sym st ∙ e in cc in let free : v.stage ≢ Claimed = λ e. let clash : SawTail ≡ Claimed = sym st ∙ e in cc in
-      let k : ℕ = half v.theft in let knew : (v.theft.at ≤ real) × (v.theft.upto ≤ d.tail) = subst (λ (x : Stage). Knows d.tail real n.gap n.claimed n.holder id v.theft x) st (n.each_seat id v at) in
+  claims_rule start id me old new st empty sees_at unclaimed two writes = let v : View T = me.0 in let k : ℕ = half v.theft in
+      let thief : v.stage ≢ Owns = grind arith in let free : v.stage ≢ Claimed = grind arith in
+      thief_steps start id 11 me [] (λ n. either (eqb n old) new n) (claims (step 256 11 old new none) me) empty (λ s q at.
+      let n = q.kept in let real : ℕ = n.real in let d : Own T = q.view.own in let o = n.order in let long = n.long in
+      let hw : ℕ = head_word real n.gap in let ws : List ℕ = words_of hw d.tail in let small : n.gap < 512 = grind arith in
+      let knew : (v.theft.at ≤ real) × (v.theft.upto ≤ d.tail)
+      = subst (λ (x : Stage). Knows d.tail real n.gap n.claimed n.holder id v.theft x) st (n.each_seat id v at) in
       exchanges start s ws [] id hw old new (Claims v) (λ m'. m' ≡ (at_head v hw, me.1))
       (λ e. let r : real ≡ v.theft.at = sym (count_of_word real n.gap small) ∙ ap (λ (x : ℕ). x / 512) e ∙ sees_at in
       let g : n.gap ≡ 0 = sym (gap_of_word real n.gap small) ∙ ap (λ (x : ℕ). x % 512) e ∙ unclaimed in
-      let w : d.tail + n.gap ≤ real + 256 = n.order.within in let begun : d.start ≤ real = n.order.begun in let long : d.start + length d.log ≡ d.tail + d.aside = n.long in let upto : v.theft.upto ≤ d.tail = knew.1 in
-      let few : real + k + k ≤ d.tail = omega arith in let pos : 0 < k = omega arith in let most : k ≤ 128 = omega arith in let xs : List T = Oldest d real k in
-      let z : d.aside ≡ 0 = ⊎_elim (λ (h : d.aside ≡ 0). h) (λ (kept : (d.aside ≡ 128) × (real ≡ d.tail) × (n.gap ≡ 0)). let h : real ≡ d.tail = kept.1 in absurd (omega arith)) n.order.aside in
-      let len : length xs ≡ k = oldest_length d real k begun (omega arith) (omega arith) in let many : length (map {A = T} Some xs) ≤ 256 = (let a : length (map {A = T} Some xs) ≡ length xs = length-map xs Some in omega (arith, a, len)) in
-      let said : (claimed (queue_at d v.theft.at 0) k ≡ queue_at d (v.theft.at + k) k) × (xs ≡ take k (queue_at d v.theft.at 0).values) × (hand real (map {A = T} Some xs) ≡ hand v.theft.at (map Some xs))
-      = (subst (λ (R : ℕ). claimed (queue_at d R 0) k ≡ queue_at d (R + k) k) r (claimed_pure d real k begun (omega arith)), ap (λ (R : ℕ). Oldest d R k) r, ap (λ (R : ℕ). hand R (map {A = T} Some xs)) r) in
+      let z : d.aside ≡ 0 = grind arith in
+      let few : real + k + k ≤ d.tail = omega arith in let pos : 0 < k = omega arith in let most : k ≤ 128 = grind arith in
+      let xs : List T = Oldest d real k in let len : length xs ≡ k = oldest_length d real k o.begun (grind arith) (omega arith) in
+      let ys : List (Option T) = map Some xs in let many : length ys ≡ k = length-map xs Some ∙ len in let w : View T = claimed_view v xs in
+      let home : AllHome s.homes real ys = all_full xs s.homes real (λ j x at_j. let lt : j < length xs = at_within xs j x at_j in
+      let f = n.full (real + j) (omega arith) (grind arith) in let index : real - d.start + j ≡ real + j - d.start = grind arith in
+      let same : f.0 ≡ x = some-injective f.0 x (sym f.1 ∙ ap (get_elem? d.log) (sym index) ∙ sym (at_oldest d real k j (omega arith) (omega arith)) ∙ at_j) in
+      subst (λ (y : T). HomeAt s.homes (real + j) (Some y)) same f.2) in
+      let said : (claimed (queue_at d v.theft.at 0) k ≡ queue_at d (v.theft.at + k) k) × (xs ≡ take k (queue_at d v.theft.at 0).values)
+      × (hand real ys ≡ hand v.theft.at ys)
+      = (
+        subst (λ (R : ℕ). claimed (queue_at d R 0) k ≡ queue_at d (R + k) k) r (claimed_pure d real k o.begun (omega arith)),
+        ap (λ (R : ℕ). Oldest d R k) r,
+        ap (λ (R : ℕ). hand R ys) r,
+      ) in
       subst (λ (x : ℕ). Puts start s 11 x (Claims v) ws [] id) (sym (writes ∙ ap (λ (R : ℕ). head_word (R + k) k) (sym r))) (
-        claimed_view v xs,
-        take_all real (map Some xs),
-        take_valid (map Some xs) s.homes [] real many (claim_home start s q k xs (omega arith) refl len),
-        claimed_kept start s q id k v xs at thief refl (sym r) g pos most few refl,
-        (d, said.0, xs, said.1, len, most, ap (λ (c : List (ℕ × Option T)). (claimed_view v xs, c)) (take_carried (map Some xs) [] real ∙ append-nil (hand real (map Some xs)) ∙ said.2)),
+        w,
+        take_all real ys,
+        take_valid ys s.homes [] real (omega arith) home,
+        moved start s q id v w (words_of (head_word (real + k) k) d.tail) (homes_after s.homes [] (take_all real ys)) (real + k) k k id at thief
+            (take_length ys s.homes [] real ∙ n.slots) refl (grind arith)
+            (λ l le lt. let f = n.full l (grind arith) lt in (f.0, f.1, take_behind ys s.homes [] real l (grind arith) (grind arith) ∙ f.2))
+            (λ l (le : d.tail + d.aside ≤ l) lt beside outside.
+            take_behind ys s.homes [] real l (grind arith) (grind arith) ∙ n.free l le (grind arith) (grind arith) outside)
+            (λ j u ne e. others_know d.tail real n.claimed n.holder k j id u.theft u.stage
+            (subst (λ (G : ℕ). Knows d.tail real G n.claimed n.holder j u.theft u.stage) g (n.each_seat j u e)))
+            (refl, pos, ap (λ (a : ℕ). a + k) (sym r), refl, le_refl k)
+            (logged_more d v.theft w.theft real k xs (n.each_lot id v at) (λ i. v.theft.claims ++ labels (sym r i) k) refl len
+            (λ j lt. let f = n.full (real + j) (grind arith) (grind arith) in let index : real - d.start + j ≡ real + j - d.start = grind arith in
+            (f.0, at_oldest d real k j lt (omega arith) ∙ ap (get_elem? d.log) index ∙ f.1, f.1)))
+            (λ _. (w, set_here s.views id w (at_within s.views id v at), refl))
+            (λ weigh. let p = claimed_weight weigh start real k v.theft.claims (grind arith) in
+            let e : sum_by weigh (v.theft.claims ++ labels v.theft.at k) ≡ sum_by weigh (v.theft.claims ++ labels real k)
+            = λ i. sum_by weigh (v.theft.claims ++ labels (sym r i) k) in grind arith),
+        (d, said.0, xs, said.1, len, most, ap (λ (c : List (ℕ × Option T)). (w, c)) (take_carried ys [] real ∙ append-nil (hand real ys) ∙ said.2)),
       ))
       (λ ne. let p = sees_here start id me [] thief free empty s q at in p))

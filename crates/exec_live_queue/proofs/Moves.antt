@@ -65,8 +65,7 @@ module _ {T : Type 0} where
 
   pub skip_more : (c : List (ℕ × Option T)) (b i count : ℕ) (ys : List (Option T)) → i < count → c ≡ hand (b + length ys + i) (replicate (count - i) None) ++ hand b (ys ++ replicate i None)
       → turned c ≡ hand (b + length ys + (i + 1)) (replicate (count - (i + 1)) None) ++ hand b (ys ++ replicate (i + 1) None)
-  skip_more c b i count ys lt e = let q : count - i ≡ suc (count - (i + 1)) = omega arith in
-      turned_past c b i (count - (i + 1)) ys (e ∙ ap (λ (n : ℕ). hand (b + length ys + i) (replicate {A = Option T} n None) ++ hand b (ys ++ replicate i None)) q)
+  skip_more c b i count ys lt e = let q : count - i ≡ suc (count - (i + 1)) = omega arith in turned_past c b i (count - (i + 1)) ys (grind arith)
 
   pub skip_last : (c : List (ℕ × Option T)) (b i count : ℕ) (ys : List (Option T)) → i ≡ count → c ≡ hand (b + length ys + i) (replicate (count - i) None) ++ hand b (ys ++ replicate i None) → c ≡ hand b (ys ++ replicate count None)
   skip_last c b i count ys is e = grind arith
@@ -101,8 +100,7 @@ module _ {T : Type 0} where
       )
 
   pub fill_all : (m : Sat T) (v : View T) (tail r i : ℕ) (all left : List T) → Filling m v tail r all i left → left ≡ [] → Fills m v tail r all
-  fill_all m v tail r i all left f e = let is : f.0 ≡ all = sym (f.2 ∙ ap (λ (l : List T). f.0 ++ l) e ∙ append-nil f.0) in let none_left : length left + r ≡ r = ap (λ (l : List T). length l + r) e ∙ (let z : 0 + r ≡ r = omega arith in z) in
-      f.3 ∙ (λ j. (v, hand (tail + length (is j)) (replicate {A = Option T} (none_left j) None) ++ hand tail (map Some (is j))))
+  fill_all m v tail r i all left f e = let same : f.0 ≡ all = grind (arith, append-nil) in grind arith
 
   -- where the values of a claim stand that go into free slots: what left the one seat, and came to the other
   abbrev pub Carrying : Sat T → View T → ℕ → Sat T → View T → ℕ → ℕ → List T → ℕ → Type 0
@@ -127,5 +125,5 @@ module _ {T : Type 0} where
       (left, fill_step m1 m1' w tail r i label' all (x ∷ left) y f (ap (λ (z : T). Some z) same) is' h', emptied_next m m' v at i label x left e is h)
 
   pub carry_end : (m : Sat T) (v : View T) (at : ℕ) (m1 : Sat T) (w : View T) (tail r i count : ℕ) (all : List T) → Carrying m v at m1 w tail r all i → length all ≡ count → i ≡ count → Empties m v at count [] × Fills m1 w tail r all
-  carry_end m v at m1 w tail r i count all c len is = let n = filling_count m1 w tail r i all c.0 c.1 in let dry : c.0 ≡ [] = nothing_left c.0 (omega (arith, n, len, is)) in
-      (c.2 ∙ (λ j. (v, hand (at + is j) (map Some (dry j)) ++ hand at (replicate {A = Option T} (is j) None))), fill_all m1 w tail r i all c.0 c.1 dry)
+  carry_end m v at m1 w tail r i count all c len is = let n = filling_count m1 w tail r i all c.0 c.1 in
+      let dry : c.0 ≡ [] = nothing_left c.0 (omega arith) in let done = fill_all m1 w tail r i all c.0 c.1 dry in grind arith

@@ -19,73 +19,56 @@ module _ {T : Type 0} where
   pub whole_length : (d : Own T) → d.start ≤ d.saw_real → d.start + length d.log ≡ d.tail → d.saw_real + 256 ≡ d.tail → length (whole d) ≡ 256
   whole_length d begun long full = grind (arith, window_length)
 
-  -- the rule after the exchange, at which the newest half went out with the owner
-  overflowed_kept : (start : ℕ) (s : State (Option T) (View T)) (v : View T) (k : Kept start v s) → get_elem? s.views 0 ≡ some v → v.stage ≡ Owns
-      → v.own.aside ≡ 0 → k.real ≡ v.own.saw_real → k.gap ≡ 0 → v.own.saw_real + 256 ≡ v.own.tail → v.own.tail + 128 + 256 ≤ 2 ^ 55
-      → LiveQueue start record { words = words_of (head_word v.own.tail 0) v.own.tail; homes = homes_after s.homes [] (take_all (v.own.saw_real + 128) (map Some (drop 128 (whole v.own)))); views = set s.views 0 (overflowed_view v) }
-  overflowed_kept start s v k at owns aside sees unclaimed full room =
-      let t : ℕ = v.own.tail in let real : ℕ = v.own.saw_real in let o = k.order in let long = k.long in
-      let W : List T = whole v.own in let wide : length W ≡ 256 = whole_length v.own (grind arith) (grind arith) full in
-      let kept : List T = take 128 W in let half : length kept ≡ 128 = length-take-le 128 W (grind arith) in
-      let out : List (Option T) = map Some (drop 128 W) in
-      let many : length out ≡ 128 = length-map (drop 128 W) Some ∙ (let e = length-drop 128 W in omega (arith, e, wide)) in
-      rebuilt start s v (overflowed_view v) k (words_of (head_word t 0) t) (homes_after s.homes [] (take_all (real + 128) out)) t 0 at owns owns k.from
-      (take_length out s.homes [] (real + 128) ∙ k.slots) refl (grind arith)
-      (let a = length-append v.own.log kept in grind arith) (le_refl t) o.behind (λ pos. absurd (grind arith)) (λ pos. absurd (omega arith))
-      (λ l le (lt : l < t + 128). let j : ℕ = l - t in let old : ℕ = real + j in let g = k.full old (grind arith) (grind arith) in
-      let index : real - v.own.start + j ≡ old - v.own.start = grind arith in let place : length v.own.log + j ≡ l - v.own.start = grind arith in
-      let here : get_elem? kept j ≡ some g.0 = at_take W 128 j (omega arith) ∙ at_whole v.own j full (omega arith) ∙ ap (get_elem? v.own.log) index ∙ g.1 in
-      let back : l ≡ old + 256 = grind arith in let turn : l % 256 ≡ old % 256 = ap (λ (n : ℕ). n % 256) back ∙ add-mod_right old 256 in (
-        g.0,
-        subst (λ (i : ℕ). get_elem? (v.own.log ++ kept) i ≡ some g.0) place (at_appended v.own.log kept j g.0 here),
-        ap (get_elem? (homes_after s.homes [] (take_all (real + 128) out))) turn
-            ∙ take_before out s.homes [] (real + 128) old (omega arith) (omega (arith, many)) ∙ g.2,
-      ))
-      (λ l (le : t + 128 ≤ l) (lt : l < t + 256) beside (outside : Outside (t + 128) 128 l). absurd (grind arith))
-      refl (λ l x e. at_longer v.own.log kept l x e)
-      (λ weigh. let p = overflowed_weight weigh start real t v.own.exported v.own.relabelled (grind arith) full in
-      let q : sum_by weigh (labels start (k.real - start)) ≡ sum_by weigh (labels start (real - start)) = ap (λ (n : ℕ). sum_by weigh (labels start (n - start))) sees in
-      grind arith)
-
-  -- the newest half was home
-  newest_home : (start : ℕ) (s : State (Option T) (View T)) (v : View T) (k : Kept start v s) → v.own.aside ≡ 0 → k.real ≡ v.own.saw_real → v.own.saw_real + 256 ≡ v.own.tail
-      → AllHome s.homes (v.own.saw_real + 128) (map Some (drop 128 (whole v.own)))
-  newest_home start s v k aside sees full = let real : ℕ = v.own.saw_real in let o = k.order in let long = k.long in let W : List T = whole v.own in
-      let wide : length W ≡ 256 = whole_length v.own (grind arith) (grind arith) full in all_full (drop 128 W) s.homes (real + 128) (λ j x e.
-      let at : get_elem? W (128 + j) ≡ some x = sym (at_drop W 128 j) ∙ e in let near : 128 + j < length W = at_within W (128 + j) x at in
-      let l : ℕ = real + 128 + j in let g = k.full l (grind arith) (grind arith) in let index : real - v.own.start + (128 + j) ≡ l - v.own.start = grind arith in
-      let same : g.0 ≡ x = some-injective g.0 x (sym g.1 ∙ ap (get_elem? v.own.log) (sym index) ∙ sym (at_whole v.own (128 + j) full (omega arith)) ∙ at) in
-      subst (λ (y : T). HomeAt s.homes l (Some y)) same g.2)
-
   -- the queue after the exchange
   overflowed_pure : (v : View T) → v.own.start ≤ v.own.saw_real → v.own.start + length v.own.log ≡ v.own.tail → v.own.saw_real + 256 ≡ v.own.tail
       → queue_at (overflowed_view v).own v.own.tail 0 ≡ overflowed (queue_at v.own v.own.saw_real 0)
-  overflowed_pure v begun long full =
-      let d = v.own in let a : d.start ≤ d.saw_real = begun in let b : d.start + length d.log ≡ d.tail = long in let c : d.saw_real + 256 ≡ d.tail = full in
-      let wide : length (whole d) ≡ 256 = whole_length d begun long full in let kept : List T = take 128 (whole d) in let half : 128 ≡ length kept = sym (length-take-le 128 (whole d) (omega arith)) in
-      let gone : d.tail - d.tail ≡ 0 = omega arith in let values : take (d.tail - d.tail) (drop (d.tail - d.start) (d.log ++ kept)) ≡ [] = ap (λ (n : ℕ). take n (drop (d.tail - d.start) (d.log ++ kept))) gone in
-      let held : take 128 (drop (d.tail - d.start) (d.log ++ kept)) ≡ kept = window_of_end d.log kept (d.tail - d.start) 128 (omega arith) half in
-      λ i. record { real = sym full i; gap = 0; values = values i; held = held i }
+  overflowed_pure v begun long full = let d = v.own in let wide = whole_length d begun long full in let kept : List T = take 128 (whole d) in
+      let half : 128 ≡ length kept = sym (length-take-le 128 (whole d) (omega arith)) in let gone : d.tail - d.tail ≡ 0 = omega arith in
+      let held = window_of_end d.log kept (d.tail - d.start) 128 (omega arith) half in rw (gone, held, ← full) refl
 
   pub flows_over_rule : (start id : ℕ) (me : Sat T) (old new : ℕ) → me.0.stage ≡ Owns → me.0.own.aside ≡ 0 → me.0.own.out_len ≡ 0 → me.1 ≡ []
       → old / 512 ≡ me.0.own.saw_real → old % 512 ≡ 0 → me.0.own.saw_real + 256 ≡ me.0.own.tail → me.0.own.tail + 128 + 256 ≤ 2 ^ 55 → new ≡ head_word me.0.own.tail 0
       → Allows (LiveQueue start) 256 id me 11 (λ n. either (eqb n old) new n) (flows_over (step 256 11 old new none) me)
-  flows_over_rule start id me old new owns aside none_out empty sees_real unclaimed full room writes = owner_steps start id 11 me [] (λ n. either (eqb n old) new n) (flows_over (step 256 11 old new none) me) owns empty (λ s k at0.
-      let v : View T = me.0 in let hw : ℕ = head_word k.real k.gap in let ws : List ℕ = words_of hw v.own.tail in let small : k.gap < 512 = grind arith in
-      let out : List (Option T) = map Some (drop 128 (whole v.own)) in let z : v.own.aside ≡ 0 = aside in
+  flows_over_rule start id me old new owns aside none_out empty sees_real unclaimed full room writes =
+      let v : View T = me.0 in let t : ℕ = v.own.tail in let real : ℕ = v.own.saw_real in let W : List T = whole v.own in let w : View T = overflowed_view v in
+      let out : List (Option T) = map Some (drop 128 W) in let kept : List T = take 128 W in
+      owner_steps start id 11 me [] (λ n. either (eqb n old) new n) (flows_over (step 256 11 old new none) me) owns empty (λ s k at0.
+      let hw : ℕ = head_word k.real k.gap in let ws : List ℕ = words_of hw t in let small : k.gap < 512 = grind arith in let o = k.order in let long = k.long in
       exchanges start s ws [] 0 hw old new (Overflowed v) (missed (step 256 11 old new none) me hw)
-      (λ e. let r : k.real ≡ v.own.saw_real = sym (count_of_word k.real k.gap small) ∙ ap (λ (n : ℕ). n / 512) e ∙ sees_real in
+      (λ e. let r : k.real ≡ real = sym (count_of_word k.real k.gap small) ∙ ap (λ (n : ℕ). n / 512) e ∙ sees_real in
       let g : k.gap ≡ 0 = sym (gap_of_word k.real k.gap small) ∙ ap (λ (n : ℕ). n % 512) e ∙ unclaimed in
-      let b : v.own.start ≤ k.real = k.order.begun in let long : v.own.start + length v.own.log ≡ v.own.tail + v.own.aside = k.long in let f : v.own.saw_real + 256 ≡ v.own.tail = full in
-      let many : length out ≤ 256 = (let w = whole_length v.own (omega arith) (omega arith) full in let a : length out ≡ length (drop 128 (whole v.own)) = length-map (drop 128 (whole v.own)) Some in let c = length-drop 128 (whole v.own) in omega (arith, w, a, c)) in
-      let further : v.own.saw_real + 128 + 256 ≡ v.own.tail + 128 = omega arith in
-      let carried : hand (v.own.saw_real + 128) out ++ [] ≡ hand (v.own.tail + 128) out = append-nil (hand (v.own.saw_real + 128) out) ∙ sym (hand_turn (v.own.saw_real + 128) out) ∙ ap (λ (n : ℕ). hand n out) further in
+      let wide : length W ≡ 256 = whole_length v.own (grind arith) (grind arith) full in let half : length kept ≡ 128 = length-take-le 128 W (omega arith) in
+      let many : length out ≡ 128 = length-map (drop 128 W) Some ∙ (let h = length-drop 128 W in omega (arith, h, wide)) in
+      let home : AllHome s.homes (real + 128) out = all_full (drop 128 W) s.homes (real + 128) (λ j x at_j.
+      let at : get_elem? W (128 + j) ≡ some x = sym (at_drop W 128 j) ∙ at_j in let near : 128 + j < length W = at_within W (128 + j) x at in
+      let l : ℕ = real + 128 + j in let h = k.full l (grind arith) (grind arith) in let index : real - v.own.start + (128 + j) ≡ l - v.own.start = grind arith in
+      let same : h.0 ≡ x = some-injective h.0 x (sym h.1 ∙ ap (get_elem? v.own.log) (sym index) ∙ sym (at_whole v.own (128 + j) full (omega arith)) ∙ at) in
+      subst (λ (y : T). HomeAt s.homes l (Some y)) same h.2) in
+      let further : real + 128 + 256 ≡ t + 128 = omega arith in
+      let carried : hand (real + 128) out ++ [] ≡ hand (t + 128) out
+      = append-nil (hand (real + 128) out) ∙ sym (hand_turn (real + 128) out) ∙ ap (λ (n : ℕ). hand n out) further in
       subst (λ (x : ℕ). Puts start s 11 x (Overflowed v) ws [] 0) (sym writes) (
-        overflowed_view v,
-        take_all (v.own.saw_real + 128) out,
-        take_valid out s.homes [] (v.own.saw_real + 128) many (newest_home start s v k aside r full),
-        overflowed_kept start s v k at0 owns aside r g full room,
-        (overflowed_pure v (omega arith) (omega arith) full, ap (λ (c : List (ℕ × Option T)). (overflowed_view v, c)) (take_carried out [] (v.own.saw_real + 128) ∙ carried)),
+        w,
+        take_all (real + 128) out,
+        take_valid out s.homes [] (real + 128) (omega arith) home,
+        rebuilt start s v w k (words_of (head_word t 0) t) (homes_after s.homes [] (take_all (real + 128) out)) t 0 at0 owns owns k.from
+            (take_length out s.homes [] (real + 128) ∙ k.slots) refl (grind arith)
+            (let a = length-append v.own.log kept in grind arith) (le_refl t) o.behind (λ pos. absurd (grind arith)) (λ pos. absurd (omega arith))
+            (λ l le (lt : l < t + 128). let j : ℕ = l - t in let old : ℕ = real + j in let g = k.full old (grind arith) (grind arith) in
+            let index : real - v.own.start + j ≡ old - v.own.start = grind arith in let place : length v.own.log + j ≡ l - v.own.start = grind arith in
+            let here : get_elem? kept j ≡ some g.0 = at_take W 128 j (omega arith) ∙ at_whole v.own j full (omega arith) ∙ ap (get_elem? v.own.log) index ∙ g.1 in
+            let back : l ≡ old + 256 = grind arith in let turn : l % 256 ≡ old % 256 = ap (λ (n : ℕ). n % 256) back ∙ add-mod_right old 256 in (
+              g.0,
+              subst (λ (i : ℕ). get_elem? (v.own.log ++ kept) i ≡ some g.0) place (at_appended v.own.log kept j g.0 here),
+              ap (get_elem? (homes_after s.homes [] (take_all (real + 128) out))) turn
+                  ∙ take_before out s.homes [] (real + 128) old (omega arith) (omega (arith, many)) ∙ g.2,
+            ))
+            (λ l (le : t + 128 ≤ l) (lt : l < t + 256) beside (outside : Outside (t + 128) 128 l). absurd (grind arith))
+            refl (λ l x e. at_longer v.own.log kept l x e)
+            (λ weigh. let p = overflowed_weight weigh start real t v.own.exported v.own.relabelled (grind arith) full in
+            let q : sum_by weigh (labels start (k.real - start)) ≡ sum_by weigh (labels start (real - start)) = ap (λ (n : ℕ). sum_by weigh (labels start (n - start))) r in
+            grind arith),
+        (overflowed_pure v (grind arith) (grind arith) full, ap (λ (c : List (ℕ × Option T)). (w, c)) (take_carried out [] (real + 128) ∙ carried)),
       ))
       (λ ne. lays_here start me (λ room. 0) (λ r. omega arith) owns aside none_out s k at0))
 

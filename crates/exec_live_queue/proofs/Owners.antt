@@ -52,9 +52,7 @@ module _ {T : Type 0} where
   -- a look that took the one free slot that it asked for
   pub took_one : (m m' : Sat T) (n : ℕ) → laid (λ room. min room 1) (step 256 11 0 0 none) m n m' → m.0.own.tail - n / 512 + n % 512 < 256
       → (m'.0.own.out_at ≡ m.0.own.tail) × (m'.0.own.out_len ≡ 1) × (m'.1 ≡ hand m.0.own.tail (None ∷ []))
-  took_one m m' n l lt = let t : ℕ = m.0.own.tail in let o = l.0.1 in let b : n / 512 ≤ t = o.behind in let one : min (room t (n / 512) (n % 512)) 1 ≡ 1 = omega arith in
-      let is : m' ≡ (out (saw m.0 (n / 512) (n % 512)) t 1, hand t (None ∷ [])) = l.1 ∙ ap (λ (k : ℕ). (out (saw m.0 (n / 512) (n % 512)) t k, hand t (replicate {A = Option T} k None))) one in
-      (ap (λ (x : Sat T). x.0.own.out_at) is, ap (λ (x : Sat T). x.0.own.out_len) is, ap (λ (x : Sat T). x.1) is)
+  took_one m m' n l lt = let one : min (room m.0.own.tail (n / 512) (n % 512)) 1 ≡ 1 = grind arith in grind arith
 
   took_none : (m m' : Sat T) (n : ℕ) → laid (λ room. min room 1) (step 256 11 0 0 none) m n m' → 256 ≤ m.0.own.tail - n / 512 + n % 512 → min (room m.0.own.tail (n / 512) (n % 512)) 1 ≡ 0
   took_none m m' n l le = let t : ℕ = m.0.own.tail in let b : n / 512 ≤ t = l.0.1.behind in omega arith
@@ -76,30 +74,12 @@ module _ {T : Type 0} where
   pub overflowed_after : (m m1 m2 m3 : Sat T) → AtRest m → HasLooked m.0.own m1.0.own → m1.0.stage ≡ Owns → m1.0.own.start ≤ m1.0.own.saw_real → m1.0.own.saw_real + 256 ≡ m1.0.own.tail → m.0.own.tail + 512 ≤ 2 ^ 55
       → Overflowed m1.0 m2 → m3 ≡ (restored_view m2.0, m2.1)
       → HasOverflowed m.0.own m3.0.own × AtHand m3 0 (drop 128 (fully m.0.own))
-  overflowed_after m m1 m2 m3 r h owns begun full bound o e =
-      let a = m.0.own in let b = m1.0.own in let aside : a.aside ≡ 0 = r.2 in let tail : b.tail ≡ a.tail = ap (λ (d : Own T). d.tail) h.0 in let start : b.start ≡ a.start = ap (λ (d : Own T). d.start) h.0 in
-      let log : b.log ≡ a.log = ap (λ (d : Own T). d.log) h.0 in let n1 : b.saw_real + 256 ≡ b.tail = full in let real : b.saw_real ≡ a.tail - 256 = omega arith in let further : b.saw_real + 128 ≡ a.tail - 128 = omega arith in
-      let vals : whole b ≡ fully a = λ i. take (tail i - real i) (drop (real i - start i) (log i)) in
-      let is : m3 ≡ (restored_view (overflowed_view m1.0), hand (b.tail + 128) (map Some (drop 128 (whole b)))) = e ∙ ap (λ (z : Sat T). (restored_view z.0, z.1)) o.1 in
-      let wide : length (fully a) ≡ 256 = ap length (sym vals) ∙ whole_length b begun (let l : a.start + length a.log ≡ a.tail = r.5 in subst (λ (d : Own T). d.start + length d.log ≡ d.tail) (sym h.0) l) full in
+  overflowed_after m m1 m2 m3 r h owns begun full bound o e = let a = m.0.own in let b = m1.0.own in
+      let tail : b.tail ≡ a.tail = grind arith in let real : b.saw_real ≡ a.tail - 256 = grind arith in let start : b.start ≡ a.start = grind arith in
+      let log : b.log ≡ a.log = grind arith in let vals : whole b ≡ fully a = λ i. take (tail i - real i) (drop (real i - start i) (log i)) in
+      let wide : length (fully a) ≡ 256 = ap length (sym vals) ∙ whole_length b begun (grind arith) full in
       let kept : length (take 128 (fully a)) ≡ 128 = length-take-le 128 (fully a) (omega arith) in let gone = length-drop 128 (fully a) in
-      let own : m3.0.own ≡ record (looked a m3.0.own) { tail = a.tail + 128; log = a.log ++ take 128 (fully a); exported = a.exported ++ labels (a.tail - 128) 128; relabelled = a.relabelled ++ labels (a.tail - 256) 128 }
-      = subst (λ (z : Sat T). z.0.own ≡ record (looked a z.0.own) { tail = a.tail + 128; log = a.log ++ take 128 (fully a); exported = a.exported ++ labels (a.tail - 128) 128; relabelled = a.relabelled ++ labels (a.tail - 256) 128 }) (sym is)
-      (ap (λ (d : Own T). record d { tail = d.tail + 128; aside = 0; log = d.log ++ take 128 (whole b); out_at = b.tail + 128; out_len = 128; saw_real = b.tail; saw_gap = 0; exported = d.exported ++ labels (b.saw_real + 128) 128; relabelled = d.relabelled ++ labels b.saw_real 128 }) h.0
-      ∙ (λ i. record a { tail = a.tail + 128; aside = sym aside i; log = a.log ++ take 128 (vals i); out_at = b.tail + 128; out_len = 128; saw_real = b.tail; saw_gap = 0; exported = a.exported ++ labels (further i) 128; relabelled = a.relabelled ++ labels (real i) 128 })) in
-      let long : a.start + length a.log ≡ a.tail = r.5 in let more = length-append a.log (take 128 (fully a)) in (
-        (omega (arith, h.1), wide, ap (λ (z : Sat T). z.0.own.saw_real) is ∙ tail, own),
-        (
-          ap (λ (z : Sat T). z.0.stage) is ∙ owns,
-          ap (λ (z : Sat T). z.0.own.aside) is,
-          (let t : m3.0.own.tail ≡ a.tail + 128 = ap (λ (d : Own T). d.tail) own in omega arith),
-          ap (λ (d : Own T). d.start + length d.log) own ∙ (let j : a.start + length (a.log ++ take 128 (fully a)) ≡ a.tail + 128 = omega arith in j) ∙ sym (ap (λ (d : Own T). d.tail) own),
-          ap (λ (z : Sat T). z.0.own.out_at) is ∙ sym (ap (λ (z : Sat T). z.0.own.tail) is),
-          ap (λ (z : Sat T). z.0.own.out_len) is ∙ (let j : 128 ≡ length (drop 128 (fully a)) + 0 = omega arith in j),
-          ap (λ (z : Sat T). z.1) is ∙ (λ i. hand (tail i + 128) (map Some (drop 128 (vals i)))) ∙ ap (λ (n : ℕ). hand n (map Some (drop 128 (fully a)))) (let j : a.tail + 128 ≡ m3.0.own.tail + 0 = (let t : m3.0.own.tail ≡ a.tail + 128 = ap (λ (d : Own T). d.tail) own in omega arith) in j)
-              ∙ sym (append-nil (hand (m3.0.own.tail + 0) (map Some (drop 128 (fully a))))),
-        ),
-      )
+      let more = length-append a.log (take 128 (fully a)) in (grind arith, grind (arith, append-nil))
 
   -- where another head without a claim was seen, a value has left
   pub newer : (d d' : Own T) (seen n : ℕ) → IsSeen d seen → IsSeen d' n → Found d n → n ≢ seen → d.saw_gap ≡ 0 → d.saw_real < d'.saw_real

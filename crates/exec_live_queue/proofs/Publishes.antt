@@ -10,31 +10,6 @@ module _ {T : Type 0} where
   laden_length : (xs : List T) (r : ℕ) → length (Laden xs r) ≡ length xs + r
   laden_length xs r = grind (arith, length-append, length-map, length-replicate)
 
-  -- the rule after the store, at which the values xs came home from the owner, and r slots that are empty
-  published_kept : (start : ℕ) (s : State (Option T) (View T)) (v : View T) (k : Kept start v s) (xs : List T) (r : ℕ) → get_elem? s.views 0 ≡ some v → v.stage ≡ Owns
-      → v.own.aside ≡ 0 → v.own.out_at ≡ v.own.tail → v.own.out_len ≡ length xs + r → v.own.tail + length xs + 256 ≤ 2 ^ 55
-      → LiveQueue start record { words = words_of (head_word k.real k.gap) (v.own.tail + length xs); homes = homes_after s.homes (hand v.own.tail (Laden xs r)) (give_all (Laden xs r)); views = set s.views 0 (published_view v xs) }
-  published_kept start s v k xs r at owns whole place many room =
-      let t : ℕ = v.own.tail in let n : ℕ = length xs in let real : ℕ = k.real in let gap : ℕ = k.gap in let o = k.order in
-      let ys : List (Option T) = Laden xs r in let len : length ys ≡ n + r = laden_length xs r in let long = k.long in
-      let fits : t + (n + r) + gap ≤ real + 256 = grind arith in
-      let homes' : Homes T = homes_after s.homes (hand t ys) (give_all ys) in
-      let here : AllHome homes' t ys = give_here ys s.homes t (grind arith) k.slots in
-      let behind : AllHome homes' (t + n) (replicate r None)
-      = subst (λ (j : ℕ). AllHome homes' (t + j) (replicate r None)) (length-map xs Some) (home_behind (map Some xs) (replicate r None) homes' t here) in
-      rebuilt start s v (published_view v xs) k (words_of (head_word real gap) (t + n)) homes' real gap at owns owns k.from
-      (give_length ys s.homes t ∙ k.slots) refl (grind arith)
-      (grind (arith, length-append)) (omega arith) (le_refl real) (λ q. (q, refl)) (λ q. q)
-      (λ l le (lt : l < t + n + v.own.aside). dite (dec_le t l)
-      (λ (ge : t ≤ l). let f = some_at xs (replicate r None) homes' t l here ge (grind arith) in let index : length v.own.log + (l - t) ≡ l - v.own.start = grind arith in
-      (f.0, subst (λ (i : ℕ). get_elem? (v.own.log ++ xs) i ≡ some f.0) index (at_appended v.own.log xs (l - t) f.0 f.1), f.2))
-      (λ ne. let f = k.full l le (grind arith) in
-      (f.0, at_longer v.own.log xs (l - v.own.start) f.0 f.1, give_before ys s.homes t l (grind arith) (grind arith) ∙ f.2)))
-      (λ l (le : t + n + v.own.aside ≤ l) lt beside outside. dite (dec_le (t + (n + r)) l)
-      (λ (far : t + (n + r) ≤ l). give_behind ys s.homes t l (grind arith) (grind arith) ∙ k.free l (grind arith) lt beside (grind arith))
-      (λ ne. free_at r homes' (t + n) l behind (grind arith) (grind arith)))
-      refl (λ l x e. at_longer v.own.log xs l x e) (λ weight. refl)
-
   -- the queue after it has the values behind its own
   published_pure : (d : Own T) (v : View T) (xs : List T) (real gap : ℕ) → v.own.aside ≡ 0 → v.own.start + length v.own.log ≡ v.own.tail → v.own.start ≤ real → real ≤ v.own.tail
       → queue_at (published_view v xs).own real gap ≡ published (queue_at v.own real gap) xs
@@ -45,16 +20,36 @@ module _ {T : Type 0} where
       → me.1 ≡ hand me.0.own.tail (map Some xs ++ replicate r None) → me.0.own.tail + length xs + 256 ≤ 2 ^ 55 → new ≡ me.0.own.tail + length xs
       → Allows (LiveQueue start) 256 id me 12 (λ _. new) (λ _. publishes (step 256 12 new 0 none) me new)
   publish_rule start id me xs r new owns whole place many carries room writes =
-      let c : List (ℕ × Option T) = hand me.0.own.tail (Laden xs r) in
+      let v : View T = me.0 in let t : ℕ = v.own.tail in let n : ℕ = length xs in let ys : List (Option T) = Laden xs r in
+      let len : length ys ≡ n + r = laden_length xs r in let c : List (ℕ × Option T) = hand t ys in let w : View T = published_view v xs in
+      let is : xs ≡ values_of me.1 = sym (ap values_of carries ∙ values_in xs r t) in
+      let Tells : List T → Sat T → Type 0 = λ zs m'. ((real gap : ℕ) → v.own.start ≤ real → real ≤ t
+      → queue_at (published_view v zs).own real gap ≡ published (queue_at v.own real gap) zs) × (m' ≡ (published_view v zs, [])) in
       owner_steps start id 12 me c (λ _. new) (λ _. publishes (step 256 12 new 0 none) me new) owns carries (λ s k at.
-      let v : View T = me.0 in let ws : List ℕ = words_of (head_word k.real k.gap) v.own.tail in let z : v.own.aside ≡ 0 = whole in let long : v.own.start + length v.own.log ≡ v.own.tail + v.own.aside = k.long in
-      let Tells : List T → Sat T → Type 0 = λ ys m'. ((real gap : ℕ) → v.own.start ≤ real → real ≤ v.own.tail → queue_at (published_view v ys).own real gap ≡ published (queue_at v.own real gap) ys) × (m' ≡ (published_view v ys, [])) in
-      let is : xs ≡ values_of me.1 = sym (ap values_of carries ∙ values_in xs r me.0.own.tail) in
-      subst (λ (x : ℕ). Puts start s 12 x (publishes (step 256 12 new 0 none) me new) ws c 0) (sym writes)
-      (subst (λ (ys : List T). Puts start s 12 (v.own.tail + length xs) (Tells ys) ws c 0) is (
-        published_view v xs,
-        give_all (Laden xs r),
-        give_valid (Laden xs r) s.homes c,
-        published_kept start s v k xs r at owns whole place many room,
-        (λ real gap begun behind. published_pure v.own v xs real gap whole (omega arith) begun behind, ap (λ (h : List (ℕ × Option T)). (published_view v xs, h)) (give_carried (Laden xs r) v.own.tail)),
+      let real : ℕ = k.real in let gap : ℕ = k.gap in let o = k.order in let long = k.long in let fits : t + (n + r) + gap ≤ real + 256 = grind arith in
+      let homes' : Homes T = homes_after s.homes c (give_all ys) in let here : AllHome homes' t ys = give_here ys s.homes t (grind arith) k.slots in
+      let behind : AllHome homes' (t + n) (replicate r None)
+      = subst (λ (j : ℕ). AllHome homes' (t + j) (replicate r None)) (length-map xs Some) (home_behind (map Some xs) (replicate r None) homes' t here) in
+      subst (λ (x : ℕ). Puts start s 12 x (publishes (step 256 12 new 0 none) me new) (words_of (head_word real gap) t) c 0) (sym writes)
+      (subst (λ (zs : List T). Puts start s 12 (t + n) (Tells zs) (words_of (head_word real gap) t) c 0) is (
+        w,
+        give_all ys,
+        give_valid ys s.homes c,
+        rebuilt start s v w k (words_of (head_word real gap) (t + n)) homes' real gap at owns owns k.from
+            (give_length ys s.homes t ∙ k.slots) refl (grind arith)
+            (grind (arith, length-append)) (omega arith) (le_refl real) (λ q. (q, refl)) (λ q. q)
+            (λ l le (lt : l < t + n + v.own.aside). dite (dec_le t l)
+            (λ (ge : t ≤ l). let f = some_at xs (replicate r None) homes' t l here ge (grind arith) in
+            let index : length v.own.log + (l - t) ≡ l - v.own.start = grind arith in
+            (f.0, subst (λ (i : ℕ). get_elem? (v.own.log ++ xs) i ≡ some f.0) index (at_appended v.own.log xs (l - t) f.0 f.1), f.2))
+            (λ ne. let f = k.full l le (grind arith) in
+            (f.0, at_longer v.own.log xs (l - v.own.start) f.0 f.1, give_before ys s.homes t l (grind arith) (grind arith) ∙ f.2)))
+            (λ l (le : t + n + v.own.aside ≤ l) lt beside outside. dite (dec_le (t + (n + r)) l)
+            (λ (far : t + (n + r) ≤ l). give_behind ys s.homes t l (grind arith) (grind arith) ∙ k.free l (grind arith) lt beside (grind arith))
+            (λ ne. free_at r homes' (t + n) l behind (grind arith) (grind arith)))
+            refl (λ l x e. at_longer v.own.log xs l x e) (λ weight. refl),
+        (
+          λ R G begun behind'. published_pure v.own v xs R G whole (grind arith) begun behind',
+          ap (λ (h : List (ℕ × Option T)). (w, h)) (give_carried ys t),
+        ),
       )))

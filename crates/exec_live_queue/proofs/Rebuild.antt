@@ -1,5 +1,5 @@
 -- The rule after a step of the owner: one lemma for all of them.
-use Rattle.exec_live_queue.proofs.Words.{◌≡◌, ◌≢◌, ℕ, zero, suc, ◌+◌, ◌-◌, ◌<◌, ◌≤◌, List, [], ◌∷◌, length, set, sym, ap, ◌∙◌, subst, ⊎_elim, arith, some, some-injective, some-ne-none, get_elem?, Option, None, slice_index, sum_by, sum_by-cons, State, Act, Valid, carried_after, homes_after, Allows, either, eqb, at_set, set_here, set_else, exchanged, Own, Theft, View, Stage, Owns, Idle, SawHead, SawTail, Claimed, head_word, filled, Outside, BesideClaim, InOrder, words_of, labels, Homes, HomeAt, FullAt, weight_of, Knows, AsLogged, Kept, LiveQueue, Sat, Place}
+use Rattle.exec_live_queue.proofs.{Labels.at_within, Words.{◌≡◌, ◌≢◌, ℕ, zero, suc, ◌+◌, ◌-◌, ◌<◌, ◌≤◌, List, [], ◌∷◌, length, set, sym, ap, ◌∙◌, subst, ⊎_elim, arith, some, some-injective, some-ne-none, get_elem?, Option, None, slice_index, sum_by, sum_by-cons, State, Act, Valid, carried_after, homes_after, Allows, either, eqb, at_set, set_here, set_else, exchanged, Own, Theft, View, Stage, Owns, Idle, SawHead, SawTail, Claimed, head_word, filled, Outside, BesideClaim, InOrder, words_of, labels, Homes, HomeAt, FullAt, weight_of, Knows, AsLogged, Kept, LiveQueue, Sat, Place}}
 use Rattle.atomic_table.specs.declared.shared.Shared.{Shared}
 use Rattle.exec_live_queue.specs.Seats.{IsAt}
 
@@ -8,11 +8,6 @@ pub sum_set : {X : Type 0} (f : X → ℕ) (xs : List X) (i : ℕ) (x y : X) →
 sum_set f [] i x y e = absurd (some-ne-none x (sym e))
 sum_set f (z ∷ xs) zero x y e = let is : f z ≡ f x = ap f (some-injective z x e) in let a = sum_by-cons f y xs in let b = sum_by-cons f z xs in omega (arith, a, b, is)
 sum_set f (z ∷ xs) (suc i) x y e = let h = sum_set f xs i x y e in let a = sum_by-cons f z (set xs i y) in let b = sum_by-cons f z xs in omega (arith, a, b, h)
-
-pub there : {X : Type 0} (xs : List X) (i : ℕ) (x : X) → get_elem? xs i ≡ some x → i < length xs
-there [] i x e = absurd (some-ne-none x (sym e))
-there (y ∷ xs) zero x e = omega arith
-there (y ∷ xs) (suc i) x e = let h = there xs i x e in omega (arith, h)
 
 module _ {T : Type 0} where
   -- a seat whose view is the owner's is the first
@@ -39,7 +34,7 @@ module _ {T : Type 0} where
       → ((w : ℕ → ℕ) → weight_of w v' + sum_by w (labels start (k.real - start)) ≡ weight_of w v + sum_by w (labels start (real - start)))
       → LiveQueue start record { words = ws; homes = homes; views = set s.views 0 v' }
   rebuilt start s v v' k ws homes real gap at was own from slots words order long on_tail on_real on_gap back full free theft longer told =
-      let near : 0 < length s.views = there s.views 0 v at in let starts : v'.own.start ≡ v.own.start = from ∙ sym k.from in record {
+      let near : 0 < length s.views = at_within s.views 0 v at in let starts : v'.own.start ≡ v.own.start = from ∙ sym k.from in record {
         view = v';
         seated = set_here s.views 0 v' near;
         owns = own;

@@ -24,8 +24,7 @@ module _ {T P : Type 0} where
   stands_rest words seat tail left is dry r = (is, omega (arith, dry), (λ _. r), (λ pos. absurd (omega (arith, pos, dry))))
 
   pub stands_hands : (words : Shared (Option T) (View T) ℕ P) (seat : Place T) (tail left j : ℕ) (xs : List T) → tail ≡ seat.me.0.own.tail → left + j ≡ 128 → 0 < left → length xs ≡ left → HandsOut words seat j xs → Stands words seat tail left
-  stands_hands words seat tail left j xs is sum pos len h = let e : values_of seat.me.1 ≡ xs = handed words seat j xs h in let place : 128 - left ≡ j = omega arith in
-      (is, omega arith, (λ dry. absurd (omega arith)), (λ _. (subst (λ (n : ℕ). HandsOut words seat n (values_of seat.me.1)) (sym place) (subst (HandsOut words seat j) (sym e) h), ap length e ∙ len)))
+  stands_hands words seat tail left j xs is sum pos len h = let e = handed words seat j xs h in let place : 128 - left ≡ j = omega arith in grind arith
 
   -- the next value of an overflow
   pub next_of : (words : Shared (Option T) (View T) ℕ P) (seat : Place T) (tail left : ℕ) → Stands words seat tail left → 0 < left
@@ -38,10 +37,7 @@ module _ {T P : Type 0} where
 
 -- what an exclusive queue hands out, by what its push answered
 pub handed_alone : {T : Type 0} (o : Alone T) (f : Fit) (x : T) → handed_out f o.queue ≡ handed_by (owner.Exclusive o) (push_answer f x)
-handed_alone o (fit.Room len) x = refl
-handed_alone o fit.Overflow x = refl
-handed_alone o fit.Claimed x = refl
-handed_alone o fit.Spent x = refl
+handed_alone o f x = grind arith
 
 -- what an overflow still hands out grows less
 module _ {X : Type 0} where

@@ -79,8 +79,8 @@ module _ {T : Type 0} where
       let k = q.kept in let tail : ℕ = q.view.own.tail in
       let w : View T = record me.0 { stage = SawTail; theft = record me.0.theft { upto = tail } } in
       let knew : me.0.theft.at ≤ k.real = subst (λ (x : Stage). Knows tail k.real k.gap k.claimed k.holder id me.0.theft x) st (k.each_seat id me.0 at) in
-      let thief : me.0.stage ≢ Owns = λ e. let clash : SawHead ≡ Owns = sym st ∙ e in cc in
-      let free : me.0.stage ≢ Claimed = λ e. let clash : SawHead ≡ Claimed = sym st ∙ e in cc in (
+      let thief : me.0.stage ≢ Owns = grind arith in
+      let free : me.0.stage ≢ Claimed = grind arith in (
         w,
         keeps,
         tt,

@@ -5,7 +5,7 @@ use lib.ListN.{get_elem?}
 use Rattle.atomic_table.specs.declared.shared.Shared.{Shared}
 use Rattle.exec_words.specs.declared.queue.{Steal.Steal, PushAnswer.PushAnswer}
 use Rattle.exec_words.specs.declared.queue.Steal.TheVariants as steal
-use Rattle.exec_live_queue.specs.{declared.view.{Own.Own, Theft.Theft, View.View, Stage.TheVariants.Owns}, Live.labels, Plays.{Sat, hand}, Pure.queue_at, Seats.{Place, IsAt, Rests}}
+use Rattle.exec_live_queue.specs.{declared.view.{Own.Own, Theft.Theft, View.View, Stage.TheVariants.Owns}, Live.labels, Plays.{queue_at, Sat, hand}, Seats.{Place, IsAt, Rests}}
 use Rattle.exec_words.specs.declared.queue.PushAnswer.TheVariants as answer
 
 module _ {T : Type 0} where
@@ -47,10 +47,8 @@ module _ {T : Type 0} where
 
   -- what is handed out after a push
   abbrev pub handed_after : Own T → PushAnswer T → List T
-  handed_after d (answer.Pushed len) = []
   handed_after d (answer.Overflow y) = drop 128 (fully d)
-  handed_after d (answer.Claimed y) = []
-  handed_after d (answer.Spent y) = []
+  handed_after d push = []
 
   -- the numbers and lists that a thief keeps, but for what it saw
   abbrev pub HasTaken : Theft T → ℕ → List T → Theft T → Type 0
@@ -93,10 +91,8 @@ module _ {T P : Type 0} where
 
   -- how a push leaves the seat
   abbrev pub PushLeaves : Shared (Option T) (View T) ℕ P → Place T → Own T → PushAnswer T → Type 0
-  PushLeaves words seat d (answer.Pushed len) = Rests words seat
   PushLeaves words seat d (answer.Overflow y) = HandsOut words seat 0 (drop 128 (fully d))
-  PushLeaves words seat d (answer.Claimed y) = Rests words seat
-  PushLeaves words seat d (answer.Spent y) = Rests words seat
+  PushLeaves words seat d push = Rests words seat
 
   -- what one try of a push of x answers and does
   abbrev pub AfterTry : Shared (Option T) (View T) ℕ P → Own T → T → Place T → Result (PushAnswer T) T → Type 0

@@ -21,8 +21,7 @@ module _ {T : Type 0} where
   abbrev pub Does : (Own T → Own T → Type 0) → (Plain T → Plain T → Type 0) → Owner T → Owner T → Type 0
   Does R S (owner.Shared o) (owner.Shared o') = (o'.table ≡ o.table) × R o.own o'.own
   Does R S (owner.Exclusive o) (owner.Exclusive o') = S o.queue o'.queue
-  Does R S (owner.Shared o) (owner.Exclusive o') = ⊥
-  Does R S (owner.Exclusive o) (owner.Shared o') = ⊥
+  Does R S o o' = ⊥
 
   -- nothing changed but for what the owner of a shared queue saw
   abbrev pub Looks : Owner T → Owner T → Type 0
@@ -53,10 +52,8 @@ module _ {T : Type 0} where
   newest_of (owner.Exclusive o) = newest o.queue
 
   abbrev pub handed_by : Owner T → PushAnswer T → List T
-  handed_by o (answer.Pushed len) = []
   handed_by o (answer.Overflow x) = newest_of o
-  handed_by o (answer.Claimed x) = []
-  handed_by o (answer.Spent x) = []
+  handed_by o push = []
 
   -- a shared queue whose first value gets this count
   abbrev pub StartsAt : ℕ → Queue T → Type 0
@@ -76,8 +73,7 @@ module _ {T : Type 0} where
   -- a seat at this queue, which is shared
   abbrev pub IsSeat : Queue T → QueueSeat T → Type 0
   IsSeat (queue.Shared q) (seat.Shared s) = s.table ≡ q.table
-  IsSeat (queue.Shared q) (seat.Exclusive s) = ⊥
-  IsSeat (queue.Exclusive a) s = ⊥
+  IsSeat q s = ⊥
 
   -- the table of a shared queue, and the one at which a seat is; an exclusive queue has none
   abbrev pub table_of : Queue T → Option TableId

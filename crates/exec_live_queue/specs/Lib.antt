@@ -7,5 +7,4 @@ pub mod Lent
 pub mod Live
 pub mod Numbers
 pub mod Plays
-pub mod Pure
 pub mod Seats

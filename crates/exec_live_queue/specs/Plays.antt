@@ -1,10 +1,10 @@
 -- What each step of a run queue tells the seat that makes it.
-use Rattle.std.specs.Prelude.{◌≡◌, ◌≢◌, ℕ, suc, ◌+◌, ◌-◌, ◌/◌, ◌%◌, ◌^◌, ◌<◌, ◌≤◌, List, [], ◌∷◌, ◌++◌, length, map, take, replicate, Option, Some, None}
+use Rattle.std.specs.Prelude.{◌≡◌, ◌≢◌, ℕ, suc, ◌+◌, ◌-◌, ◌/◌, ◌%◌, ◌^◌, ◌<◌, ◌≤◌, List, [], ◌∷◌, ◌++◌, length, map, take, drop, replicate, Option, Some, None}
 use Rattle.atomic_table.specs.Table.{Me, Step, Act, keeps, takes, gives, chain}
-use Rattle.exec_live_queue.specs.{declared.view.{Own.Own, Theft.Theft, View.View, Stage.TheVariants.{Idle, SawHead, SawTail, Claimed}}, Numbers.{head_word, InOrder}, Pure.queue_at, Live.labels}
+use Rattle.exec_live_queue.specs.{declared.view.{Own.Own, Theft.Theft, View.View, Stage.TheVariants.{Idle, SawHead, SawTail, Claimed}}, Numbers.{head_word, InOrder}, Live.labels}
 use mathlib.Core.Option.{some}
 use lib.ListN.{get_elem?}
-use Rattle.exec_words.specs.{declared.head.Head.Head, Head.popped_head, Queue.{popped, claimed, released, published, overflowed, newest, restored}}
+use Rattle.exec_words.specs.{declared.head.Head.Head, Head.popped_head, Queue.{Queue, popped, claimed, released, published, overflowed, newest, restored}}
 
 abbrev pub Sat : Type 0 → Type 0
 Sat T = Me (Option T) (View T)
@@ -25,6 +25,10 @@ abbrev pub half : {T : Type 0} → Theft T → ℕ
 half t = (t.upto - t.at) / 2
 
 module _ {T : Type 0} where
+  -- the queue as its owner knows it at this head: the plain queue of `exec_words`, whose transitions the steps make
+  abbrev pub queue_at : Own T → ℕ → ℕ → Queue T
+  queue_at d real gap = record { real = real; gap = gap; values = take (d.tail - real) (drop (real - d.start) d.log); held = take d.aside (drop (d.tail - d.start) d.log) }
+
   -- the slots of the labels from a on, with these in them
   abbrev pub hand : ℕ → List (Option T) → List (ℕ × Option T)
   hand a [] = []

@@ -1,7 +1,7 @@
 //! Worked examples of the definitions, proved by computation: what holds, and what doesn't.
 
 ghost use Rattle.std.specs.Prelude.{◌≡◌, ◌≢◌, [], ◌∷◌};
-ghost use Rattle.exec_live_queue.specs.{Calls.{AfterPush, WasEmpty, fully, handed_after}, Examples.{numbers, five, full, flowing_over, thief}, Live.labels, Numbers.{head_word, filled, Outside, BesideClaim}, Plays.{room, half}, Pure.queue_at};
+ghost use Rattle.exec_live_queue.specs.{Calls.{AfterPush, WasEmpty, fully, handed_after}, Examples.{numbers, five, full, flowing_over, thief}, Live.labels, Numbers.{head_word, filled, Outside, BesideClaim}, Plays.{queue_at, room, half}};
 ghost use Rattle.exec_words.specs.declared.queue.PushAnswer.TheVariants as answer;
 ghost use Rattle.exec_words.specs.Queue.{popped, claimed, released};
 

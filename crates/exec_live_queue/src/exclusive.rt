@@ -1,5 +1,4 @@
-//! The owner of a queue that no thief gets at: a plain queue, none of whose calls takes an atomic
-//! step.
+//! The owner of a queue that no thief gets at: a plain queue, none of whose calls takes an atomic step.
 //!
 //! Each call is the transition of the same name of `exec_words`' `PureQueue`, in one action. What a
 //! contract sees is that queue, and the values that an overflow still has to hand out.
@@ -46,8 +45,7 @@ impl<T: Drop> ExclusiveOwner<T> {
         Ok(ExclusiveOwner { queue, hand })
     }
 
-    /// Lets the owner go. The caller must know that the queue is empty, and be in the middle of no
-    /// overflow.
+    /// Lets the owner go. The caller must know that the queue is empty, and be in the middle of no overflow.
     pub fn leave(self)
         requires empty { self.queue.values ≡ [] }
         requires whole { self.handed ≡ [] }
@@ -93,8 +91,7 @@ impl<T> ExclusiveOwner<T> {
         self.queue.push(value, &mut self.hand)
     }
 
-    /// The next value that an overflow hands out, the oldest first, or None where there is none
-    /// left.
+    /// The next value that an overflow hands out, the oldest first, or None where there is none left.
     pub fn next_overflowed(&mut self) -> Option<T>
         ensures same { self.new.queue ≡ self.old.queue }
         ensures value { result ≡ slice_get self.old.handed 0 }

@@ -1,12 +1,11 @@
 //! The run queue of a worker: shared by running threads, or exclusive to a lone worker.
 //!
-//! An exclusive queue is a plain one: its calls take no atomic step, and no thief gets at it.
-//! A shared queue is a table of words and 256 slots, which threads change in single atomic steps. Two
-//! words are used, in the middle of others that keep their cache lines clear of other data. The
-//! first is the head: the count `real` of the front value, and the gap. The second is the
-//! tail: the count one past the last value. A value's count is its label, and it lies in the slot
-//! `label % 256`. One seat at the table is the owner's: only its holder pushes and pops. Each other
-//! seat is a thief's.
+//! An exclusive queue is a plain one: its calls take no atomic step, and no thief gets at it. A shared queue is a
+//! table of words and 256 slots, which threads change in single atomic steps. Two words are used, in the middle of
+//! others that keep their cache lines clear of other data. The first is the head: the count `real` of the front
+//! value, and the gap. The second is the tail: the count one past the last value. A value's count is its label, and
+//! it lies in the slot `label % 256`. One seat at the table is the owner's: only its holder pushes and pops. Each
+//! other seat is a thief's.
 //!
 //! Each step here is the transition of the same name of `exec_words`' `PureQueue`. The rule that
 //! every step keeps is `specs/Live.antt`, which begins with a page on what each word means, who may

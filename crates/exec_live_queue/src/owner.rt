@@ -1,8 +1,7 @@
 //! The owner of a run queue, shared or exclusive: the same calls on both.
 //!
-//! A call to the owner of a shared queue does what its view says (`specs/Calls.antt`), and one to
-//! the owner of an exclusive queue is the transition of the plain queue. What ties the two is in
-//! `specs/Kinds.antt`.
+//! A call to the owner of a shared queue does what its view says (`specs/Calls.antt`), and one to the owner of an
+//! exclusive queue is the transition of the plain queue. What ties the two is in `specs/Kinds.antt`.
 
 ghost use Rattle.std.specs.Prelude.{◌≡◌, ◌≤◌, ◌↔◌, [], length, drop, slice_get, IfNone, IfSome, IsTrue};
 ghost use Rattle.exec_words.specs.Queue.{published};
@@ -16,8 +15,7 @@ use exec_words::reserved::Reserved;
 
 /// The owner of a queue: only it pushes and pops. None of its calls waits, or takes memory.
 ///
-/// It must be empty where it is let go (`leave`), with no overflow that wasn't exhausted: no type drops
-/// it by itself.
+/// It must be empty where it is let go (`leave`), with no overflow that wasn't exhausted: no type drops it by itself.
 pub enum Owner<T> {
     /// Thieves may steal from its queue.
     Shared(SharedOwner<T>),
@@ -28,8 +26,7 @@ pub enum Owner<T> {
 impl<T: Drop> Owner<T> {
     ghost use Rattle.exec_live_queue.specs.Kinds.{IsDrained, handed};
 
-    /// Lets the owner go. The caller must have seen the queue empty, and be in the middle of no
-    /// overflow.
+    /// Lets the owner go. The caller must have seen the queue empty, and be in the middle of no overflow.
     pub fn leave(self)
         requires empty { IsDrained self }
         requires whole { handed self ≡ [] }
@@ -126,8 +123,7 @@ impl<T> Owner<T> {
         }
     }
 
-    /// The next value that an overflow hands out, the oldest first, or None where there is none
-    /// left.
+    /// The next value that an overflow hands out, the oldest first, or None where there is none left.
     pub(crate) fn next_overflowed(&mut self) -> Option<T>
         ensures looked { Looks self.old self.new }
         ensures value { result ≡ slice_get (handed self.old) 0 }

@@ -1,10 +1,9 @@
 //! The run queue of a worker: shared with thieves, or exclusive.
 //!
-//! The queue of a worker with others beside it is shared: its words and slots lie at one place, and
-//! whoever acts on it has a seat there. A queue is made with its first seat, from which the seats
-//! of all thieves are split off before it becomes the owner's. A lone worker's queue is exclusive:
-//! a plain queue that its owner holds whole. It has the same calls, but no seat for a thief, and
-//! its owner takes nothing from other queues. Ports `Queue`.
+//! The queue of a worker with others beside it is shared: its words and slots lie at one place, and whoever acts on
+//! it has a seat there. A queue is made with its first seat, from which the seats of all thieves are split off before
+//! it becomes the owner's. A lone worker's queue is exclusive: a plain queue that its owner holds whole. It has the
+//! same calls, but no seat for a thief, and its owner takes nothing from other queues. Ports `Queue`.
 
 ghost use Rattle.std.specs.Prelude.{◌≡◌, ◌+◌, ◌^◌, ◌≤◌, ◌⊎◌, ◌<◌, [], IfOk, IsTrue, IsFalse};
 ghost use Rattle.exec_live_queue.specs.Calls.{HasKept};
@@ -144,9 +143,8 @@ impl<T> Queue<T> {
         }
     }
 
-    /// One try of a steal: half of the values of this queue, rounded down, move to the end of the
-    /// thief's own queue, in order. The seat must be a thief's at this queue. A thief whose own
-    /// queue is exclusive takes nothing.
+    /// One try of a steal: half of the values of this queue, rounded down, move to the end of the thief's own queue,
+    /// in order. The seat must be a thief's at this queue. A thief whose own queue is exclusive takes nothing.
     pub fn steal_once(&self, seat: &mut QueueSeat<T>, into: &mut Owner<T>) -> Steal
         requires seat { IsThief self.now seat.old }
         requires whole { handed into.old ≡ [] }
@@ -180,8 +178,7 @@ impl<T> Queue<T> {
         }
     }
 
-    /// Steals until a try doesn't find that the head has changed since it was loaded. Answers how
-    /// many values moved.
+    /// Steals until a try doesn't find that the head has changed since it was loaded. Answers how many values moved.
     pub fn steal_into<R: Wait>(&self, rt: &R, seat: &mut QueueSeat<T>, into: &mut Owner<T>) -> usize
         requires seat { IsThief self.now seat.old }
         requires whole { handed into.old ≡ [] }

@@ -23,8 +23,7 @@ use std::sync::Arc;
 
 /// The owner of a queue: only it pushes and pops.
 ///
-/// It must be empty, and in the middle of no overflow, where it is let go (`leave`): no type drops
-/// it by itself.
+/// It must be empty, and in the middle of no overflow, where it is let go (`leave`): no type drops it by itself.
 pub struct SharedOwner<T> {
     inner: Arc<Inner<T>, Global>,
     seat: Place<T>,
@@ -46,8 +45,7 @@ impl<T> Model for SharedOwner<T> {
 }
 
 impl<T: Drop> SharedOwner<T> {
-    /// Lets the owner go. The caller must have seen the queue empty, and be in the middle of no
-    /// overflow.
+    /// Lets the owner go. The caller must have seen the queue empty, and be in the middle of no overflow.
     pub fn leave(self)
         requires empty { self.own.saw_real ≡ self.own.tail }
         requires whole { self.handed ≡ [] }
@@ -153,8 +151,7 @@ impl<T> SharedOwner<T> {
         answer
     }
 
-    /// The next value that an overflow hands out, the oldest first, or None where there is none
-    /// left.
+    /// The next value that an overflow hands out, the oldest first, or None where there is none left.
     pub fn next_overflowed(&mut self) -> Option<T>
         ensures same { self.new.table ≡ self.old.table }
         ensures looked { HasLooked self.old.own self.new.own }

@@ -1,9 +1,8 @@
 //! A run queue that running threads share: the queue, the seats of its thieves, and its owner.
 //!
-//! The words and slots lie in one place of their own cache lines, which the queue and its owner
-//! hold together. Whoever acts on the queue has a seat. A queue is made with its first seat, from
-//! which the seats of all thieves are split off before it becomes the owner's. What a contract sees
-//! of each is in `specs/Handles.antt`.
+//! The words and slots lie in one place of their own cache lines, which the queue and its owner hold together.
+//! Whoever acts on the queue has a seat. A queue is made with its first seat, from which the seats of all thieves are
+//! split off before it becomes the owner's. What a contract sees of each is in `specs/Handles.antt`.
 
 ghost use Rattle.std.specs.Prelude.{◌≡◌, ◌≢◌, ◌+◌, ◌^◌, ◌<◌, ◌≤◌, ◌⊎◌, [], IfOk, IsTrue, IsFalse};
 ghost use Rattle.exec_live_queue.specs.{Calls.{AfterInto, AfterSteal, HasKept}, Live.opened, Plays.newcomer, declared.view.Stage.TheVariants.Owns};
@@ -88,8 +87,7 @@ impl<T> SharedQueue<T> {
         }
     }
 
-    /// The owner, for the first seat of this queue as it was made. The only other answer is that no
-    /// more handles fit.
+    /// The owner, for the first seat of this queue as it was made. The only other answer is that no more handles fit.
     pub fn owner(&self, first: SharedSeat<T>) -> Result<SharedOwner<T>, AllocError>
         requires { first ≡ record { table = self.now.table; view = opened self.now.start } }
         ensures { IfOk result (λ o. o ≡ record { table = self.now.table; own = (opened self.now.start).own; handed = [] }) }
@@ -124,9 +122,8 @@ impl<T> SharedQueue<T> {
         }
     }
 
-    /// One try of a steal: half of the values of this queue, rounded down, move to the end of the
-    /// thief's own queue, in order. The thief is held up between its claim and its release. The seat
-    /// must be a thief's at this queue.
+    /// One try of a steal: half of the values of this queue, rounded down, move to the end of the thief's own queue,
+    /// in order. The thief is held up between its claim and its release. The seat must be a thief's at this queue.
     pub fn steal_paused<P: Pause>(
         &self,
         seat: &mut SharedSeat<T>,
@@ -141,8 +138,7 @@ impl<T> SharedQueue<T> {
         into.steal(words_of(&self.inner), &mut seat.place, pause)
     }
 
-    /// Steals until a try doesn't find that the head has changed since it was loaded. Answers how
-    /// many values moved.
+    /// Steals until a try doesn't find that the head has changed since it was loaded. Answers how many values moved.
     pub fn steal_into<R: Wait>(
         &self,
         rt: &R,

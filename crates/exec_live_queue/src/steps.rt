@@ -39,8 +39,7 @@ pub fn take_room<T>(words: &Words<T>, seat: &mut Place<T>) -> u64
     words.load::<TakeRoom>(seat, HEAD)
 }
 
-/// Loads the head, and gives the slots that are out with the owner back. There must be one, and
-/// all must be empty.
+/// Loads the head, and gives the slots that are out with the owner back. There must be one, and all must be empty.
 pub fn give_back<T>(words: &Words<T>, seat: &mut Place<T>) -> u64
     requires { HasEmptied words.now seat.old }
     ensures seen { IsSeen seat.new.me.0.own result }
@@ -72,9 +71,8 @@ pub fn pop_last<T>(words: &Words<T>, seat: &mut Place<T>, seen: u64)
     words.store::<PopLast>(seat, HEAD, head_of(real_of(seen) + 1, 0));
 }
 
-/// Begins an overflow by an exchange of the head that was `seen`, and answers the head that it
-/// found: `seen`, where it began. The caller must have seen a full queue without a claim, which
-/// isn't spent.
+/// Begins an overflow by an exchange of the head that was `seen`, and answers the head that it found: `seen`, where
+/// it began. The caller must have seen a full queue without a claim, which isn't spent.
 pub fn flow_over<T>(words: &Words<T>, seat: &mut Place<T>, seen: u64) -> u64
     requires rests { Rests words.now seat.old }
     requires seen { IsSeen seat.old.me.0.own seen }
@@ -96,8 +94,7 @@ pub fn publish<T>(words: &Words<T>, seat: &mut Place<T>, tail: u64)
     words.store::<Publish>(seat, TAIL, tail);
 }
 
-/// Ends an overflow: shows the half that was kept aside, by a store of the tail that is one past
-/// the last of it.
+/// Ends an overflow: shows the half that was kept aside, by a store of the tail that is one past the last of it.
 pub fn restore<T>(words: &Words<T>, seat: &mut Place<T>, tail: u64)
     requires flows_over { FlowsOver words.now seat.old }
     requires tail { tail ≡ seat.old.me.0.own.tail + 128 }

@@ -2,9 +2,7 @@ use Rattle.exec_live_queue.proofs.{Words.{◌≡◌, ℕ, ◌-◌, ◌/◌, ◌%
 use Rattle.exec_live_queue.proofs.batch.push_batch.Goals as goal
 
 pub overflow_sub-free-4 : goal.overflow_sub-free-4
-overflow_sub-free-4 g c = let q = c.requires in let s = c.take_room-seen in let m = c.args.seat.now.me in
-    let k = room_stays m.0.own s.result c.args.tail (length c.args.batch.now.values) s.ensures.laid.1.0 q.tail q.rests.1.4 q.room in
-    let o = s.ensures.laid.1.0.1 in omega (arith, k.0, o.behind, o.within, q.tail, c.real_of.ensures, c.gap_of.ensures, c.len-count.ensures.count)
+overflow_sub-free-4 g c = grind (arith, room_stays)
 
 pub fill-requires : goal.fill-requires
 fill-requires g c = let q = c.requires in let s = c.take_room-seen in let m = c.args.seat.now.me in let m1 = s.new.seat.me in let n = length c.args.batch.now.values in let all = room m.0.own.tail (s.result / 512) (s.result % 512) in

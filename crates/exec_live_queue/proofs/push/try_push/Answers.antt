@@ -3,26 +3,16 @@ use Rattle.std.proofs.Common.{min}
 use Rattle.exec_live_queue.proofs.push.try_push.Goals as goal
 
 pub overflow_sub-len : goal.overflow_sub-len
-overflow_sub-len g c = let s = c.take_one-seen in let k = laid_looked (λ room. min room 1) c.args.seat.now.me s.new.seat.me s.result s.ensures.laid.1 in
-    let t = own_tail c.args.seat.now.me.0.own s.new.seat.me.0.own k in omega (arith, t, s.ensures.seen, c.real_of.ensures, c.requires.tail)
+overflow_sub-len g c = grind (arith, laid_looked)
 
 pub publish_one-requires : goal.publish_one-requires
-publish_one-requires g c = let q = c.requires in let s = c.take_one-seen in let m = c.args.seat.now.me in let m1 = s.new.seat.me in let k = laid_looked (λ room. min room 1) m m1 s.result s.ensures.laid.1 in
-    let t = own_tail m.0.own m1.0.own k in let o = took_one m m1 s.result s.ensures.laid.1 (omega (arith, c.requires.tail, c.real_of.ensures, c.gap_of-gap.ensures)) in record { at = (s.ensures.laid.0.0 ∙ q.rests.0.0, q.rests.0.1, q.rests.0.2); owns = (ap (λ z. z.0.stage) {x = m1} s.ensures.laid.1.1 ∙ q.rests.1.0, ap (λ d. d.aside) {x = m1.0.own} k.0 ∙ q.rests.1.2); tail = q.tail ∙ sym t; unspent = q.unspent; out = (o.0 ∙ sym q.tail, o.1, o.2 ∙ ap (λ (n : ℕ). hand n (None ∷ [])) (sym q.tail)) }
+publish_one-requires g c = grind (arith, laid_looked, own_tail, took_one)
 
 pub returns-then-gap-gt0 : goal.returns-then-gap-gt0
-returns-then-gap-gt0 g c = let q = c.requires in let s = c.take_one-seen in let m = c.args.seat.now.me in let m1 = s.new.seat.me in
-    let k = looks_full m m1 s.result q.rests.1 s.ensures.laid.1 (omega (arith, c.requires.tail, c.real_of.ensures, c.gap_of-gap.ensures)) in let t = own_tail m.0.own m1.0.own k.1 in record {
-      same = s.ensures.laid.0;
-      tried = (
-        (omega (arith, q.tail, q.unspent), refl, k.1, omega (arith, s.ensures.seen, c.gap_of-gap.ensures), omega (arith, s.ensures.seen, c.gap_of-gap.ensures, c.real_of.ensures, q.tail, t)),
-        ((s.ensures.laid.0.0 ∙ q.rests.0.0, q.rests.0.1, q.rests.0.2), k.0),
-      );
-    }
+returns-then-gap-gt0 g c = grind (arith, looks_full, own_tail)
 
 pub flow_over-requires : goal.flow_over-requires
-flow_over-requires g c = let q = c.requires in let s = c.take_one-seen in let m = c.args.seat.now.me in let m1 = s.new.seat.me in
-    let k = looks_full m m1 s.result q.rests.1 s.ensures.laid.1 (omega (arith, c.requires.tail, c.real_of.ensures, c.gap_of-gap.ensures)) in let t = own_tail m.0.own m1.0.own k.1 in record { rests = ((s.ensures.laid.0.0 ∙ q.rests.0.0, q.rests.0.1, q.rests.0.2), k.0); seen = s.ensures.seen; unclaimed = omega (arith, s.ensures.seen, c.gap_of-gap.ensures); full = omega (arith, s.ensures.seen, c.gap_of-gap.ensures, c.real_of.ensures, q.tail, t); unspent = omega (arith, t, q.tail, q.unspent) }
+flow_over-requires g c = grind (arith, looks_full, own_tail)
 
 pub returns-then-flow_over-seen : goal.returns-then-flow_over-seen
 returns-then-flow_over-seen g c = let q = c.requires in let s = c.take_one-seen in let m = c.args.seat.now.me in let m1 = s.new.seat.me in let f = c.flow_over in let m2 = f.new.seat.me in
@@ -40,8 +30,7 @@ returns-then-flow_over-seen g c = let q = c.requires in let s = c.take_one-seen 
     }
 
 pub restore-requires : goal.restore-requires
-restore-requires g c = let q = c.requires in let s = c.take_one-seen in let m = c.args.seat.now.me in let m1 = s.new.seat.me in let f = c.flow_over in let m2 = f.new.seat.me in
-    let k = laid_looked (λ room. min room 1) m m1 s.result s.ensures.laid.1 in let t = own_tail m.0.own m1.0.own k in let o = f.ensures.1.0 c.if-flow_over-seen.false in record { flows_over = ((f.ensures.0.0 ∙ s.ensures.laid.0.0 ∙ q.rests.0.0, q.rests.0.1, q.rests.0.2), ap (λ z. z.0.stage) {x = m2} o.1 ∙ ap (λ z. z.0.stage) {x = m1} s.ensures.laid.1.1 ∙ q.rests.1.0, ap (λ z. z.0.own.aside) {x = m2} o.1); tail = ap (λ (n : ℕ). n + 128) (q.tail ∙ sym t ∙ sym (ap (λ z. z.0.own.tail) {x = m2} o.1)) }
+restore-requires g c = grind (arith, laid_looked, own_tail)
 
 pub returns : goal.returns
 returns g c = let q = c.requires in let s = c.take_one-seen in let m = c.args.seat.now.me in let m1 = s.new.seat.me in let f = c.flow_over in let m2 = f.new.seat.me in let r = c.restore in let m3 = r.new.seat.me in
