@@ -1,17 +1,10 @@
 -- What a polled body that acts needs; and each other step, for the plans that the root performs.
-use Rattle.std.proofs.Common.{◌≡◌, ◌⊎◌, ⊎_elim, ℕ, zero, suc, ◌+◌, ◌<◌, not, List, [], length, Option, Some, IsSome, Result, Ok, Err, refl, sym, ap, subst, ◌∙◌}
-use Rattle.std.proofs.lemmas.List.{length-set}
-use Rattle.std.proofs.lemmas.Option.{slice_get_within}
-use Rattle.std.specs.Prelude.{min, slice_get, IfOk, OnErr}
+use Rattle.std.proofs.{Common.{◌≡◌, ◌⊎◌, ⊎_elim, ℕ, zero, suc, ◌+◌, ◌<◌, not, List, [], length, Option, Some, IsSome, Result, Ok, Err, refl, sym, ap, subst, ◌∙◌, min, slice_get, IfOk, OnErr}, lemmas.{List.length-set, Option.slice_get_within}}
 use Rattle.exec_base.specs.declared.{limits.TheConstants.LONGEST_TIMEOUT, task_no.TaskNo.TaskNo}
 use Rattle.exec_task.specs.{Sight.Sight, declared.body.{Act.Act, Said.Said}}
-use Rattle.exec_task.specs.declared.body.Act.TheVariants as act
 use Rattle.exec_machine.specs.{declared.{config.{Configuration.Configuration, ScriptWord.ScriptWord}, event.Event.Event}, Progress.Plan, Words.next_word}
-use Rattle.exec_moves.specs.declared.place.InPoll.TheVariants as poll
-use Rattle.exec_moves.specs.declared.place.Place.{Place}
-use Rattle.exec_moves.specs.declared.place.Place.TheVariants as at
-use Rattle.exec_steps.specs.{declared.parts.{shared.Shared.Shared, task_slot.TaskSlot.TaskSlot, worker.Worker.Worker}, Acting.{HasActed, Performs, PerformsOne, StepsOf}, Admitting.Sleeps, Hearing.Hears, Phased.is_complete, Polls.{MadeAct, OfSlot}, Scripts.{Asks, Plays}, Sound.{SoundAt, is_told}, Spots.Spot, View.{common_of, task_seen}, Works.{Same, Steps, TurnsSlot}}
-use Rattle.exec_steps.proofs.{Acting.has_acted, Performing.{going_on, unacted}, Slept.slept_by}
+use Rattle.exec_moves.specs.declared.place.{Place.Place, InPoll.InPoll}
+use Rattle.exec_steps.{specs.{declared.parts.{shared.Shared.Shared, task_slot.TaskSlot.TaskSlot, worker.Worker.Worker}, Acting.{HasActed, Performs, PerformsOne, StepsOf}, Admitting.Sleeps, Hearing.Hears, Phased.is_complete, Polls.{MadeAct, OfSlot}, Scripts.{Asks, Plays}, Sound.{SoundAt, is_told}, Spots.Spot, View.{common_of, task_seen}, Works.{Same, Steps, TurnsSlot}}, proofs.{Acting.has_acted, Performing.{going_on, unacted}, Slept.slept_by}}
 
 pub kept_any : {A E P : Type 0} (r : Result A E) → P → OnErr r P
 kept_any (Ok a) h = tt
@@ -52,7 +45,7 @@ module _ {B L : Type 0} (left : B → L) (spot : L → Option Said → Spot) (gi
   pub acted_within : (t moment : ℕ) (s s1 : Shared B) (a : Act B) → MadeAct left gives t moment s s1 a → t < length s1.tasks.items
   acted_within t moment s s1 a m = rw (m.tasks, length-set) (slice_get_within s.tasks.items t m.slot m.there)
 
-  pub unmade : (t : ℕ) (w : Worker) (s s1 : Shared B) → SoundAt (at.Poll t poll.Act) w s → TurnsSlot t s s1 (λ o. o) → Same left spot w s w s1
+  pub unmade : (t : ℕ) (w : Worker) (s s1 : Shared B) → SoundAt (Place.Poll t InPoll.Act) w s → TurnsSlot t s s1 (λ o. o) → Same left spot w s w s1
   unmade t w s s1 sound turns = unacted left spot t w s s1 sound.runnable.root (ap (slice_get s.tasks.items) sound.hand.0 ∙ sound.runnable.there) turns
 
   -- what the next act needs
@@ -61,7 +54,7 @@ module _ {B L : Type 0} (left : B → L) (spot : L → Option Said → Spot) (gi
     pub told : OfSlot t s (λ slot. IsSome slot.told)
     pub body : OfSlot t s (λ slot. IsSome slot.body)
 
-  pub may_act : (t : ℕ) (w : Worker) (s : Shared B) → SoundAt (at.Poll t poll.Act) w s → MayAct t s
+  pub may_act : (t : ℕ) (w : Worker) (s : Shared B) → SoundAt (Place.Poll t InPoll.Act) w s → MayAct t s
   may_act t w s sound =
       let stands = λ (slot : TaskSlot B) (found : slice_get s.tasks.items t ≡ Some slot). sound.tied.stands slot (ap (slice_get s.tasks.items) (sym sound.hand.0) ∙ found) in
       record {
@@ -72,10 +65,10 @@ module _ {B L : Type 0} (left : B → L) (spot : L → Option Said → Spot) (gi
 
 module _ {B L : Type 0} (left : B → L) (runs : L → Plan → Type 0) (holds : L → Option Said → List ℕ) (spot : L → Option Said → Spot) (gives : L → Option Sight → Said → Act B → L → Option Sight → Type 0) where
   -- by the number of the task, and by what act it was
-  pub acted_at : Plays runs holds spot gives → (t : ℕ) (w : Worker) (s s1 : Shared B) (a b : Act B) → a ≡ b → SoundAt (at.Poll t poll.Act) w s → MadeAct left gives t w.moments.sampled s s1 a → PerformsOne left runs holds w.root s
+  pub acted_at : Plays runs holds spot gives → (t : ℕ) (w : Worker) (s s1 : Shared B) (a b : Act B) → a ≡ b → SoundAt (Place.Poll t InPoll.Act) w s → MadeAct left gives t w.moments.sampled s s1 a → PerformsOne left runs holds w.root s
       → HasActed left runs holds spot gives w s s1 b
   acted_at plays t w s s1 a b is sound made one =
-      has_acted left runs holds spot gives plays w s s1 b (subst (λ r. SoundAt (at.Poll r poll.Act) w s) sound.hand.0 sound)
+      has_acted left runs holds spot gives plays w s s1 b (subst (λ r. SoundAt (Place.Poll r InPoll.Act) w s) sound.hand.0 sound)
       (subst (λ r. MadeAct left gives r w.moments.sampled s s1 b) sound.hand.0 (subst (MadeAct left gives t w.moments.sampled s s1) is made)) one
 
   -- no plan asks for such an act
@@ -83,12 +76,12 @@ module _ {B L : Type 0} (left : B → L) (runs : L → Plan → Type 0) (holds :
   never_acts w s s1 a h never = never h.one.0.config w.moments.sampled h.made.slot.held.items (next_word (common_of left spot h.one.0 [] s) (task_seen left spot h.made.slot)) (h.asks h.one.0 [] h.one.2).asks
 
   -- a sleep of some time
-  pub slept_at : (w w' : Worker) (s s1 s' : Shared B) (e : Event) (time : ℕ) → (time ≡ 0 → ⊥) → HasActed left runs holds spot gives w s s1 (act.Sleep time) → Sleeps w.root (w.moments.sampled + min time LONGEST_TIMEOUT) w w' s1 s' e → StepsOf left runs holds spot w s e w' s'
+  pub slept_at : (w w' : Worker) (s s1 s' : Shared B) (e : Event) (time : ℕ) → (time ≡ 0 → ⊥) → HasActed left runs holds spot gives w s s1 (Act.Sleep time) → Sleeps w.root (w.moments.sampled + min time LONGEST_TIMEOUT) w w' s1 s' e → StepsOf left runs holds spot w s e w' s'
   slept_at w w' s s1 s' e zero some h sleeps = absurd (some refl)
   slept_at w w' s s1 s' e (suc time) some h sleeps = slept_by left runs holds spot gives w w' s s1 s' e time h sleeps
 
   -- these are of the second pass
-  pub never_made : (w : Worker) (s s1 : Shared B) (a : Act B) → HasActed left runs holds spot gives w s s1 a → ((b : B) × (a ≡ act.Spawn b)) ⊎ (((b : B) × (a ≡ act.Dedicated b)) ⊎ ((t : TaskNo) × (a ≡ act.Wake t))) → ⊥
+  pub never_made : (w : Worker) (s s1 : Shared B) (a : Act B) → HasActed left runs holds spot gives w s s1 a → ((b : B) × (a ≡ Act.Spawn b)) ⊎ (((b : B) × (a ≡ Act.Dedicated b)) ⊎ ((t : TaskNo) × (a ≡ Act.Wake t))) → ⊥
   never_made w s s1 a h is =
       never_acts w s s1 a h (λ c moment held x asked.
       ⊎_elim (λ e. subst (Asks c moment held x) e.1 asked) (λ other. ⊎_elim (λ e. subst (Asks c moment held x) e.1 asked) (λ e. subst (Asks c moment held x) e.1 asked) other) is)

@@ -1,42 +1,31 @@
 -- What the kernel has, and what sends may still move, once a request was admitted.
-use Rattle.std.proofs.Common.{◌≡◌, ◌≢◌, ◌⊎◌, ℕ, ◌+◌, ◌-◌, ◌^◌, ◌<◌, ◌≤◌, ◌==◌, ◌&&◌, Bool, true, false, List, [], ◌∷◌, ◌++◌, length, Option, Some, None, IsSome, refl, sym, ap, subst, ◌∙◌, arith, inl, inr}
-use Rattle.std.proofs.lemmas.Bool.{false≢true, eq-eqb}
-use Rattle.std.proofs.lemmas.Bool.Decides.{nat_tests}
-use Rattle.std.proofs.lemmas.List.Sums.{sum_by-append}
-use Rattle.std.proofs.lemmas.Option.{slice_get_within}
-use Rattle.std.specs.Prelude.{slice_get, sum_by, nat_lt, if◌then◌else◌}
-use Rattle.exec_base.specs.{Slab.{Slab, value_at, value_in, slot_at}, declared.slab.{Slot.{Slot, TheVariants.{Live, Vacant, Retired}}, Id.Id}}
-use Rattle.exec_base.proofs.Slots.{id_cases, same_id}
-use Rattle.exec_outcomes.specs.declared.outcome.Kind.TheVariants as kind
-use Rattle.exec_request.specs.{Buffers.length_of, Requests.{asked_of, cursor_of, target_of}, Views.send_window, declared.{buffers.WriteBuffers.{WriteBuffers, TheVariants.{Single, Vectored}}, request.Request.Request as Asking, send.SendRequest.SendRequest}}
-use Rattle.exec_request.specs.declared.request.Request.TheVariants as asks
-use Rattle.exec_request.specs.declared.window.Opcode.TheVariants as opcode
+use Rattle.std.proofs.{Common.{◌≡◌, ◌≢◌, ℕ, ◌+◌, ◌-◌, ◌^◌, ◌<◌, ◌≤◌, ◌==◌, ◌&&◌, Bool, true, false, List, [], ◌∷◌, ◌++◌, length, Some, None, IsSome, refl, sym, ap, subst, ◌∙◌, arith, inl, inr, slice_get, sum_by, nat_lt, if◌then◌else◌}, lemmas.{Bool.{false≢true, eq-eqb, Decides.nat_tests}, List.Sums.sum_by-append, Option.slice_get_within}}
+use Rattle.exec_base.{specs.{Slab.{Slab, value_at, value_in, slot_at}, declared.slab.{Slot.{Slot, TheVariants.{Live, Vacant, Retired}}, Id.Id}}, proofs.Slots.{id_cases, same_id}}
+use Rattle.exec_request.specs.{Buffers.length_of, Requests.{asked_of, cursor_of, target_of}, Views.send_window, declared.{buffers.WriteBuffers.{WriteBuffers, TheVariants.{Single, Vectored}}, request.Request.Request as Asking, send.SendRequest.SendRequest, window.Opcode.Opcode}}
 use Rattle.exec_ring.specs.{Rings.RingState, Stores.{Reserves, socket_of, with_room}, declared.store.Store.Store}
-use Rattle.exec_waiters.proofs.Changes.{entry_of}
-use Rattle.exec_waiters.specs.{Ids.{user_data_of, index_in}, States.{waiter_at, waiter_of}, declared.waiter.{Entry.Entry, Waiter.Waiter}}
+use Rattle.exec_waiters.{proofs.Changes.entry_of, specs.{Ids.{user_data_of, index_in}, States.{waiter_at, waiter_of}, declared.waiter.{Entry.Entry, Waiter.Waiter}}}
 use Rattle.exec_driver.specs.Steps.{bytes_left, footprint_of}
 use Rattle.exec_machine.specs.{Requests.asked_of as asked_in, Same.same_kind, Tests.is_in_flight, declared.state.{Operation.Operation, RequestPhase.RequestPhase}}
-use Rattle.exec_machine.specs.declared.state.RequestPhase.TheVariants as phase
-use Rattle.exec_steps.specs.{declared.parts.{mail.Reply.Reply, record.Record.Record}, Carried.{IsCarried, IsOneBuffer, IsUnderWay, IsWhole, may_send, sends_to, those_of, unlanded}, Records.number_in, Scripts.{IsOnePart, IsPlainRequest}}
-use Rattle.exec_steps.proofs.{Carrying.index_told, Over.in_append}
+use Rattle.exec_steps.{specs.{declared.parts.{mail.Reply.Reply, record.Record.Record}, Carried.{IsCarried, IsOneBuffer, IsUnderWay, IsWhole, may_send, sends_to, those_of, unlanded}, Records.number_in, Scripts.{IsOnePart, IsPlainRequest}}, proofs.{Carrying.index_told, Over.in_append}}
+use Rattle.exec_outcomes.specs.declared.outcome.Kind.{Kind}
 
 same_number : (a b : ℕ) → (a == b) ≡ true → a ≡ b
 same_number a b h = grind (arith, nat_tests)
 
 pub plain_whole : (q : Asking) → IsPlainRequest q → IsWhole q
-plain_whole (asks.Send s) h = by s.write h
+plain_whole (Asking.Send s) h = by s.write h
   where
     by : (b : WriteBuffers) → IsOnePart b → IsOneBuffer b
     by (Single bytes offset) h = h.1
     by (Vectored bufs chunk offset remaining) h = absurd h
-plain_whole (asks.Poll p) h = tt
+plain_whole (Asking.Poll p) h = tt
 plain_whole _ h = absurd h
 
 -- THE ROOM that an admission made
 
 unlanded_most : (p : RequestPhase) (o : Operation) → unlanded p o ≤ o.length - o.moved
-unlanded_most (phase.Resolved outcome) o = omega arith
-unlanded_most (phase.Landed given) o = omega arith
+unlanded_most (RequestPhase.Resolved outcome) o = omega arith
+unlanded_most (RequestPhase.Landed given) o = omega arith
 unlanded_most _ o = omega arith
 
 sends_most : (socket : ℕ) (r : Record) → may_send socket r ≤ r.shown.operation.length - r.shown.operation.moved
@@ -54,13 +43,13 @@ either true x = refl
 either false x = refl
 
 -- the window of all bytes of a send that an operation takes whole
-sent : (s : SendRequest) (st st' : Store) → nat_lt (bytes_left s.write) (2 ^ 32) ≡ true → Reserves (footprint_of (asks.Send s)) st st' → Reserves (record (send_window s) { length = bytes_left s.write }) st st'
+sent : (s : SendRequest) (st st' : Store) → nat_lt (bytes_left s.write) (2 ^ 32) ≡ true → Reserves (footprint_of (Asking.Send s)) st st' → Reserves (record (send_window s) { length = bytes_left s.write }) st st'
 sent s st st' few = subst (λ b. Reserves (if b then record (send_window s) { length = bytes_left s.write } else send_window s) st st') few
 
 -- so many bytes more may go to its socket, and none elsewhere
 pub room_made : (q : Asking) (r : Record) (st st' : Store) → IsWhole q → asked_in r.shown.operation ≡ asked_of q → r.shown.operation.target ≡ target_of q → r.shown.operation.moved ≡ (cursor_of q).moved
     → Reserves (footprint_of q) st st' → (socket : ℕ) → (socket_of st socket).sent_room + may_send socket r ≤ (socket_of st' socket).sent_room
-room_made (asks.Send s) r st st' whole asked target moved reserves socket = by (socket == s.fd) refl
+room_made (Asking.Send s) r st st' whole asked target moved reserves socket = by (socket == s.fd) refl
   where
     few : (b : WriteBuffers) → IsOneBuffer b → nat_lt (bytes_left b) (2 ^ 32) ≡ true
     few (Single bytes offset) h = grind (arith, nat_tests, h)
@@ -71,20 +60,20 @@ room_made (asks.Send s) r st st' whole asked target moved reserves socket = by (
         let o = r.shown.operation in
         let length : o.length ≡ length_of s.write = ap (λ a. a.length) asked in
         let now : (socket_of st' socket).sent_room ≡ (socket_of st socket).sent_room + bytes_left s.write =
-        ap (λ x. x.sent_room) ((sent s st st' (few s.write whole) reserves).sockets socket) ∙ ap (λ c. (if c then with_room opcode.Send (bytes_left s.write) (socket_of st socket) else socket_of st socket).sent_room) is in
+        ap (λ x. x.sent_room) ((sent s st st' (few s.write whole) reserves).sockets socket) ∙ ap (λ c. (if c then with_room Opcode.Send (bytes_left s.write) (socket_of st socket) else socket_of st socket).sent_room) is in
         omega (arith, now, length, moved, sends_most socket r)
     by false is =
-        let none : may_send socket r ≡ 0 = sends_none socket r (ap (λ t. same_kind r.shown.operation.kind kind.Send && (t == socket)) target ∙ apart (same_kind r.shown.operation.kind kind.Send) (s.fd == socket) refl) in
+        let none : may_send socket r ≡ 0 = sends_none socket r (ap (λ t. same_kind r.shown.operation.kind Kind.Send && (t == socket)) target ∙ apart (same_kind r.shown.operation.kind Kind.Send) (s.fd == socket) refl) in
         let now : (socket_of st' socket).sent_room ≡ (socket_of st socket).sent_room =
-        ap (λ x. x.sent_room) ((sent s st st' (few s.write whole) reserves).sockets socket) ∙ ap (λ c. (if c then with_room opcode.Send (bytes_left s.write) (socket_of st socket) else socket_of st socket).sent_room) is in
+        ap (λ x. x.sent_room) ((sent s st st' (few s.write whole) reserves).sockets socket) ∙ ap (λ c. (if c then with_room Opcode.Send (bytes_left s.write) (socket_of st socket) else socket_of st socket).sent_room) is in
         omega (arith, now, none)
       where
         apart : (a b : Bool) → (s.fd == socket) ≡ b → (a && b) ≡ false
         apart a true at = absurd (false≢true (sym is ∙ eq-eqb socket s.fd (sym (same_number s.fd socket at))))
         apart true false at = refl
         apart false false at = refl
-room_made (asks.Poll p) r st st' whole asked target moved reserves socket =
-    let none : may_send socket r ≡ 0 = sends_none socket r (ap (λ k. same_kind k kind.Send && (r.shown.operation.target == socket)) (ap (λ a. a.kind) asked)) in
+room_made (Asking.Poll p) r st st' whole asked target moved reserves socket =
+    let none : may_send socket r ≡ 0 = sends_none socket r (ap (λ k. same_kind k Kind.Send && (r.shown.operation.target == socket)) (ap (λ a. a.kind) asked)) in
     let now : (socket_of st' socket).sent_room ≡ (socket_of st socket).sent_room = ap (λ x. x.sent_room) (reserves.sockets socket ∙ either (socket == p.fd) (socket_of st socket)) in
     omega (arith, now, none)
 room_made _ r st st' whole asked target moved reserves socket = absurd whole
@@ -114,8 +103,8 @@ module _ {A : Type 0} where
   one_lives Retired g h a b = absurd (false≢true a)
 
 idle_under : (p : RequestPhase) (u : ℕ) (q : Asking) (ring : RingState) → is_in_flight p ≡ false → (those_of u ring.flying ≡ []) × (those_of u ring.staged ≡ []) → IsUnderWay p u q ring
-idle_under phase.Staged u q ring idle nothing = absurd (false≢true (sym idle))
-idle_under phase.Flying u q ring idle nothing = absurd (false≢true (sym idle))
+idle_under RequestPhase.Staged u q ring idle nothing = absurd (false≢true (sym idle))
+idle_under RequestPhase.Flying u q ring idle nothing = absurd (false≢true (sym idle))
 idle_under _ u q ring idle nothing = nothing
 
 module _ (numbers numbers' : List ℕ) (s s' : Slab (Entry Reply Reply)) (ring : RingState) (rs : List Record) (st st' : Store) (carried : IsCarried numbers s ring rs st) (id : Id) (q : Asking) (r : Record) (joins : Joins numbers numbers' s s' rs id q r) where

@@ -1,21 +1,13 @@
 -- The advance of the wheel in a service.
-use Rattle.std.proofs.Common.{◌≡◌, ℕ, zero, ◌+◌, ◌-◌, ◌*◌, ◌/◌, ◌<◌, ◌≤◌, ◌==◌, ◌||◌, Bool, true, false, cond, List, [], ◌∷◌, ◌++◌, length, map, Option, Some, None, refl, sym, ap, subst, ◌∙◌, arith, leb, ltb}
-use Rattle.std.proofs.lemmas.Bool.{false≢true}
-use Rattle.std.proofs.lemmas.Bool.Decides.{nat_tests}
-use Rattle.std.proofs.Math.Nat.{div-mul-le_self}
-use Rattle.std.proofs.lemmas.Nat.{le-div}
-use Rattle.std.specs.Prelude.{slice_set, nat_le, nat_lt, if◌then◌else◌, is_some}
+use Rattle.std.proofs.{Common.{◌≡◌, ℕ, ◌+◌, ◌-◌, ◌/◌, ◌<◌, ◌≤◌, Bool, true, false, List, [], ◌∷◌, ◌++◌, Option, Some, None, refl, sym, ap, subst, ◌∙◌, arith, nat_le, nat_lt, if◌then◌else◌, is_some}, lemmas.{Bool.{false≢true, Decides.nat_tests}, Nat.le-div}, Math.Nat.div-mul-le_self}
 use Rattle.exec_base.specs.{Slab.Slab, declared.slab.Id.Id}
-use Rattle.exec_time.specs.{Wheel.{Wheel, tick_at, least_active}, Turning.{Turn, advanced, turned, turned_out}}
+use Rattle.exec_time.specs.{Wheel.{Wheel, tick_at, least_active}, Turning.{advanced, turned, turned_out}}
 use Rattle.exec_waiters.specs.{States.{waiter_at, tick_in}, declared.{waiter.{Entry.Entry, Waiter.Waiter}, waiter_id.WaiterId.WaiterId}}
 use Rattle.exec_task.specs.declared.body.Said.{Said}
 use Rattle.exec_driver.specs.{Driving.Driving, Lists.{Lists, is_among, with_due}, Punctual.IsPunctual, Steps.{all_due, fallen_due, advanced_to}}
-use Rattle.exec_machine.specs.{declared.{config.Configuration.Configuration, event.Event.{Event, TheVariants.Serve}}, Progress.Plan}
-use Rattle.exec_moves.specs.declared.place.InService.TheVariants as step
-use Rattle.exec_moves.specs.declared.place.{Service.Service, Place.Place}
-use Rattle.exec_moves.specs.declared.place.Place.TheVariants as at
-use Rattle.exec_steps.specs.{declared.parts.{mail.Reply.Reply, names.Names.Names, record.Record.Record, shared.Shared.Shared, worker.Worker.Worker}, Due.{IsDue, IsWheelAt}, Flown.{HasFlown, operations}, Ordered.{IsOrdered, went_round}, Phased.closes_at, Sound.{SoundAt, IsNamed, IsAlike, is_armed_at}, Spots.Spot, View.{Visible, visible, own_of, desk_of, driver_of, things_of}, Works.{Suits, Steps}}
-use Rattle.exec_steps.proofs.{Draining.{advance_ordered, ahead_of, round_so}, Flown.landed_as, Going.{all_still, rooted_on}, Seeing.{makes, own_with, desk_with, visible_with, served, common_same}, Serving.{is_calm, Serves, Keeps, KeepsBy}}
+use Rattle.exec_machine.specs.declared.{config.Configuration.Configuration, event.Event.{Event, TheVariants.Serve}}
+use Rattle.exec_moves.specs.declared.place.{Service.Service, Place.Place, InService.InService}
+use Rattle.exec_steps.{specs.{declared.parts.{mail.Reply.Reply, shared.Shared.Shared, worker.Worker.Worker}, Due.IsWheelAt, Flown.operations, Ordered.{IsOrdered, went_round}, Phased.closes_at, Sound.{SoundAt, IsAlike, is_armed_at}, Spots.Spot, View.{visible, own_of, desk_of, driver_of, things_of}, Works.Steps}, proofs.{Draining.{advance_ordered, ahead_of, round_so}, Flown.landed_as, Going.{all_still, rooted_on}, Seeing.{makes, own_with, desk_with, visible_with, served, common_same}, Serving.{is_calm, Serves, Keeps, KeepsBy}}}
 
 -- THE WHEEL
 
@@ -98,11 +90,11 @@ module _ {S F : Type 0} where
 -- A STEP
 
 module _ {B L : Type 0} (left : B → L) (spot : L → Option Said → Spot) where
-  pub advanced_on : (v : Service) (w w' : Worker) (s : Shared B) (e : Event) → SoundAt (at.Service step.AdvanceWheel v) w s → e ≡ Serve → driver_of w' ≡ advanced_to (driver_of w) w.moments.sampled → IsPunctual (driver_of w')
-      → w' ≡ record w { place = at.Service (step.Submit 0) v; home = record w.home { driver = w'.home.driver } } → Steps left spot w s e w' s
+  pub advanced_on : (v : Service) (w w' : Worker) (s : Shared B) (e : Event) → SoundAt (Place.Service InService.AdvanceWheel v) w s → e ≡ Serve → driver_of w' ≡ advanced_to (driver_of w) w.moments.sampled → IsPunctual (driver_of w')
+      → w' ≡ record w { place = Place.Service (InService.Submit 0) v; home = record w.home { driver = w'.home.driver } } → Steps left spot w s e w' s
   advanced_on v w w' s e sound event driver punctual same =
-      let q : Place = at.Service step.AdvanceWheel v in
-      let there : w'.place ≡ at.Service (step.Submit 0) v = ap (λ x. x.place) same in
+      let q : Place = Place.Service InService.AdvanceWheel v in
+      let there : w'.place ≡ Place.Service (InService.Submit 0) v = ap (λ x. x.place) same in
       let now = w.moments.sampled in
       let shape = advanced_shows (driver_of w) now in
       let wheel : Wheel = record shape.0 { ready = [] } in
@@ -121,7 +113,7 @@ module _ {B L : Type 0} (left : B → L) (spot : L → Option Said → Spot) whe
       let due = sound.due in
       let flown = sound.flown in
       let named = sound.named in
-      let w1 : Worker = record w { place = at.Service (step.Submit 0) v } in
+      let w1 : Worker = record w { place = Place.Service (InService.Submit 0) v } in
       let wheel_at : IsWheelAt s.config w.moments.start now wheel =
       let at = subst (λ x. IsWheelAt s.config w.moments.start now x) (sym shape.3) (wheel_advances s.config w.moments.start w.moments.before now (driver_of w).wheel sound.config.some_tick sound.time.ordered due.wheel) in
       record { start = at.start; tick = at.tick; horizon = at.horizon; slots = at.slots; current = at.current } in
@@ -161,8 +153,8 @@ module _ {B L : Type 0} (left : B → L) (spot : L → Option Said → Spot) whe
       subst (λ x. Steps left spot w s x w' s) (sym event)
       (served left spot q w w' s s Serve sound serves keeps
       (λ p vs suits. record {
-        moves = ap (λ x. makes Serve x (things_of w.index s)) (sym (ap desk_of same ∙ ap (desk_with w (at.Service (step.Submit 0) v) w.put_off w.home.deferred) is));
+        moves = ap (λ x. makes Serve x (things_of w.index s)) (sym (ap desk_of same ∙ ap (desk_with w (Place.Service (InService.Submit 0) v) w.put_off w.home.deferred) is));
         may = (refl, tt);
-        own = ap own_of same ∙ ap (own_with w (at.Service (step.Submit 0) v) w.names.ended.items w.names.untold.items) is;
+        own = ap own_of same ∙ ap (own_with w (Place.Service (InService.Submit 0) v) w.names.ended.items w.names.untold.items) is;
         common = common_same left spot p vs w w' s suits seen;
       }))

@@ -1,35 +1,27 @@
 -- The act by which the root makes a request is a step.
-use Rattle.std.proofs.Common.{◌≡◌, ◌≢◌, ℕ, ◌+◌, ◌^◌, ◌<◌, ◌≤◌, true, false, List, [], ◌∷◌, ◌++◌, length, Option, Some, None, IfSome, refl, sym, ap, subst, ◌∙◌, arith}
-use Rattle.std.proofs.lemmas.Bool.{false≢true}
-use Rattle.std.proofs.lemmas.List.{set-set}
-use Rattle.std.specs.Prelude.{slice_get, slice_set}
+use Rattle.std.proofs.{Common.{◌≡◌, ◌≢◌, ℕ, ◌+◌, ◌^◌, ◌<◌, ◌≤◌, true, false, List, [], ◌∷◌, ◌++◌, length, Option, Some, None, IfSome, refl, sym, ap, subst, ◌∙◌, arith, slice_get, slice_set}, lemmas.{Bool.false≢true, List.set-set}}
 use Rattle.exec_request.specs.{Requests.deadline_of, declared.request.Request.Request as Asking}
 use Rattle.exec_task.specs.{Sight.Sight, declared.body.{Act.Act, Said.Said}}
-use Rattle.exec_task.specs.declared.body.Act.TheVariants as act
-use Rattle.exec_task.specs.declared.body.Said.TheVariants as said
 use Rattle.exec_driver.specs.{Opens.{placed, with_named, writing}, Steps.plainly_written}
-use Rattle.exec_machine.specs.{declared.{config.Configuration.Configuration, event.Event.Event}, Progress.Plan}
-use Rattle.exec_machine.specs.declared.state.Waiting.TheVariants as waiting
-use Rattle.exec_moves.specs.declared.place.InPoll.TheVariants as poll
-use Rattle.exec_moves.specs.declared.place.Place.TheVariants as at
-use Rattle.exec_steps.specs.{declared.parts.{shared.Shared.Shared, task_slot.TaskSlot.TaskSlot, worker.Worker.Worker}, Acting.{HasActed, StillPerforms}, Admitting.Registers, Hearing.{CanHear, held_once_come}, Scripts.{IsAnswer, IsPlainRequest, held_after}, Sound.{SoundAt, Stands, acts_next}, Spots.Spot, View.{body_in, driver_of, task_seen}}
-use Rattle.exec_steps.proofs.{Enlisted.{keeps_now, wakes_now}, Growing.{Grown, Grows, sound_grown}, Performing.{in_poll, performs_on, still_performs}, Plainly.{deadline_near, plainly}, Polling.on_in_poll, Turning.set_there}
+use Rattle.exec_machine.specs.{declared.{config.Configuration.Configuration, event.Event.Event, state.Waiting.Waiting}, Progress.Plan}
+use Rattle.exec_steps.{specs.{declared.parts.{shared.Shared.Shared, task_slot.TaskSlot.TaskSlot, worker.Worker.Worker}, Acting.{HasActed, StillPerforms}, Admitting.Registers, Hearing.{CanHear, held_once_come}, Scripts.{IsAnswer, IsPlainRequest, held_after}, Sound.{SoundAt, Stands, acts_next}, Spots.Spot, View.{body_in, driver_of, task_seen}}, proofs.{Enlisted.{keeps_now, wakes_now}, Growing.{Grown, Grows, sound_grown}, Performing.{in_poll, performs_on, still_performs}, Plainly.{deadline_near, plainly}, Polling.on_in_poll, Turning.set_there}}
+use Rattle.exec_moves.specs.declared.place.{InPoll.InPoll, Place.Place}
 
 -- a deadline that isn't far
 bounded_by : (o : Option ℕ) (n : ℕ) → n < 2 ^ 63 → IfSome o (λ d. d ≤ n) → IfSome o (λ d. d < 2 ^ 63)
 bounded_by None n few h = tt
 bounded_by (Some d) n few h = omega (arith, few, h)
 
-module _ {B : Type 0} (w w' : Worker) (s sx s' : Shared B) (q : Asking) (e : Event) (slot : TaskSlot B) (sound : SoundAt (at.Poll w.root poll.Act) w s)
+module _ {B : Type 0} (w w' : Worker) (s sx s' : Shared B) (q : Asking) (e : Event) (slot : TaskSlot B) (sound : SoundAt (Place.Poll w.root InPoll.Act) w s)
     (reg : Registers w.root q w w' (record s { tasks = sx.tasks }) s' e) (plain : IsPlainRequest q) (near : IfSome (deadline_of q) (λ d. d < 2 ^ 63)) where
-  pub flat : w' ≡ record w { place = at.Poll w.root poll.Act; names = w'.names; home = record w.home { driver = reg.mid.home.driver; deferred = reg.mid.home.deferred } }
+  pub flat : w' ≡ record w { place = Place.Poll w.root InPoll.Act; names = w'.names; home = record w.home { driver = reg.mid.home.driver; deferred = reg.mid.home.deferred } }
   flat =
       reg.worker
-      ∙ ap (λ (x : Worker). record x { place = at.Poll w.root poll.Act; names = w'.names }) reg.takes.worker
-      ∙ ap (λ (x : Worker). record x { place = at.Poll w.root poll.Act; names = w'.names; home = record x.home { driver = reg.mid.home.driver; deferred = reg.mid.home.deferred } }) reg.takes.rooms.worker
+      ∙ ap (λ (x : Worker). record x { place = Place.Poll w.root InPoll.Act; names = w'.names }) reg.takes.worker
+      ∙ ap (λ (x : Worker). record x { place = Place.Poll w.root InPoll.Act; names = w'.names; home = record x.home { driver = reg.mid.home.driver; deferred = reg.mid.home.deferred } }) reg.takes.rooms.worker
 
-  pub worker_is : w' ≡ record w { place = at.Poll w.root poll.Act; names = w'.names; home = record w.home { driver = w'.home.driver; timers = w'.home.timers; deferred = w'.home.deferred } }
-  worker_is = subst (λ (x : Worker). x ≡ record w { place = at.Poll w.root poll.Act; names = w'.names; home = record w.home { driver = x.home.driver; timers = x.home.timers; deferred = x.home.deferred } }) (sym flat) refl
+  pub worker_is : w' ≡ record w { place = Place.Poll w.root InPoll.Act; names = w'.names; home = record w.home { driver = w'.home.driver; timers = w'.home.timers; deferred = w'.home.deferred } }
+  worker_is = subst (λ (x : Worker). x ≡ record w { place = Place.Poll w.root InPoll.Act; names = w'.names; home = record w.home { driver = x.home.driver; timers = x.home.timers; deferred = x.home.deferred } }) (sym flat) refl
 
   opens_are : reg.all.opens ≡ s.opens
   opens_are =
@@ -51,14 +43,14 @@ module _ {B : Type 0} (w w' : Worker) (s sx s' : Shared B) (q : Asking) (e : Eve
   pub sleepers_are : s'.sleepers.items ≡ s.sleepers.items
   sleepers_are = ap (λ (x : Shared B). x.sleepers.items) flat_shared ∙ reg.takes.rooms.sleepers
 
-  pub sound_then : Grows (at.Poll w.root poll.Act) w s s' slot reg.slot' → reg.slot'.held.items ≡ slot.held.items ++ length s.requests.items ∷ [] → reg.slot'.waiting ≡ waiting.Nothing → SoundAt (at.Poll w.root poll.Act) w' s'
+  pub sound_then : Grows (Place.Poll w.root InPoll.Act) w s s' slot reg.slot' → reg.slot'.held.items ≡ slot.held.items ++ length s.requests.items ∷ [] → reg.slot'.waiting ≡ Waiting.Nothing → SoundAt (Place.Poll w.root InPoll.Act) w' s'
   sound_then grows held waits =
       let k = keeps_now w w' s sx s' q e slot reg.slot' sound reg plain near grows held waits in
-      let w1 : Worker = record w { place = at.Poll w.root poll.Act; names = w'.names; home = record w.home { driver = reg.mid.home.driver; deferred = reg.mid.home.deferred } } in
+      let w1 : Worker = record w { place = Place.Poll w.root InPoll.Act; names = w'.names; home = record w.home { driver = reg.mid.home.driver; deferred = reg.mid.home.deferred } } in
       let s1 : Shared B = record s { tasks = s'.tasks; requests = s'.requests; sleepers = s'.sleepers; store = s'.store } in
       let rs = s.requests.items ++ reg.made ∷ [] in
       let ss = s.sleepers.items in
-      let q1 = at.Poll w.root poll.Act in
+      let q1 = Place.Poll w.root InPoll.Act in
       let grown : Grown q1 w1 (driver_of w1) w1.home.timers rs ss s1 = record {
         told = k.told;
         named = k.named;
@@ -73,10 +65,10 @@ module _ {B : Type 0} (w w' : Worker) (s sx s' : Shared B) (q : Asking) (e : Eve
       let by_lists : Grown q1 w1 (driver_of w1) w1.home.timers s1.requests.items s1.sleepers.items s1 =
       subst (λ xs. Grown q1 w1 (driver_of w1) w1.home.timers xs s'.sleepers.items s1) (sym reg.requests) (subst (λ xs. Grown q1 w1 (driver_of w1) w1.home.timers rs xs s1) (sym sleepers_are) grown) in
       let by_worker : Grown q1 w' (driver_of w') w'.home.timers s1.requests.items s1.sleepers.items s1 = subst (λ x. Grown q1 x (driver_of x) x.home.timers s1.requests.items s1.sleepers.items s1) (sym flat) by_lists in
-      sound_grown q1 w w' s s' slot reg.slot' sound (on_in_poll w.root poll.Act) grows worker_is shared_is (subst (λ y. Grown q1 w' (driver_of w') w'.home.timers y.requests.items y.sleepers.items y) (sym shared_is) by_worker)
+      sound_grown q1 w w' s s' slot reg.slot' sound (on_in_poll w.root InPoll.Act) grows worker_is shared_is (subst (λ y. Grown q1 w' (driver_of w') w'.home.timers y.requests.items y.sleepers.items y) (sym shared_is) by_worker)
 
 module _ {B L : Type 0} (left : B → L) (runs : L → Plan → Type 0) (holds : L → Option Said → List ℕ) (spot : L → Option Said → Spot) (gives : L → Option Sight → Said → Act B → L → Option Sight → Type 0)
-    (w w' : Worker) (s s1 s' : Shared B) (e : Event) (q : Asking) (h : HasActed left runs holds spot gives w s s1 (act.Register q)) (reg1 : Registers w.root q w w' s1 s' e) where
+    (w w' : Worker) (s s1 s' : Shared B) (e : Event) (q : Asking) (h : HasActed left runs holds spot gives w s s1 (Act.Register q)) (reg1 : Registers w.root q w w' s1 s' e) where
   pub reg : Registers w.root q w w' (record s { tasks = s1.tasks }) s' e
   reg = subst (λ (x : Shared B). Registers w.root q w w' x s' e) h.made.kept reg1
 
@@ -95,38 +87,38 @@ module _ {B L : Type 0} (left : B → L) (runs : L → Plan → Type 0) (holds :
   k = length s.requests.items
 
   abbrev pub final : TaskSlot B
-  final = record h.made.slot { body = Some h.made.acts.body'; told = Some (said.Admitted (length s.requests.items)) }
+  final = record h.made.slot { body = Some h.made.acts.body'; told = Some (Said.Admitted (length s.requests.items)) }
 
   same : reg.takes.rooms.slot ≡ record h.made.slot { body = Some h.made.acts.body'; told = None }
   same = let found = ap (λ ts. slice_get ts w.root) h.made.tasks ∙ set_there s.tasks.items w.root h.made.slot' h.made.slot h.made.there in cc (reg.takes.rooms.there, found, h.made.acts.slot)
 
   pub slot_is : reg.slot' ≡ record final { held = reg.slot'.held }
-  slot_is = reg.took ∙ ap (λ (x : TaskSlot B). record x { held = reg.slot'.held; told = Some (said.Admitted (length s.requests.items)) }) same
+  slot_is = reg.took ∙ ap (λ (x : TaskSlot B). record x { held = reg.slot'.held; told = Some (Said.Admitted (length s.requests.items)) }) same
 
   pub held_is : reg.slot'.held.items ≡ h.made.slot.held.items ++ length s.requests.items ∷ []
   held_is = reg.held ∙ ap (λ (x : TaskSlot B). x.held.items ++ length s.requests.items ∷ []) same
 
-  pub waits_is : reg.slot'.waiting ≡ waiting.Nothing
+  pub waits_is : reg.slot'.waiting ≡ Waiting.Nothing
   waits_is = ap (λ (x : TaskSlot B). x.waiting) slot_is ∙ (h.sound.tied.stands h.made.slot h.made.there).waits
 
   pub items_are : s'.tasks.items ≡ slice_set s.tasks.items w.root reg.slot'
   items_are = reg.tasks ∙ ap (λ ts. slice_set ts w.root reg.slot') h.made.tasks ∙ set-set s.tasks.items w.root h.made.slot' reg.slot'
 
-  pub grows : Grows (at.Poll w.root poll.Act) w s s' h.made.slot reg.slot'
+  pub grows : Grows (Place.Poll w.root InPoll.Act) w s s' h.made.slot reg.slot'
   grows =
       let old = h.sound.tied.stands h.made.slot h.made.there in
-      let stood : Stands (Some poll.Act) w.index (record final { held = reg.slot'.held }) =
+      let stood : Stands (Some InPoll.Act) w.index (record final { held = reg.slot'.held }) =
       record { polled = old.polled; body = λ b. refl; poller = old.poller; kept = old.kept; uncleared = old.uncleared; told = λ b. refl; untold = λ b. absurd (false≢true (sym b ∙ ap acts_next old.waits)); waits = old.waits } in
       record {
         there = h.made.there;
         items = items_are;
         cell = ap (λ (x : TaskSlot B). x.cell) slot_is;
         home = ap (λ (x : TaskSlot B). x.home) slot_is;
-        stands = subst (Stands (Some poll.Act) w.index) (sym slot_is) stood;
+        stands = subst (Stands (Some InPoll.Act) w.index) (sym slot_is) stood;
         hand = h.sound.hand;
       }
 
-  pub sound_asked : SoundAt (at.Poll w.root poll.Act) w' s'
+  pub sound_asked : SoundAt (Place.Poll w.root InPoll.Act) w' s'
   sound_asked = sound_then w w' s s1 s' q e h.made.slot h.sound reg plain near grows held_is waits_is
 
   -- it is told of the request, and holds it
@@ -134,9 +126,9 @@ module _ {B L : Type 0} (left : B → L) (runs : L → Plan → Type 0) (holds :
   performs_asked =
       let old = h.sound.tied.stands h.made.slot h.made.there in
       still_performs left runs holds w w' s s' h.made.slot reg.slot' h.made.there items_are (ap (λ (x : Worker). x.root) (worker_is w w' s s1 s' q e h.made.slot h.sound reg plain near)) (ap (λ (x : Shared B). x.config) (shared_is w w' s s1 s' q e h.made.slot h.sound reg plain near))
-      (λ p fits. performs_on left runs holds spot gives p (task_seen left spot h.made.slot) (act.Register q) reg.slot' h.made.acts.body' ((h.asks p [] fits).goes_on refl)
+      (λ p fits. performs_on left runs holds spot gives p (task_seen left spot h.made.slot) (Act.Register q) reg.slot' h.made.acts.body' ((h.asks p [] fits).goes_on refl)
       (ap (λ (x : TaskSlot B). body_in x.cell.phase x.body) slot_is ∙ in_poll h.made.slot.cell.phase (Some h.made.acts.body') old.polled)
       (λ answer hears.
-      let heard : answer ≡ said.Admitted (length s.requests.items) = subst (λ (x : TaskSlot B). CanHear x.told x.waiting answer) slot_is hears in
-      subst (λ a. IsAnswer {B = B} (act.Register q) a × (held_after {B = B} (act.Register q) a h.made.slot.held.items ≡ held_once_come reg.slot'.waiting reg.slot'.held.items)) (sym heard)
+      let heard : answer ≡ Said.Admitted (length s.requests.items) = subst (λ (x : TaskSlot B). CanHear x.told x.waiting answer) slot_is hears in
+      subst (λ a. IsAnswer {B = B} (Act.Register q) a × (held_after {B = B} (Act.Register q) a h.made.slot.held.items ≡ held_once_come reg.slot'.waiting reg.slot'.held.items)) (sym heard)
       (tt, sym (ap (λ u. held_once_come u reg.slot'.held.items) waits_is ∙ held_is))))

@@ -1,45 +1,31 @@
 -- A task awaits the newest request that it holds.
-use Rattle.std.proofs.Common.{◌≡◌, ◌⊎◌, ℕ, ◌+◌, ◌-◌, ◌<◌, ◌==◌, ◌&&◌, ◌||◌, Bool, true, false, not, List, [], ◌∷◌, ◌++◌, length, Option, Some, None, IsSome, refl, sym, ap, subst, ◌∙◌, inl, inr, arith}
-use Rattle.std.proofs.lemmas.Bool.{false≢true, eq-eqb}
-use Rattle.std.proofs.lemmas.List.{set-set}
-use Rattle.std.proofs.lemmas.Option.{slice_get_within}
-use Rattle.std.specs.Prelude.{slice_get, slice_set, if◌then◌else◌}
-use Rattle.std.specs.VecDeque.{deque_capacity}
+use Rattle.std.{proofs.{Common.{◌≡◌, ℕ, ◌+◌, ◌-◌, ◌<◌, ◌==◌, ◌&&◌, Bool, true, false, not, List, [], ◌∷◌, ◌++◌, length, Option, Some, None, IsSome, refl, sym, ap, subst, ◌∙◌, inl, inr, arith, slice_get, slice_set, if◌then◌else◌}, lemmas.{Bool.{false≢true, eq-eqb}, List.set-set, Option.slice_get_within}}, specs.VecDeque.deque_capacity}
 use Rattle.exec_base.specs.Slab.{value_at, written, live_count}
 use Rattle.exec_outcomes.specs.declared.outcome.Outcome.{Outcome}
 use Rattle.exec_task.specs.{Sight.Sight, declared.body.{Act.Act, Said.Said}}
-use Rattle.exec_task.specs.declared.body.Act.TheVariants as act
-use Rattle.exec_task.specs.declared.body.Said.TheVariants as said
-use Rattle.exec_waiters.proofs.Changes.{entry_of}
-use Rattle.exec_waiters.specs.{Events.{changed, changed_from, with_waker}, States.pending_count, declared.waiter.Entry.TheVariants.Pending}
+use Rattle.exec_waiters.{proofs.Changes.entry_of, specs.{Events.{changed, changed_from, with_waker}, States.pending_count, declared.waiter.Entry.TheVariants.Pending}}
 use Rattle.exec_driver.specs.Lists.{is_among}
-use Rattle.exec_machine.specs.{Choice.Choice.Plain, declared.{event.Event.{Event, TheVariants.{Got, Wait}}, state.{Forwarding.{Forwarding, TheVariants.Unsent}, Request.Request, RequestPhase.RequestPhase}}, Progress.Plan, Same.is_number, Tasks.{polls_waiting, waits_for, without_newest}, Requests.ends_by_drop, Tests.{is_kept, is_queued, is_resolved, is_unsent, waits_for_nothing, waits_for_request}, Words.{acts, asks_await, moved_on, newest_held}, World.{Task, Common, task_of, request_of}}
-use Rattle.exec_machine.specs.declared.config.ScriptWord.TheVariants as word
-use Rattle.exec_machine.specs.declared.state.RequestPhase.TheVariants as phase
-use Rattle.exec_machine.specs.declared.state.Waiting.TheVariants as waiting
-use Rattle.exec_moves.specs.declared.place.InPoll.TheVariants as poll
-use Rattle.exec_moves.specs.{declared.place.Place.Place, Poll.{acts_on, await, stops}, State.{Desk, Moved, Things, does}}
-use Rattle.exec_moves.specs.declared.place.Place.TheVariants as at
-use Rattle.exec_steps.specs.{declared.parts.{record.Record.Record, shared.Shared.Shared, task_slot.TaskSlot.TaskSlot, worker.Worker.Worker}, Acting.{HasActed, StepsOf}, Awaits.{AwaitsNewest, BeganWait, HasNewest, OfNewest, awaited_by, newest_of}, Due.IsWheelAt, Hearing.{CanHear, held_once_come}, Phased.is_complete, Polls.{MadeAct, OfSlot, TookOutput, unobserved}, Records.number_in, Rooted.Holds, Scripts.{IsAnswer, IsAnswered, held_after}, Serving.{changed_at, changed_in}, Sound.{SoundAt, AreOver, IsAlike, IsTold, tellers}, Spots.Spot, View.{body_in, own_of, desk_of, driver_of, common_of, things_of, task_seen}, Works.Works}
-use Rattle.exec_steps.proofs.{Acting.{acts_so, moved_seen, moves_so, or_second, waited_by}, Awaiting.{acted_worker, common_acted, desk_acted, sound_acted}, Calling.request_seen, Changing.{live_still, pending_still, some_after}, Dropping.same_flight_count, Getting.holds_awaiting, Letting.let_shared, Newest.{at_number, held_newest, kept_output, may_let_go, may_wait_for, still_pends}, Performing.{going_on, in_poll, performs_on, still_performs}, Polling.on_in_poll, Receiving.{HasGot, fewer_held, got_sound, got_works, newest_is, resolved_is}, Seeing.{makes, own_with}, Turning.set_there, Waking.task_there, Watching.{Watched, still_pending, watched, due_watched, flown_watched, named_watched, over_watched, carried_watched}, Orders.{TurnsAlike, alike_self}}
+use Rattle.exec_machine.specs.{Choice.Choice.Plain, declared.{event.Event.{Event, TheVariants.{Got, Wait}}, state.{Forwarding.{Forwarding, TheVariants.Unsent}, Request.Request, RequestPhase.RequestPhase, Waiting.Waiting}, config.ScriptWord.ScriptWord}, Progress.Plan, Same.is_number, Tasks.{polls_waiting, waits_for, without_newest}, Requests.ends_by_drop, Tests.{is_kept, is_queued, is_resolved, is_unsent, waits_for_nothing, waits_for_request}, Words.{acts, asks_await, moved_on, newest_held}, World.{Task, Common, task_of, request_of}}
+use Rattle.exec_moves.specs.{declared.place.{Place.Place, InPoll.InPoll}, Poll.{acts_on, await, stops}, State.{Desk, Moved, Things, does}}
+use Rattle.exec_steps.{specs.{declared.parts.{record.Record.Record, shared.Shared.Shared, task_slot.TaskSlot.TaskSlot, worker.Worker.Worker}, Acting.{HasActed, StepsOf}, Awaits.{AwaitsNewest, BeganWait, HasNewest, OfNewest, awaited_by, newest_of}, Due.IsWheelAt, Hearing.{CanHear, held_once_come}, Phased.is_complete, Polls.{MadeAct, OfSlot, TookOutput, unobserved}, Records.number_in, Rooted.Holds, Scripts.{IsAnswer, IsAnswered, held_after}, Serving.{changed_at, changed_in}, Sound.{SoundAt, AreOver, IsAlike, IsTold, tellers}, Spots.Spot, View.{body_in, own_of, desk_of, driver_of, common_of, things_of, task_seen}, Works.Works}, proofs.{Acting.{acts_so, moved_seen, moves_so, or_second, waited_by}, Awaiting.{acted_worker, common_acted, desk_acted, sound_acted}, Calling.request_seen, Changing.{live_still, pending_still, some_after}, Dropping.same_flight_count, Getting.holds_awaiting, Letting.let_shared, Newest.{at_number, held_newest, kept_output, may_let_go, may_wait_for, still_pends}, Performing.{going_on, in_poll, performs_on, still_performs}, Polling.on_in_poll, Receiving.{HasGot, fewer_held, got_sound, got_works, newest_is, resolved_is}, Seeing.{makes, own_with}, Turning.set_there, Waking.task_there, Watching.{Watched, still_pending, watched, due_watched, flown_watched, named_watched, over_watched, carried_watched}, Orders.{TurnsAlike, alike_self}}}
 
 -- THE MOVE
 
-awaits_over : (t k : ℕ) (s : Common) (d : Desk) (it : Task) (r : Request) (outcome : Outcome) → request_of s k ≡ r → r.phase ≡ phase.Resolved outcome → await t s d it (Some k) ≡ does (Got k outcome) (acts_on t d) it
+awaits_over : (t k : ℕ) (s : Common) (d : Desk) (it : Task) (r : Request) (outcome : Outcome) → request_of s k ≡ r → r.phase ≡ RequestPhase.Resolved outcome → await t s d it (Some k) ≡ does (Got k outcome) (acts_on t d) it
 awaits_over t k s d it r outcome found is = rw (found, is) refl
 
 awaits_by : (t k : ℕ) (s : Common) (d : Desk) (it : Task) (p : RequestPhase) → (request_of s k).phase ≡ p → is_resolved p ≡ false → await t s d it (Some k) ≡ does (Wait (Some k)) (stops t d) it
-awaits_by t k s d it phase.Gated is going = rw is refl
-awaits_by t k s d it phase.Queued is going = rw is refl
-awaits_by t k s d it phase.Staged is going = rw is refl
-awaits_by t k s d it phase.Flying is going = rw is refl
-awaits_by t k s d it (phase.Landed n) is going = rw is refl
-awaits_by t k s d it (phase.Resolved outcome) is going = absurd (false≢true (sym going))
+awaits_by t k s d it RequestPhase.Gated is going = rw is refl
+awaits_by t k s d it RequestPhase.Queued is going = rw is refl
+awaits_by t k s d it RequestPhase.Staged is going = rw is refl
+awaits_by t k s d it RequestPhase.Flying is going = rw is refl
+awaits_by t k s d it (RequestPhase.Landed n) is going = rw is refl
+awaits_by t k s d it (RequestPhase.Resolved outcome) is going = absurd (false≢true (sym going))
 
 -- WHAT IT NEEDS
 
 module _ {B : Type 0} where
-  pub has_newest : (w : Worker) (s : Shared B) (slot : TaskSlot B) (k : ℕ) → SoundAt (at.Poll w.root poll.Act) w s → slice_get s.tasks.items w.root ≡ Some slot → newest_of slot ≡ Some k
+  pub has_newest : (w : Worker) (s : Shared B) (slot : TaskSlot B) (k : ℕ) → SoundAt (Place.Poll w.root InPoll.Act) w s → slice_get s.tasks.items w.root ≡ Some slot → newest_of slot ≡ Some k
       → (s1 : Shared B) (slot1 : TaskSlot B) → s1 ≡ record s { tasks = s1.tasks } → s1.tasks.items ≡ slice_set s.tasks.items w.root slot1 → slot1.held ≡ slot.held → slot1.cell ≡ slot.cell → HasNewest w.root k w s1
   has_newest w s slot k sound there newest s1 slot1 kept tasks held cell =
       let holds = sound.rooted.root slot there in
@@ -78,18 +64,18 @@ module _ {B : Type 0} where
       }
     where
       ends_by : (p : RequestPhase) (b : Bool) → (is_queued p && b) ≡ true → is_resolved p ≡ false
-      ends_by phase.Queued b h = refl
-      ends_by phase.Gated b h = refl
-      ends_by phase.Staged b h = refl
-      ends_by phase.Flying b h = refl
-      ends_by (phase.Landed n) b h = refl
-      ends_by (phase.Resolved outcome) b h = absurd (false≢true h)
+      ends_by RequestPhase.Queued b h = refl
+      ends_by RequestPhase.Gated b h = refl
+      ends_by RequestPhase.Staged b h = refl
+      ends_by RequestPhase.Flying b h = refl
+      ends_by (RequestPhase.Landed n) b h = refl
+      ends_by (RequestPhase.Resolved outcome) b h = absurd (false≢true h)
 
       ends_open : (q : Request) → ends_by_drop q ≡ true → is_resolved q.phase ≡ false
       ends_open q h = ends_by q.phase (not (is_kept q.operation.kind)) h
 
 module _ {B L : Type 0} (left : B → L) (gives : L → Option Sight → Said → Act B → L → Option Sight → Type 0) where
-  pub newest_acted : (w : Worker) (s s1 : Shared B) (a : Act B) → SoundAt (at.Poll w.root poll.Act) w s → MadeAct left gives w.root w.moments.sampled s s1 a → OfNewest w.root s1 (λ k. HasNewest w.root k w s1)
+  pub newest_acted : (w : Worker) (s s1 : Shared B) (a : Act B) → SoundAt (Place.Poll w.root InPoll.Act) w s → MadeAct left gives w.root w.moments.sampled s s1 a → OfNewest w.root s1 (λ k. HasNewest w.root k w s1)
   newest_acted w s s1 a sound m slot at_root k newest =
       let found : slice_get s1.tasks.items w.root ≡ Some m.slot' = ap (λ ts. slice_get ts w.root) m.tasks ∙ set_there s.tasks.items w.root m.slot' m.slot m.there in
       let same : slot ≡ record m.slot { body = Some m.acts.body'; told = None } = cc (found, at_root, m.acts.slot) in
@@ -98,7 +84,7 @@ module _ {B L : Type 0} (left : B → L) (gives : L → Option Sight → Said �
 module _ {B L : Type 0} (left : B → L) (runs : L → Plan → Type 0) (holds : L → Option Said → List ℕ) (spot : L → Option Said → Spot) (gives : L → Option Sight → Said → Act B → L → Option Sight → Type 0) (answered : IsAnswered spot) where
   -- IT IS OVER
 
-  taken_now : (w w' : Worker) (s s1 s' : Shared B) (e : Event) (k : ℕ) → (h : HasActed left runs holds spot gives w s s1 (act.Await (Some k))) → newest_of h.made.slot ≡ Some k → TookOutput w.root k w w' s1 s' e → StepsOf left runs holds spot w s e w' s'
+  taken_now : (w w' : Worker) (s s1 s' : Shared B) (e : Event) (k : ℕ) → (h : HasActed left runs holds spot gives w s s1 (Act.Await (Some k))) → newest_of h.made.slot ≡ Some k → TookOutput w.root k w w' s1 s' e → StepsOf left runs holds spot w s e w' s'
   taken_now w w' s s1 s' e k h newest took =
       let sound = h.sound in
       let m = h.made in
@@ -109,8 +95,8 @@ module _ {B L : Type 0} (left : B → L) (runs : L → Plan → Type 0) (holds :
       let found : slice_get s1.tasks.items w.root ≡ Some m.slot' = ap (λ ts. slice_get ts w.root) m.tasks ∙ set_there s.tasks.items w.root m.slot' slot m.there in
       let acted_is : it.slot ≡ record slot { body = Some b'; told = None } = cc (it.there, found, m.acts.slot) in
       let items : s'.tasks.items ≡ slice_set s.tasks.items w.root it.slot' = it.tasks ∙ ap (λ ts. slice_set ts w.root it.slot') m.tasks ∙ set-set s.tasks.items w.root m.slot' it.slot' in
-      let took_is : it.slot' ≡ record slot { body = Some b'; held = it.slot'.held; waiting = waiting.Nothing; told = Some (said.Output it.output) } =
-      it.took ∙ ap (λ (o : TaskSlot B). record o { held = it.slot'.held; waiting = waiting.Nothing; told = Some (said.Output it.output) }) acted_is in
+      let took_is : it.slot' ≡ record slot { body = Some b'; held = it.slot'.held; waiting = Waiting.Nothing; told = Some (Said.Output it.output) } =
+      it.took ∙ ap (λ (o : TaskSlot B). record o { held = it.slot'.held; waiting = Waiting.Nothing; told = Some (Said.Output it.output) }) acted_is in
       let body : it.slot'.body ≡ Some b' = ap (λ (o : TaskSlot B). o.body) took_is in
       let held_is : slot.held.items ≡ it.slot'.held.items ++ k ∷ [] = newest_is slot.held.items it.slot'.held.items it.newest k it.some (ap (λ (o : TaskSlot B). o.held.items) (sym acted_is) ∙ it.held) newest in
       let got : HasGot k it.r slot it.slot' w w' s s' = record {
@@ -125,7 +111,7 @@ module _ {B L : Type 0} (left : B → L) (runs : L → Plan → Type 0) (holds :
         tasks = items;
         kept = it.kept;
         output = it.output;
-        took = took_is ∙ ap (λ b. record slot { body = b; held = it.slot'.held; waiting = waiting.Nothing; told = Some (said.Output it.output) }) (sym body);
+        took = took_is ∙ ap (λ b. record slot { body = b; held = it.slot'.held; waiting = Waiting.Nothing; told = Some (Said.Output it.output) }) (sym body);
         body = rw body refl;
         held = held_is;
       } in
@@ -134,35 +120,35 @@ module _ {B L : Type 0} (left : B → L) (runs : L → Plan → Type 0) (holds :
             let all = common_of left spot p vs s in
             let so = h.asks p vs (fits slot m.there) in
             let task : task_of all w.root ≡ task_seen left spot slot = task_there left spot s.tasks.items w.root slot m.there in
-            let d = desk_of (record w { place = at.Poll w.root poll.Act }) in
+            let d = desk_of (record w { place = Place.Poll w.root InPoll.Act }) in
             let by_newest : Option ℕ → Moved Things = λ o. record { event = (await w.root all d (task_seen left spot slot) o).event; choice = (await w.root all d (task_seen left spot slot) o).choice; desk = (await w.root all d (task_seen left spot slot) o).desk; thing = things_of w.index s } in
-            let past = answered (left b') (said.Output it.output) (λ e. absurd (cc)) ∙ so.stands in
-            let seen : task_seen left spot it.slot' ≡ record (moved_on all (task_seen left spot slot)) { held = it.slot'.held.items; waiting = waiting.Nothing } =
-            ap (task_seen left spot) took_is ∙ ap (λ (y : Task). record y { held = it.slot'.held.items; waiting = waiting.Nothing }) (moved_seen left runs holds spot gives all slot b' (Some (said.Output it.output)) old.polled past) in
-            got_works left spot answered poll.Act k it.r slot it.slot' w w' s s' e it.outcome sound refl refl it.is it.event got p vs suits
+            let past = answered (left b') (Said.Output it.output) (λ e. absurd (cc)) ∙ so.stands in
+            let seen : task_seen left spot it.slot' ≡ record (moved_on all (task_seen left spot slot)) { held = it.slot'.held.items; waiting = Waiting.Nothing } =
+            ap (task_seen left spot) took_is ∙ ap (λ (y : Task). record y { held = it.slot'.held.items; waiting = Waiting.Nothing }) (moved_seen left runs holds spot gives all slot b' (Some (Said.Output it.output)) old.polled past) in
+            got_works left spot answered InPoll.Act k it.r slot it.slot' w w' s s' e it.outcome sound refl refl it.is it.event got p vs suits
             (record {
-              moves = moves_so left runs holds spot gives p all w s slot word.Await task so.asks.0 ∙ ap by_newest newest
+              moves = moves_so left runs holds spot gives p all w s slot ScriptWord.Await task so.asks.0 ∙ ap by_newest newest
                   ∙ ap (λ (m : Moved Task). record { event = m.event; choice = m.choice; desk = m.desk; thing = things_of w.index s }) (awaits_over w.root k all d (task_seen left spot slot) it.r.shown it.outcome (request_seen s.requests.items k it.r it.request) it.is);
-              takes = or_second (polls_waiting (own_of (record w { place = at.Poll w.root poll.Act })) all (waits_for_request k)) (acts (own_of (record w { place = at.Poll w.root poll.Act })) all asks_await)
+              takes = or_second (polls_waiting (own_of (record w { place = Place.Poll w.root InPoll.Act })) all (waits_for_request k)) (acts (own_of (record w { place = Place.Poll w.root InPoll.Act })) all asks_await)
                   (acts_so left runs holds spot gives all w slot asks_await task old.waits (ap asks_await so.asks.0));
               seen = seen ∙ ap (λ u. record (moved_on all (task_seen left spot slot)) { held = it.slot'.held.items; waiting = u }) (sym old.waits)
                   ∙ ap (λ xs. record (moved_on all (task_seen left spot slot)) { held = xs }) (sym fewer)
-                  ∙ ap (λ u. record (if waits_for_nothing u then moved_on all (task_seen left spot slot) else record (task_seen left spot slot) { waiting = waiting.Nothing }) { held = without_newest slot.held.items }) (sym old.waits);
+                  ∙ ap (λ u. record (if waits_for_nothing u then moved_on all (task_seen left spot slot) else record (task_seen left spot slot) { waiting = Waiting.Nothing }) { held = without_newest slot.held.items }) (sym old.waits);
             })),
-        got_sound poll.Act k it.r slot it.slot' w w' s s' refl refl sound.hand.1 sound got (ap is_resolved it.is),
+        got_sound InPoll.Act k it.r slot it.slot' w w' s s' refl refl sound.hand.1 sound got (ap is_resolved it.is),
         still_performs left runs holds w w' s s' slot it.slot' m.there items (ap (λ x. x.root) it.worker) (ap (λ x. x.config) it.kept)
-            (λ p fits. performs_on left runs holds spot gives p (task_seen left spot slot) (act.Await (Some k)) it.slot' b' ((h.asks p [] fits).goes_on refl)
+            (λ p fits. performs_on left runs holds spot gives p (task_seen left spot slot) (Act.Await (Some k)) it.slot' b' ((h.asks p [] fits).goes_on refl)
             (ap (λ (o : TaskSlot B). body_in o.cell.phase o.body) took_is ∙ in_poll slot.cell.phase (Some b') old.polled)
             (λ answer hears.
-            let heard : answer ≡ said.Output it.output = subst (λ (o : TaskSlot B). CanHear o.told o.waiting answer) took_is hears in
-            let waits : it.slot'.waiting ≡ waiting.Nothing = ap (λ (o : TaskSlot B). o.waiting) took_is in
-            subst (λ y. IsAnswer {B = B} (act.Await (Some k)) y × (held_after {B = B} (act.Await (Some k)) y slot.held.items ≡ held_once_come it.slot'.waiting it.slot'.held.items)) (sym heard)
+            let heard : answer ≡ Said.Output it.output = subst (λ (o : TaskSlot B). CanHear o.told o.waiting answer) took_is hears in
+            let waits : it.slot'.waiting ≡ Waiting.Nothing = ap (λ (o : TaskSlot B). o.waiting) took_is in
+            subst (λ y. IsAnswer {B = B} (Act.Await (Some k)) y × (held_after {B = B} (Act.Await (Some k)) y slot.held.items ≡ held_once_come it.slot'.waiting it.slot'.held.items)) (sym heard)
             (tt, fewer ∙ ap (λ u. held_once_come u it.slot'.held.items) (sym waits)))),
       )
 
   -- IT ISN'T OVER
 
-  waits_now : (w w' : Worker) (s s1 s' : Shared B) (e : Event) (k : ℕ) (r : Record) → (h : HasActed left runs holds spot gives w s s1 (act.Await (Some k))) → newest_of h.made.slot ≡ Some k → slice_get s.requests.items k ≡ Some r → is_resolved r.shown.phase ≡ false
+  waits_now : (w w' : Worker) (s s1 s' : Shared B) (e : Event) (k : ℕ) (r : Record) → (h : HasActed left runs holds spot gives w s s1 (Act.Await (Some k))) → newest_of h.made.slot ≡ Some k → slice_get s.requests.items k ≡ Some r → is_resolved r.shown.phase ≡ false
       → BeganWait w.root k w w' s1 s' e → StepsOf left runs holds spot w s e w' s'
   waits_now w w' s s1 s' e k r h newest at_k going began =
       let sound = h.sound in
@@ -183,9 +169,9 @@ module _ {B L : Type 0} (left : B → L) (runs : L → Plan → Type 0) (holds :
       let same_r : it.r ≡ r = cc (it.request, at_k) in
       let found : slice_get s1.tasks.items w.root ≡ Some m.slot' = ap (λ ts. slice_get ts w.root) m.tasks ∙ set_there s.tasks.items w.root m.slot' slot m.there in
       let acted_is : it.slot ≡ record slot { body = Some b'; told = None } = cc (it.there, found, m.acts.slot) in
-      let slot' : TaskSlot B = record slot { body = Some b'; told = None; waiting = waiting.Request k } in
+      let slot' : TaskSlot B = record slot { body = Some b'; told = None; waiting = Waiting.Request k } in
       let items : s'.tasks.items ≡ slice_set s.tasks.items w.root slot' =
-      it.tasks ∙ ap (λ (o : TaskSlot B). slice_set s1.tasks.items w.root (record o { waiting = waiting.Request k })) acted_is ∙ ap (λ ts. slice_set ts w.root slot') m.tasks ∙ set-set s.tasks.items w.root m.slot' slot' in
+      it.tasks ∙ ap (λ (o : TaskSlot B). slice_set s1.tasks.items w.root (record o { waiting = Waiting.Request k })) acted_is ∙ ap (λ ts. slice_set ts w.root slot') m.tasks ∙ set-set s.tasks.items w.root m.slot' slot' in
       let rooted = sound.rooted.root slot m.there in
       let held = held_newest i t slot.held.items slot.waiting done n d zs rs ss sound.named rooted k r newest at_k in
       let there = at_number i t slot.held.items slot.waiting done n d zs rs ss sound.named rooted k r newest at_k in
@@ -233,11 +219,11 @@ module _ {B L : Type 0} (left : B → L) (runs : L → Plan → Type 0) (holds :
       let lively : live_count d'.requests ≡ live_count d.requests = ap live_count slab ∙ live_still d.requests id waiter now live in
       let room : IsTold n.ended.items w.home.deferred (tellers d'.requests zs) =
       subst (λ x. IsTold n.ended.items w.home.deferred x) (sym (ap (λ x. x + live_count d'.requests + live_count zs + 1) pending ∙ ap (λ x. pending_count d.requests + x + live_count zs + 1) lively)) sound.told in
-      let q : Place = at.Poll w.root poll.Pend in
+      let q : Place = Place.Poll w.root InPoll.Pend in
       let wd : Worker = record w { home = record w.home { driver = w'.home.driver } } in
       let before = subst (λ u. Holds false i t slot.held.items u done n d zs rs ss) old.waits rooted in
       let waits = holds_awaiting i t n d d' zs rs rs' ss id r f by none sound.named live_now refl refl going (held.unpaid going) slot.held.items done (going_on slot.cell.phase old.polled) (newest ∙ ap (λ x. Some x) (sym held.named)) before in
-      let again : SoundAt q (acted_worker w q n wd) (let_shared s s') = sound_acted poll.Act q w wd n s s' slot slot' sound items
+      let again : SoundAt q (acted_worker w q n wd) (let_shared s s') = sound_acted InPoll.Act q w wd n s s' slot slot' sound items
       (record {
         told = room;
         named = named_watched i n n.held d d' zs rs rs' ss id r f by sound.named;
@@ -250,15 +236,15 @@ module _ {B L : Type 0} (left : B → L) (runs : L → Plan → Type 0) (holds :
       })
       (record {
         there = m.there;
-        after = on_in_poll w.root poll.Pend;
+        after = on_in_poll w.root InPoll.Pend;
         hand = sound.hand;
         stands = record { polled = old.polled; body = λ e. refl; poller = old.poller; kept = old.kept; uncleared = old.uncleared; told = λ e. absurd (false≢true e); untold = λ e. refl; waits = refl };
         cell = refl;
         home = refl;
-        holds = subst (λ x. Holds true i t slot.held.items (waiting.Request x) done n d' zs rs' ss) held.named waits;
+        holds = subst (λ x. Holds true i t slot.held.items (Waiting.Request x) done n d' zs rs' ss) held.named waits;
       }) in
       let w1 : Worker = acted_worker w q n wd in
-      let wq : Worker = record w { place = at.Poll w.root poll.Act } in
+      let wq : Worker = record w { place = Place.Poll w.root InPoll.Act } in
       let here : wq ≡ w = ap (λ y. record w { place = y }) (sym sound.here) in
       let so_far : StepsOf left runs holds spot w s (Wait (Some k)) w1 (let_shared s s') = (
         (λ p vs suits fits.
@@ -269,11 +255,11 @@ module _ {B L : Type 0} (left : B → L) (runs : L → Plan → Type 0) (holds :
             let request : request_of all k ≡ r.shown = request_seen rs k r at_k in
             let desk = desk_of wq in
             let by_newest : Option ℕ → Moved Things = λ o. record { event = (await w.root all desk (task_seen left spot slot) o).event; choice = (await w.root all desk (task_seen left spot slot) o).choice; desk = (await w.root all desk (task_seen left spot slot) o).desk; thing = things_of w.index s } in
-            let seen : task_seen left spot slot' ≡ waits_for all (task_seen left spot slot) (waiting.Request k) = ap (λ (y : Task). record y { waiting = waiting.Request k }) (moved_seen left runs holds spot gives all slot b' None old.polled so.stands) in
+            let seen : task_seen left spot slot' ≡ waits_for all (task_seen left spot slot) (Waiting.Request k) = ap (λ (y : Task). record y { waiting = Waiting.Request k }) (moved_seen left runs holds spot gives all slot b' None old.polled so.stands) in
             let awaited : Request → Request = λ y. record y { waiter = Some t } in
             subst (λ v. Works left spot p vs v s (Wait (Some k)) w1 (let_shared s s')) here (record {
               choice = Plain;
-              moves = moves_so left runs holds spot gives p all w s slot word.Await task so.asks.0 ∙ ap by_newest newest
+              moves = moves_so left runs holds spot gives p all w s slot ScriptWord.Await task so.asks.0 ∙ ap by_newest newest
                   ∙ ap (λ (x : Moved Task). record { event = x.event; choice = x.choice; desk = x.desk; thing = things_of w.index s }) (awaits_by w.root k all desk (task_seen left spot slot) r.shown.phase (ap (λ y. y.phase) request) going)
                   ∙ ap (λ y. makes (Wait (Some k)) y (things_of w.index s)) (sym (desk_acted w wd q n ring (ap (λ x. x.armed) drv)));
               may = (
@@ -286,12 +272,12 @@ module _ {B L : Type 0} (left : B → L) (runs : L → Plan → Type 0) (holds :
               own = ap (own_with w q n.ended.items n.untold.items) drv ∙ ap (λ x. record me { in_flight = x }) (same_flight_count d.requests id waiter now live refl);
               common = common_acted left spot p vs w wd q n s s' k r f slot' suits ring at_k (λ y. refl) records items
                   ∙ ap (λ y. record all { tasks = slice_set all.tasks w.root y; requests = slice_set all.requests k (awaited r.shown) }) seen
-                  ∙ ap (λ y. record all { tasks = slice_set all.tasks w.root (waits_for all (task_seen left spot slot) (waiting.Request k)); requests = slice_set all.requests k (awaited y) }) (sym request)
-                  ∙ ap (λ y. record all { tasks = slice_set all.tasks w.root (waits_for all y (waiting.Request k)); requests = slice_set all.requests k (awaited (request_of all k)) }) (sym task);
+                  ∙ ap (λ y. record all { tasks = slice_set all.tasks w.root (waits_for all (task_seen left spot slot) (Waiting.Request k)); requests = slice_set all.requests k (awaited y) }) (sym request)
+                  ∙ ap (λ y. record all { tasks = slice_set all.tasks w.root (waits_for all y (Waiting.Request k)); requests = slice_set all.requests k (awaited (request_of all k)) }) (sym task);
             })),
         again,
         still_performs left runs holds w w1 s (let_shared s s') slot slot' m.there items refl refl
-            (λ p fits. performs_on left runs holds spot gives p (task_seen left spot slot) (act.Await (Some k)) slot' b' ((h.asks p [] fits).goes_on refl) (in_poll slot.cell.phase (Some b') old.polled) (hears_output k slot.held.items)),
+            (λ p fits. performs_on left runs holds spot gives p (task_seen left spot slot) (Act.Await (Some k)) slot' b' ((h.asks p [] fits).goes_on refl) (in_poll slot.cell.phase (Some b') old.polled) (hears_output k slot.held.items)),
       ) in
       subst (λ y. StepsOf left runs holds spot w s e w' y) (sym it.kept) (subst (λ y. StepsOf left runs holds spot w s e y (let_shared s s')) (sym it.worker) (subst (λ y. StepsOf left runs holds spot w s y w1 (let_shared s s')) (sym it.event) so_far))
     where
@@ -301,22 +287,22 @@ module _ {B L : Type 0} (left : B → L) (runs : L → Plan → Type 0) (holds :
       unsent_is : (x : Forwarding) → x ≡ Unsent → is_unsent x ≡ true
       unsent_is x is = rw is refl
 
-      hears_output : (j : ℕ) (held : List ℕ) (answer : Said) → CanHear None (waiting.Request j) answer → IsAnswer {B = B} (act.Await (Some j)) answer × (held_after {B = B} (act.Await (Some j)) answer held ≡ without_newest held)
-      hears_output j held (said.Output output) heard = (tt, refl)
+      hears_output : (j : ℕ) (held : List ℕ) (answer : Said) → CanHear None (Waiting.Request j) answer → IsAnswer {B = B} (Act.Await (Some j)) answer × (held_after {B = B} (Act.Await (Some j)) answer held ≡ without_newest held)
+      hears_output j held (Said.Output output) heard = (tt, refl)
       hears_output j held _ heard = absurd heard
 
   -- BY WHAT IT HOLDS
 
-  pub awaits_acted : (w w' : Worker) (s s1 s' : Shared B) (e : Event) (a : Option ℕ) → (h : HasActed left runs holds spot gives w s s1 (act.Await a)) → AwaitsNewest w.root (newest_of h.made.slot) w w' s1 s' e → StepsOf left runs holds spot w s e w' s'
+  pub awaits_acted : (w w' : Worker) (s s1 s' : Shared B) (e : Event) (a : Option ℕ) → (h : HasActed left runs holds spot gives w s s1 (Act.Await a)) → AwaitsNewest w.root (newest_of h.made.slot) w w' s1 s' e → StepsOf left runs holds spot w s e w' s'
   awaits_acted w w' s s1 s' e a h awaits =
       let m = h.made in
       let asked : a ≡ newest_of m.slot = (h.asks h.one.0 [] h.one.2).asks.1 in
       by (newest_of m.slot) a asked h refl awaits
     where
-      by : (o : Option ℕ) (x : Option ℕ) → x ≡ o → (g : HasActed left runs holds spot gives w s s1 (act.Await x)) → newest_of g.made.slot ≡ o → AwaitsNewest w.root o w w' s1 s' e → StepsOf left runs holds spot w s e w' s'
+      by : (o : Option ℕ) (x : Option ℕ) → x ≡ o → (g : HasActed left runs holds spot gives w s s1 (Act.Await x)) → newest_of g.made.slot ≡ o → AwaitsNewest w.root o w w' s1 s' e → StepsOf left runs holds spot w s e w' s'
       by None x is g newest it = waited_by left runs holds spot gives w w' s s1 s' e x g newest it.0 it.1 it.2
       by (Some k) x is g newest it =
-          let g' = subst (λ y. HasActed left runs holds spot gives w s s1 (act.Await y)) is g in
+          let g' = subst (λ y. HasActed left runs holds spot gives w s s1 (Act.Await y)) is g in
           let one = (g.sound.rooted.root g.made.slot g.made.there).held (length g.made.slot.held.items - 1) k newest in
           let r = one.0 in
           let at_k : slice_get s.requests.items k ≡ Some r = one.1 in
@@ -327,13 +313,13 @@ module _ {B L : Type 0} (left : B → L) (runs : L → Plan → Type 0) (holds :
             | false ↦ λ going. waits_now w w' s s1 s' e k r g' newest' at_k going (it.waits r at_1 going)
           ] refl
         where
-          same_slot : (y : Option ℕ) (i : y ≡ Some k) (f : HasActed left runs holds spot gives w s s1 (act.Await y)) → (subst (λ z. HasActed left runs holds spot gives w s s1 (act.Await z)) i f).made.slot ≡ f.made.slot
+          same_slot : (y : Option ℕ) (i : y ≡ Some k) (f : HasActed left runs holds spot gives w s s1 (Act.Await y)) → (subst (λ z. HasActed left runs holds spot gives w s s1 (Act.Await z)) i f).made.slot ≡ f.made.slot
           same_slot y i f =
-              let a = (subst (λ z. HasActed left runs holds spot gives w s s1 (act.Await z)) i f).made.there in
+              let a = (subst (λ z. HasActed left runs holds spot gives w s s1 (Act.Await z)) i f).made.there in
               cc (a, f.made.there)
 
   -- for its slot once it has acted
-  pub await_steps : (w w' : Worker) (s s1 s' : Shared B) (e : Event) (a : Option ℕ) → (h : HasActed left runs holds spot gives w s s1 (act.Await a)) → OfSlot w.root s1 (λ slot. AwaitsNewest w.root (newest_of slot) w w' s1 s' e) → StepsOf left runs holds spot w s e w' s'
+  pub await_steps : (w w' : Worker) (s s1 s' : Shared B) (e : Event) (a : Option ℕ) → (h : HasActed left runs holds spot gives w s s1 (Act.Await a)) → OfSlot w.root s1 (λ slot. AwaitsNewest w.root (newest_of slot) w w' s1 s' e) → StepsOf left runs holds spot w s e w' s'
   await_steps w w' s s1 s' e a h awaits =
       let m = h.made in
       let found : slice_get s1.tasks.items w.root ≡ Some m.slot' = ap (λ ts. slice_get ts w.root) m.tasks ∙ set_there s.tasks.items w.root m.slot' m.slot m.there in

@@ -1,16 +1,12 @@
 -- What it is to the machine that a task awaits the newest request that it holds, or lets go of it.
-use Rattle.std.proofs.Common.{◌≡◌, ℕ, ◌+◌, ◌-◌, ◌<◌, ◌==◌, ◌&&◌, ◌||◌, false, List, [], ◌∷◌, ◌++◌, length, map, Option, Some, None, refl, sym, ap, subst, ◌∙◌}
-use Rattle.std.proofs.lemmas.List.{map-set}
-use Rattle.std.specs.Prelude.{slice_get, slice_set, if◌then◌else◌}
+use Rattle.std.proofs.{Common.{◌≡◌, ℕ, ◌-◌, false, List, [], length, map, Option, Some, None, refl, sym, ap, subst, ◌∙◌, slice_get, slice_set}, lemmas.List.map-set}
 use Rattle.exec_task.specs.declared.body.Said.{Said}
 use Rattle.exec_waiters.specs.{States.pending_count, declared.deferred.Deferred.Deferred}
 use Rattle.exec_ring.specs.Rings.{completions}
 use Rattle.exec_driver.specs.Driving.{Driving}
 use Rattle.exec_machine.specs.Progress.{Plan}
 use Rattle.exec_moves.specs.declared.place.{InPoll.InPoll, Place.Place}
-use Rattle.exec_moves.specs.declared.place.Place.TheVariants as at
-use Rattle.exec_steps.specs.{declared.parts.{mail.Reply.Reply, names.Names.Names, record.Record.Record, shared.Shared.Shared, task_slot.TaskSlot.TaskSlot, worker.Worker.Worker}, Due.IsDue, Flown.HasFlown, Phased.{IsPhased, closing_in, is_complete, stage_of}, Rooted.{Holds, IsRooted, ends_poll}, Serving.changed_at, Sound.{SoundAt, AreOver, AreOwed, InHand, IsAlone, IsNamed, IsRunnable, IsTold, Stands, one_of, polled_in, tellers}, Spots.Spot, View.{Visible, visible, desk_of, driver_of, common_of, queue_seen, task_seen, open_seen, trailing}, Works.Suits, Carried.IsCarried}
-use Rattle.exec_steps.proofs.{Calling.shown_changed, Keys.{name_in, names_kept, same_opens}, Letting.let_shared, Phased.phased_task, Polling.IsAfter, Rooted.rooted_set, Seeing.visible_with, Taking.unqueued, Turning.{set_found, set_there}}
+use Rattle.exec_steps.{specs.{declared.parts.{mail.Reply.Reply, names.Names.Names, record.Record.Record, shared.Shared.Shared, task_slot.TaskSlot.TaskSlot, worker.Worker.Worker}, Due.IsDue, Flown.HasFlown, Phased.{IsPhased, closing_in, is_complete, stage_of}, Rooted.{Holds, IsRooted, ends_poll}, Serving.changed_at, Sound.{SoundAt, AreOver, AreOwed, InHand, IsAlone, IsNamed, IsRunnable, IsTold, Stands, one_of, polled_in, tellers}, Spots.Spot, View.{Visible, visible, desk_of, driver_of, common_of, queue_seen, task_seen, open_seen, trailing}, Works.Suits, Carried.IsCarried}, proofs.{Calling.shown_changed, Keys.{name_in, names_kept, same_opens}, Letting.let_shared, Phased.phased_task, Polling.IsAfter, Rooted.rooted_set, Seeing.visible_with, Taking.unqueued, Turning.{set_found, set_there}}}
 use Rattle.exec_words.specs.Queue.{room_of}
 
 -- WHAT HOLDS AGAIN after an act that changes the slot of the root, the record of a request, and what the driver has of that
@@ -41,7 +37,7 @@ module _ {B : Type 0} where
     pub home : slot'.home ≡ slot.home
     pub holds : Holds (ends_poll (polled_in q)) w.index w.root slot'.held.items slot'.waiting (is_complete slot'.cell.phase) n d w.home.timers rs s.sleepers.items
 
-  pub sound_acted : (x : InPoll) (q : Place) (w v : Worker) (n : Names) (s s' : Shared B) (slot slot' : TaskSlot B) → SoundAt (at.Poll w.root x) w s → s'.tasks.items ≡ slice_set s.tasks.items w.root slot'
+  pub sound_acted : (x : InPoll) (q : Place) (w v : Worker) (n : Names) (s s' : Shared B) (slot slot' : TaskSlot B) → SoundAt (Place.Poll w.root x) w s → s'.tasks.items ≡ slice_set s.tasks.items w.root slot'
       → Remains w (record w.names { held = n.held; ended = n.ended }) (driver_of v) v.home.deferred s'.requests.items s → GoesOnTo q w (record w.names { held = n.held; ended = n.ended }) (driver_of v) s'.requests.items s slot slot'
       → SoundAt q (acted_worker w q n v) (let_shared s s')
   sound_acted x q w v n s s' slot slot' sound tasks remains to =

@@ -1,25 +1,13 @@
 -- What the steps of the callbacks are to the machine.
-use Rattle.std.proofs.Common.{◌≡◌, inl, ℕ, suc, ◌+◌, ◌-◌, ◌<◌, ◌==◌, ◌||◌, Bool, true, false, not, List, [], ◌∷◌, length, drop, map, Option, Some, None, refl, sym, ap, subst, ◌∙◌, arith}
-use Rattle.std.proofs.lemmas.Bool.{false≢true, eq-eqb}
-use Rattle.std.proofs.lemmas.Bool.Decides.{nat_tests}
-use Rattle.std.proofs.lemmas.List.{length-drop, map-set}
-use Rattle.std.proofs.lemmas.Option.{get_or_from_slice_get, slice_get-map}
-use Rattle.std.specs.Prelude.{slice_get, slice_set, slice_index_or, nat_lt, if◌then◌else◌}
-use Rattle.std.specs.Option.{option_map}
-use Rattle.std.specs.VecDeque.{deque_capacity}
+use Rattle.std.{proofs.{Common.{◌≡◌, inl, ℕ, suc, ◌+◌, ◌-◌, ◌<◌, ◌==◌, ◌||◌, Bool, true, false, not, List, [], ◌∷◌, length, drop, map, Option, Some, None, refl, sym, ap, subst, ◌∙◌, arith, slice_get, slice_set, slice_index_or, nat_lt, if◌then◌else◌}, lemmas.{Bool.{false≢true, eq-eqb, Decides.nat_tests}, List.{length-drop, map-set}, Option.{get_or_from_slice_get, slice_get-map}}}, specs.{Option.option_map, VecDeque.deque_capacity}}
 use Rattle.exec_waiters.specs.States.{pending_count}
 use Rattle.exec_task.specs.declared.body.Said.{Said}
-use Rattle.exec_machine.specs.{declared.{event.Event.{Event, TheVariants.{Turn, Release}}, state.Request.Request}, Choice.Choice.Plain, Same.is_number, Progress.Plan, Ranges.ring_size, Tests.{is_empty, is_resolved}, World.{Task, Common, task_of, request_of, no_request, Own as Books}}
-use Rattle.exec_machine.specs.declared.state.Next.TheVariants as next
+use Rattle.exec_machine.specs.{declared.{event.Event.{Event, TheVariants.{Turn, Release}}, state.{Request.Request, Next.Next}}, Choice.Choice.Plain, Same.is_number, Progress.Plan, Ranges.ring_size, Tests.{is_empty, is_resolved}, World.{Task, Common, task_of, request_of, no_request, Own as Books}}
 use Rattle.exec_moves.specs.{Seen.{polls_at, next_at, serves_at}, declared.place.{AfterCallbacks.AfterCallbacks, InCallbacks.InCallbacks, Place.Place}, Callback.{call_back, goes_on, after_callbacks}, Move.{move_at, first_woken}, State.{Desk, does}}
-use Rattle.exec_moves.specs.declared.place.AfterCallbacks.TheVariants as after
-use Rattle.exec_moves.specs.declared.place.InCallbacks.TheVariants as callback
-use Rattle.exec_moves.specs.declared.place.Place.TheVariants as at
-use Rattle.exec_steps.specs.{declared.parts.{mail.Reply.Reply, record.Record.Record, shared.Shared.Shared, worker.Worker.Worker, names.Names.Names, sleeping.SleeperRecord.SleeperRecord}, Calls.{releasing, KeepsRoom}, Carried.IsCarried, Serving.{changed_in, changed_at}, Due.IsDue, Flown.HasFlown, Phased.closes_at, Rooted.IsRooted, Sound.{tellers, SoundAt, IsNamed, IsTold, AreOver, AreOwed}, Spots.Spot, Tests.next_callback_of, View.{Visible, visible, own_of, desk_of, driver_of, common_of, things_of, open_seen}, Works.{Goes, Suits, Steps}}
+use Rattle.exec_steps.{specs.{declared.parts.{mail.Reply.Reply, record.Record.Record, shared.Shared.Shared, worker.Worker.Worker, names.Names.Names, sleeping.SleeperRecord.SleeperRecord}, Calls.{releasing, KeepsRoom}, Carried.IsCarried, Serving.{changed_in, changed_at}, Due.IsDue, Flown.HasFlown, Phased.closes_at, Rooted.IsRooted, Sound.{tellers, SoundAt, IsNamed, IsTold, AreOver, AreOwed}, Spots.Spot, Tests.next_callback_of, View.{Visible, visible, own_of, desk_of, driver_of, common_of, things_of, open_seen}, Works.{Goes, Suits, Steps}}, proofs.{Carries.carried_marked, Hearing.unheard, Keys.{same_opens, names_kept}, Leading.{placed, leads, Leads, Comes, Follows, follows, unchanged}, Marking.{releases, named_marked, marked, mark_if, due_marked}, Flown.flown_marked, Rooted.rooted_changed, Turning.set_found}}
 use Rattle.exec_base.specs.Slab.{Slab}
 use Rattle.exec_time.specs.declared.timers.Sleeper.{Sleeper as Sleeping}
 use Rattle.exec_driver.specs.Driving.{Driving}
-use Rattle.exec_steps.proofs.{Carries.carried_marked, Hearing.unheard, Keys.{same_opens, names_kept}, Leading.{placed, leads, Leads, Comes, Follows, follows, unchanged}, Marking.{releases, named_marked, marked, mark_if, due_marked}, Flown.flown_marked, Rooted.rooted_changed, Turning.set_found}
 
 -- MOVES OF A CALLBACK
 
@@ -30,15 +18,15 @@ let_go_moves size i me s x d it none some = rw (none, some) refl
 pub release_moves : (size i n : ℕ) (rest : List ℕ) (me : Books) (s : Common) (x : AfterCallbacks) (d : Desk) (it : Task) → d.wakes ≡ [] → nat_lt 0 d.outputs ≡ false → me.ended ≡ n ∷ rest
     → call_back size i me s x d it ≡ does (Release n) (goes_on size i (record me { ended = rest }) s x d) it
 release_moves size i n rest me s x d it none empty first =
-    rw (none, empty, first) (ap (λ b. record { event = Release n; choice = Plain; desk = record d { wakes = []; place = if b || not (is_empty rest) then at.Callbacks callback.CallBack x else after_callbacks size i s x (record d { wakes = [] }) }; thing = it }) empty)
+    rw (none, empty, first) (ap (λ b. record { event = Release n; choice = Plain; desk = record d { wakes = []; place = if b || not (is_empty rest) then Place.Callbacks InCallbacks.CallBack x else after_callbacks size i s x (record d { wakes = [] }) }; thing = it }) empty)
 
 -- the worker, with the place where the callbacks lead
 place_unread : (x : AfterCallbacks) (w : Worker) (q : Place) → next_callback_of x (record w { place = q }) ≡ next_callback_of x w
-place_unread after.Look w q = refl
-place_unread after.Test w q = refl
-place_unread after.Begin w q = refl
-place_unread after.Drain w q = refl
-place_unread after.Finish w q = refl
+place_unread AfterCallbacks.Look w q = refl
+place_unread AfterCallbacks.Test w q = refl
+place_unread AfterCallbacks.Begin w q = refl
+place_unread AfterCallbacks.Drain w q = refl
+place_unread AfterCallbacks.Finish w q = refl
 
 pub settled : (x : AfterCallbacks) (w0 w' : Worker) → w' ≡ record w0 { place = w'.place } → w'.place ≡ next_callback_of x w' → w' ≡ record w0 { place = next_callback_of x w0 }
 settled x w0 w' same place = same ∙ ap (λ y. record w0 { place = y }) (place ∙ ap (next_callback_of x) same ∙ place_unread x w0 w'.place)
@@ -90,7 +78,7 @@ abbrev request_released : Request → Request
 request_released r = record r { released = true }
 
 -- the machine's own part of a worker that polls, serves and owes nothing
-pub own_led : (q : Place) (v : Worker) → polls_at q ≡ None → next_at q ≡ next.Free → serves_at q ≡ false → own_of (record v { place = q }) ≡ record (own_of v) { polls = None; next = next.Free; serving = false }
+pub own_led : (q : Place) (v : Worker) → polls_at q ≡ None → next_at q ≡ Next.Free → serves_at q ≡ false → own_of (record v { place = q }) ≡ record (own_of v) { polls = None; next = Next.Free; serving = false }
 own_led q v polls free unserved = rw (polls, free, unserved) refl
 
 -- THE FIRST OF WHAT HAS ENDED
@@ -112,7 +100,7 @@ module _ {B : Type 0} where
     pub requests : s'.requests.items ≡ changed_at s.requests.items n releasing
     pub kept : s' ≡ record s { requests = s'.requests }
 
-pub from_batch : (c : InCallbacks) (x : AfterCallbacks) → Comes (at.Callbacks c x)
+pub from_batch : (c : InCallbacks) (x : AfterCallbacks) → Comes (Place.Callbacks c x)
 from_batch c x = record { polls = refl; free = refl; unarmed = refl; stands = refl; served = refl; closing = refl; empty = λ root hand h. h }
 
 module _ {B L : Type 0} (left : B → L) (spot : L → Option Said → Spot) where
@@ -136,32 +124,32 @@ module _ {B L : Type 0} (left : B → L) (spot : L → Option Said → Spot) whe
 
   -- THE BATCH IS TAKEN
 
-  taken : (x : AfterCallbacks) (w : Worker) (s : Shared B) → SoundAt (at.Callbacks callback.TakeBatch x) w s → Steps left spot w s Turn (record w { place = next_callback_of x w }) s
+  taken : (x : AfterCallbacks) (w : Worker) (s : Shared B) → SoundAt (Place.Callbacks InCallbacks.TakeBatch x) w s → Steps left spot w s Turn (record w { place = next_callback_of x w }) s
   taken x w s sound =
       let live = tellers (driver_of w).requests w.home.timers in
-      led (at.Callbacks callback.TakeBatch x) (next_callback_of x w) w s sound (from_batch callback.TakeBatch x) (leads callback.TakeBatch x w (omega (arith, sound.told.resources, sound.over.counted)))
+      led (Place.Callbacks InCallbacks.TakeBatch x) (next_callback_of x w) w s sound (from_batch InCallbacks.TakeBatch x) (leads InCallbacks.TakeBatch x w (omega (arith, sound.told.resources, sound.over.counted)))
       (λ p vs suits. ap (λ y. record { event = Turn; choice = Plain; desk = record (desk_of w) { place = y }; thing = things_of w.index s })
       (placed p.config w.index live (own_of w) (common_of left spot p vs s) x (desk_of w) w s.requests.items s.sleepers.items sound.told refl refl refl refl sound.named (sound.sized ∙ ap ring_size suits.config)))
 
-  pub batch_taken : (x : AfterCallbacks) (w w' : Worker) (s : Shared B) (e : Event) → SoundAt (at.Callbacks callback.TakeBatch x) w s → e ≡ Turn → w'.place ≡ next_callback_of x w → Goes w w' → Steps left spot w s e w' s
+  pub batch_taken : (x : AfterCallbacks) (w w' : Worker) (s : Shared B) (e : Event) → SoundAt (Place.Callbacks InCallbacks.TakeBatch x) w s → e ≡ Turn → w'.place ≡ next_callback_of x w → Goes w w' → Steps left spot w s e w' s
   batch_taken x w w' s e sound event place goes =
       let is : w' ≡ record w { place = next_callback_of x w } = goes ∙ ap (λ y. record w { place = y }) place in
       subst (λ y. Steps left spot w s e y s) (sym is) (subst (λ y. Steps left spot w s y (record w { place = next_callback_of x w }) s) (sym event) (taken x w s sound))
 
   -- AN OUTPUT IS LET GO
 
-  pub output_gone : (x : AfterCallbacks) (w w' : Worker) (s : Shared B) (e : Event) → SoundAt (at.Callbacks callback.CallBack x) w s → e ≡ Turn → w'.place ≡ next_callback_of x w'
+  pub output_gone : (x : AfterCallbacks) (w w' : Worker) (s : Shared B) (e : Event) → SoundAt (Place.Callbacks InCallbacks.CallBack x) w s → e ≡ Turn → w'.place ≡ next_callback_of x w'
       → w' ≡ record w { place = w'.place; home = record w.home { deferred = record w.home.deferred { outputs = w'.home.deferred.outputs } } }
       → w.home.deferred.notes.wakes.items ≡ [] → 0 < length w.home.deferred.outputs.items
       → w'.home.deferred.outputs.items ≡ drop 1 w.home.deferred.outputs.items → KeepsRoom w.home.deferred w'.home.deferred
       → Steps left spot w s e w' s
   output_gone x w w' s e sound event place same none some items room =
-      let q : Place = at.Callbacks callback.CallBack x in
+      let q : Place = Place.Callbacks InCallbacks.CallBack x in
       let w0 : Worker = record w { home = record w.home { deferred = record w.home.deferred { outputs = w'.home.deferred.outputs } } } in
       let w1 : Worker = record w0 { place = next_callback_of x w0 } in
       let is : w' ≡ w1 = settled x w0 w' same place in
-      let to = leads callback.CallBack x w0 (omega (arith, sound.told.resources, sound.over.counted)) in
-      let from = from_batch callback.CallBack x in
+      let to = leads InCallbacks.CallBack x w0 (omega (arith, sound.told.resources, sound.over.counted)) in
+      let from = from_batch InCallbacks.CallBack x in
       let live = tellers (driver_of w).requests w.home.timers in
       let told : IsTold w.names.ended.items w0.home.deferred live = subst (λ d. IsTold w.names.ended.items d live) (ap (λ v. v.home.deferred) is) (room w.names.ended.items live sound.told) in
       let count : length w.home.deferred.outputs.items - 1 ≡ length w'.home.deferred.outputs.items = sym (ap (λ xs. length xs) items ∙ length-drop 1 w.home.deferred.outputs.items) in
@@ -193,15 +181,15 @@ module _ {B L : Type 0} (left : B → L) (spot : L → Option Said → Spot) whe
 
   -- WHAT A REQUEST OWNED IS LET GO
 
-  pub released_as : (x : AfterCallbacks) (n : ℕ) (w w' : Worker) (s s' : Shared B) (e : Event) → SoundAt (at.Callbacks callback.CallBack x) w s → e ≡ Release n → w'.place ≡ next_callback_of x w'
+  pub released_as : (x : AfterCallbacks) (n : ℕ) (w w' : Worker) (s s' : Shared B) (e : Event) → SoundAt (Place.Callbacks InCallbacks.CallBack x) w s → e ≡ Release n → w'.place ≡ next_callback_of x w'
       → w.home.deferred.notes.wakes.items ≡ [] → length w.home.deferred.outputs.items ≡ 0 → HasReleased n w w' s s' → Steps left spot w s e w' s'
   released_as x n w w' s s' e sound event place none empty it =
-      let q : Place = at.Callbacks callback.CallBack x in
+      let q : Place = Place.Callbacks InCallbacks.CallBack x in
       let w0 : Worker = record w { names = record w.names { ended = w'.names.ended; unreleased = w'.names.unreleased }; home = record w.home { deferred = record w.home.deferred { resources = w'.home.deferred.resources } } } in
       let w1 : Worker = record w0 { place = next_callback_of x w0 } in
       let s1 : Shared B = record s { requests = s'.requests } in
       let is : w' ≡ w1 = settled x w0 w' it.worker place in
-      let from = from_batch callback.CallBack x in
+      let from = from_batch InCallbacks.CallBack x in
       let live = tellers (driver_of w).requests w.home.timers in
       let told : IsTold w'.names.ended.items w0.home.deferred live = subst (λ d. IsTold w'.names.ended.items d live) (ap (λ v. v.home.deferred) is) (it.told live sound.told) in
       let told_rest : IsTold it.rest w0.home.deferred live = subst (λ ks. IsTold ks w0.home.deferred live) it.ended told in
@@ -213,7 +201,7 @@ module _ {B L : Type 0} (left : B → L) (spot : L → Option Said → Spot) whe
       (subst (λ ks. AreOver w.index ks w'.names.unreleased (pending_count (driver_of w).requests) (changed_at s.requests.items n releasing)) (sym it.ended)
       (over_rest w.index n it.rest w.names.unreleased w'.names.unreleased (pending_count (driver_of w).requests) s.requests.items it.unreleased
       (subst (λ ks. AreOver w.index ks w.names.unreleased (pending_count (driver_of w).requests) s.requests.items) it.first sound.over))) in
-      let to = leads callback.CallBack x w0 (omega (arith, told.resources, over.counted)) in
+      let to = leads InCallbacks.CallBack x w0 (omega (arith, told.resources, over.counted)) in
       let as_before = unchanged q w s sound from in
       let again : Follows q w w0 s s1 = record {
         told = told;

@@ -1,20 +1,13 @@
 -- A deadline that has come cancels its request, which the kernel has.
-use Rattle.std.proofs.Common.{◌⊎◌, ⊎_elim, ◌++◌, ◌||◌, ◌≡◌, ◌≢◌, ℕ, ◌+◌, ◌-◌, ◌*◌, ◌^◌, ◌<◌, ◌≤◌, ◌==◌, ◌&&◌, Bool, true, false, List, [], ◌∷◌, ◌++◌, map, Option, Some, None, refl, sym, ap, subst, ◌∙◌, arith, inl, inr}
-use Rattle.std.proofs.lemmas.Bool.{false≢true}
-use Rattle.std.proofs.lemmas.List.{append-nil, map-append}
-use Rattle.std.specs.Prelude.{slice_set, if◌then◌else◌}
+use Rattle.std.proofs.{Common.{◌⊎◌, ⊎_elim, ◌++◌, ◌||◌, ◌≡◌, ◌≢◌, ℕ, ◌+◌, ◌-◌, Bool, true, false, List, [], ◌∷◌, map, Option, Some, None, refl, sym, ap, subst, ◌∙◌, arith, inl, inr, slice_set, if◌then◌else◌}, lemmas.{Bool.false≢true, List.{append-nil, map-append}}}
 use Rattle.exec_base.specs.declared.{slab.Id.Id, error.Error.TheVariants.Timeout}
 use Rattle.exec_request.specs.States.{asks_cancel}
 use Rattle.exec_task.specs.declared.body.Said.{Said}
 use Rattle.exec_waiters.specs.{Events.{cancelled as cancelled_of, told_by_finish}, States.{tick_in, flying_count}, Told.{Tells, nothing_told}, declared.{waiter.Waiter.Waiter, waiter_id.WaiterId.WaiterId}}
-use Rattle.exec_driver.specs.{Driving.Driving, Lists.{first_of, is_among, is_same, after_due}, Punctual.IsPunctual, Steps.{cancelled_from, cancelling, ended, told_by_cancel, timed_out}}
-use Rattle.exec_driver.proofs.Names.{same_tells, same_tells}
+use Rattle.exec_driver.{specs.{Driving.Driving, Lists.{first_of, is_among, is_same, after_due}, Punctual.IsPunctual, Steps.{cancelled_from, cancelling, ended, told_by_cancel, timed_out}}, proofs.Names.same_tells}
 use Rattle.exec_machine.specs.{declared.event.Event.{Event, TheVariants.Expire}, Deadlines.{expired, outcome_at_expiry}, Same.same_end, World.request_of}
-use Rattle.exec_moves.specs.{Move.move_submit, Callback.{told_if_ended, told_if_ended}, Submit.{due_next, first_due, submits, Due.Expires}, declared.place.{Service.Service, Place.Place}}
-use Rattle.exec_moves.specs.declared.place.InService.TheVariants as step
-use Rattle.exec_moves.specs.declared.place.Place.TheVariants as at
-use Rattle.exec_steps.specs.{declared.parts.{mail.Reply.Reply, names.Names.Names, record.Record.Record, shared.Shared.Shared, worker.Worker.Worker}, Due.IsWheelAt, Flown.HasFlown, Phased.closes_at, Records.number_in, Serving.changed_at, Sound.{IsAlike, IsSubmitted, served_in, is_armed_at}, Spots.Spot, Submitting.{IsDueIn, IsInOrder}, View.{visible, own_of, desk_of, driver_of, common_of, things_of, numbers_of}, Works.Steps}
-use Rattle.exec_steps.proofs.{Calling.request_seen, Carries.carried_still, Changing.{OneGoesOn, flying_after, keeps_one}, Going.GoesOn, Seeing.{makes, shows, served, common_changed}, Serving.{is_calm, Serves, Keeps, KeepsBy}, Staging.stages_again, Turning.set_found, Watching.{Watched, flown_watched, submitted_watched, watched}, Timed.keeps_untold, Expiring.{HasExpired, comes_to_due, due_first, expires, flies_not_queued, move_expire, same_change, told_first, unticked_start, unticked_tick}, Expired.expiry_ends, Resolving.unticked_at, Orders.{alike_unticked, eased, eases_written, part_after, part_self}}
+use Rattle.exec_moves.specs.{Move.move_submit, Callback.told_if_ended, Submit.{due_next, first_due, submits, Due.Expires}, declared.place.{Service.Service, Place.Place, InService.InService}}
+use Rattle.exec_steps.{specs.{declared.parts.{mail.Reply.Reply, names.Names.Names, record.Record.Record, shared.Shared.Shared, worker.Worker.Worker}, Due.IsWheelAt, Flown.HasFlown, Phased.closes_at, Records.number_in, Serving.changed_at, Sound.{IsAlike, IsSubmitted, served_in, is_armed_at}, Spots.Spot, Submitting.{IsDueIn, IsInOrder}, View.{visible, own_of, desk_of, driver_of, common_of, things_of, numbers_of}, Works.Steps}, proofs.{Calling.request_seen, Carries.carried_still, Changing.{OneGoesOn, flying_after, keeps_one}, Going.GoesOn, Seeing.{makes, shows, served, common_changed}, Serving.{is_calm, Serves, Keeps, KeepsBy}, Staging.stages_again, Turning.set_found, Watching.{Watched, flown_watched, submitted_watched, watched}, Timed.keeps_untold, Expiring.{HasExpired, comes_to_due, due_first, expires, flies_not_queued, move_expire, same_change, told_first, unticked_start, unticked_tick}, Expired.expiry_ends, Resolving.unticked_at, Orders.{alike_unticked, eased, eases_written, part_after, part_self}}}
 use Rattle.exec_outcomes.specs.declared.outcome.Outcome.TheVariants.{Failure}
 
 -- THE LIST
@@ -87,15 +80,15 @@ module _ {B : Type 0} (w : Worker) (s : Shared B) (new : IsDueIn w s) (id : Wait
   submitted_cancelled : IsSubmitted w.index w.names.staged.items w.names.untold.items (driver_of w).ring cancelled_records
   submitted_cancelled = submitted_watched w.index w.names w.names.held (driver_of w) cancelled_driver w.home.timers s.requests.items cancelled_records s.sleepers.items id.0 (due_first w s new id first).r cancels watched_cancelled new.submits.sound.named.submitted
 
-  flown_cancelled : HasFlown (served_in (at.Service (step.Submit new.submits.gate) new.submits.service)) w.index w.names cancelled_driver cancelled_records
-  flown_cancelled = flown_watched w.index w.names w.names.held (driver_of w) cancelled_driver w.home.timers s.requests.items cancelled_records s.sleepers.items id.0 (due_first w s new id first).r cancels watched_cancelled (served_in (at.Service (step.Submit new.submits.gate) new.submits.service)) new.submits.sound.flown
+  flown_cancelled : HasFlown (served_in (Place.Service (InService.Submit new.submits.gate) new.submits.service)) w.index w.names cancelled_driver cancelled_records
+  flown_cancelled = flown_watched w.index w.names w.names.held (driver_of w) cancelled_driver w.home.timers s.requests.items cancelled_records s.sleepers.items id.0 (due_first w s new id first).r cancels watched_cancelled (served_in (Place.Service (InService.Submit new.submits.gate) new.submits.service)) new.submits.sound.flown
 
   keeps_cancelled : IsPunctual cancelled_driver
-      → KeepsBy (record w { place = at.Service (step.Submit new.submits.gate) new.submits.service }) cancelled_driver w.home.timers cancelled_records s.sleepers.items s
+      → KeepsBy (record w { place = Place.Service (InService.Submit new.submits.gate) new.submits.service }) cancelled_driver w.home.timers cancelled_records s.sleepers.items s
   keeps_cancelled punctual =
       let v = new.submits.service in
       let gate = new.submits.gate in
-      let q : Place = at.Service (step.Submit gate) v in
+      let q : Place = Place.Service (InService.Submit gate) v in
       let sound = new.submits.sound in
       let d = driver_of w in
       let who = due_first w s new id first in
@@ -126,7 +119,7 @@ module _ {B L : Type 0} (left : B → L) (spot : L → Option Said → Spot) whe
   expiry_cancels w w' s s' e id new order first flies by =
       let v = new.submits.service in
       let gate = new.submits.gate in
-      let q : Place = at.Service (step.Submit gate) v in
+      let q : Place = Place.Service (InService.Submit gate) v in
       let sound = new.submits.sound in
       let d = driver_of w in
       let rs = s.requests.items in

@@ -1,25 +1,11 @@
 -- What keeps what the kernel has, where entries go into the submission queue and the kernel takes them in.
-use Rattle.std.proofs.Common.{◌≡◌, ◌≢◌, ℕ, zero, suc, ◌+◌, ◌-◌, ◌<◌, ◌≤◌, ◌==◌, ◌&&◌, Bool, true, false, cond, List, [], ◌∷◌, ◌++◌, length, filter, Option, Some, None, IsSome, refl, sym, ap, subst, ◌∙◌, arith, inl, inr}
-use Rattle.std.proofs.lemmas.Bool.{false≢true, eq-eqb}
-use Rattle.std.proofs.lemmas.Bool.Decides.{nat_tests}
-use Rattle.std.proofs.lemmas.List.{append-nil, append_assoc}
-use Rattle.std.proofs.lemmas.List.Elements.{filter-append}
-use Rattle.std.specs.Prelude.{slice_get, slice_index_or, sum_by, if◌then◌else◌}
-use Rattle.std.specs.List.{fold}
-use Rattle.std.specs.Option.{option_map}
-use Rattle.exec_base.specs.{Slab.{Slab, written}, declared.slab.Id.Id}
-use Rattle.exec_base.proofs.Slots.{id_cases}
-use Rattle.exec_outcomes.specs.{Outcomes.bytes_of, declared.outcome.{Kind.Kind, OpResult.OpResult}}
-use Rattle.exec_outcomes.specs.declared.outcome.Kind.TheVariants as kind
-use Rattle.exec_request.specs.{Requests.{target_of, window_by}, declared.{request.Request.Request as Asking, window.{Opcode.Opcode, Window.Window}}}
-use Rattle.exec_request.specs.declared.request.Request.TheVariants as asks
-use Rattle.exec_request.specs.declared.window.Opcode.TheVariants as opcode
-use Rattle.exec_ring.specs.{Kernels.{is_of, taken_as, taken_in, all_taken, with_entry}, Rings.RingState, Stores.socket_of, declared.{completion.Submission.Submission, store.Store.Store}}
-use Rattle.exec_waiters.specs.{Ids.{user_data_of, index_in}, States.waiter_at, declared.waiter.{Entry.{Entry, TheVariants.Pending}, Waiter.Waiter}}
-use Rattle.exec_machine.specs.{declared.state.{Request.Request, RequestPhase.RequestPhase}, Same.same_kind, Tests.is_staged}
-use Rattle.exec_machine.specs.declared.state.RequestPhase.TheVariants as phase
-use Rattle.exec_steps.specs.{declared.parts.{mail.Reply.Reply, record.Record.Record}, Carried.{IsCarried, IsLone, IsUnderWay, IsWhole, may_send, sends_to, those_of, unlanded}, Records.number_in, Serving.{changed_at, changed_in, flies, flown_in, is_one_of}}
-use Rattle.exec_steps.proofs.{Carrying.{index_told, sum_changed, under_way_on}, Changing.changes_one, Flying.{flies_if, get_flown}, Marking.{mark_if, marked, was_marked}}
+use Rattle.std.{proofs.{Common.{◌≡◌, ◌≢◌, ℕ, ◌+◌, ◌-◌, ◌==◌, ◌&&◌, Bool, true, false, cond, List, [], ◌∷◌, ◌++◌, filter, Option, Some, None, refl, sym, ap, subst, ◌∙◌, arith, slice_get, sum_by, if◌then◌else◌}, lemmas.{Bool.{false≢true, eq-eqb, Decides.nat_tests}, List.{append-nil, append_assoc, Elements.filter-append}}}, specs.{List.fold, Option.option_map}}
+use Rattle.exec_base.specs.Slab.{Slab}
+use Rattle.exec_request.specs.{Requests.window_by, declared.{request.Request.Request as Asking, window.Opcode.Opcode}}
+use Rattle.exec_ring.specs.{Kernels.{is_of, taken_as, taken_in, all_taken}, Rings.RingState, declared.{completion.Submission.Submission, store.Store.Store}}
+use Rattle.exec_waiters.specs.{Ids.user_data_of, declared.waiter.Entry.Entry}
+use Rattle.exec_machine.specs.{declared.state.{Request.Request, RequestPhase.RequestPhase}, Tests.is_staged}
+use Rattle.exec_steps.{specs.{declared.parts.{mail.Reply.Reply, record.Record.Record}, Carried.{IsCarried, IsUnderWay, IsWhole, may_send, sends_to, those_of, unlanded}, Records.number_in, Serving.{changed_at, changed_in, flies, flown_in, is_one_of}}, proofs.{Carrying.sum_changed, Flying.{flies_if, get_flown}}}
 
 same_number : (a b : ℕ) → (a == b) ≡ true → a ≡ b
 same_number a b h = grind (arith, nat_tests)
@@ -27,27 +13,27 @@ same_number a b h = grind (arith, nat_tests)
 -- WHAT THE KERNEL TAKES IN
 
 abbrev operates : Opcode → Bool
-operates opcode.Cancel = false
-operates opcode.Wake = false
+operates Opcode.Cancel = false
+operates Opcode.Wake = false
 operates _ = true
 
 whole_operates : (q : Asking) → IsWhole q → operates (window_by true q).kind ≡ true
-whole_operates (asks.Send s) whole = refl
-whole_operates (asks.Poll p) whole = refl
-whole_operates (asks.Recv x) whole = absurd whole
-whole_operates (asks.ReadAt x) whole = absurd whole
-whole_operates (asks.WriteAt x) whole = absurd whole
-whole_operates (asks.Sync x) whole = absurd whole
-whole_operates (asks.Connect x) whole = absurd whole
+whole_operates (Asking.Send s) whole = refl
+whole_operates (Asking.Poll p) whole = refl
+whole_operates (Asking.Recv x) whole = absurd whole
+whole_operates (Asking.ReadAt x) whole = absurd whole
+whole_operates (Asking.WriteAt x) whole = absurd whole
+whole_operates (Asking.Sync x) whole = absurd whole
+whole_operates (Asking.Connect x) whole = absurd whole
 
-poll_taken : (s : RingState) (e : Submission) (raised last : Bool) → s.raised ≡ raised → s.last ≡ last → (taken_as opcode.Wake s e).flying ≡ s.flying
+poll_taken : (s : RingState) (e : Submission) (raised last : Bool) → s.raised ≡ raised → s.last ≡ last → (taken_as Opcode.Wake s e).flying ≡ s.flying
 poll_taken s e true true is last = rw (is, last) refl
 poll_taken s e true false is last = rw (is, last) refl
 poll_taken s e false last is at = rw is refl
 
 one_flies : (k : Opcode) (s : RingState) (e : Submission) → (taken_as k s e).flying ≡ s.flying ++ (if operates k then e ∷ [] else [])
-one_flies opcode.Cancel s e = sym (append-nil s.flying)
-one_flies opcode.Wake s e = poll_taken s e s.raised s.last refl refl ∙ sym (append-nil s.flying)
+one_flies Opcode.Cancel s e = sym (append-nil s.flying)
+one_flies Opcode.Wake s e = poll_taken s e s.raised s.last refl refl ∙ sym (append-nil s.flying)
 one_flies _ s e = refl
 
 first_flies : (b : Bool) (e : Submission) (es : List Submission) → (if b then e ∷ [] else []) ++ es ≡ cond b (e ∷ es) es
@@ -81,30 +67,30 @@ those_taken u r =
 -- THE REQUESTS
 
 abbrev entered_phase : RequestPhase → RequestPhase
-entered_phase phase.Staged = phase.Flying
+entered_phase RequestPhase.Staged = RequestPhase.Flying
 entered_phase p = p
 
-flown_phase : (r : Request) (p : RequestPhase) → r.phase ≡ p → (if (r.worker == r.worker) && is_staged r.phase then (record r { phase = phase.Flying }) else r).phase ≡ entered_phase p
-flown_phase r phase.Staged is = rw (is, eq-eqb r.worker r.worker refl) refl
-flown_phase r phase.Flying is = rw (is, eq-eqb r.worker r.worker refl) refl
-flown_phase r phase.Queued is = rw (is, eq-eqb r.worker r.worker refl) refl
-flown_phase r phase.Gated is = rw (is, eq-eqb r.worker r.worker refl) refl
-flown_phase r (phase.Landed n) is = rw (is, eq-eqb r.worker r.worker refl) refl
-flown_phase r (phase.Resolved o) is = rw (is, eq-eqb r.worker r.worker refl) refl
+flown_phase : (r : Request) (p : RequestPhase) → r.phase ≡ p → (if (r.worker == r.worker) && is_staged r.phase then (record r { phase = RequestPhase.Flying }) else r).phase ≡ entered_phase p
+flown_phase r RequestPhase.Staged is = rw (is, eq-eqb r.worker r.worker refl) refl
+flown_phase r RequestPhase.Flying is = rw (is, eq-eqb r.worker r.worker refl) refl
+flown_phase r RequestPhase.Queued is = rw (is, eq-eqb r.worker r.worker refl) refl
+flown_phase r RequestPhase.Gated is = rw (is, eq-eqb r.worker r.worker refl) refl
+flown_phase r (RequestPhase.Landed n) is = rw (is, eq-eqb r.worker r.worker refl) refl
+flown_phase r (RequestPhase.Resolved o) is = rw (is, eq-eqb r.worker r.worker refl) refl
 
 still_phase : (p : RequestPhase) → (is_staged p ≡ true → ⊥) → p ≡ entered_phase p
-still_phase phase.Staged h = absurd (h refl)
-still_phase phase.Flying h = refl
-still_phase phase.Queued h = refl
-still_phase phase.Gated h = refl
-still_phase (phase.Landed n) h = refl
-still_phase (phase.Resolved o) h = refl
+still_phase RequestPhase.Staged h = absurd (h refl)
+still_phase RequestPhase.Flying h = refl
+still_phase RequestPhase.Queued h = refl
+still_phase RequestPhase.Gated h = refl
+still_phase (RequestPhase.Landed n) h = refl
+still_phase (RequestPhase.Resolved o) h = refl
 
 phase_then : (b : Bool) (r : Record) → (is_staged r.shown.phase ≡ true → b ≡ true) → (flies_if b r).shown.phase ≡ entered_phase r.shown.phase
 phase_then true r h = flown_phase r.shown r.shown.phase refl
 phase_then false r h = still_phase r.shown.phase (λ staged. false≢true (h staged))
 
-operation_by : (b : Bool) (r : Request) → (if b then (record r { phase = phase.Flying }) else r).operation ≡ r.operation
+operation_by : (b : Bool) (r : Request) → (if b then (record r { phase = RequestPhase.Flying }) else r).operation ≡ r.operation
 operation_by true r = refl
 operation_by false r = refl
 
@@ -113,7 +99,7 @@ operation_then true r = operation_by ((r.shown.worker == r.shown.worker) && is_s
 operation_then false r = refl
 
 under_entered : (p : RequestPhase) (u : ℕ) (q : Asking) (r r' : RingState) → IsWhole q → those_of u r'.flying ≡ those_of u r.flying ++ filter (λ e. operates e.window.kind) (those_of u r.staged) → r'.staged ≡ [] → IsUnderWay p u q r → IsUnderWay (entered_phase p) u q r'
-under_entered phase.Staged u q r r' whole fly staged h =
+under_entered RequestPhase.Staged u q r r' whole fly staged h =
     let lone = h.1 in
     let takes : operates lone.e.window.kind ≡ true = ap (λ w. operates w.kind) (sym lone.window) ∙ whole_operates q whole in (
       record {
@@ -123,24 +109,24 @@ under_entered phase.Staged u q r r' whole fly staged h =
       },
       ap (those_of u) staged,
     )
-under_entered phase.Flying u q r r' whole fly staged h =
+under_entered RequestPhase.Flying u q r r' whole fly staged h =
     (record { e = h.0.e; lone = fly ∙ ap (λ xs. those_of u r.flying ++ filter (λ e. operates e.window.kind) xs) h.1 ∙ append-nil (those_of u r.flying) ∙ h.0.lone; window = h.0.window }, ap (those_of u) staged)
-under_entered phase.Queued u q r r' whole fly staged h = (fly ∙ rw (h.0, h.1) refl, ap (those_of u) staged)
-under_entered phase.Gated u q r r' whole fly staged h = (fly ∙ rw (h.0, h.1) refl, ap (those_of u) staged)
-under_entered (phase.Landed n) u q r r' whole fly staged h = (fly ∙ rw (h.0, h.1) refl, ap (those_of u) staged)
-under_entered (phase.Resolved o) u q r r' whole fly staged h = (fly ∙ rw (h.0, h.1) refl, ap (those_of u) staged)
+under_entered RequestPhase.Queued u q r r' whole fly staged h = (fly ∙ rw (h.0, h.1) refl, ap (those_of u) staged)
+under_entered RequestPhase.Gated u q r r' whole fly staged h = (fly ∙ rw (h.0, h.1) refl, ap (those_of u) staged)
+under_entered (RequestPhase.Landed n) u q r r' whole fly staged h = (fly ∙ rw (h.0, h.1) refl, ap (those_of u) staged)
+under_entered (RequestPhase.Resolved o) u q r r' whole fly staged h = (fly ∙ rw (h.0, h.1) refl, ap (those_of u) staged)
 
 -- the room stays
-unlanded_by : (r : Request) (p : RequestPhase) → r.phase ≡ p → unlanded (if (r.worker == r.worker) && is_staged r.phase then (record r { phase = phase.Flying }) else r).phase r.operation ≡ unlanded r.phase r.operation
+unlanded_by : (r : Request) (p : RequestPhase) → r.phase ≡ p → unlanded (if (r.worker == r.worker) && is_staged r.phase then (record r { phase = RequestPhase.Flying }) else r).phase r.operation ≡ unlanded r.phase r.operation
 unlanded_by r p is = ap (λ x. unlanded x r.operation) (flown_phase r p is) ∙ same p ∙ ap (λ x. unlanded x r.operation) (sym is)
   where
     same : (p : RequestPhase) → unlanded (entered_phase p) r.operation ≡ unlanded p r.operation
-    same phase.Staged = refl
-    same phase.Flying = refl
-    same phase.Queued = refl
-    same phase.Gated = refl
-    same (phase.Landed n) = refl
-    same (phase.Resolved o) = refl
+    same RequestPhase.Staged = refl
+    same RequestPhase.Flying = refl
+    same RequestPhase.Queued = refl
+    same RequestPhase.Gated = refl
+    same (RequestPhase.Landed n) = refl
+    same (RequestPhase.Resolved o) = refl
 
 sends_on : (socket : ℕ) (r : Record) → may_send socket (flies r) ≡ may_send socket r
 sends_on socket r =

@@ -1,19 +1,12 @@
 -- What keeps what the kernel has, where other steps change the requests.
-use Rattle.std.proofs.Common.{◌≡◌, ◌≢◌, ◌⊎◌, ℕ, zero, suc, ◌+◌, ◌<◌, ◌≤◌, ◌==◌, Bool, true, false, List, [], ◌∷◌, ◌++◌, length, filter, Option, Some, None, IsSome, refl, sym, ap, subst, ◌∙◌, arith, inl, inr}
-use Rattle.std.proofs.lemmas.Bool.{false≢true, eq-eqb}
-use Rattle.std.proofs.lemmas.Bool.Decides.{nat_tests}
-use Rattle.std.specs.Prelude.{slice_get, sum_by, if◌then◌else◌}
-use Rattle.exec_base.specs.{Slab.{Slab, value_at, written}, declared.slab.Id.Id}
-use Rattle.exec_base.proofs.Slots.{id_cases}
+use Rattle.std.proofs.{Common.{◌≡◌, ◌≢◌, ℕ, ◌<◌, ◌≤◌, ◌==◌, Bool, true, false, List, [], Option, Some, None, refl, sym, ap, subst, ◌∙◌, arith, inl, inr, slice_get, sum_by, if◌then◌else◌}, lemmas.Bool.{false≢true, eq-eqb, Decides.nat_tests}}
+use Rattle.exec_base.{specs.{Slab.{Slab, written}, declared.slab.Id.Id}, proofs.Slots.id_cases}
 use Rattle.exec_outcomes.specs.declared.outcome.Outcome.{Outcome}
-use Rattle.exec_request.specs.{Requests.{target_of, window_by}, declared.request.Request.Request as Asking}
+use Rattle.exec_request.specs.Requests.{target_of}
 use Rattle.exec_ring.specs.{Rings.RingState, Stores.socket_of, declared.store.Store.Store}
-use Rattle.exec_waiters.proofs.Changes.{entry_of}
 use Rattle.exec_waiters.specs.{Ids.{user_data_of, index_in}, States.waiter_at, declared.waiter.{Entry.{Entry, TheVariants.Pending}, Waiter.Waiter}}
-use Rattle.exec_machine.specs.{declared.state.RequestPhase.RequestPhase, Tests.is_in_flight}
-use Rattle.exec_machine.specs.declared.state.RequestPhase.TheVariants as phase
-use Rattle.exec_steps.specs.{declared.parts.{mail.Reply.Reply, record.Record.Record}, Carried.{IsCarried, IsLone, IsUnderWay, IsWhole, may_send, sends_to, those_of, unlanded}, Records.number_in, Serving.{changed_at, is_one_of}}
-use Rattle.exec_steps.proofs.{Carrying.{index_told, sum_changed}, Changing.changes_one, Marking.{mark_if, marked, was_marked}}
+use Rattle.exec_machine.specs.declared.state.RequestPhase.{RequestPhase}
+use Rattle.exec_steps.{specs.{declared.parts.{mail.Reply.Reply, record.Record.Record}, Carried.{IsCarried, IsUnderWay, IsWhole, may_send, sends_to, those_of, unlanded}, Records.number_in, Serving.changed_at}, proofs.{Carrying.sum_changed, Changing.changes_one, Marking.{mark_if, was_marked}}}
 
 same_number : (a b : ℕ) → (a == b) ≡ true → a ≡ b
 same_number a b h = grind (arith, nat_tests)
@@ -119,7 +112,7 @@ module _ (numbers : List ℕ) (s : Slab (Entry Reply Reply)) (ring : RingState) 
 
   -- a request of which the ring has nothing is over
   module _ (s' : Slab (Entry Reply Reply)) (id : Id) (it : Waiter Reply Reply) (r : Record) (f : Record → Record) (outcome : Outcome) (live : waiter_at s id ≡ Some it) (there : slice_get rs (number_in numbers id) ≡ Some r)
-      (none : (those_of (user_data_of id) ring.flying ≡ []) × (those_of (user_data_of id) ring.staged ≡ [])) (gone : waiter_at s' id ≡ None) (others : (other : Id) → other ≢ id → waiter_at s' other ≡ waiter_at s other) (over : (f r).shown.phase ≡ phase.Resolved outcome)
+      (none : (those_of (user_data_of id) ring.flying ≡ []) × (those_of (user_data_of id) ring.staged ≡ [])) (gone : waiter_at s' id ≡ None) (others : (other : Id) → other ≢ id → waiter_at s' other ≡ waiter_at s other) (over : (f r).shown.phase ≡ RequestPhase.Resolved outcome)
       (apart : (other : Id) (x : Waiter Reply Reply) → waiter_at s other ≡ Some x → other ≢ id → number_in numbers id ≡ number_in numbers other → ⊥) where
     another : (other : Id) (x : Waiter Reply Reply) → waiter_at s' other ≡ Some x → other ≢ id
     another other x at same = let no : None ≡ Some x = sym gone ∙ ap (waiter_at s') (sym same) ∙ at in absurd (cc)

@@ -1,25 +1,13 @@
 -- What the kernel has of a request, as its result lands.
-use Rattle.std.proofs.Common.{◌≡◌, ◌≢◌, ℕ, zero, suc, ◌+◌, ◌-◌, ◌*◌, ◌%◌, ◌/◌, ◌^◌, ◌<◌, ◌≤◌, ◌==◌, ◌&&◌, ◌||◌, Bool, true, false, not, cond, min, List, [], ◌∷◌, ◌++◌, length, map, filter, take, drop, get_or, Option, Some, None, IsSome, refl, sym, ap, subst, ◌∙◌, arith, inl, inr}
-use Rattle.std.proofs.lemmas.Bool.{false≢true, eq-eqb, and_parts}
-use Rattle.std.proofs.lemmas.Bool.Decides.{nat_tests}
-use Rattle.std.proofs.lemmas.List.Elements.{filter-append}
-use Rattle.std.proofs.lemmas.List.Folds.{list_any-append}
-use Rattle.std.proofs.lemmas.List.Sums.{sum_by-set, get_or-le-sum_by}
-use Rattle.std.proofs.lemmas.Option.{slice_get_within, get_or_from_slice_get}
-use Rattle.std.specs.Prelude.{slice_get, slice_set, slice_index_or, sum_by, nat_le, if◌then◌else◌}
-use Rattle.std.specs.List.{position_or_len, remove}
-use Rattle.exec_outcomes.specs.{Lawful.{is_lawful, window_of}, Outcomes.bytes_of, declared.outcome.OpResult.{OpResult, TheVariants.{Count, Errno}}}
+use Rattle.std.{proofs.{Common.{◌≡◌, ◌≢◌, ℕ, suc, ◌+◌, ◌-◌, ◌%◌, ◌^◌, ◌<◌, ◌≤◌, ◌==◌, ◌&&◌, Bool, true, false, not, cond, min, List, [], ◌∷◌, ◌++◌, length, filter, get_or, Some, refl, sym, ap, subst, ◌∙◌, arith, slice_get, slice_set, sum_by, nat_le, if◌then◌else◌}, lemmas.{Bool.{false≢true, eq-eqb, and_parts, Decides.nat_tests}, List.{Elements.filter-append, Sums.{sum_by-set, get_or-le-sum_by}}, Option.{slice_get_within, get_or_from_slice_get}}}, specs.List.{position_or_len, remove}}
+use Rattle.exec_outcomes.specs.{Lawful.{is_lawful, window_of}, Outcomes.bytes_of, declared.outcome.{OpResult.{OpResult, TheVariants.{Count, Errno}}, Kind.Kind}}
 use Rattle.exec_request.specs.{Requests.{asked_of, cursor_of, target_of, window_by}, Buffers.{batch_of, length_of, moved_of}, Windows.most_of, declared.{buffers.WriteBuffers.{WriteBuffers, TheVariants.{Single, Vectored}}, request.Request.Request as Asking, send.SendRequest.SendRequest}}
-use Rattle.exec_request.specs.declared.request.Request.TheVariants as asks
 use Rattle.exec_ring.specs.{Completions.{completed, number_of, result_in}, Kernels.{is_of, allows, flight_of, without_flight, landed, may_land}, Landings.{IsReady, IsReadyFor, Moves, MovesBytes}, Rings.{RingState, completions}, Sockets.after_send, Stores.socket_of, declared.{completion.{Completion.Completion, Posted.Posted, Submission.Submission}, store.Store.Store}}
 use Rattle.exec_waiters.specs.Ids.{user_data_of, index_in, generation_in}
 use Rattle.exec_driver.specs.Steps.{is_control}
 use Rattle.exec_machine.specs.{declared.state.{Operation.Operation, RequestPhase.{RequestPhase, TheVariants.Flying}}, Requests.{asked_of as asked_in, cursor_of as cursor_in}, Same.same_kind}
 use Rattle.exec_base.specs.declared.slab.Id.{Id}
-use Rattle.exec_outcomes.specs.declared.outcome.Kind.TheVariants as kind
-use Rattle.exec_machine.specs.declared.state.RequestPhase.TheVariants as phase
-use Rattle.exec_steps.specs.{declared.parts.record.Record.Record, Carried.{IsOneBuffer, IsWhole, IsLone, IsUnderWay, those_of, sends_to, may_send, unlanded, landing}, Flown.{AreAcks, operations}, Serving.{changed_at, changed_in}, View.trailing}
-use Rattle.exec_steps.proofs.Rings.{completion_added}
+use Rattle.exec_steps.{specs.{declared.parts.record.Record.Record, Carried.{IsOneBuffer, IsWhole, IsLone, IsUnderWay, those_of, sends_to, may_send, unlanded, landing}, Flown.{AreAcks, operations}, Serving.{changed_at, changed_in}, View.trailing}, proofs.Rings.completion_added}
 
 -- THE FIRST THAT PASSES A TEST
 
@@ -97,13 +85,13 @@ lawful_same q o n asked moved switched h =
     ∙ h
 
 allowed_by : (q : Asking) (n : OpResult) → IsWhole q → is_lawful (window_of (asked_of q) (cursor_of q)) n ≡ true → is_lawful (most_of (window_by true q)) n ≡ true
-allowed_by (asks.Send s) n whole h = ap (λ most. is_lawful most n) (batch_whole s.write whole) ∙ h
-allowed_by (asks.Poll p) n whole h = h
-allowed_by (asks.Recv r) n whole h = absurd whole
-allowed_by (asks.ReadAt r) n whole h = absurd whole
-allowed_by (asks.WriteAt w) n whole h = absurd whole
-allowed_by (asks.Sync s) n whole h = absurd whole
-allowed_by (asks.Connect c) n whole h = absurd whole
+allowed_by (Asking.Send s) n whole h = ap (λ most. is_lawful most n) (batch_whole s.write whole) ∙ h
+allowed_by (Asking.Poll p) n whole h = h
+allowed_by (Asking.Recv r) n whole h = absurd whole
+allowed_by (Asking.ReadAt r) n whole h = absurd whole
+allowed_by (Asking.WriteAt w) n whole h = absurd whole
+allowed_by (Asking.Sync s) n whole h = absurd whole
+allowed_by (Asking.Connect c) n whole h = absurd whole
 
 counted : (m : ℕ) (n : OpResult) → is_lawful m n ≡ true → bytes_of n ≤ m
 counted m (Count k) h = let a = (and_parts (nat_le k m) (nat_le k (2 ^ 31 - 1)) h).0 in grind (arith, nat_tests)
@@ -120,7 +108,7 @@ sum_changed f rs k r g there =
 part_within : (f : Record → ℕ) (rs : List Record) (k : ℕ) (r : Record) → slice_get rs k ≡ Some r → f r ≤ sum_by f rs
 part_within f rs k r there = subst (λ x. f x ≤ sum_by f rs) (get_or_from_slice_get rs k r r there) (get_or-le-sum_by f rs k r (slice_get_within rs k r there))
 
-sends_there : (o : Operation) (socket : ℕ) → o.kind ≡ kind.Send → o.target ≡ socket → sends_to socket o ≡ true
+sends_there : (o : Operation) (socket : ℕ) → o.kind ≡ Kind.Send → o.target ≡ socket → sends_to socket o ≡ true
 sends_there o socket k t = rw (k, t) (eq-eqb socket socket refl)
 
 -- where a result of so many bytes may come, there is room for them
@@ -128,7 +116,7 @@ room_for : (q : Asking) (r : Record) (n : OpResult) (rs : List Record) (k : ℕ)
     → r.shown.operation.moved ≡ (cursor_of q).moved → r.shown.operation.target ≡ target_of q → is_lawful (window_of (asked_of q) (cursor_of q)) n ≡ true
     → ((socket : ℕ) → sum_by (may_send socket) rs ≤ (socket_of st socket).sent_room) → IsReadyFor (window_by true q) n q st
 room_for q r (Errno c) rs k st whole there flies asked moved target h room = tt
-room_for (asks.Send s) r (Count n) rs k st whole there flies asked moved target h room =
+room_for (Asking.Send s) r (Count n) rs k st whole there flies asked moved target h room =
     let f = may_send s.fd in
     let sends = sends_there r.shown.operation s.fd (ap (λ a. a.kind) asked) target in
     let left : f r ≡ length_of s.write - moved_of s.write =
@@ -141,12 +129,12 @@ room_for (asks.Send s) r (Count n) rs k st whole there flies asked moved target 
     let all = room s.fd in
     let batch = batch_whole s.write whole in
     record { window = refl; ends = rw batch (omega arith); room = omega (arith, left, some, part, all) }
-room_for (asks.Poll p) r (Count n) rs k st whole there flies asked moved target h room = record { window = refl; ends = omega arith; room = tt }
-room_for (asks.Recv x) r (Count n) rs k st whole there flies asked moved target h room = absurd whole
-room_for (asks.ReadAt x) r (Count n) rs k st whole there flies asked moved target h room = absurd whole
-room_for (asks.WriteAt x) r (Count n) rs k st whole there flies asked moved target h room = absurd whole
-room_for (asks.Sync x) r (Count n) rs k st whole there flies asked moved target h room = absurd whole
-room_for (asks.Connect x) r (Count n) rs k st whole there flies asked moved target h room = absurd whole
+room_for (Asking.Poll p) r (Count n) rs k st whole there flies asked moved target h room = record { window = refl; ends = omega arith; room = tt }
+room_for (Asking.Recv x) r (Count n) rs k st whole there flies asked moved target h room = absurd whole
+room_for (Asking.ReadAt x) r (Count n) rs k st whole there flies asked moved target h room = absurd whole
+room_for (Asking.WriteAt x) r (Count n) rs k st whole there flies asked moved target h room = absurd whole
+room_for (Asking.Sync x) r (Count n) rs k st whole there flies asked moved target h room = absurd whole
+room_for (Asking.Connect x) r (Count n) rs k st whole there flies asked moved target h room = absurd whole
 
 -- so much of it is left then
 pub record Leaves (q : Asking) (o : Operation) (n : OpResult) (st st' : Store) (socket : ℕ) : Type 0 where
@@ -157,7 +145,7 @@ leaves_same : (q : Asking) (o : Operation) (n : OpResult) (st st' : Store) (sock
 leaves_same q o n st st' socket same = rw same (record { some = omega arith; all = λ h. omega arith })
 
 leaves_sent : (s : SendRequest) (o : Operation) (n : ℕ) (st st' : Store) (socket : ℕ) (bytes : List ℕ) (b : Bool) → (socket == s.fd) ≡ b → sends_to s.fd o ≡ true
-    → socket_of st' socket ≡ (if b then after_send n bytes (socket_of st s.fd) else socket_of st socket) → Leaves (asks.Send s) o (Count n) st st' socket
+    → socket_of st' socket ≡ (if b then after_send n bytes (socket_of st s.fd) else socket_of st socket) → Leaves (Asking.Send s) o (Count n) st st' socket
 leaves_sent s o n st st' socket bytes true is sends moved =
     let same = same_number socket s.fd is in
     let here : (socket_of st socket).sent_room ≡ (socket_of st s.fd).sent_room = ap (λ t. (socket_of st t).sent_room) same in
@@ -170,26 +158,26 @@ leaves_sent s o n st st' socket bytes false is sends moved =
 -- a request with its bytes in one buffer stays as it is, and takes no more of the store than its result counts
 moves_on : (q q' : Asking) (o : Operation) (n : OpResult) (st st' : Store) → IsWhole q → asked_in o ≡ asked_of q → o.target ≡ target_of q → MovesBytes (window_by true q) n q q' st st' → (q' ≡ q) × ((socket : ℕ) → Leaves q o n st st' socket)
 moves_on q q' o (Errno c) st st' whole asked target moved = (moved.1, λ socket. leaves_same q o (Errno c) st st' socket moved.0)
-moves_on (asks.Send s) q' o (Count n) st st' whole asked target moved =
+moves_on (Asking.Send s) q' o (Count n) st st' whole asked target moved =
     (moved.1, λ socket. leaves_sent s o n st st' socket _ (socket == s.fd) refl (sends_there o s.fd (ap (λ a. a.kind) asked) target) (moved.0.sockets socket))
-moves_on (asks.Poll p) q' o (Count n) st st' whole asked target moved = (moved.1, λ socket. leaves_same (asks.Poll p) o (Count n) st st' socket moved.0)
-moves_on (asks.Recv x) q' o (Count n) st st' whole asked target moved = absurd whole
-moves_on (asks.ReadAt x) q' o (Count n) st st' whole asked target moved = absurd whole
-moves_on (asks.WriteAt x) q' o (Count n) st st' whole asked target moved = absurd whole
-moves_on (asks.Sync x) q' o (Count n) st st' whole asked target moved = absurd whole
-moves_on (asks.Connect x) q' o (Count n) st st' whole asked target moved = absurd whole
+moves_on (Asking.Poll p) q' o (Count n) st st' whole asked target moved = (moved.1, λ socket. leaves_same (Asking.Poll p) o (Count n) st st' socket moved.0)
+moves_on (Asking.Recv x) q' o (Count n) st st' whole asked target moved = absurd whole
+moves_on (Asking.ReadAt x) q' o (Count n) st st' whole asked target moved = absurd whole
+moves_on (Asking.WriteAt x) q' o (Count n) st st' whole asked target moved = absurd whole
+moves_on (Asking.Sync x) q' o (Count n) st st' whole asked target moved = absurd whole
+moves_on (Asking.Connect x) q' o (Count n) st st' whole asked target moved = absurd whole
 
 bytes_left : (q : Asking) (o : Operation) (n : OpResult) → IsWhole q → o.moved ≡ (cursor_of q).moved → asked_in o ≡ asked_of q → (socket : ℕ) → sends_to socket o ≡ true → is_lawful (window_of (asked_of q) (cursor_of q)) n ≡ true → bytes_of n ≤ o.length - o.moved
-bytes_left (asks.Send s) o n whole moved asked socket sends h =
+bytes_left (Asking.Send s) o n whole moved asked socket sends h =
     let some : bytes_of n ≤ min (length_of s.write - moved_of s.write) (2 ^ 32 - 1) = counted _ n h in
     let length : o.length ≡ length_of s.write = ap (λ a. a.length) asked in
     omega (arith, some, length, moved)
-bytes_left (asks.Poll p) o n whole moved asked socket sends h = absurd (false≢true (ap (λ k. same_kind k kind.Send && (o.target == socket)) (sym (ap (λ a. a.kind) asked)) ∙ sends))
-bytes_left (asks.Recv x) o n whole moved asked socket sends h = absurd whole
-bytes_left (asks.ReadAt x) o n whole moved asked socket sends h = absurd whole
-bytes_left (asks.WriteAt x) o n whole moved asked socket sends h = absurd whole
-bytes_left (asks.Sync x) o n whole moved asked socket sends h = absurd whole
-bytes_left (asks.Connect x) o n whole moved asked socket sends h = absurd whole
+bytes_left (Asking.Poll p) o n whole moved asked socket sends h = absurd (false≢true (ap (λ k. same_kind k Kind.Send && (o.target == socket)) (sym (ap (λ a. a.kind) asked)) ∙ sends))
+bytes_left (Asking.Recv x) o n whole moved asked socket sends h = absurd whole
+bytes_left (Asking.ReadAt x) o n whole moved asked socket sends h = absurd whole
+bytes_left (Asking.WriteAt x) o n whole moved asked socket sends h = absurd whole
+bytes_left (Asking.Sync x) o n whole moved asked socket sends h = absurd whole
+bytes_left (Asking.Connect x) o n whole moved asked socket sends h = absurd whole
 
 pub room_landed : (q : Asking) (r : Record) (n : OpResult) (rs : List Record) (k : ℕ) (st st' : Store) → IsWhole q → slice_get rs k ≡ Some r → r.shown.phase ≡ Flying → asked_in r.shown.operation ≡ asked_of q
     → r.shown.operation.moved ≡ (cursor_of q).moved → is_lawful (window_of (asked_of q) (cursor_of q)) n ≡ true → (socket : ℕ) → Leaves q r.shown.operation n st st' socket
@@ -248,12 +236,12 @@ flown_so q q' o user_data n r st st' whole asked target may moved =
 
 -- another request's operations stay where they are
 pub under_way_on : (p : RequestPhase) (u : ℕ) (q : Asking) (r r' : RingState) → those_of u r'.flying ≡ those_of u r.flying → r'.staged ≡ r.staged → IsUnderWay p u q r → IsUnderWay p u q r'
-under_way_on phase.Staged u q r r' flying staged h = (flying ∙ h.0, rw staged h.1)
-under_way_on phase.Flying u q r r' flying staged h = (record { e = h.0.e; lone = flying ∙ h.0.lone; window = h.0.window }, rw staged h.1)
-under_way_on phase.Queued u q r r' flying staged h = (flying ∙ h.0, rw staged h.1)
-under_way_on phase.Gated u q r r' flying staged h = (flying ∙ h.0, rw staged h.1)
-under_way_on (phase.Landed n) u q r r' flying staged h = (flying ∙ h.0, rw staged h.1)
-under_way_on (phase.Resolved o) u q r r' flying staged h = (flying ∙ h.0, rw staged h.1)
+under_way_on RequestPhase.Staged u q r r' flying staged h = (flying ∙ h.0, rw staged h.1)
+under_way_on RequestPhase.Flying u q r r' flying staged h = (record { e = h.0.e; lone = flying ∙ h.0.lone; window = h.0.window }, rw staged h.1)
+under_way_on RequestPhase.Queued u q r r' flying staged h = (flying ∙ h.0, rw staged h.1)
+under_way_on RequestPhase.Gated u q r r' flying staged h = (flying ∙ h.0, rw staged h.1)
+under_way_on (RequestPhase.Landed n) u q r r' flying staged h = (flying ∙ h.0, rw staged h.1)
+under_way_on (RequestPhase.Resolved o) u q r r' flying staged h = (flying ∙ h.0, rw staged h.1)
 
 pub others_fly : (u v : ℕ) (r : RingState) (n : OpResult) → (u ≡ v → ⊥) → those_of v (landed r u n).flying ≡ those_of v r.flying
 others_fly u v r n apart = others_left (is_of u) (is_of v) (λ e is. other e is (e.user_data == v) refl) r.flying

@@ -1,21 +1,12 @@
 -- The end of the stagings of a service.
-use Rattle.std.proofs.Common.{◌≡◌, ℕ, zero, suc, ◌+◌, ◌<◌, ◌≤◌, ◌==◌, ◌&&◌, ◌||◌, Bool, true, false, not, List, [], ◌∷◌, ◌++◌, length, map, filter, Option, Some, None, refl, sym, ap, subst, ◌∙◌, arith}
-use Rattle.std.proofs.lemmas.Bool.{false≢true}
-use Rattle.std.proofs.lemmas.List.{length-append}
-use Rattle.std.specs.Prelude.{slice_get, slice_set, nat_lt, if◌then◌else◌}
-use Rattle.std.specs.List.{list_any}
-use Rattle.exec_base.specs.Slab.{live_count}
-use Rattle.exec_ring.specs.{Kernels.entered as entered_ring, Rings.{RingState, completions}, declared.completion.Submission.Submission}
+use Rattle.std.proofs.{Common.{◌≡◌, ℕ, ◌+◌, ◌<◌, ◌≤◌, ◌==◌, ◌&&◌, ◌||◌, Bool, true, false, not, List, [], ◌∷◌, ◌++◌, length, Option, None, refl, sym, ap, subst, ◌∙◌, arith, nat_lt, if◌then◌else◌}, lemmas.{Bool.false≢true, List.length-append}}
+use Rattle.exec_ring.specs.{Kernels.entered as entered_ring, declared.completion.Submission.Submission}
 use Rattle.exec_waiters.specs.{Ids.index_in, States.{pending_count, flying_count}, Told.is_untold, declared.waiter_id.WaiterId.WaiterId}
 use Rattle.exec_task.specs.declared.body.Said.{Said}
-use Rattle.exec_driver.specs.{Driving.{Driving, has_pending, may_stage_one, is_full as is_ring_full}, Punctual.IsPunctual, Steps.{wake_entry, poll_staged}}
-use Rattle.exec_machine.specs.{declared.{config.Configuration.Configuration, event.Event.{Event, TheVariants.{Serve, Busy}}}, Progress.Plan, Ranges.ring_size, Tests.is_resolved, World.{Own, Common, seat_of}}
-use Rattle.exec_moves.specs.{Callback.{has_requests, has_callbacks, is_full}, Load.has_submissions, Serve.{enters, after_staging}, Move.{move_at, move_submit}, Seen.serves_at, State.{Desk, Things}, Submit.{Due, staging_due, request_due, with_poll, Due.{Ends, Flushes}}, declared.place.{InService.InService, Service.Service, Place.Place}}
-use Rattle.exec_moves.specs.declared.place.InService.TheVariants as step
-use Rattle.exec_moves.specs.declared.place.Reaping.TheVariants as reaping
-use Rattle.exec_moves.specs.declared.place.Place.TheVariants as at
-use Rattle.exec_steps.specs.{declared.parts.{mail.Reply.Reply, shared.Shared.Shared, worker.{PutOff.PutOff, Worker.Worker}}, Carried.those_of, Due.{IsWheelAt, may_be_due, wheel_moment}, Flown.{AreAcks, HasFlown, operations}, Phased.closes_at, Rooted.IsRooted, Serving.{AreTagged, Enters, cancels_in, enters_after, with_staging_ended}, Sound.{tellers, SoundAt, IsNamed, IsSubmitted, served_in, is_armed_at}, Spots.Spot, Submitting.{IsIdle, EndsStaging, with_wake_poll, must_flush, after_flush}, Tests.{has_open_requests, is_anything_told}, View.{Visible, visible, own_of, desk_of, driver_of, common_of, things_of}, Works.{Suits, Steps}}
-use Rattle.exec_steps.proofs.{Conveying.{carried_ring, control_entry}, Entered.entered, Flown.landed_as, Going.{all_still, rooted_on}, Leading.told_seen, Seeing.{makes, own_with, desk_with, visible_with, served, common_same}, Serving.{is_calm, calm, Follows, Serves, Keeps, KeepsBy, own_seat}, Staging.{staging_next, flush_seen, stages_again, idle_at, suits_at}, Standing.{requests_seen, submissions_seen}}
+use Rattle.exec_driver.specs.{Driving.{Driving, has_pending, may_stage_one, is_full as is_ring_full}, Steps.{wake_entry, poll_staged}}
+use Rattle.exec_machine.specs.{declared.{config.Configuration.Configuration, event.Event.{Event, TheVariants.{Serve, Busy}}}, Progress.Plan, Ranges.ring_size}
+use Rattle.exec_moves.specs.{Callback.{has_requests, has_callbacks, is_full}, Load.has_submissions, Serve.{enters, after_staging}, Move.{move_at, move_submit}, Seen.serves_at, State.Desk, Submit.{staging_due, request_due, with_poll, Due.{Ends, Flushes}}, declared.place.{InService.InService, Service.Service, Place.Place, Reaping.Reaping}}
+use Rattle.exec_steps.{specs.{declared.parts.{mail.Reply.Reply, shared.Shared.Shared, worker.{PutOff.PutOff, Worker.Worker}}, Carried.those_of, Due.{IsWheelAt, may_be_due}, Flown.{AreAcks, operations}, Phased.closes_at, Rooted.IsRooted, Serving.{AreTagged, Enters, cancels_in, enters_after, with_staging_ended}, Sound.{tellers, SoundAt, IsSubmitted, served_in, is_armed_at}, Spots.Spot, Submitting.{IsIdle, EndsStaging, with_wake_poll, must_flush, after_flush}, Tests.{has_open_requests, is_anything_told}, View.{Visible, visible, own_of, desk_of, driver_of, common_of, things_of}, Works.{Suits, Steps}}, proofs.{Conveying.{carried_ring, control_entry}, Entered.entered, Flown.landed_as, Going.{all_still, rooted_on}, Leading.told_seen, Seeing.{makes, own_with, desk_with, visible_with, served, common_same}, Serving.{is_calm, calm, Follows, Serves, Keeps, KeepsBy, own_seat}, Staging.{staging_next, flush_seen, stages_again, idle_at, suits_at}, Standing.{requests_seen, submissions_seen}}}
 
 -- WHERE ONLY THE RING CHANGES
 
@@ -115,15 +106,15 @@ poll_by false false d = polled_ring d
 -- WHERE IT LEADS
 
 abbrev pub after_by : Bool → InService
-after_by b = if b then step.EnterLast else step.Reap reaping.Last
+after_by b = if b then InService.EnterLast else InService.Reap Reaping.Last
 
-follows_by : (gate : ℕ) (v : Service) (b : Bool) → Follows (at.Service (step.Submit gate) v) (at.Service (after_by b) v)
+follows_by : (gate : ℕ) (v : Service) (b : Bool) → Follows (Place.Service (InService.Submit gate) v) (Place.Service (after_by b) v)
 follows_by gate v true = record { from = refl; to = refl; serves = refl; armed = refl; closes = refl; wakes = refl; permits = refl; moment = λ m. refl }
 follows_by gate v false = record { from = refl; to = refl; serves = refl; armed = refl; closes = refl; wakes = refl; permits = refl; moment = λ m. refl }
 
 module _ {B L : Type 0} (left : B → L) (spot : L → Option Said → Spot) where
   -- the machine enters then, or doesn't, as the worker does
-  pub enters_seen : (v : Service) (gate : ℕ) (w : Worker) (s : Shared B) (x : Desk) (p : Plan) (vs : List Visible) → SoundAt (at.Service (step.Submit gate) v) w s → Suits p vs w s
+  pub enters_seen : (v : Service) (gate : ℕ) (w : Worker) (s : Shared B) (x : Desk) (p : Plan) (vs : List Visible) → SoundAt (Place.Service (InService.Submit gate) v) w s → Suits p vs w s
       → x.wakes ≡ (desk_of w).wakes → x.outputs ≡ (desk_of w).outputs
       → enters p.config w.index v (own_of w) (common_of left spot p vs s) x ≡ enters_after v w
   enters_seen v gate w s x p vs sound suits wakes outputs =
@@ -136,18 +127,18 @@ module _ {B L : Type 0} (left : B → L) (spot : L → Option Said → Spot) whe
       ∙ ap (λ b. has_open_requests w && (not v.defer || b || has_submissions c me)) told
       ∙ ap (λ b. has_open_requests w && (not v.defer || is_anything_told w || b)) (sym submissions)
 
-  requests_open : (v : Service) (gate : ℕ) (w : Worker) (s : Shared B) (p : Plan) (vs : List Visible) → SoundAt (at.Service (step.Submit gate) v) w s
+  requests_open : (v : Service) (gate : ℕ) (w : Worker) (s : Shared B) (p : Plan) (vs : List Visible) → SoundAt (Place.Service (InService.Submit gate) v) w s
       → has_requests w.index (common_of left spot p vs s) ≡ has_open_requests w
   requests_open v gate w s p vs sound = sym (requests_seen w.index w.names (driver_of w) w.home.timers s.requests.items s.sleepers.items sound.named)
 
   -- what is on the desk once the staging has ended
-  pub ended_seen : (v : Service) (gate : ℕ) (w : Worker) (s : Shared B) (x : Desk) (p : Plan) (vs : List Visible) → SoundAt (at.Service (step.Submit gate) v) w s → Suits p vs w s
+  pub ended_seen : (v : Service) (gate : ℕ) (w : Worker) (s : Shared B) (x : Desk) (p : Plan) (vs : List Visible) → SoundAt (Place.Service (InService.Submit gate) v) w s → Suits p vs w s
       → x.wakes ≡ (desk_of w).wakes → x.outputs ≡ (desk_of w).outputs
-      → after_staging p.config w.index v (own_of w) (common_of left spot p vs s) x ≡ record x { place = at.Service (after_by (enters_after v w)) v; may_put_off = v.defer; put_off = has_open_requests w && not (enters_after v w) }
+      → after_staging p.config w.index v (own_of w) (common_of left spot p vs s) x ≡ record x { place = Place.Service (after_by (enters_after v w)) v; may_put_off = v.defer; put_off = has_open_requests w && not (enters_after v w) }
   ended_seen v gate w s x p vs sound suits wakes outputs =
       let by = enters_seen v gate w s x p vs sound suits wakes outputs in
-      ap (λ b. record x { place = at.Service (after_by b) v; may_put_off = v.defer; put_off = has_requests w.index (common_of left spot p vs s) && not b }) by
-      ∙ ap (λ b. record x { place = at.Service (after_by (enters_after v w)) v; may_put_off = v.defer; put_off = b && not (enters_after v w) }) (requests_open v gate w s p vs sound)
+      ap (λ b. record x { place = Place.Service (after_by b) v; may_put_off = v.defer; put_off = has_requests w.index (common_of left spot p vs s) && not b }) by
+      ∙ ap (λ b. record x { place = Place.Service (after_by (enters_after v w)) v; may_put_off = v.defer; put_off = b && not (enters_after v w) }) (requests_open v gate w s p vs sound)
 
 -- the wake poll on the desk
 poll_seen : (w : Worker) (q : Place) (o : PutOff) (d : Driving Reply Reply) (a f : Bool)
@@ -192,7 +183,7 @@ module _ {B L : Type 0} (left : B → L) (spot : L → Option Said → Spot) whe
   pub staging_ended : (v : Service) (w w' w1 : Worker) (s : Shared B) (e : Event) → (idle : IsIdle v w s) → must_flush (driver_of w) ≡ false → (driver_of w).lists.cancels ≡ [] → may_stage_one (driver_of w) ≡ false
       → e ≡ Serve → EndsStaging w w1 → w' ≡ with_staging_ended v w1 → Steps left spot w s e w' s
   staging_ended v w w' w1 s e idle unflushed none few event ends is =
-      let q : Place = at.Service (step.Submit idle.gate) v in
+      let q : Place = Place.Service (InService.Submit idle.gate) v in
       let sound = idle.sound in
       let d = driver_of w in
       let d' : Driving Reply Reply = record (with_wake_poll d) { landings = (driver_of w1).landings } in
@@ -200,7 +191,7 @@ module _ {B L : Type 0} (left : B → L) (spot : L → Option Said → Spot) whe
       let like : SameButRing d d' = record { requests = like0.requests; lists = like0.lists; wheel = like0.wheel; size = like0.size; landed = like0.landed; raised = like0.raised; acks = like0.acks; cancels = like0.cancels; tagged = like0.tagged; entries = like0.entries; flies = like0.flies; stages = like0.stages } in
       let b = enters_after v w in
       let o : PutOff = record { defer = v.defer; «enter» = has_open_requests w && not b } in
-      let q' : Place = at.Service (after_by b) v in
+      let q' : Place = Place.Service (after_by b) v in
       let w2 : Worker = record w { place = q'; put_off = o; home = record w.home { driver = w1.home.driver } } in
       let pending : pending_count d'.requests ≡ pending_count d.requests = ap pending_count like.requests in
       let enters_same : enters_after v w1 ≡ b =
@@ -210,7 +201,7 @@ module _ {B L : Type 0} (left : B → L) (spot : L → Option Said → Spot) whe
       let requests_same : has_open_requests w1 ≡ has_open_requests w = ap (λ (x : Driving Reply Reply). not (pending_count x.requests == 0)) ends.driver ∙ ap (λ n. not (n == 0)) pending in
       let same : w' ≡ w2 =
       is
-      ∙ ap (λ c. record w1 { place = at.Service (after_by c) v; put_off = record { defer = v.defer; «enter» = has_open_requests w1 && not c } }) enters_same
+      ∙ ap (λ c. record w1 { place = Place.Service (after_by c) v; put_off = record { defer = v.defer; «enter» = has_open_requests w1 && not c } }) enters_same
       ∙ ap (λ c. record w1 { place = q'; put_off = record { defer = v.defer; «enter» = c && not b } }) requests_same
       ∙ ap (λ (x : Worker). record x { place = q'; put_off = o }) ends.worker in
       let driver : driver_of w' ≡ d' = ap driver_of same ∙ ends.driver in
@@ -260,7 +251,7 @@ module _ {B L : Type 0} (left : B → L) (spot : L → Option Said → Spot) whe
         common = common_same left spot p vs w w' s suits seen;
       }))
     where
-      served_by : (b : Bool) → serves_at (at.Service (after_by b) v) ≡ true
+      served_by : (b : Bool) → serves_at (Place.Service (after_by b) v) ≡ true
       served_by true = refl
       served_by false = refl
 
@@ -273,7 +264,7 @@ module _ {B L : Type 0} (left : B → L) (spot : L → Option Said → Spot) whe
       outputs_there false x n = refl
 
       desk_there : (b : Bool) (u : Worker) (r : Place) (o : PutOff) (n : ℕ)
-          → record (if b then desk_of (record u { place = at.Service (step.Submit idle.gate) v }) else (record (desk_of (record u { place = at.Service (step.Submit idle.gate) v })) { entries = n; polled = true })) { place = r; may_put_off = o.defer; put_off = o.«enter» }
+          → record (if b then desk_of (record u { place = Place.Service (InService.Submit idle.gate) v }) else (record (desk_of (record u { place = Place.Service (InService.Submit idle.gate) v })) { entries = n; polled = true })) { place = r; may_put_off = o.defer; put_off = o.«enter» }
           ≡ record (if b then desk_with u r o u.home.deferred (driver_of u) else (record (desk_with u r o u.home.deferred (driver_of u)) { entries = n; polled = true })) { place = r }
       desk_there true u r o n = refl
       desk_there false u r o n = refl
@@ -306,7 +297,7 @@ module _ {B L : Type 0} (left : B → L) (spot : L → Option Said → Spot) whe
       ] refl is
     where
       moved : (p : Plan) (vs : List Visible) → Suits p vs w s
-          → move_at p.config w.index (own_of w) (common_of left spot p vs s) (desk_of w) (things_of w.index s) (at.Service (step.Submit idle.gate) v)
+          → move_at p.config w.index (own_of w) (common_of left spot p vs s) (desk_of w) (things_of w.index s) (Place.Service (InService.Submit idle.gate) v)
           ≡ move_submit p.config w.index (own_of w) (common_of left spot p vs s) (desk_of w) (things_of w.index s) idle.gate v Flushes
       moved p vs suits =
           let c = p.config in
@@ -315,9 +306,9 @@ module _ {B L : Type 0} (left : B → L) (spot : L → Option Said → Spot) whe
 
       went_in : (driver_of w).ring.busy ≡ false → w' ≡ w1 → Steps left spot w s e w' s'
       went_in free same =
-          let there : w'.place ≡ at.Service (step.Submit idle.gate) v = ap (λ x. x.place) same ∙ ap (λ x. x.place) it.worker ∙ idle.sound.here in
+          let there : w'.place ≡ Place.Service (InService.Submit idle.gate) v = ap (λ x. x.place) same ∙ ap (λ x. x.place) it.worker ∙ idle.sound.here in
           let off : w'.put_off ≡ w.put_off = ap (λ x. x.put_off) same ∙ ap (λ x. x.put_off) it.worker in
-          entered left spot (at.Service (step.Submit idle.gate) v) w w' s s' e idle.sound (subst (λ y. Follows (at.Service (step.Submit idle.gate) v) y) (sym there) (stages_again idle.gate v)) (λ h. idle.due)
+          entered left spot (Place.Service (InService.Submit idle.gate) v) w w' s s' e idle.sound (subst (λ y. Follows (Place.Service (InService.Submit idle.gate) v) y) (sym there) (stages_again idle.gate v)) (λ h. idle.due)
           (entered_there w w' w1 s s' e it (subst (λ x. x ≡ record w1 { place = x.place; put_off = x.put_off }) (sym same) refl))
           (λ p vs suits. moved p vs suits ∙ rw (there, off, own_seat left spot p vs w s idle.sound.alone.seat suits idle.sound.alone.there, free) refl)
 
@@ -325,12 +316,12 @@ module _ {B L : Type 0} (left : B → L) (spot : L → Option Said → Spot) whe
       put_aside busy same =
           let like = after_same v w w1 s s' e it busy in
           let b = enters_after v w in
-          let there : w'.place ≡ at.Service (after_by b) v = ap (λ x. x.place) same ∙ ap (λ c. at.Service (after_by c) v) like.0 in
+          let there : w'.place ≡ Place.Service (after_by b) v = ap (λ x. x.place) same ∙ ap (λ c. Place.Service (after_by c) v) like.0 in
           let defer : w'.put_off.defer ≡ v.defer = ap (λ x. x.put_off.defer) same in
           let put : w'.put_off.«enter» ≡ (has_open_requests w && not b) = ap (λ x. x.put_off.«enter») same ∙ ap (λ c. has_open_requests w1 && not c) like.0 ∙ ap (λ c. c && not b) like.1 in
-          entered left spot (at.Service (step.Submit idle.gate) v) w w' s s' e idle.sound (subst (λ y. Follows (at.Service (step.Submit idle.gate) v) y) (sym there) (follows_by idle.gate v b)) (λ h. idle.due)
+          entered left spot (Place.Service (InService.Submit idle.gate) v) w w' s s' e idle.sound (subst (λ y. Follows (Place.Service (InService.Submit idle.gate) v) y) (sym there) (follows_by idle.gate v b)) (λ h. idle.due)
           (entered_there w w' w1 s s' e it (subst (λ x. x ≡ record w1 { place = x.place; put_off = x.put_off }) (sym same) refl))
           (λ p vs suits.
           moved p vs suits
           ∙ rw (there, defer, put, own_seat left spot p vs w s idle.sound.alone.seat suits idle.sound.alone.there, busy)
-          (ap (λ x. makes Busy x (things_of w.index s)) (ended_seen left spot v idle.gate w s (record (desk_of w) { place = at.Service (step.Submit idle.gate) v }) p vs idle.sound suits refl refl)))
+          (ap (λ x. makes Busy x (things_of w.index s)) (ended_seen left spot v idle.gate w s (record (desk_of w) { place = Place.Service (InService.Submit idle.gate) v }) p vs idle.sound suits refl refl)))

@@ -1,21 +1,13 @@
 -- One request goes on: its record changes, and what its driver has of it.
-use Rattle.std.proofs.Common.{◌≡◌, ◌≢◌, ◌⊎◌, ℕ, ◌+◌, ◌<◌, ◌==◌, Bool, true, false, cond, List, [], ◌∷◌, length, Option, Some, None, IsSome, refl, sym, ap, subst, ◌∙◌, arith, inl, inr}
-use Rattle.std.proofs.lemmas.List.{length-set}
-use Rattle.std.proofs.lemmas.Bool.{false≢true, eq-eqb}
-use Rattle.std.proofs.lemmas.Bool.Decides.{nat_tests}
-use Rattle.std.specs.Prelude.{slice_get, is_some, if◌then◌else◌}
-use Rattle.exec_base.specs.{Slab.{Slab, value_at, written, live_count, is_live}, declared.slab.{Id.Id, Slot.TheVariants.Live}}
-use Rattle.exec_base.proofs.Slots.{id_cases, Updates-write, was_live, count-set, IsLiveAt-from_value, live_within}
+use Rattle.std.proofs.{Common.{◌≡◌, ◌≢◌, ℕ, ◌+◌, ◌==◌, Bool, true, false, List, [], length, Option, Some, None, IsSome, refl, sym, ap, subst, ◌∙◌, arith, inl, inr, slice_get, is_some}, lemmas.{List.length-set, Bool.{false≢true, eq-eqb, Decides.nat_tests}}}
+use Rattle.exec_base.{specs.{Slab.{Slab, value_at, written, live_count}, declared.slab.{Id.Id, Slot.TheVariants.Live}}, proofs.Slots.{id_cases, Updates-write, count-set, IsLiveAt-from_value, live_within}}
 use Rattle.exec_request.specs.declared.output.RequestOutput.{RequestOutput}
 use Rattle.exec_time.specs.declared.timers.Sleeper.{Sleeper as Sleeping}
-use Rattle.exec_waiters.proofs.Changes.{entry_of, one_if}
-use Rattle.exec_waiters.specs.{States.{waiter_at, waiter_of, pending_count, flying_count, is_flying}, declared.waiter.{Entry.{Entry, TheVariants.{Pending, Ready}}, Waiter.Waiter}}
-use Rattle.exec_driver.specs.{Driving.Driving, Punctual.IsPunctual}
-use Rattle.exec_driver.proofs.Counting.{OneChanged, pending_is, flying_is, one_written}
+use Rattle.exec_waiters.{proofs.Changes.{entry_of, one_if}, specs.{States.{waiter_at, pending_count, flying_count, is_flying}, declared.waiter.{Entry.{Entry, TheVariants.{Pending, Ready}}, Waiter.Waiter}}}
+use Rattle.exec_driver.{specs.{Driving.Driving, Punctual.IsPunctual}, proofs.Counting.{OneChanged, pending_is, flying_is, one_written}}
 use Rattle.exec_machine.specs.Tests.{is_resolved}
 use Rattle.exec_moves.specs.declared.place.Place.{Place}
-use Rattle.exec_steps.specs.{declared.parts.{mail.Reply.Reply, names.Names.Names, record.Record.Record, shared.Shared.Shared, sleeping.SleeperRecord.SleeperRecord, worker.{PutOff.PutOff, Worker.Worker}}, Carried.IsCarried, Due.{AreTimed, IsWheelAt, may_be_due, wheel_moment}, Flown.HasFlown, Ordered.{IsOrdered, went_round}, Records.number_in, Rooted.IsRooted, Serving.changed_at, Sound.{SoundAt, IsNamed, IsAlike, IsSubmitted, served_in}, View.driver_of}
-use Rattle.exec_steps.proofs.{Going.{GoesOn, AllGoOn, still, same_worker, same_id, over_on, owed_on, rooted_on}, Marking.{mark_if, marked, was_marked}, Serving.{Follows, KeepsBy, calm}}
+use Rattle.exec_steps.{specs.{declared.parts.{mail.Reply.Reply, names.Names.Names, record.Record.Record, shared.Shared.Shared, sleeping.SleeperRecord.SleeperRecord, worker.{PutOff.PutOff, Worker.Worker}}, Carried.IsCarried, Due.{AreTimed, IsWheelAt, may_be_due, wheel_moment}, Flown.HasFlown, Ordered.{IsOrdered, went_round}, Records.number_in, Rooted.IsRooted, Serving.changed_at, Sound.{SoundAt, IsNamed, IsAlike, IsSubmitted, served_in}, View.driver_of}, proofs.{Going.{GoesOn, AllGoOn, still, same_worker, same_id, over_on, owed_on, rooted_on}, Marking.{mark_if, marked, was_marked}, Serving.{Follows, KeepsBy, calm}}}
 
 same_number : (a b : ℕ) → (a == b) ≡ true → a ≡ b
 same_number a b h = grind (arith, nat_tests)

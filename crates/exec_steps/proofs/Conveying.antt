@@ -1,25 +1,12 @@
 -- What keeps what the kernel has, where a request goes on and where an entry goes into the submission queue.
-use Rattle.std.proofs.Common.{◌≡◌, ◌≢◌, ℕ, zero, suc, ◌+◌, ◌-◌, ◌<◌, ◌≤◌, ◌==◌, ◌&&◌, Bool, true, false, cond, List, [], ◌∷◌, ◌++◌, length, filter, Option, Some, None, IsSome, refl, sym, ap, subst, ◌∙◌, arith, inl, inr}
-use Rattle.std.proofs.lemmas.Bool.{false≢true, eq-eqb}
-use Rattle.std.proofs.lemmas.Bool.Decides.{nat_tests}
-use Rattle.std.proofs.lemmas.List.{append-nil, append_assoc}
-use Rattle.std.proofs.lemmas.List.Elements.{filter-append}
-use Rattle.std.specs.Prelude.{slice_get, slice_index_or, sum_by, if◌then◌else◌}
-use Rattle.std.specs.List.{fold}
-use Rattle.std.specs.Option.{option_map}
-use Rattle.exec_base.specs.{Slab.{Slab, written}, declared.slab.Id.Id}
-use Rattle.exec_base.proofs.Slots.{id_cases}
+use Rattle.std.proofs.{Common.{◌≡◌, ◌≢◌, ℕ, ◌+◌, ◌-◌, ◌<◌, ◌≤◌, ◌==◌, ◌&&◌, Bool, true, false, cond, List, [], ◌∷◌, ◌++◌, length, filter, Some, refl, sym, ap, subst, ◌∙◌, arith, inl, inr, slice_get, slice_index_or, if◌then◌else◌}, lemmas.{Bool.{false≢true, eq-eqb, Decides.nat_tests}, List.{append-nil, Elements.filter-append}}}
+use Rattle.exec_base.{specs.{Slab.{Slab, written}, declared.slab.Id.Id}, proofs.Slots.id_cases}
 use Rattle.exec_outcomes.specs.{Outcomes.bytes_of, declared.outcome.{Kind.Kind, OpResult.OpResult}}
-use Rattle.exec_outcomes.specs.declared.outcome.Kind.TheVariants as kind
-use Rattle.exec_request.specs.{Requests.{target_of, window_by}, declared.{request.Request.Request as Asking, window.{Opcode.Opcode, Window.Window}}}
-use Rattle.exec_request.specs.declared.request.Request.TheVariants as asks
-use Rattle.exec_request.specs.declared.window.Opcode.TheVariants as opcode
-use Rattle.exec_ring.specs.{Kernels.{is_of, taken_as, taken_in, all_taken, with_entry}, Rings.RingState, Stores.socket_of, declared.{completion.Submission.Submission, store.Store.Store}}
+use Rattle.exec_request.specs.{Requests.{target_of, window_by}, declared.{request.Request.Request as Asking, window.Window.Window}}
+use Rattle.exec_ring.specs.{Kernels.{is_of, with_entry}, Rings.RingState, declared.{completion.Submission.Submission, store.Store.Store}}
 use Rattle.exec_waiters.specs.{Ids.{user_data_of, index_in}, States.waiter_at, declared.waiter.{Entry.{Entry, TheVariants.Pending}, Waiter.Waiter}}
-use Rattle.exec_machine.specs.{declared.state.{Request.Request, RequestPhase.RequestPhase}, Same.same_kind, Tests.is_staged}
-use Rattle.exec_machine.specs.declared.state.RequestPhase.TheVariants as phase
-use Rattle.exec_steps.specs.{declared.parts.{mail.Reply.Reply, record.Record.Record}, Carried.{IsCarried, IsLone, IsUnderWay, IsWhole, may_send, sends_to, those_of, unlanded}, Records.number_in, Serving.{changed_at, changed_in, flies, flown_in, is_one_of}}
-use Rattle.exec_steps.proofs.{Carrying.{index_told, sum_changed, under_way_on}, Changing.changes_one, Flying.{flies_if, get_flown}, Marking.{mark_if, marked, was_marked}}
+use Rattle.exec_machine.specs.{declared.state.RequestPhase.RequestPhase, Same.same_kind}
+use Rattle.exec_steps.{specs.{declared.parts.{mail.Reply.Reply, record.Record.Record}, Carried.{IsCarried, IsUnderWay, IsWhole, may_send, sends_to, those_of, unlanded}, Records.number_in, Serving.changed_at}, proofs.{Carrying.{index_told, sum_changed}, Changing.changes_one, Marking.{mark_if, marked, was_marked}}}
 
 same_number : (a b : ℕ) → (a == b) ≡ true → a ≡ b
 same_number a b h = grind (arith, nat_tests)
@@ -36,24 +23,24 @@ other_entry w u v r apart =
     by false is = is
 
 under_same : (p : RequestPhase) (v : ℕ) (q : Asking) (r r' : RingState) → those_of v r'.flying ≡ those_of v r.flying → those_of v r'.staged ≡ those_of v r.staged → IsUnderWay p v q r → IsUnderWay p v q r'
-under_same phase.Staged v q r r' flying staged h = (flying ∙ h.0, record { e = h.1.e; lone = staged ∙ h.1.lone; window = h.1.window })
-under_same phase.Flying v q r r' flying staged h = (record { e = h.0.e; lone = flying ∙ h.0.lone; window = h.0.window }, staged ∙ h.1)
-under_same phase.Queued v q r r' flying staged h = (flying ∙ h.0, staged ∙ h.1)
-under_same phase.Gated v q r r' flying staged h = (flying ∙ h.0, staged ∙ h.1)
-under_same (phase.Landed n) v q r r' flying staged h = (flying ∙ h.0, staged ∙ h.1)
-under_same (phase.Resolved o) v q r r' flying staged h = (flying ∙ h.0, staged ∙ h.1)
+under_same RequestPhase.Staged v q r r' flying staged h = (flying ∙ h.0, record { e = h.1.e; lone = staged ∙ h.1.lone; window = h.1.window })
+under_same RequestPhase.Flying v q r r' flying staged h = (record { e = h.0.e; lone = flying ∙ h.0.lone; window = h.0.window }, staged ∙ h.1)
+under_same RequestPhase.Queued v q r r' flying staged h = (flying ∙ h.0, staged ∙ h.1)
+under_same RequestPhase.Gated v q r r' flying staged h = (flying ∙ h.0, staged ∙ h.1)
+under_same (RequestPhase.Landed n) v q r r' flying staged h = (flying ∙ h.0, staged ∙ h.1)
+under_same (RequestPhase.Resolved o) v q r r' flying staged h = (flying ∙ h.0, staged ∙ h.1)
 
 -- nor is an entry of no request that of one
 pub control_entry : (e : Submission) (v : ℕ) (r : RingState) → (index_in e.user_data < 4294967295 → ⊥) → index_in v < 4294967295 → those_of v (with_entry r e.window e.user_data).staged ≡ those_of v r.staged
 control_entry e v r control small = other_entry e.window e.user_data v r (λ same. control (subst (λ x. index_in x < 4294967295) (sym same) small))
 
-sends_kind : (k : Kind) (b : Bool) → (same_kind k kind.Send && b) ≡ true → k ≡ kind.Send
-sends_kind kind.Send b h = refl
+sends_kind : (k : Kind) (b : Bool) → (same_kind k Kind.Send && b) ≡ true → k ≡ Kind.Send
+sends_kind Kind.Send b h = refl
 sends_kind _ b h = absurd (false≢true h)
 
 -- what a result has taken of the room is taken
-judged_room : (socket : ℕ) (r r' : Record) (given : OpResult) → r.shown.phase ≡ phase.Landed given → r'.shown.phase ≡ phase.Queued → r'.shown.operation ≡ record r.shown.operation { moved = r'.shown.operation.moved; switched = r'.shown.operation.switched; unrefused = r'.shown.operation.unrefused }
-    → (r.shown.operation.kind ≡ kind.Send → r'.shown.operation.moved ≡ r.shown.operation.moved + bytes_of given) → may_send socket r' ≤ may_send socket r
+judged_room : (socket : ℕ) (r r' : Record) (given : OpResult) → r.shown.phase ≡ RequestPhase.Landed given → r'.shown.phase ≡ RequestPhase.Queued → r'.shown.operation ≡ record r.shown.operation { moved = r'.shown.operation.moved; switched = r'.shown.operation.switched; unrefused = r'.shown.operation.unrefused }
+    → (r.shown.operation.kind ≡ Kind.Send → r'.shown.operation.moved ≡ r.shown.operation.moved + bytes_of given) → may_send socket r' ≤ may_send socket r
 judged_room socket r r' given landed queued operation moved = by (sends_to socket r.shown.operation) refl
   where
     same : sends_to socket r'.shown.operation ≡ sends_to socket r.shown.operation
@@ -186,7 +173,7 @@ module _ (numbers : List ℕ) (s : Slab (Entry Reply Reply)) (ring : RingState) 
         }
 
   -- the operation of a request that was queued goes in
-  pub carried_staged : (id : Id) (it it' : Waiter Reply Reply) (r : Record) (f : Record → Record) (w : Window) → waiter_at s id ≡ Some it → slice_get rs (number_in numbers id) ≡ Some r → r.shown.phase ≡ phase.Queued → (f r).shown.phase ≡ phase.Staged
+  pub carried_staged : (id : Id) (it it' : Waiter Reply Reply) (r : Record) (f : Record → Record) (w : Window) → waiter_at s id ≡ Some it → slice_get rs (number_in numbers id) ≡ Some r → r.shown.phase ≡ RequestPhase.Queued → (f r).shown.phase ≡ RequestPhase.Staged
       → (f r).shown.operation ≡ record r.shown.operation { hinted = (f r).shown.operation.hinted } → IsWhole it'.request → target_of it'.request ≡ target_of it.request → window_by true it'.request ≡ w
       → ((other : Id) (x : Waiter Reply Reply) → waiter_at s other ≡ Some x → other ≢ id → number_in numbers id ≡ number_in numbers other → ⊥)
       → IsCarried numbers (written s id (Pending it')) (with_entry ring w (user_data_of id)) (changed_at rs (number_in numbers id) f) st
@@ -196,20 +183,20 @@ module _ (numbers : List ℕ) (s : Slab (Entry Reply Reply)) (ring : RingState) 
       let e : Submission = record { window = w; user_data = u } in
       let lone : those_of u (with_entry ring w u).staged ≡ e ∷ [] =
       filter-append (is_of u) ring.staged (e ∷ []) ∙ ap (λ xs. xs ++ filter (is_of u) (e ∷ [])) none.1 ∙ ap (λ b. cond b (e ∷ []) []) (eq-eqb u u refl) in
-      let so : IsUnderWay phase.Staged u it'.request (with_entry ring w u) = (none.0, record { e = e; lone = lone; window = window }) in
+      let so : IsUnderWay RequestPhase.Staged u it'.request (with_entry ring w u) = (none.0, record { e = e; lone = lone; window = window }) in
       carried_one id it it' r f (with_entry ring w u) live there (λ v differs. refl) (λ v differs. other_entry w u v ring differs) (subst (λ p. IsUnderWay p u it'.request (with_entry ring w u)) (sym staged) so) whole
       (ap (λ o. o.target) operation ∙ carried.target id it r live there ∙ sym target)
       (λ socket.
       let same : may_send socket (f r) ≡ may_send socket r =
       ap (λ p. if sends_to socket (f r).shown.operation then unlanded p (f r).shown.operation else 0) staged
-      ∙ ap (λ o. if sends_to socket o then unlanded phase.Staged o else 0) operation
+      ∙ ap (λ o. if sends_to socket o then unlanded RequestPhase.Staged o else 0) operation
       ∙ sym (ap (λ p. if sends_to socket r.shown.operation then unlanded p r.shown.operation else 0) queued) in
       omega (arith, same))
       apart
 
   -- a result of it was judged, and it goes on
-  pub carried_judged : (id : Id) (it it' : Waiter Reply Reply) (r : Record) (f : Record → Record) (given : OpResult) → waiter_at s id ≡ Some it → slice_get rs (number_in numbers id) ≡ Some r → r.shown.phase ≡ phase.Landed given → (f r).shown.phase ≡ phase.Queued
-      → (f r).shown.operation ≡ record r.shown.operation { moved = (f r).shown.operation.moved; switched = (f r).shown.operation.switched; unrefused = (f r).shown.operation.unrefused } → (r.shown.operation.kind ≡ kind.Send → (f r).shown.operation.moved ≡ r.shown.operation.moved + bytes_of given)
+  pub carried_judged : (id : Id) (it it' : Waiter Reply Reply) (r : Record) (f : Record → Record) (given : OpResult) → waiter_at s id ≡ Some it → slice_get rs (number_in numbers id) ≡ Some r → r.shown.phase ≡ RequestPhase.Landed given → (f r).shown.phase ≡ RequestPhase.Queued
+      → (f r).shown.operation ≡ record r.shown.operation { moved = (f r).shown.operation.moved; switched = (f r).shown.operation.switched; unrefused = (f r).shown.operation.unrefused } → (r.shown.operation.kind ≡ Kind.Send → (f r).shown.operation.moved ≡ r.shown.operation.moved + bytes_of given)
       → IsWhole it'.request → target_of it'.request ≡ target_of it.request
       → ((other : Id) (x : Waiter Reply Reply) → waiter_at s other ≡ Some x → other ≢ id → number_in numbers id ≡ number_in numbers other → ⊥)
       → IsCarried numbers (written s id (Pending it')) ring (changed_at rs (number_in numbers id) f) st

@@ -1,18 +1,12 @@
 -- What comes of the first new deadline is a step.
-use Rattle.std.proofs.Common.{◌≡◌, ℕ, ◌+◌, ◌^◌, ◌<◌, ◌≤◌, List, length, Option, Some, None, IfSome, refl, sym, ap, subst, ◌∙◌, arith}
-use Rattle.std.proofs.lemmas.Option.{get_or_from_slice_get, slice_get_within}
-use Rattle.std.specs.Prelude.{slice_get, slice_set, get_or, is_some, Err}
-use Rattle.std.specs.VecDeque.{deque_capacity}
+use Rattle.std.{proofs.{Common.{◌≡◌, ℕ, ◌+◌, ◌^◌, ◌<◌, ◌≤◌, List, length, Option, Some, None, IfSome, refl, sym, ap, subst, ◌∙◌, arith, slice_get, slice_set, get_or, Err}, lemmas.Option.{get_or_from_slice_get, slice_get_within}}, specs.VecDeque.deque_capacity}
 use Rattle.exec_base.specs.declared.error.Error.{Error, TheVariants.Timeout}
 use Rattle.exec_task.specs.declared.body.Said.{Said}
 use Rattle.exec_waiters.specs.{declared.waiter_id.WaiterId.WaiterId, States.pending_count}
 use Rattle.exec_driver.specs.{Lists.first_of, Steps.{tick_for, ended_by}}
 use Rattle.exec_machine.specs.declared.event.Event.{Event}
-use Rattle.exec_moves.specs.declared.place.InService.TheVariants as step
-use Rattle.exec_moves.specs.declared.place.Place.{Place}
-use Rattle.exec_moves.specs.declared.place.Place.TheVariants as at
-use Rattle.exec_steps.specs.{declared.parts.{record.Record.Record, shared.Shared.Shared, worker.Worker.Worker}, Due.IsWheelAt, Records.number_in, Serving.{IsOnWheel, changed_at, changed_in}, Spots.Spot, Submitting.IsNewIn, View.{driver_of, own_of}, Works.Steps}
-use Rattle.exec_steps.proofs.{Enrolled.{HasEnrolled, NewAt, new_first}, Enrolling.{enrolled_at, ended_not}, Late.enrol_ends, Resolving.slab_after, Timing.enrol_stays}
+use Rattle.exec_moves.specs.declared.place.{Place.Place, InService.InService}
+use Rattle.exec_steps.{specs.{declared.parts.{record.Record.Record, shared.Shared.Shared, worker.Worker.Worker}, Due.IsWheelAt, Records.number_in, Serving.{IsOnWheel, changed_at, changed_in}, Spots.Spot, Submitting.IsNewIn, View.{driver_of, own_of}, Works.Steps}, proofs.{Enrolled.{HasEnrolled, new_first}, Enrolling.{enrolled_at, ended_not}, Late.enrol_ends, Resolving.slab_after, Timing.enrol_stays}}
 
 same_record : (x y : Record) → x.id ≡ y.id → x.shown ≡ y.shown → x ≡ y
 same_record x y id shown = ap (λ i. record x { id = i }) id ∙ ap (λ r. record y { shown = r }) shown
@@ -50,7 +44,7 @@ module _ {B : Type 0} (w : Worker) (s : Shared B) (new : IsNewIn w s) (id : Wait
       let who = new_first w s new id first in
       let sound = new.submits.sound in
       let now = w.moments.sampled in
-      let q : Place = at.Service (step.Submit new.submits.gate) new.submits.service in
+      let q : Place = Place.Service (InService.Submit new.submits.gate) new.submits.service in
       let w0 : Worker = record w { place = q } in
       let wheel : IsWheelAt s.config w.moments.start now (driver_of w).wheel = sound.due.wheel in
       let plain = sound.flown.plain (number_in w.names.requests.items id.0) who.r who.there who.worker in

@@ -1,22 +1,16 @@
 -- A root that sleeps from now on: what holds again of the sleepers, and what it is to the machine.
-use Rattle.std.proofs.Common.{◌≡◌, ◌≢◌, ℕ, ◌+◌, ◌≤◌, Bool, true, false, List, [], ◌∷◌, ◌++◌, length, Option, Some, IsSome, refl, sym, ap, subst, ◌∙◌, arith, inl, inr}
-use Rattle.std.proofs.lemmas.Bool.{false≢true, eq-eqb}
-use Rattle.std.specs.Prelude.{slice_get}
-use Rattle.std.specs.VecDeque.{deque_capacity}
+use Rattle.std.{proofs.{Common.{◌≡◌, ◌≢◌, ℕ, ◌+◌, ◌≤◌, Bool, true, false, List, [], ◌∷◌, ◌++◌, length, Option, Some, IsSome, refl, sym, ap, subst, ◌∙◌, arith, inl, inr, slice_get}, lemmas.Bool.{false≢true, eq-eqb}}, specs.VecDeque.deque_capacity}
 use Rattle.exec_base.specs.{Slab.{Slab, value_at}, declared.{slab.Id.Id, task_no.TaskNo.TaskNo}}
 use Rattle.exec_ring.specs.declared.store.Store.{Store}
-use Rattle.exec_time.specs.declared.timers.Observer.TheVariants as sleep
-use Rattle.exec_time.specs.declared.timers.{Sleeper.Sleeper as Sleeping, TimerId.TimerId}
+use Rattle.exec_time.specs.declared.timers.{Sleeper.Sleeper as Sleeping, TimerId.TimerId, Observer.Observer}
 use Rattle.exec_driver.specs.Driving.{Driving}
-use Rattle.exec_machine.specs.declared.state.Waiting.TheVariants as waiting
-use Rattle.exec_machine.specs.{Deadlines.new_sleeper, Tests.is_asleep}
+use Rattle.exec_machine.specs.{Deadlines.new_sleeper, Tests.is_asleep, declared.state.Waiting.Waiting}
 use Rattle.exec_moves.specs.declared.place.InService.{InService}
-use Rattle.exec_steps.specs.{declared.parts.{mail.Reply.Reply, names.Names.Names, record.Record.Record, sleeping.SleeperRecord.SleeperRecord, shared.Shared.Shared, worker.Worker.Worker}, Admitting.{MayMake, TakesBed}, Carried.IsCarried, Due.{AreAsleep, AreTimed}, Ordered.IsOrdered, Flown.{HasFlown, operations}, Records.{HasTimerRoom, number_in}, Rooted.Holds, Sound.{AreOver, IsNamed}}
-use Rattle.exec_steps.proofs.{Flown.landed_on, Taken.{Takes, got_new, got_old, name_apart, number_new, number_old, slot_apart, takes_inserted, value_new, value_old, was_got, apart_or_same}}
+use Rattle.exec_steps.{specs.{declared.parts.{mail.Reply.Reply, names.Names.Names, record.Record.Record, sleeping.SleeperRecord.SleeperRecord, shared.Shared.Shared, worker.Worker.Worker}, Admitting.{MayMake, TakesBed}, Carried.IsCarried, Due.{AreAsleep, AreTimed}, Ordered.IsOrdered, Flown.{HasFlown, operations}, Records.{HasTimerRoom, number_in}, Rooted.Holds, Sound.{AreOver, IsNamed}}, proofs.{Flown.landed_on, Taken.{Takes, got_new, got_old, name_apart, number_new, number_old, slot_apart, takes_inserted, value_new, value_old, was_got, apart_or_same}}}
 
 -- A sleeper came in under this name, with the next number; of the other numbers there may be more room.
 pub record OneDozes (i t until : ℕ) (n n' : Names) (zs zs' : Slab (Sleeping Reply)) (ss : List SleeperRecord) (z : SleeperRecord) : Type 0 where
-  pub takes : Takes zs zs' z.id.0 (record { deadline = until; observer = sleep.Local (record { 0 = t }) })
+  pub takes : Takes zs zs' z.id.0 (record { deadline = until; observer = Observer.Local (record { 0 = t }) })
   pub number_is : slice_get n'.timers.items z.id.0.index ≡ Some (length ss)
   pub others : (k : ℕ) → k ≢ z.id.0.index → slice_get n'.timers.items k ≡ slice_get n.timers.items k
   pub beds : length zs'.slots ≤ length n'.timers.items
@@ -34,7 +28,7 @@ asleep_there i z until t is = ap (is_asleep i) is ∙ rw (eq-eqb i i refl) refl
 
 module _ (i t until : ℕ) (n n' : Names) (d : Driving Reply Reply) (zs zs' : Slab (Sleeping Reply)) (rs : List Record) (ss : List SleeperRecord) (z : SleeperRecord) (one : OneDozes i t until n n' zs zs' ss z) where
   abbrev asleep_now : Sleeping Reply
-  asleep_now = record { deadline = until; observer = sleep.Local (record { 0 = t }) }
+  asleep_now = record { deadline = until; observer = Observer.Local (record { 0 = t }) }
 
   number_here : number_in n'.timers.items z.id.0 ≡ length ss
   number_here = number_new n.timers.items n'.timers.items z.id.0 (length ss) one.number_is one.others
@@ -125,8 +119,8 @@ module _ (i t until : ℕ) (n n' : Names) (d : Driving Reply Reply) (zs zs' : Sl
       }
 
   -- it waits for that sleeper alone
-  pub holds_dozes : (holding : List ℕ) (over : Bool) → over ≡ false → Holds false i t holding waiting.Nothing over n d zs rs ss
-      → Holds true i t holding (waiting.Timer (length ss)) over n' d zs' rs (ss ++ z ∷ [])
+  pub holds_dozes : (holding : List ℕ) (over : Bool) → over ≡ false → Holds false i t holding Waiting.Nothing over n d zs rs ss
+      → Holds true i t holding (Waiting.Timer (length ss)) over n' d zs' rs (ss ++ z ∷ [])
   holds_dozes holding over going old =
       record {
         counted = one.held ∙ old.counted;
@@ -136,7 +130,7 @@ module _ (i t until : ℕ) (n n' : Names) (d : Driving Reply Reply) (zs zs' : Sl
             (h.0, h.1, record { worker = is.worker; observed = is.observed; unsent = is.unsent; named = ap (λ ns. number_in ns h.0.id.0) one.requests ∙ is.named; live = is.live; unpaid = is.unpaid });
         once = old.once;
         all = old.all;
-        awaited = λ k r v there mine open_still seen waits. absurd (let never : waiting.Nothing ≡ waiting.Request k = (old.awaited k r v there mine open_still seen waits).1 in cc);
+        awaited = λ k r v there mine open_still seen waits. absurd (let never : Waiting.Nothing ≡ Waiting.Request k = (old.awaited k r v there mine open_still seen waits).1 in cc);
         kept = λ id told r at there. old.kept id told r at (rw (← one.requests) there);
         waits = (
           z,
@@ -154,14 +148,14 @@ module _ (i t until : ℕ) (n n' : Names) (d : Driving Reply Reply) (zs zs' : Sl
             apart_or_same other z.id.0
             (λ apart.
             let was : value_at zs other ≡ Some x = sym (value_old zs zs' z.id.0 asleep_now one.takes other apart) ∙ at in
-            absurd (let never : waiting.Nothing ≡ waiting.Timer (number_in n.timers.items other) = (old.sleeping other x was).1 in cc))
+            absurd (let never : Waiting.Nothing ≡ Waiting.Timer (number_in n.timers.items other) = (old.sleeping other x was).1 in cc))
             (λ same.
             let is_x : asleep_now ≡ x = cc (at, ap (value_at zs') same, value_new zs zs' z.id.0 asleep_now one.takes) in
-            (ap (λ y. y.observer) (sym is_x), ap (λ k. waiting.Timer k) (sym (ap (number_in n'.timers.items) same ∙ number_here))));
+            (ap (λ y. y.observer) (sym is_x), ap (λ k. Waiting.Timer k) (sym (ap (number_in n'.timers.items) same ∙ number_here))));
         asleep = λ k r there mine unfired kept.
             elim (was_got ss z r k there) [
-              | inl before ↦ absurd (let never : waiting.Nothing ≡ waiting.Timer k = old.asleep k r before mine unfired kept in cc)
-              | inr last ↦ ap (λ m. waiting.Timer m) (sym last.0)
+              | inl before ↦ absurd (let never : Waiting.Nothing ≡ Waiting.Timer k = old.asleep k r before mine unfired kept in cc)
+              | inr last ↦ ap (λ m. Waiting.Timer m) (sym last.0)
             ];
         over = λ h. absurd (false≢true (sym going ∙ h));
       }
@@ -173,7 +167,7 @@ module _ {B : Type 0} (t until : ℕ) (waker : TaskNo) (id : TimerId) (w w' : Wo
 
   pub bed_within : MayMake w → id.0.index ≤ length w'.names.timers.items
   bed_within may =
-      let taken = takes_inserted bed.mid.home.timers w'.home.timers (record { deadline = until; observer = sleep.Local waker }) id.0 bed.next bed.timers bed.unnamed bed.past in
+      let taken = takes_inserted bed.mid.home.timers w'.home.timers (record { deadline = until; observer = Observer.Local waker }) id.0 bed.next bed.timers bed.unnamed bed.past in
       let timers : length bed.mid.home.timers.slots ≡ length w.home.timers.slots = ap (λ (x : Worker). length x.home.timers.slots) bed.rooms.worker in
       let names : length w'.names.timers.items ≡ length w.names.timers.items = ap (λ (n : Names). length n.timers.items) bed_names ∙ ap (λ (xs : List ℕ). length xs) bed.rooms.names.timers in
       omega (arith, taken.within, timers, names, may.beds)

@@ -1,19 +1,11 @@
 -- What comes out of the wheel as it goes on is due in order.
-use Rattle.std.proofs.Common.{◌≡◌, ◌⊎◌, ℕ, zero, suc, ◌+◌, ◌-◌, ◌/◌, ◌%◌, ◌<◌, ◌≤◌, ◌==◌, Bool, true, false, List, [], ◌∷◌, ◌++◌, map, Option, Some, None, refl, sym, ap, subst, ◌∙◌, arith, inl, inr}
-use Rattle.std.proofs.lemmas.Bool.{cases_lt}
-use Rattle.std.proofs.lemmas.Bool.Decides.{nat_tests}
-use Rattle.std.proofs.lemmas.List.{append_assoc, append-nil}
-use Rattle.std.proofs.Math.Nat.{mod-eq_of_lt}
-use Rattle.std.specs.List.{AllByRecursion, list_any, range_with_len}
-use Rattle.std.specs.Prelude.{is_some, nat_le, nat_lt, if◌then◌else◌}
+use Rattle.std.{proofs.{Common.{◌≡◌, ◌⊎◌, ℕ, zero, suc, ◌+◌, ◌-◌, ◌/◌, ◌%◌, ◌<◌, ◌≤◌, ◌==◌, Bool, true, false, List, [], ◌∷◌, ◌++◌, map, Option, Some, None, refl, sym, ap, subst, ◌∙◌, arith, inl, inr, is_some, nat_le, nat_lt, if◌then◌else◌}, lemmas.{Bool.{cases_lt, Decides.nat_tests}, List.{append_assoc, append-nil}}, Math.Nat.mod-eq_of_lt}, specs.List.{AllByRecursion, list_any, range_with_len}}
 use Rattle.exec_base.specs.{Slab.Slab, declared.slab.Id.Id}
-use Rattle.exec_time.specs.{Wheel.{Wheel, least_active, tick_at as tick_now}, Turning.{advanced, ids_in, is_full_turn, slots_passed, turned, turned_out}}
-use Rattle.exec_time.proofs.Ranges.{slots_apart}
+use Rattle.exec_time.{specs.{Wheel.{Wheel, least_active, tick_at as tick_now}, Turning.{advanced, ids_in, is_full_turn, slots_passed, turned, turned_out}}, proofs.Ranges.slots_apart}
 use Rattle.exec_waiters.specs.{States.{tick_in, waiter_at}, declared.{waiter.{Entry.Entry, Waiter.Waiter}, waiter_id.WaiterId.WaiterId}}
 use Rattle.exec_driver.specs.{Driving.Driving, Lists.{Lists, is_among}, Punctual.IsPunctual, Steps.{all_due, fallen_due}}
 use Rattle.exec_machine.specs.{declared.config.Configuration.Configuration, Ranges.wheel_slots}
-use Rattle.exec_steps.specs.{declared.parts.{mail.Reply.Reply, worker.Moments.Moments}, Due.IsWheelAt, Ordered.{HasCome, IsOrdered, IsToldBefore, Pairwise, StandsBefore, StandsIn, tick_at, turn_of, went_round}}
-use Rattle.exec_steps.proofs.Orders.{IsPartOf, all_append, all_part, pairs_append, pairs_part, pairs_where, part_self}
+use Rattle.exec_steps.{specs.{declared.parts.{mail.Reply.Reply, worker.Moments.Moments}, Due.IsWheelAt, Ordered.{HasCome, IsOrdered, IsToldBefore, Pairwise, StandsBefore, StandsIn, tick_at, turn_of, went_round}}, proofs.Orders.{IsPartOf, all_append, all_part, pairs_append, pairs_part, pairs_where, part_self}}
 
 -- THE LIST of what is due is a part of what came out
 

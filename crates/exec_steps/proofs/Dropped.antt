@@ -1,26 +1,16 @@
 -- A task lets go of the newest request that it holds.
-use Rattle.std.proofs.Common.{◌≡◌, ℕ, ◌+◌, ◌-◌, ◌<◌, ◌==◌, ◌&&◌, ◌||◌, Bool, true, false, List, [], ◌∷◌, ◌++◌, length, map, Option, Some, None, IsSome, refl, sym, ap, subst, ◌∙◌}
-use Rattle.std.proofs.lemmas.Bool.{false≢true, eq-eqb}
-use Rattle.std.proofs.lemmas.List.{set-set}
-use Rattle.std.specs.Prelude.{slice_get, slice_set, if◌then◌else◌}
+use Rattle.std.proofs.{Common.{◌≡◌, ℕ, ◌+◌, ◌-◌, ◌==◌, ◌||◌, Bool, true, false, List, [], ◌∷◌, ◌++◌, length, map, Option, Some, None, IsSome, refl, sym, ap, subst, ◌∙◌, slice_get, slice_set, if◌then◌else◌}, lemmas.{Bool.{false≢true, eq-eqb}, List.set-set}}
 use Rattle.exec_base.specs.declared.{error.Error.TheVariants.NoMemory, task_no.TaskNo.TaskNo}
 use Rattle.exec_task.specs.{Phases.is_polled, Sight.Sight, declared.body.{Act.Act, Said.Said}}
-use Rattle.exec_task.specs.declared.body.Act.TheVariants as act
-use Rattle.exec_task.specs.declared.body.Said.TheVariants as said
-use Rattle.exec_machine.specs.{Choice.Choice.Plain, declared.{event.Event.{Event, TheVariants.Drop}, state.Request.Request}, Progress.Plan, Requests.{dropped, ends_by_drop, is_cancelled_by_drop, joined_if, own_after_end}, Same.is_number, Tasks.after_letting_go, Tests.is_resolved, Words.{asks_drop, moved_on, newest_held}, World.{Own, Task, task_of, request_of}}
-use Rattle.exec_machine.specs.declared.config.ScriptWord.TheVariants as word
-use Rattle.exec_machine.specs.declared.state.Waiting.TheVariants as waiting
-use Rattle.exec_moves.specs.{Callback.told_of_drop, declared.place.Place.Place, Poll.{acts_on, drop_newest}, State.{Desk, Moved, Things}}
-use Rattle.exec_moves.specs.declared.place.InPoll.TheVariants as poll
-use Rattle.exec_moves.specs.declared.place.Place.TheVariants as at
-use Rattle.exec_steps.specs.{declared.parts.{names.Names.Names, record.Record.Record, shared.Shared.Shared, task_slot.TaskSlot.TaskSlot, worker.Worker.Worker}, Acting.{HasActed, StepsOf}, Awaits.{DropsRequest, OfNewest, drops, newest_of}, Hearing.{CanHear, held_once_come}, Phased.is_complete, Polls.OfSlot, Records.number_in, Scripts.{IsAnswer, IsAnswered, held_after}, Serving.{changed_at, changed_in}, Sound.{SoundAt, acts_next}, Spots.Spot, View.{body_in, own_of, desk_of, driver_of, common_of, things_of, task_seen}, Works.Works}
-use Rattle.exec_steps.proofs.{Acting.{acts_so, moved_seen, moves_so}, Awaiting.{acted_worker, common_acted, desk_acted, sound_acted}, Calling.request_seen, Dropping.{BecomesOf, becomes}, Getting.{Without, without_last}, Keys.name_in, Letting.{keeps_acting, let_shared}, Newest.held_newest, Performing.{in_poll, performs_on, still_performs}, Polling.on_in_poll, Receiving.{fewer_held, newest_is}, Seeing.makes, Turning.set_there, Waking.task_there}
+use Rattle.exec_machine.specs.{Choice.Choice.Plain, declared.{event.Event.{Event, TheVariants.Drop}, state.{Request.Request, Waiting.Waiting}, config.ScriptWord.ScriptWord}, Progress.Plan, Requests.{dropped, ends_by_drop, is_cancelled_by_drop, joined_if, own_after_end}, Same.is_number, Tasks.after_letting_go, Tests.is_resolved, Words.{asks_drop, moved_on, newest_held}, World.{Own, Task, task_of, request_of}}
+use Rattle.exec_moves.specs.{Callback.told_of_drop, declared.place.{Place.Place, InPoll.InPoll}, Poll.{acts_on, drop_newest}, State.{Desk, Moved, Things}}
+use Rattle.exec_steps.{specs.{declared.parts.{names.Names.Names, record.Record.Record, shared.Shared.Shared, task_slot.TaskSlot.TaskSlot, worker.Worker.Worker}, Acting.{HasActed, StepsOf}, Awaits.{DropsRequest, OfNewest, drops, newest_of}, Hearing.{CanHear, held_once_come}, Phased.is_complete, Polls.OfSlot, Records.number_in, Scripts.{IsAnswer, IsAnswered, held_after}, Serving.{changed_at, changed_in}, Sound.{SoundAt, acts_next}, Spots.Spot, View.{body_in, own_of, desk_of, driver_of, common_of, things_of, task_seen}, Works.Works}, proofs.{Acting.{acts_so, moved_seen, moves_so}, Awaiting.{acted_worker, common_acted, desk_acted, sound_acted}, Calling.request_seen, Dropping.{BecomesOf, becomes}, Getting.{Without, without_last}, Keys.name_in, Letting.{keeps_acting, let_shared}, Newest.held_newest, Performing.{in_poll, performs_on, still_performs}, Polling.on_in_poll, Receiving.{fewer_held, newest_is}, Seeing.makes, Turning.set_there, Waking.task_there}}
 
-pass_heard : said.Pass ≡ said.Refused NoMemory → ⊥
+pass_heard : Said.Pass ≡ Said.Refused NoMemory → ⊥
 pass_heard h = cc
 
 -- what is told of it then
-told_then : (b : Bool) (t n : ℕ) (d : Desk) → record d { place = at.Poll t poll.Act; outputs = if b then d.outputs + 1 else d.outputs } ≡ acts_on t (if b then (record d { outputs = d.outputs + 1 }) else d)
+told_then : (b : Bool) (t n : ℕ) (d : Desk) → record d { place = Place.Poll t InPoll.Act; outputs = if b then d.outputs + 1 else d.outputs } ≡ acts_on t (if b then (record d { outputs = d.outputs + 1 }) else d)
 told_then true t n d = refl
 told_then false t n d = refl
 
@@ -34,7 +24,7 @@ named_still r = by (ends_by_drop r.shown) (is_cancelled_by_drop r.shown) refl re
     by false false is so = rw (is, so) refl
 
 module _ {B L : Type 0} (left : B → L) (runs : L → Plan → Type 0) (holds : L → Option Said → List ℕ) (spot : L → Option Said → Spot) (gives : L → Option Sight → Said → Act B → L → Option Sight → Type 0) (answered : IsAnswered spot) where
-  pub drops_acted : (w w' : Worker) (s s1 s' : Shared B) (e : Event) (k : ℕ) → (h : HasActed left runs holds spot gives w s s1 (act.Drop k)) → DropsRequest w.root k w w' s1 s' e → StepsOf left runs holds spot w s e w' s'
+  pub drops_acted : (w w' : Worker) (s s1 s' : Shared B) (e : Event) (k : ℕ) → (h : HasActed left runs holds spot gives w s s1 (Act.Drop k)) → DropsRequest w.root k w w' s1 s' e → StepsOf left runs holds spot w s e w' s'
   drops_acted w w' s s1 s' e k h let_go =
       let sound = h.sound in
       let m = h.made in
@@ -55,7 +45,7 @@ module _ {B L : Type 0} (left : B → L) (runs : L → Plan → Type 0) (holds :
       let acted_is : it.slot ≡ record slot { body = Some b'; told = None } = cc (it.there, found, m.acts.slot) in
       let slot' = it.slot' in
       let items : s'.tasks.items ≡ slice_set s.tasks.items w.root slot' = it.tasks ∙ ap (λ ts. slice_set ts w.root slot') m.tasks ∙ set-set s.tasks.items w.root m.slot' slot' in
-      let took : slot' ≡ record slot { body = Some b'; held = slot'.held; told = Some said.Pass } = it.took ∙ ap (λ (o : TaskSlot B). record o { held = slot'.held; told = Some said.Pass }) acted_is in
+      let took : slot' ≡ record slot { body = Some b'; held = slot'.held; told = Some Said.Pass } = it.took ∙ ap (λ (o : TaskSlot B). record o { held = slot'.held; told = Some Said.Pass }) acted_is in
       let held_is : slot.held.items ≡ slot'.held.items ++ k ∷ [] = newest_is slot.held.items slot'.held.items it.newest k it.some (ap (λ (o : TaskSlot B). o.held.items) (sym acted_is) ∙ it.held) newest in
       let v : Worker = record w' { place = w.place } in
       let r = it.lets.r in
@@ -66,20 +56,20 @@ module _ {B L : Type 0} (left : B → L) (runs : L → Plan → Type 0) (holds :
       let without : Without slot.held.items slot'.held.items (number_in n.requests.items r.id.0) =
       subst (λ q. Without slot.held.items slot'.held.items q) (sym number) (subst (λ xs. Without xs slot'.held.items k) (sym held_is) (without_last slot'.held.items k)) in
       let cell : slot'.cell ≡ slot.cell = ap (λ (o : TaskSlot B). o.cell) took in
-      let waits : slot'.waiting ≡ waiting.Nothing = ap (λ (o : TaskSlot B). o.waiting) took ∙ old.waits in
-      let told : slot'.told ≡ Some said.Pass = ap (λ (o : TaskSlot B). o.told) took in
+      let waits : slot'.waiting ≡ Waiting.Nothing = ap (λ (o : TaskSlot B). o.waiting) took ∙ old.waits in
+      let told : slot'.told ≡ Some Said.Pass = ap (λ (o : TaskSlot B). o.told) took in
       let body : slot'.body ≡ Some b' = ap (λ (o : TaskSlot B). o.body) took in
-      let of : BecomesOf k r w v s s' = becomes w v s s' slot slot' k (keeps_acting poll.Act w s refl sound) m.there items it.lets number without old.waits waits (ap (λ c. is_complete c.phase) cell) in
+      let of : BecomesOf k r w v s s' = becomes w v s s' slot slot' k (keeps_acting InPoll.Act w s refl sound) m.there items it.lets number without old.waits waits (ap (λ c. is_complete c.phase) cell) in
       let keeps = of.keeps in
-      let q : Place = at.Poll w.root poll.Act in
+      let q : Place = Place.Poll w.root InPoll.Act in
       let n' : Names = record n { held = n.held - 1; ended = v.names.ended } in
       let at_root : slice_get s'.tasks.items w.root ≡ Some slot' = ap (λ ts. slice_get ts w.root) items ∙ set_there s.tasks.items w.root slot' slot m.there in
       let w1 : Worker = acted_worker w q n' v in
-      let again : SoundAt q w1 (let_shared s s') = sound_acted poll.Act q w v n' s s' slot slot' sound items
+      let again : SoundAt q w1 (let_shared s s') = sound_acted InPoll.Act q w v n' s s' slot slot' sound items
       (record { told = keeps.told; named = keeps.named; ring = of.ring; over = keeps.over; wakes = of.wakes ∙ sound.quiet refl; due = keeps.due; flown = keeps.flown; carried = keeps.carried })
       (record {
         there = m.there;
-        after = on_in_poll w.root poll.Act;
+        after = on_in_poll w.root InPoll.Act;
         hand = sound.hand;
         stands = record {
           polled = ap (λ c. is_polled c.phase) cell ∙ old.polled;
@@ -109,9 +99,9 @@ module _ {B L : Type 0} (left : B → L) (runs : L → Plan → Type 0) (holds :
             let request : request_of all k ≡ r.shown = request_seen rs k r at_k in
             let desk = desk_of wq in
             let by_newest : Option ℕ → Moved Things = λ o. record { event = (drop_newest w.root all desk (task_seen left spot slot) o).event; choice = (drop_newest w.root all desk (task_seen left spot slot) o).choice; desk = (drop_newest w.root all desk (task_seen left spot slot) o).desk; thing = things_of w.index s } in
-            let past = answered (left b') said.Pass pass_heard ∙ so.stands in
+            let past = answered (left b') Said.Pass pass_heard ∙ so.stands in
             let seen : task_seen left spot slot' ≡ after_letting_go all (task_seen left spot slot) =
-            ap (task_seen left spot) took ∙ ap (λ (y : Task). record y { held = slot'.held.items }) (moved_seen left runs holds spot gives all slot b' (Some said.Pass) old.polled past)
+            ap (task_seen left spot) took ∙ ap (λ (y : Task). record y { held = slot'.held.items }) (moved_seen left runs holds spot gives all slot b' (Some Said.Pass) old.polled past)
             ∙ ap (λ xs. record (moved_on all (task_seen left spot slot)) { held = xs }) (sym fewer) in
             let own_drop : Request → Own = λ x. record (own_after_end (ends_by_drop x) k me) { cancels = joined_if (is_cancelled_by_drop x) (own_after_end (ends_by_drop x) k me).cancels k } in
             let own_is : own_of w1 ≡ own_drop r.shown = rw (of.ready, of.unenrolled, of.cancels, of.flying, it.lets.ended) refl in
@@ -121,7 +111,7 @@ module _ {B L : Type 0} (left : B → L) (runs : L → Plan → Type 0) (holds :
             ∙ ap (λ c. record desk { outputs = c }) of.outputs ∙ told_then (is_resolved r.shown.phase || ends_by_drop r.shown) w.root 0 desk in
             subst (λ y. Works left spot p vs y s (Drop k) w1 (let_shared s s')) here (record {
               choice = Plain;
-              moves = moves_so left runs holds spot gives p all w s slot word.Drop task so.asks.0 ∙ ap by_newest newest
+              moves = moves_so left runs holds spot gives p all w s slot ScriptWord.Drop task so.asks.0 ∙ ap by_newest newest
                   ∙ ap (λ x. makes (Drop k) (acts_on w.root (told_of_drop x desk)) (things_of w.index s)) request
                   ∙ ap (λ y. makes (Drop k) y (things_of w.index s)) (sym desk_is);
               may = (
@@ -136,11 +126,11 @@ module _ {B L : Type 0} (left : B → L) (runs : L → Plan → Type 0) (holds :
             })),
         again,
         still_performs left runs holds w w1 s (let_shared s s') slot slot' m.there items refl refl
-            (λ p fits. performs_on left runs holds spot gives p (task_seen left spot slot) (act.Drop k) slot' b' ((h.asks p [] fits).goes_on refl)
+            (λ p fits. performs_on left runs holds spot gives p (task_seen left spot slot) (Act.Drop k) slot' b' ((h.asks p [] fits).goes_on refl)
             (ap (λ (o : TaskSlot B). body_in o.cell.phase o.body) took ∙ in_poll slot.cell.phase (Some b') old.polled)
             (λ answer hears.
-            let heard : answer ≡ said.Pass = subst (λ o. CanHear o slot'.waiting answer) told hears in
-            subst (λ y. IsAnswer {B = B} (act.Drop k) y × (held_after {B = B} (act.Drop k) y slot.held.items ≡ held_once_come slot'.waiting slot'.held.items)) (sym heard)
+            let heard : answer ≡ Said.Pass = subst (λ o. CanHear o slot'.waiting answer) told hears in
+            subst (λ y. IsAnswer {B = B} (Act.Drop k) y × (held_after {B = B} (Act.Drop k) y slot.held.items ≡ held_once_come slot'.waiting slot'.held.items)) (sym heard)
             (tt, fewer ∙ ap (λ u. held_once_come u slot'.held.items) (sym waits)))),
       ) in
       subst (λ y. StepsOf left runs holds spot w s e w' y) (sym it.kept) (subst (λ y. StepsOf left runs holds spot w s e y (let_shared s s')) (sym same) (subst (λ y. StepsOf left runs holds spot w s y w1 (let_shared s s')) (sym it.event) so_far))
@@ -149,7 +139,7 @@ module _ {B L : Type 0} (left : B → L) (runs : L → Plan → Type 0) (holds :
       same_as a b is = rw is (eq-eqb b b refl)
 
   -- for its slot once it has acted
-  pub drop_steps : (w w' : Worker) (s s1 s' : Shared B) (e : Event) (k : ℕ) → (h : HasActed left runs holds spot gives w s s1 (act.Drop k)) → OfNewest w.root s1 (λ j. DropsRequest w.root j w w' s1 s' e) → StepsOf left runs holds spot w s e w' s'
+  pub drop_steps : (w w' : Worker) (s s1 s' : Shared B) (e : Event) (k : ℕ) → (h : HasActed left runs holds spot gives w s s1 (Act.Drop k)) → OfNewest w.root s1 (λ j. DropsRequest w.root j w w' s1 s' e) → StepsOf left runs holds spot w s e w' s'
   drop_steps w w' s s1 s' e k h drops_it =
       let m = h.made in
       let found : slice_get s1.tasks.items w.root ≡ Some m.slot' = ap (λ ts. slice_get ts w.root) m.tasks ∙ set_there s.tasks.items w.root m.slot' m.slot m.there in
@@ -157,7 +147,7 @@ module _ {B L : Type 0} (left : B → L) (runs : L → Plan → Type 0) (holds :
 
 module _ {B L : Type 0} (left : B → L) (runs : L → Plan → Type 0) (holds : L → Option Said → List ℕ) (spot : L → Option Said → Spot) (gives : L → Option Sight → Said → Act B → L → Option Sight → Type 0) where
   -- there is one
-  pub drops_some : (w : Worker) (s s1 : Shared B) (k : ℕ) → HasActed left runs holds spot gives w s s1 (act.Drop k) → OfSlot w.root s1 (λ slot. IsSome (newest_of slot))
+  pub drops_some : (w : Worker) (s s1 : Shared B) (k : ℕ) → HasActed left runs holds spot gives w s s1 (Act.Drop k) → OfSlot w.root s1 (λ slot. IsSome (newest_of slot))
   drops_some w s s1 k h slot at_root =
       let m = h.made in
       let found : slice_get s1.tasks.items w.root ≡ Some m.slot' = ap (λ ts. slice_get ts w.root) m.tasks ∙ set_there s.tasks.items w.root m.slot' m.slot m.there in

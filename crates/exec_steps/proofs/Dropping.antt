@@ -1,40 +1,28 @@
 -- What becomes of a request that nobody holds any more.
-use Rattle.std.proofs.Common.{◌≡◌, ◌≢◌, ◌⊎◌, ⊎_elim, ℕ, ◌+◌, ◌-◌, ◌<◌, ◌≤◌, ◌==◌, ◌&&◌, ◌||◌, Bool, true, false, not, List, [], ◌∷◌, ◌++◌, length, filter, Option, Some, None, IsSome, refl, sym, ap, subst, ◌∙◌, inl, inr, arith, length-append}
-use Rattle.std.proofs.lemmas.Bool.{false≢true}
-use Rattle.std.proofs.lemmas.List.{append-nil, map-append, set-set}
-use Rattle.std.specs.Prelude.{slice_get, slice_set, is_some, if◌then◌else◌}
+use Rattle.std.proofs.{Common.{◌≡◌, ◌≢◌, ◌⊎◌, ⊎_elim, ℕ, ◌+◌, ◌-◌, ◌==◌, ◌&&◌, ◌||◌, Bool, true, false, not, List, [], ◌∷◌, ◌++◌, length, filter, Option, Some, None, IsSome, refl, sym, ap, subst, ◌∙◌, inl, inr, arith, length-append, slice_get, slice_set, is_some, if◌then◌else◌}, lemmas.{Bool.false≢true, List.{append-nil, map-append, set-set}}}
 use Rattle.exec_base.specs.{Slab.{Slab, value_at, written, removed}, declared.{error.Error.TheVariants.Timeout, slab.{Id.Id, Slot.TheVariants.Live}}}
 use Rattle.exec_outcomes.specs.declared.outcome.{Kind.Kind, Outcome.TheVariants.Failure}
-use Rattle.exec_outcomes.specs.declared.outcome.Kind.TheVariants as kind
 use Rattle.exec_request.specs.{Requests.{asked_of, goes_on_alone, output_of}, States.asks_cancel, declared.{output.RequestOutput.RequestOutput, request.Request.Request as Asking}}
-use Rattle.exec_request.specs.declared.request.Request.TheVariants as asks
-use Rattle.exec_waiters.proofs.Changes.{entry_of, one_if}
-use Rattle.exec_waiters.specs.{Events.{cancelled as cancelled_of, told_by_finish, told_to, untaken, told_by_orphan, orphaned_from, asks_cancel_by_orphan}, States.{waiter_at, waiter_of, is_held_by, flying_count, tick_in}, Told.{Told, Tells, nothing_told}, declared.{observer.Observer.{Observer, TheVariants.{Local, Orphaned}}, waiter.{Entry.{Entry, TheVariants.{Pending, Ready}}, Waiter.Waiter}, waiter_id.WaiterId.WaiterId}}
+use Rattle.exec_waiters.{proofs.Changes.{entry_of, one_if}, specs.{Events.{cancelled as cancelled_of, told_by_finish, told_to, untaken, told_by_orphan, orphaned_from, asks_cancel_by_orphan}, States.{waiter_at, waiter_of, is_held_by, flying_count, tick_in}, Told.{Told, Tells, nothing_told}, declared.{observer.Observer.{Observer, TheVariants.{Local, Orphaned}}, waiter.{Entry.{Entry, TheVariants.{Pending, Ready}}, Waiter.Waiter}, waiter_id.WaiterId.WaiterId}}}
 use Rattle.exec_driver.specs.{Driving.{Driving, request_at, is_queued as is_listed_queued, is_unenrolled, is_cancelled}, Lists.{is_among, without}, Punctual.IsPunctual, Steps.{both, cancelling, cancelled_at, cancelled_from, ended, timed_out, told_by_cancel, without_observer}}
-use Rattle.exec_machine.specs.{declared.state.Request.Request, Requests.{dropped, ends_by_drop, is_cancelled_by_drop, joined_if, left_if, resolved}, Tests.{is_in_flight, is_kept, is_queued, is_resolved}}
-use Rattle.exec_machine.specs.declared.state.RequestPhase.TheVariants as phase
-use Rattle.exec_machine.specs.declared.state.Waiting.TheVariants as waiting
-use Rattle.exec_moves.specs.declared.place.AfterCallbacks.TheVariants as then
-use Rattle.exec_moves.specs.declared.place.InCallbacks.TheVariants as callback
-use Rattle.exec_moves.specs.declared.place.InPoll.TheVariants as poll
-use Rattle.exec_moves.specs.declared.place.Place.TheVariants as at
-use Rattle.exec_steps.specs.{declared.parts.{mail.Reply.Reply, record.Record.Record, shared.Shared.Shared, task_slot.TaskSlot.TaskSlot, worker.Worker.Worker}, Awaits.{LetsGo, drops}, Flown.{IsPlain, IsUpTo, longest}, Phased.is_complete, Polls.unobserved, Records.number_in, Rooted.IsNear, Serving.{changed_at, changed_in}, Sound.{IsAlike, IsTold, tellers}, View.{driver_of, numbers_of}}
-use Rattle.exec_steps.proofs.{Cancelling.among_last, Changing.{changes_one, flying_after}, Ends.{flying_ended, numbers_without}, Expiring.{flies_not_queued, unticked_start, unticked_tick}, Getting.{Without, same_flying, same_pending}, Late.stands, Letting.{KeepsActing, alike_cancelled, alike_orphaned, let_cancel, let_shared, let_worker, lets_pending, lets_ready, punctual_watched, told_output, without_waiter}, Ousting.keeps_ended, Over.OneEnds, Resolving.{live_fewer, places_fewer, slab_after, told_once, unticked_at}, Starting.{queued_phase, writes_bytes}, Timed.told_still, Turning.set_there, Watching.{now_there, watched}, Orders.{alike_self, alike_unticked}}
+use Rattle.exec_machine.specs.{declared.state.{Request.Request, RequestPhase.RequestPhase, Waiting.Waiting}, Requests.{dropped, ends_by_drop, is_cancelled_by_drop, joined_if, left_if, resolved}, Tests.{is_in_flight, is_kept, is_queued, is_resolved}}
+use Rattle.exec_steps.{specs.{declared.parts.{mail.Reply.Reply, record.Record.Record, shared.Shared.Shared, task_slot.TaskSlot.TaskSlot, worker.Worker.Worker}, Awaits.{LetsGo, drops}, Flown.{IsPlain, IsUpTo, longest}, Phased.is_complete, Polls.unobserved, Records.number_in, Rooted.IsNear, Serving.{changed_at, changed_in}, Sound.{IsAlike, IsTold, tellers}, View.{driver_of, numbers_of}}, proofs.{Cancelling.among_last, Changing.{changes_one, flying_after}, Ends.{flying_ended, numbers_without}, Expiring.{flies_not_queued, unticked_start, unticked_tick}, Getting.{Without, same_flying, same_pending}, Late.stands, Letting.{KeepsActing, alike_cancelled, alike_orphaned, let_cancel, let_shared, let_worker, lets_pending, lets_ready, punctual_watched, told_output, without_waiter}, Ousting.keeps_ended, Over.OneEnds, Resolving.{live_fewer, places_fewer, slab_after, told_once, unticked_at}, Starting.{queued_phase, writes_bytes}, Timed.told_still, Turning.set_there, Watching.{now_there, watched}, Orders.{alike_self, alike_unticked}}}
+use Rattle.exec_moves.specs.declared.place.{AfterCallbacks.AfterCallbacks, InCallbacks.InCallbacks, InPoll.InPoll, Place.Place}
 
 -- A REQUEST THAT MAY BE THERE is cancelled where nobody holds it
 
 not_alone : (q : Asking) (n : ℕ) → IsUpTo (longest (asked_of q).kind) n → goes_on_alone q ≡ false
-not_alone (asks.Send s) n h = refl
-not_alone (asks.Poll p) n h = refl
-not_alone (asks.Recv r) n h = refl
-not_alone (asks.ReadAt r) n h = refl
-not_alone (asks.Connect c) n h = refl
-not_alone (asks.WriteAt w) n h = absurd (writes_bytes w.state n h)
-not_alone (asks.Sync s) n h = absurd h
+not_alone (Asking.Send s) n h = refl
+not_alone (Asking.Poll p) n h = refl
+not_alone (Asking.Recv r) n h = refl
+not_alone (Asking.ReadAt r) n h = refl
+not_alone (Asking.Connect c) n h = refl
+not_alone (Asking.WriteAt w) n h = absurd (writes_bytes w.state n h)
+not_alone (Asking.Sync s) n h = absurd h
 
 not_kept : (k : Kind) (n : ℕ) → IsUpTo (longest k) n → is_kept k ≡ false
-not_kept kind.Poll n h = refl
-not_kept kind.Send n h = refl
+not_kept Kind.Poll n h = refl
+not_kept Kind.Send n h = refl
 not_kept _ n h = absurd h
 
 not_gone : (q : Request) → ends_by_drop q ≡ false → is_cancelled_by_drop q ≡ false → dropped q ≡ record q { observed = false }
@@ -83,17 +71,17 @@ pub record BecomesOf {B : Type 0} (k : ℕ) (r : Record) (w v : Worker) (s s' : 
 
 module _ {B : Type 0} (w v : Worker) (s s' : Shared B) (slot slot' : TaskSlot B) (k : ℕ) (keeps : KeepsActing w (driver_of w) s.requests.items s) (there : slice_get s.tasks.items w.root ≡ Some slot)
     (tasks : s'.tasks.items ≡ slice_set s.tasks.items w.root slot') (lets : LetsGo k s.requests.items s'.requests.items w v) (number : number_in w.names.requests.items lets.r.id.0 ≡ k)
-    (without : Without slot.held.items slot'.held.items (number_in w.names.requests.items lets.r.id.0)) (waits : slot.waiting ≡ waiting.Nothing) (still_waits : slot'.waiting ≡ waiting.Nothing) (complete : is_complete slot'.cell.phase ≡ is_complete slot.cell.phase) where
+    (without : Without slot.held.items slot'.held.items (number_in w.names.requests.items lets.r.id.0)) (waits : slot.waiting ≡ Waiting.Nothing) (still_waits : slot'.waiting ≡ Waiting.Nothing) (complete : is_complete slot'.cell.phase ≡ is_complete slot.cell.phase) where
   abbrev id_let : Id
   id_let = lets.r.id.0
 
   abbrev rs_let : (Record → Record) → List Record
   rs_let f = changed_at s.requests.items (number_in w.names.requests.items lets.r.id.0) f
 
-  no_timer : (z : ℕ) → slot.waiting ≡ waiting.Timer z → ⊥
+  no_timer : (z : ℕ) → slot.waiting ≡ Waiting.Timer z → ⊥
   no_timer z is = absurd (cc (waits, is))
 
-  no_request : (q : ℕ) → slot.waiting ≡ waiting.Request q → q ≡ number_in w.names.requests.items lets.r.id.0
+  no_request : (q : ℕ) → slot.waiting ≡ Waiting.Request q → q ≡ number_in w.names.requests.items lets.r.id.0
   no_request q is = absurd (cc (waits, is))
 
   at_number : slice_get s.requests.items (number_in w.names.requests.items lets.r.id.0) ≡ Some lets.r
@@ -287,7 +275,7 @@ module _ {B : Type 0} (w v : Worker) (s s' : Shared B) (slot slot' : TaskSlot B)
       let t : Told Reply Reply = told_by_finish id it1 timed_out None in
       let drv : driver_of v ≡ d' = going.driver ∙ ap (λ b. if b then (if asks_cancel it.state then d1 else cancelling d1 r.id it1) else d') idle in
       let tells : Tells w.home.deferred left t = subst (λ x. Tells w.home.deferred left x) (ap (λ b. if b then nothing_told else t) idle) going.tells in
-      let queued : r.shown.phase ≡ phase.Queued = queued_phase r.shown.phase (a.flying ∙ idle) a.open_still going.plain.ungated in
+      let queued : r.shown.phase ≡ RequestPhase.Queued = queued_phase r.shown.phase (a.flying ∙ idle) a.open_still going.plain.ungated in
       let ends : ends_by_drop r.shown ≡ true = rw (queued, going.lets_it) refl in
       let unasked : is_cancelled_by_drop r.shown ≡ false = ap (λ b. b && not (is_kept r.shown.operation.kind) && not r.shown.cancelled) (a.flying ∙ idle) in
       let rs1 = rs_let unobserved in
@@ -295,11 +283,11 @@ module _ {B : Type 0} (w v : Worker) (s s' : Shared B) (slot slot' : TaskSlot B)
       let by = watched w.names d d1 s.requests.items id it it1 r unobserved going.live at_number refl refl a.open_still refl refl refl (λ h. h) (λ t h. h) (alike_orphaned d.wheel.start d.wheel.tick it r a) refl refl refl (alike_self d.wheel) refl (λ x among. inl among) in
       let mid = lets_pending w s s' slot slot' id keeps there tasks without no_timer no_request still_waits complete w.home.deferred r it it1 unobserved d1 going.live refl by refl (punctual_watched d d1 id it it1 going.live refl refl keeps.due.punctual) (keeps.due.told refl) keeps.due.wheel keeps.told (keeps.quiet refl) in
       let here : slice_get rs1 kk ≡ Some r1 = now_there w.index w.names 0 d d1 w.home.timers s.requests.items rs1 s.sleepers.items id r unobserved by in
-      let w1 : Worker = record (let_worker w w.names w.home.deferred) { place = at.Poll w.root poll.Act } in
+      let w1 : Worker = record (let_worker w w.names w.home.deferred) { place = Place.Poll w.root InPoll.Act } in
       let one : OneEnds w1.names d1 d'.requests rs1 id it1 r1 ends_now (Failure Timeout) told = record { at = going.alone; there = here; slab = slab_after d1.requests id it1 timed_out None tt going.alone; ends = record { same = refl } } in
       let at_root : slice_get s'.tasks.items w.root ≡ Some slot' = ap (λ ts. slice_get ts w.root) tasks ∙ set_there s.tasks.items w.root slot' slot there in
       let ended_by : v.names.ended.items ≡ w.names.ended.items ++ kk ∷ [] = lets.ended ∙ ap (λ b. joined_if b w.names.ended.items k) ends ∙ ap (λ q. w.names.ended.items ++ q ∷ []) (sym number) in
-      let over = keeps_ended w1 (let_shared s s') d1 d' w.home.timers rs1 s.sleepers.items id it1 r1 ends_now (Failure Timeout) told (at.Callbacks callback.TakeBatch then.Look) v.names left t one mid
+      let over = keeps_ended w1 (let_shared s s') d1 d' w.home.timers rs1 s.sleepers.items id it1 r1 ends_now (Failure Timeout) told (Place.Callbacks InCallbacks.TakeBatch AfterCallbacks.Look) v.names left t one mid
       slot' at_root (record { once = told_once id it1 timed_out None tt; wakes = refl }) tells ended_by lets.capacity idle
       (record { bounded = going.plain.bounded; moved = going.plain.moved; first_part = going.plain.first_part; unhinted = going.plain.unhinted; ungated = refl; deadline = going.plain.deadline })
       (λ held. absurd (false≢true held)) refl refl (unticked_start d.wheel (tick_in it.state)) (unticked_tick d.wheel (tick_in it.state)) (subst IsPunctual drv (lets.punctual keeps.due.punctual)) (λ h. ap (unlisted r.id) (keeps.due.told refl))

@@ -1,24 +1,12 @@
 -- A root ends: it lets go of all that it holds, and its worker closes.
-use Rattle.std.proofs.Common.{◌≡◌, ℕ, ◌==◌, ◌<◌, Bool, true, false, List, [], ◌∷◌, length, map, Option, Some, None, IsSome, refl, sym, ap, subst, ◌∙◌}
-use Rattle.std.proofs.lemmas.Bool.{false≢true, eq-eqb}
-use Rattle.std.proofs.lemmas.List.{map-set, set-set}
-use Rattle.std.specs.Prelude.{slice_get, slice_set, if◌then◌else◌}
+use Rattle.std.proofs.{Common.{◌≡◌, ℕ, ◌<◌, Bool, true, false, List, [], length, map, Option, Some, None, refl, sym, ap, subst, ◌∙◌, slice_get, slice_set, if◌then◌else◌}, lemmas.{Bool.{false≢true, eq-eqb}, List.{map-set, set-set}}}
 use Rattle.exec_base.specs.Slab.{Slab}
 use Rattle.exec_time.specs.declared.timers.Sleeper.{Sleeper as Sleeping}
 use Rattle.exec_driver.specs.Driving.{Driving}
 use Rattle.exec_task.specs.{Phases.{is_polled, over as cell_over}, Sight.Sight, declared.{body.{Act.Act, Said.Said}, runnable.Runnable.Runnable}}
-use Rattle.exec_task.specs.declared.body.Act.TheVariants as act
-use Rattle.exec_task.specs.declared.task.Phase.TheVariants as cell
-use Rattle.exec_machine.specs.{declared.{config.{Configuration.Configuration, ScriptWord.ScriptWord}, event.Event.{Event, TheVariants.{Done, Fault}}}, After.{own_after, common_after}, Allowed.allowed, Choice.Choice.Plain, Progress.Plan, Requests.operation_asked, Tasks.{after_over, may_end_by, own_after_done, own_after_drops, own_after_waking_up, requests_after_drops, sleepers_after_waking_up, unpolled}, Tests.{AllTrue, has_ended}, Words.{asks_end, asks_fault, moved_on, next_word}, World.{Own, Task, Common, task_of}}
-use Rattle.exec_machine.specs.declared.config.ScriptWord.TheVariants as word
-use Rattle.exec_machine.specs.declared.state.TaskPhase.TheVariants as task
-use Rattle.exec_machine.specs.declared.state.Waiting.TheVariants as waiting
-use Rattle.exec_moves.specs.{declared.place.{InClosing.InClosing, Place.Place}, Poll.ends, Seen.next_at, State.Desk}
-use Rattle.exec_moves.specs.declared.place.InClosing.TheVariants as closing
-use Rattle.exec_moves.specs.declared.place.InPoll.TheVariants as poll
-use Rattle.exec_moves.specs.declared.place.Place.TheVariants as at
-use Rattle.exec_steps.specs.{declared.parts.{mail.Reply.Reply, names.Names.Names, record.Record.Record, shared.Shared.Shared, sleeping.SleeperRecord.SleeperRecord, task_slot.TaskSlot.TaskSlot, worker.Worker.Worker}, Acting.{ActsAs, HasActed, Performs, StepsOf}, Ending.{EndsTask, LetsGoAll, MayEndTask, MayLetGoAll}, Hearing.CanHear, Phased.{IsPhased, is_complete, stage_of}, Polls.OfSlot, Rooted.{Holds, IsRooted}, Scripts.is_last, Sound.{Sound, SoundAt, IsRunnable, Stands, AreOwed, is_told, one_of}, Spots.{Spot, spot_of, standing_at}, View.{Visible, visible, own_of, desk_of, driver_of, common_of, things_of, open_seen, task_seen}, Works.{Suits, Works}}
-use Rattle.exec_steps.proofs.{Acting.{acts_so, move_by, moves_so}, Awaiting.{acted_worker, desk_acted}, Calling.request_seen, Endings.{AllLet, IsActing, SeesAll, all_let, may_all}, Letting.{KeepsActing, keeps_acting}, Performing.still_performs, Phased.phased_over, Rooted.rooted_set, Seeing.visible_with, Turning.{set_found, set_there}, Waking.task_there}
+use Rattle.exec_machine.specs.{declared.{config.ScriptWord.ScriptWord, event.Event.{Event, TheVariants.{Done, Fault}}, state.{TaskPhase.TaskPhase, Waiting.Waiting}}, After.{own_after, common_after}, Allowed.allowed, Choice.Choice.Plain, Progress.Plan, Tasks.{after_over, may_end_by, own_after_done, own_after_drops, own_after_waking_up, requests_after_drops, sleepers_after_waking_up, unpolled}, Tests.AllTrue, Words.{asks_end, asks_fault, moved_on, next_word}, World.{Own, Common, task_of}}
+use Rattle.exec_moves.specs.{declared.place.{InClosing.InClosing, Place.Place, InPoll.InPoll}, Poll.ends, Seen.next_at, State.Desk}
+use Rattle.exec_steps.{specs.{declared.parts.{mail.Reply.Reply, names.Names.Names, record.Record.Record, shared.Shared.Shared, sleeping.SleeperRecord.SleeperRecord, task_slot.TaskSlot.TaskSlot, worker.Worker.Worker}, Acting.{ActsAs, HasActed, Performs, StepsOf}, Ending.{EndsTask, LetsGoAll, MayEndTask, MayLetGoAll}, Hearing.CanHear, Phased.{IsPhased, is_complete, stage_of}, Rooted.{Holds, IsRooted}, Scripts.is_last, Sound.{Sound, SoundAt, IsRunnable, Stands, AreOwed, is_told, one_of}, Spots.{Spot, spot_of, standing_at}, View.{Visible, visible, own_of, desk_of, driver_of, common_of, things_of, open_seen, task_seen}, Works.{Suits, Works}}, proofs.{Acting.{acts_so, move_by, moves_so}, Awaiting.{acted_worker, desk_acted}, Calling.request_seen, Endings.{AllLet, IsActing, SeesAll, all_let, may_all}, Letting.{KeepsActing, keeps_acting}, Performing.still_performs, Phased.phased_over, Rooted.rooted_set, Seeing.visible_with, Turning.{set_found, set_there}, Waking.task_there}}
 
 module _ {B L : Type 0} (left : B → L) (runs : L → Plan → Type 0) (holds : L → Option Said → List ℕ) (spot : L → Option Said → Spot) (gives : L → Option Sight → Said → Act B → L → Option Sight → Type 0) where
   -- what the root held as it made this act
@@ -31,7 +19,7 @@ module _ {B L : Type 0} (left : B → L) (runs : L → Plan → Type 0) (holds :
       let zs = w.home.timers in
       let rs = s.requests.items in
       let ss = s.sleepers.items in
-      let keeps = keeps_acting poll.Act w s refl h.sound in
+      let keeps = keeps_acting InPoll.Act w s refl h.sound in
       let now : Holds false i w.root m.slot'.held.items m.slot'.waiting (is_complete m.slot'.cell.phase) n d zs rs ss =
       subst (λ (o : TaskSlot B). Holds false i w.root o.held.items o.waiting (is_complete o.cell.phase) n d zs rs ss) (sym m.acts.slot) (keeps.rooted.root m.slot m.there) in
       let s2 : Shared B = record s { tasks = s1.tasks } in
@@ -74,9 +62,9 @@ module _ {B : Type 0} where
   run_over None slot slot' before after over run = λ b is. absurd (false≢true (sym (ap is_complete is) ∙ over))
   run_over (Some r) slot slot' before after over run = absurd (false≢true (sym (ap is_polled run.1.1) ∙ before))
 
-holds_over : (i t : ℕ) (o : Bool) (n : Names) (d : Driving Reply Reply) (zs : Slab (Sleeping Reply)) (rs : List Record) (ss : List SleeperRecord) → Holds false i t [] waiting.Nothing o n d zs rs ss → Holds false i t [] waiting.Nothing true n d zs rs ss
+holds_over : (i t : ℕ) (o : Bool) (n : Names) (d : Driving Reply Reply) (zs : Slab (Sleeping Reply)) (rs : List Record) (ss : List SleeperRecord) → Holds false i t [] Waiting.Nothing o n d zs rs ss → Holds false i t [] Waiting.Nothing true n d zs rs ss
 holds_over i t o n d zs rs ss old =
-    let over : true ≡ true → ([] ≡ []) × (waiting.Nothing ≡ waiting.Nothing) = λ h. (refl, refl) in
+    let over : true ≡ true → ([] ≡ []) × (Waiting.Nothing ≡ Waiting.Nothing) = λ h. (refl, refl) in
     record { counted = old.counted; held = old.held; once = old.once; all = old.all; awaited = old.awaited; kept = old.kept; waits = old.waits; sleeping = old.sleeping; asleep = old.asleep; over = over }
 
 -- The root of a worker that was polled made an act that is its last.
@@ -93,7 +81,7 @@ module _ {B L : Type 0} (left : B → L) (runs : L → Plan → Type 0) (holds :
   over_slot = record h.made.slot { body = Some h.made.acts.body'; told = None; held = it.slot'.held; cell = cell_over h.made.slot.cell }
 
   abbrev over_worker : Worker
-  over_worker = acted_worker w (at.Closing closing.Close) it.v.names it.v
+  over_worker = acted_worker w (Place.Closing InClosing.Close) it.v.names it.v
 
   abbrev over_shared : Shared B
   over_shared = record s { tasks = s'.tasks; requests = s'.requests }
@@ -110,7 +98,7 @@ module _ {B L : Type 0} (left : B → L) (runs : L → Plan → Type 0) (holds :
       all_let h.made.slot.held.items h.made.slot' w it.v s1 s'.requests.items (acting_now left runs holds spot gives w s s1 a h) (subst (λ xs. LetsGoAll xs s1.requests.items s'.requests.items w it.v) ks it.lets)
 
   worker_is : w' ≡ over_worker
-  worker_is = it.worker ∙ ap (λ (x : Worker). record x { place = at.Closing closing.Close }) all.worker
+  worker_is = it.worker ∙ ap (λ (x : Worker). record x { place = Place.Closing InClosing.Close }) all.worker
 
   shared_is : s' ≡ over_shared
   shared_is = it.kept ∙ ap (λ (x : Shared B). record x { tasks = s'.tasks; requests = s'.requests }) h.made.kept
@@ -144,9 +132,9 @@ module _ {B L : Type 0} (left : B → L) (runs : L → Plan → Type 0) (holds :
       let old : Holds false w.index w.root o.held.items o.waiting (is_complete o.cell.phase) n d zs rs ss = over_keeps.rooted.root o there in
       let none = subst (λ u. Holds false w.index w.root [] u (is_complete o.cell.phase) n d zs rs ss) all.acting.waits (subst (λ xs. Holds false w.index w.root xs o.waiting (is_complete o.cell.phase) n d zs rs ss) all.acting.held old) in
       let now = holds_over w.index w.root (is_complete o.cell.phase) n d zs rs ss none in
-      let waits : it.slot'.waiting ≡ waiting.Nothing = ap (λ (x : TaskSlot B). x.waiting) slot_is ∙ (h.sound.tied.stands h.made.slot h.made.there).waits in
+      let waits : it.slot'.waiting ≡ Waiting.Nothing = ap (λ (x : TaskSlot B). x.waiting) slot_is ∙ (h.sound.tied.stands h.made.slot h.made.there).waits in
       subst (λ b. Holds false w.index w.root it.slot'.held.items it.slot'.waiting b n d zs rs ss) (sym (ap (λ (x : TaskSlot B). is_complete x.cell.phase) slot_is))
-      (subst (λ u. Holds false w.index w.root it.slot'.held.items u true n d zs rs ss) (sym waits) (subst (λ xs. Holds false w.index w.root xs waiting.Nothing true n d zs rs ss) (sym it.none) now))
+      (subst (λ u. Holds false w.index w.root it.slot'.held.items u true n d zs rs ss) (sym waits) (subst (λ xs. Holds false w.index w.root xs Waiting.Nothing true n d zs rs ss) (sym it.none) now))
 
   over_stands : Stands None w.index over_slot
   over_stands =
@@ -162,7 +150,7 @@ module _ {B L : Type 0} (left : B → L) (runs : L → Plan → Type 0) (holds :
         waits = tt;
       }
 
-  sound_over : SoundAt (at.Closing closing.Close) over_worker over_shared
+  sound_over : SoundAt (Place.Closing InClosing.Close) over_worker over_shared
   sound_over =
       let sound = h.sound in
       let keeps = over_keeps in
@@ -202,7 +190,7 @@ module _ {B L : Type 0} (left : B → L) (runs : L → Plan → Type 0) (holds :
               subst (λ (x : TaskSlot B). Holds false w.index w.root x.held.items x.waiting (is_complete x.cell.phase) over_worker.names (driver_of it.v) w.home.timers s'.requests.items s.sleepers.items) is over_holds;
         };
         phased = λ chair there.
-            subst (λ ts. IsPhased false (Some closing.Close) w.home.closing w.root w.names.unreleased (stage_of chair s) ts) (sym tasks_are)
+            subst (λ ts. IsPhased false (Some InClosing.Close) w.home.closing w.root w.names.unreleased (stage_of chair s) ts) (sym tasks_are)
             (phased_over w.home.closing w.root w.names.unreleased (stage_of chair s) s.tasks.items h.made.slot it.slot' h.made.there (ap (λ (o : TaskSlot B). is_complete o.cell.phase) slot_is) (sound.phased chair there));
         tied = record {
           stands = λ o at_o. let is : it.slot' ≡ o = cc (found, at_o) in subst (Stands None w.index) (sym slot_is ∙ is) over_stands;
@@ -214,7 +202,7 @@ module _ {B L : Type 0} (left : B → L) (runs : L → Plan → Type 0) (holds :
 
   -- the word by which it ends, and what this is to the machine
   pub record IsLast (x : ScriptWord) (e : Event) (test : ScriptWord → Bool) : Type 0 where
-    pub moves : (p : Plan) (c : Common) → move_by left runs holds spot gives p c w s (task_seen left spot h.made.slot) x ≡ record { event = e; choice = Plain; desk = ends c (task_seen left spot h.made.slot) (desk_of (record w { place = at.Poll w.root poll.Act })); thing = things_of w.index s }
+    pub moves : (p : Plan) (c : Common) → move_by left runs holds spot gives p c w s (task_seen left spot h.made.slot) x ≡ record { event = e; choice = Plain; desk = ends c (task_seen left spot h.made.slot) (desk_of (record w { place = Place.Poll w.root InPoll.Act })); thing = things_of w.index s }
     pub may : (p : Plan) (me : Own) (c : Common) → allowed p.config me c w.index e Plain ≡ may_end_by test me c w.root
     pub own : (p : Plan) (me : Own) (c : Common) → own_after p.config me c w.index e Plain ≡ record (own_after_done me c w.index w.root) { serving = false }
     pub common : (p : Plan) (me : Own) (c : Common) → common_after p.config me c w.index e Plain ≡ after_over c w.index w.root
@@ -222,11 +210,11 @@ module _ {B L : Type 0} (left : B → L) (runs : L → Plan → Type 0) (holds :
     pub last : is_last a ≡ true
     pub asks : (p : Plan) (vs : List Visible) → ActsAs left runs holds spot gives (common_of left spot p vs s) p w.moments.sampled h.made.slot h.made.acts.body' a → next_word (common_of left spot p vs s) (task_seen left spot h.made.slot) ≡ x
 
-  over_seen : (c : Common) → spot (left h.made.acts.body') None ≡ spot_of (task_seen left spot h.made.slot) → task_seen left spot it.slot' ≡ record (task_seen left spot h.made.slot) { phase = task.Done; held = [] }
+  over_seen : (c : Common) → spot (left h.made.acts.body') None ≡ spot_of (task_seen left spot h.made.slot) → task_seen left spot it.slot' ≡ record (task_seen left spot h.made.slot) { phase = TaskPhase.Done; held = [] }
   over_seen c stays =
       ap (task_seen left spot) slot_is
-      ∙ ap (λ y. record (standing_at y (task_seen left spot h.made.slot)) { phase = task.Done; held = it.slot'.held.items }) stays
-      ∙ ap (λ xs. record (task_seen left spot h.made.slot) { phase = task.Done; held = xs }) it.none
+      ∙ ap (λ y. record (standing_at y (task_seen left spot h.made.slot)) { phase = TaskPhase.Done; held = it.slot'.held.items }) stays
+      ∙ ap (λ xs. record (task_seen left spot h.made.slot) { phase = TaskPhase.Done; held = xs }) it.none
 
   works_over : (x : ScriptWord) (e : Event) (test : ScriptWord → Bool) → IsLast x e test → (p : Plan) (vs : List Visible) → Suits p vs w s → Performs left runs holds p h.made.slot → Works left spot p vs w s e w' s'
   works_over x e test by p vs suits fits =
@@ -236,7 +224,7 @@ module _ {B L : Type 0} (left : B → L) (runs : L → Plan → Type 0) (holds :
       let m = h.made in
       let ks = m.slot.held.items in
       let seen = task_seen left spot in
-      let wq : Worker = record w { place = at.Poll w.root poll.Act } in
+      let wq : Worker = record w { place = Place.Poll w.root InPoll.Act } in
       let here : wq ≡ w = ap (λ y. record w { place = y }) (sym h.sound.here) in
       let me = own_of wq in
       let d = desk_of wq in
@@ -248,11 +236,11 @@ module _ {B L : Type 0} (left : B → L) (runs : L → Plan → Type 0) (holds :
       let sees : SeesAll c ks s1.requests.items = λ j k r at_j at_k. request_seen s.requests.items k r (ap (λ rs. slice_get rs k) (sym requests) ∙ at_k) in
       let stays : spot (left m.acts.body') None ≡ spot_of (seen m.slot) = does_so.stands ∙ ap (λ b. if b then spot_of (seen m.slot) else spot_of (moved_on c (seen m.slot))) by.last in
       let desk : desk_of w' ≡ ends c (seen m.slot) d =
-      ap desk_of worker_is ∙ desk_acted w it.v (at.Closing closing.Close) it.v.names all.ring all.armed
-      ∙ ap (λ ws. record d { place = at.Closing closing.Close; wakes = map (λ n. n.0) ws; outputs = length it.v.home.deferred.outputs.items }) all.wakes
-      ∙ ap (λ (y : Desk). record y { place = at.Closing closing.Close }) (sym (all.outputs c d sees)) in
+      ap desk_of worker_is ∙ desk_acted w it.v (Place.Closing InClosing.Close) it.v.names all.ring all.armed
+      ∙ ap (λ ws. record d { place = Place.Closing InClosing.Close; wakes = map (λ n. n.0) ws; outputs = length it.v.home.deferred.outputs.items }) all.wakes
+      ∙ ap (λ (y : Desk). record y { place = Place.Closing InClosing.Close }) (sym (all.outputs c d sees)) in
       let things : things_of w'.index s' ≡ things_of i s = ap (λ y. things_of y.index s') worker_is ∙ ap (things_of i) shared_is in
-      let place : it.v.place ≡ at.Poll w.root poll.Act = ap (λ y. y.place) all.worker ∙ h.sound.here in
+      let place : it.v.place ≡ Place.Poll w.root InPoll.Act = ap (λ y. y.place) all.worker ∙ h.sound.here in
       let own : own_of w' ≡ own_after p.config me c i e Plain =
       ap own_of it.worker
       ∙ ap (λ q. record (own_of it.v) { polls = None; serving = false; next = next_at q }) (sym place)
@@ -267,10 +255,10 @@ module _ {B L : Type 0} (left : B → L) (runs : L → Plan → Type 0) (holds :
       ∙ ap (common_of left spot p vs) shared_is
       ∙ ap (λ ts. record c { tasks = map seen ts; requests = map (λ r. r.shown) s'.requests.items; opens = map (open_seen s'.requests.items) s.opens }) tasks_are
       ∙ ap (λ ts. record c { tasks = ts; requests = map (λ r. r.shown) s'.requests.items; opens = map (open_seen s'.requests.items) s.opens }) (map-set seen s.tasks.items t it.slot' ∙ ap (slice_set (map seen s.tasks.items) t) (over_seen c stays))
-      ∙ ap (λ os. record c { tasks = slice_set c.tasks t (record (seen m.slot) { phase = task.Done; held = [] }); requests = map (λ r. r.shown) s'.requests.items; opens = os }) (all.opens s.opens ∙ ap (λ rs. map (open_seen rs) s.opens) requests)
-      ∙ ap (λ rs. record c { tasks = slice_set c.tasks t (record (seen m.slot) { phase = task.Done; held = [] }); requests = rs }) (all.shown ∙ ap (λ rs. requests_after_drops i ks (map (λ r. r.shown) rs)) requests)
-      ∙ ap (λ u. record c { tasks = slice_set c.tasks t (record (seen m.slot) { phase = task.Done; held = [] }); requests = requests_after_drops i ks c.requests; sleepers = sleepers_after_waking_up c i u }) (sym old.waits)
-      ∙ ap (λ y. record c { tasks = slice_set c.tasks t (record y { phase = task.Done; held = [] }); requests = requests_after_drops i y.held c.requests; sleepers = sleepers_after_waking_up c i y.waiting }) (sym at_task)
+      ∙ ap (λ os. record c { tasks = slice_set c.tasks t (record (seen m.slot) { phase = TaskPhase.Done; held = [] }); requests = map (λ r. r.shown) s'.requests.items; opens = os }) (all.opens s.opens ∙ ap (λ rs. map (open_seen rs) s.opens) requests)
+      ∙ ap (λ rs. record c { tasks = slice_set c.tasks t (record (seen m.slot) { phase = TaskPhase.Done; held = [] }); requests = rs }) (all.shown ∙ ap (λ rs. requests_after_drops i ks (map (λ r. r.shown) rs)) requests)
+      ∙ ap (λ u. record c { tasks = slice_set c.tasks t (record (seen m.slot) { phase = TaskPhase.Done; held = [] }); requests = requests_after_drops i ks c.requests; sleepers = sleepers_after_waking_up c i u }) (sym old.waits)
+      ∙ ap (λ y. record c { tasks = slice_set c.tasks t (record y { phase = TaskPhase.Done; held = [] }); requests = requests_after_drops i y.held c.requests; sleepers = sleepers_after_waking_up c i y.waiting }) (sym at_task)
       ∙ sym (by.common p me c) in
       subst (λ y. Works left spot p vs y s e w' s') here (record {
         choice = Plain;
@@ -294,14 +282,14 @@ module _ {B L : Type 0} (left : B → L) (runs : L → Plan → Type 0) (holds :
 
 -- by what act it was
 module _ {B L : Type 0} (left : B → L) (runs : L → Plan → Type 0) (holds : L → Option Said → List ℕ) (spot : L → Option Said → Spot) (gives : L → Option Sight → Said → Act B → L → Option Sight → Type 0) where
-  pub finished_by : (w w' : Worker) (s s1 s' : Shared B) (n : ℕ) (e : Event) → HasActed left runs holds spot gives w s s1 (act.Done n) → e ≡ Done w.root → EndsTask w.root w w' s1 s' → StepsOf left runs holds spot w s e w' s'
+  pub finished_by : (w w' : Worker) (s s1 s' : Shared B) (n : ℕ) (e : Event) → HasActed left runs holds spot gives w s s1 (Act.Done n) → e ≡ Done w.root → EndsTask w.root w w' s1 s' → StepsOf left runs holds spot w s e w' s'
   finished_by w w' s s1 s' n e h event it =
       subst (λ y. StepsOf left runs holds spot w s y w' s') (sym event)
-      (ended_by left runs holds spot gives w w' s s1 s' (act.Done n) h it word.End (Done w.root) asks_end
+      (ended_by left runs holds spot gives w w' s s1 s' (Act.Done n) h it ScriptWord.End (Done w.root) asks_end
       (record { moves = λ p c. refl; may = λ p me c. refl; own = λ p me c. refl; common = λ p me c. refl; tests = refl; last = refl; asks = λ p vs so. so.asks }))
 
-  pub failed_by : (w w' : Worker) (s s1 s' : Shared B) (n : ℕ) (e : Event) → HasActed left runs holds spot gives w s s1 (act.Fault n) → e ≡ Fault w.root n → EndsTask w.root w w' s1 s' → StepsOf left runs holds spot w s e w' s'
+  pub failed_by : (w w' : Worker) (s s1 s' : Shared B) (n : ℕ) (e : Event) → HasActed left runs holds spot gives w s s1 (Act.Fault n) → e ≡ Fault w.root n → EndsTask w.root w w' s1 s' → StepsOf left runs holds spot w s e w' s'
   failed_by w w' s s1 s' n e h event it =
       subst (λ y. StepsOf left runs holds spot w s y w' s') (sym event)
-      (ended_by left runs holds spot gives w w' s s1 s' (act.Fault n) h it (word.Fault n) (Fault w.root n) (asks_fault n)
+      (ended_by left runs holds spot gives w w' s s1 s' (Act.Fault n) h it (ScriptWord.Fault n) (Fault w.root n) (asks_fault n)
       (record { moves = λ p c. refl; may = λ p me c. refl; own = λ p me c. refl; common = λ p me c. refl; tests = eq-eqb n n refl; last = refl; asks = λ p vs so. so.asks }))

@@ -1,16 +1,10 @@
 -- What is seen of a request's end.
-use Rattle.std.proofs.Common.{◌≡◌, ◌≢◌, ℕ, zero, suc, ◌+◌, ◌<◌, ◌≤◌, ◌==◌, Bool, true, false, not, List, [], ◌∷◌, ◌++◌, length, map, filter, Option, Some, None, IsSome, refl, sym, ap, subst, ◌∙◌, arith, inl, inr}
-use Rattle.std.proofs.lemmas.Bool.{false≢true, eq-eqb}
-use Rattle.std.proofs.lemmas.Bool.Decides.{nat_tests}
-use Rattle.std.proofs.lemmas.List.{append-nil, length-append}
-use Rattle.std.specs.Prelude.{slice_get, if◌then◌else◌}
-use Rattle.exec_base.specs.{Slab.{Slab, value_at}, declared.{slab.Id.Id, task_no.TaskNo.TaskNo}}
+use Rattle.std.proofs.{Common.{◌≡◌, ◌≢◌, ℕ, ◌+◌, ◌==◌, Bool, true, false, not, List, [], ◌∷◌, ◌++◌, length, map, filter, Option, Some, None, refl, sym, ap, ◌∙◌, arith, inl, inr, if◌then◌else◌}, lemmas.{Bool.{eq-eqb, Decides.nat_tests}, List.{append-nil, length-append}}}
+use Rattle.exec_base.specs.{Slab.Slab, declared.{slab.Id.Id, task_no.TaskNo.TaskNo}}
 use Rattle.exec_outcomes.specs.Accounts.{Account}
 use Rattle.exec_request.specs.{States.Ended, declared.output.RequestOutput.RequestOutput}
-use Rattle.exec_waiters.proofs.Changes.{one_if}
 use Rattle.exec_waiters.specs.{Events.{finished, output_told, waker_in}, States.{is_held_by, is_flying, flying_count, waiter_at}, Told.{Tells, Told, tasks_of}, declared.{deferred.Deferred.Deferred, observer.Observer.{Observer, TheVariants.{Local, Orphaned}}, waiter.{Entry.Entry, Waiter.Waiter}, waiter_id.WaiterId.WaiterId}}
-use Rattle.exec_driver.specs.Lists.{is_among, is_same, without}
-use Rattle.exec_driver.proofs.{Counting.flying_is, Endings.one_finished, Names.same_tells}
+use Rattle.exec_driver.{specs.Lists.{is_among, is_same, without}, proofs.{Counting.flying_is, Endings.one_finished, Names.same_tells}}
 use Rattle.exec_machine.specs.declared.state.Request.{Request}
 use Rattle.exec_moves.specs.{Callback.{told_of_end, waker_of}, State.Desk}
 use Rattle.exec_steps.specs.{declared.parts.mail.Reply.Reply, Records.number_in, Rooted.IsNear, Sound.map_waker, View.numbers_of}

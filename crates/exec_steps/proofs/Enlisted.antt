@@ -1,26 +1,14 @@
 -- All that holds again once the root has made a request.
-use Rattle.std.proofs.Common.{◌≡◌, ◌≢◌, ℕ, ◌+◌, ◌^◌, ◌<◌, ◌≤◌, Bool, true, false, List, [], ◌∷◌, ◌++◌, length, Some, None, IfSome, refl, sym, ap, subst, ◌∙◌, arith, inl, inr}
-use Rattle.std.proofs.lemmas.Bool.{false≢true}
-use Rattle.std.proofs.lemmas.List.{append-nil}
-use Rattle.std.proofs.lemmas.Option.{get_or_from_slice_get, slice_get_within}
-use Rattle.std.specs.Prelude.{is_some, slice_get, slice_set, if◌then◌else◌}
-use Rattle.std.specs.VecDeque.{deque_capacity}
+use Rattle.std.{proofs.{Common.{◌≡◌, ◌≢◌, ℕ, ◌+◌, ◌^◌, ◌<◌, ◌≤◌, Bool, true, false, List, [], ◌∷◌, ◌++◌, length, Some, None, IfSome, refl, sym, ap, subst, ◌∙◌, arith, inl, inr, is_some, slice_get, slice_set, if◌then◌else◌}, lemmas.{Bool.false≢true, List.append-nil, Option.{get_or_from_slice_get, slice_get_within}}}, specs.VecDeque.deque_capacity}
 use Rattle.exec_base.specs.{Slab.{live_count, next_id, IsPast}, declared.error.Error.TheVariants.Timeout}
 use Rattle.exec_outcomes.specs.declared.outcome.Outcome.{Outcome, TheVariants.Failure}
 use Rattle.exec_request.specs.{Requests.{asked_of, deadline_of, output_of}, declared.request.Request.Request as Asking}
 use Rattle.exec_waiters.specs.{Events.{finished, told_by_finish}, States.{counts_pending, pending_count}, Told.{Tells, nothing_told}, declared.{observer.Observer.TheVariants.Local, waiter.{Entry.TheVariants.Pending, Waiter.Waiter}}}
 use Rattle.exec_driver.specs.{Admission.with_rooms, Driving.{Driving, seen}, Lists.{withdrawn, without}, Placed.ListsRequests, Punctual.IsPunctual, Steps.{footprint_of, is_late, newcomer, placed_at, taken_in, timed_out, told_at_admission}}
 use Rattle.exec_ring.specs.Stores.{Reserves}
-use Rattle.exec_machine.specs.{declared.{event.Event.Event, state.Request.Request}, Requests.{new_request, outcome_if_late, resolved, resolved_if}}
-use Rattle.exec_machine.specs.declared.state.RequestPhase.TheVariants as phase
-use Rattle.exec_machine.specs.declared.state.Waiting.TheVariants as waiting
-use Rattle.exec_moves.specs.declared.place.AfterCallbacks.TheVariants as after
-use Rattle.exec_moves.specs.declared.place.InCallbacks.TheVariants as callback
-use Rattle.exec_moves.specs.declared.place.InPoll.TheVariants as poll
-use Rattle.exec_moves.specs.declared.place.Place.{Place}
-use Rattle.exec_moves.specs.declared.place.Place.TheVariants as at
-use Rattle.exec_steps.specs.{declared.parts.{mail.Reply.Reply, names.Names.Names, record.Record.Record, shared.Shared.Shared, task_slot.TaskSlot.TaskSlot, worker.Worker.Worker}, Admitting.{Registers, most_told}, Due.{IsWheelAt, wheel_moment}, Ordered.went_round, Phased.is_complete, Records.{number_in, plain_operation}, Rooted.{Holds, IsRooted}, Scripts.IsPlainRequest, Serving.{changed_at, changed_in}, Sound.{SoundAt, AreOver, AreOwed, IsTold, tellers}, View.driver_of}
-use Rattle.exec_steps.proofs.{Enlisting.{cancels_are, due_are, enrolments_are, driver_then, placed_late, placed_queued, queued_driver, taken_by}, Growing.{Grows, few_tellers, told_same}, Late.tells_error, Newcomer.{OneComes, carried_next, flown_next, holds_next, is_here, named_next, order_next, over_next, punctual_next, timed_next}, Orders.{TurnsAlike, alike_self}, Ousting.keeps_ended, Over.OneEnds, Performing.going_on, Plainly.{late_is, plainly}, Resolving.{SlabAfter, places_fewer, slab_after, told_once}, Rooted.rooted_set, Serving.KeepsBy, Taken.{Takes, got_new}, Timed.keeps_untold, Turning.set_there}
+use Rattle.exec_machine.specs.{declared.{event.Event.Event, state.{Request.Request, RequestPhase.RequestPhase, Waiting.Waiting}}, Requests.{new_request, outcome_if_late, resolved, resolved_if}}
+use Rattle.exec_moves.specs.declared.place.{Place.Place, AfterCallbacks.AfterCallbacks, InCallbacks.InCallbacks, InPoll.InPoll}
+use Rattle.exec_steps.{specs.{declared.parts.{mail.Reply.Reply, names.Names.Names, record.Record.Record, shared.Shared.Shared, task_slot.TaskSlot.TaskSlot, worker.Worker.Worker}, Admitting.{Registers, most_told}, Due.{IsWheelAt, wheel_moment}, Ordered.went_round, Phased.is_complete, Records.{number_in, plain_operation}, Rooted.{Holds, IsRooted}, Scripts.IsPlainRequest, Serving.{changed_at, changed_in}, Sound.{SoundAt, AreOver, AreOwed, IsTold, tellers}, View.driver_of}, proofs.{Enlisting.{cancels_are, due_are, enrolments_are, driver_then, placed_late, placed_queued, queued_driver, taken_by}, Growing.{Grows, few_tellers, told_same}, Late.tells_error, Newcomer.{OneComes, carried_next, flown_next, holds_next, is_here, named_next, order_next, over_next, punctual_next, timed_next}, Orders.{TurnsAlike, alike_self}, Ousting.keeps_ended, Over.OneEnds, Performing.going_on, Plainly.{late_is, plainly}, Resolving.{SlabAfter, places_fewer, slab_after, told_once}, Rooted.rooted_set, Serving.KeepsBy, Taken.{Takes, got_new}, Timed.keeps_untold, Turning.set_there}}
 
 set_last : {A : Type 0} (xs : List A) (x y : A) → slice_set (xs ++ x ∷ []) (length xs) y ≡ xs ++ y ∷ []
 set_last [] x y = refl
@@ -31,7 +19,7 @@ changed_last rs r f k is =
     ap (λ n. changed_at (rs ++ r ∷ []) n f) is ∙ ap (changed_in (rs ++ r ∷ []) (length rs) f) (got_new rs r) ∙ set_last rs r (f r)
 
 -- a worker with this act's request in its driver and its names, as if the deadline hadn't passed
-module _ {B : Type 0} (w w' : Worker) (s0 sx s' : Shared B) (q : Asking) (e : Event) (slot slot' : TaskSlot B) (sound : SoundAt (at.Poll w.root poll.Act) w s0)
+module _ {B : Type 0} (w w' : Worker) (s0 sx s' : Shared B) (q : Asking) (e : Event) (slot slot' : TaskSlot B) (sound : SoundAt (Place.Poll w.root InPoll.Act) w s0)
     (reg : Registers w.root q w w' (record s0 { tasks = sx.tasks }) s' e) (plain : IsPlainRequest q) (near : IfSome (deadline_of q) (λ d. d < 2 ^ 63)) where
   abbrev pub waiter_made : Waiter Reply Reply
   waiter_made = newcomer q (Local None)
@@ -43,7 +31,7 @@ module _ {B : Type 0} (w w' : Worker) (s0 sx s' : Shared B) (q : Asking) (e : Ev
   names_made = record w'.names { ended = reg.mid.names.ended }
 
   abbrev pub record_made : Record
-  record_made = record { shown = record (new_request w.index (plain_operation q)) { phase = phase.Queued }; id = reg.id }
+  record_made = record { shown = record (new_request w.index (plain_operation q)) { phase = RequestPhase.Queued }; id = reg.id }
 
   -- the driver that it came to, and its names
   pub driver_was : driver_of reg.takes.mid ≡ driver_of w
@@ -116,10 +104,10 @@ module _ {B : Type 0} (w w' : Worker) (s0 sx s' : Shared B) (q : Asking) (e : Ev
       }
 
   abbrev pub there : Place
-  there = at.Callbacks callback.TakeBatch after.Look
+  there = Place.Callbacks InCallbacks.TakeBatch AfterCallbacks.Look
 
   abbrev pub worker_made : Worker
-  worker_made = record w { place = at.Callbacks callback.TakeBatch after.Look; names = record w'.names { ended = reg.mid.names.ended }; home = record w.home { deferred = reg.takes.mid.home.deferred } }
+  worker_made = record w { place = Place.Callbacks InCallbacks.TakeBatch AfterCallbacks.Look; names = record w'.names { ended = reg.mid.names.ended }; home = record w.home { deferred = reg.takes.mid.home.deferred } }
 
   pub wakes_none : reg.takes.mid.home.deferred.notes.wakes.items ≡ []
   wakes_none = reg.takes.rooms.untold.notes.wakes_added ∙ append-nil w.home.deferred.notes.wakes.items ∙ sound.quiet refl
@@ -150,7 +138,7 @@ module _ {B : Type 0} (w w' : Worker) (s0 sx s' : Shared B) (q : Asking) (e : Ev
       (places_fewer (omega (arith, few, n, beds))
       (told_same w.names.ended.items w.home.deferred mid.home.deferred (tellers (driver_of w).requests w.home.timers) (most_told mid) reg.takes.rooms.untold reg.takes.has.told sound.told))
 
-  pub keeps_made : Grows (at.Poll w.root poll.Act) w s0 s' slot slot' → slot'.held.items ≡ slot.held.items ++ length s0.requests.items ∷ [] → slot'.waiting ≡ waiting.Nothing
+  pub keeps_made : Grows (Place.Poll w.root InPoll.Act) w s0 s' slot slot' → slot'.held.items ≡ slot.held.items ++ length s0.requests.items ∷ [] → slot'.waiting ≡ Waiting.Nothing
       → KeepsBy worker_made driver_made w.home.timers (s0.requests.items ++ record_made ∷ []) s0.sleepers.items (record s0 { tasks = s'.tasks; store = s'.store })
   keeps_made grows held waits =
       let d = driver_of w in
@@ -159,10 +147,10 @@ module _ {B : Type 0} (w w' : Worker) (s0 sx s' : Shared B) (q : Asking) (e : Ev
       let named = sound.named in
       let due = sound.due in
       let old = sound.tied.stands slot grows.there in
-      let before : Holds false w.index w.root slot.held.items waiting.Nothing (is_complete slot.cell.phase) w.names d w.home.timers rs s0.sleepers.items =
+      let before : Holds false w.index w.root slot.held.items Waiting.Nothing (is_complete slot.cell.phase) w.names d w.home.timers rs s0.sleepers.items =
       subst (λ u. Holds false w.index w.root slot.held.items u (is_complete slot.cell.phase) w.names d w.home.timers rs s0.sleepers.items) old.waits (sound.rooted.root slot grows.there) in
       let going = going_on slot.cell.phase old.polled in
-      let now : Holds false w.index w.root (slot.held.items ++ length rs ∷ []) waiting.Nothing (is_complete slot.cell.phase) names_made driver_made w.home.timers (rs ++ record_made ∷ []) s0.sleepers.items =
+      let now : Holds false w.index w.root (slot.held.items ++ length rs ∷ []) Waiting.Nothing (is_complete slot.cell.phase) names_made driver_made w.home.timers (rs ++ record_made ∷ []) s0.sleepers.items =
       holds_next w.index w.names names_made d driver_made w.home.timers rs s0.sleepers.items reg.id.0 waiter_made record_made one w.root slot.held.items (is_complete slot.cell.phase) going named before in
       let holds : Holds false w.index w.root slot'.held.items slot'.waiting (is_complete slot'.cell.phase) names_made driver_made w.home.timers (rs ++ record_made ∷ []) s0.sleepers.items =
       rw (held, waits, grows.cell) now in
@@ -214,8 +202,8 @@ module _ {B : Type 0} (w w' : Worker) (s0 sx s' : Shared B) (q : Asking) (e : Ev
   keeps_early late keeps =
       let none : outcome_if_late w.moments.sampled (deadline_of q) ≡ None = late_is w.moments.sampled (deadline_of q) ∙ ap (λ b. if b then Some (Failure Timeout) else None) late in
       let driver : driver_of reg.mid ≡ driver_made = driver_is ∙ placed_queued (driver_of reg.mid) (driver_of w) reg.id q w.moments.sampled (plainly q plain).gateless late in
-      let queued : new_request w.index (plain_operation q) ≡ record (new_request w.index (plain_operation q)) { phase = phase.Queued } =
-      ap (λ b. record (new_request w.index (plain_operation q)) { phase = if b then phase.Gated else phase.Queued }) (plainly q plain).undurable in
+      let queued : new_request w.index (plain_operation q) ≡ record (new_request w.index (plain_operation q)) { phase = RequestPhase.Queued } =
+      ap (λ b. record (new_request w.index (plain_operation q)) { phase = if b then RequestPhase.Gated else RequestPhase.Queued }) (plainly q plain).undurable in
       let made : reg.made ≡ record_made = made_by record_made.shown (reg.shown ∙ ap (λ o. resolved_if o (new_request w.index (plain_operation q))) none ∙ queued) in
       let names : names_made ≡ w'.names = ap (λ x. record w'.names { ended = x }) (sym (reg.names.untouched (ap is_some none))) in
       let tells : Tells reg.takes.mid.home.deferred reg.mid.home.deferred nothing_told =
@@ -226,7 +214,7 @@ module _ {B : Type 0} (w w' : Worker) (s0 sx s' : Shared B) (q : Asking) (e : Ev
       (subst (λ x. KeepsBy (record w { place = there; names = names_made; home = record w.home { deferred = reg.mid.home.deferred } }) x w.home.timers (s0.requests.items ++ reg.made ∷ []) s0.sleepers.items shared_made) (sym driver)
       (subst (λ r. KeepsBy (record w { place = there; names = names_made; home = record w.home { deferred = reg.mid.home.deferred } }) driver_made w.home.timers (s0.requests.items ++ r ∷ []) s0.sleepers.items shared_made) (sym made) untold))
 
-  keeps_late : Grows (at.Poll w.root poll.Act) w s0 s' slot slot' → is_late (deadline_of q) w.moments.sampled ≡ true → KeepsBy worker_made driver_made w.home.timers (s0.requests.items ++ record_made ∷ []) s0.sleepers.items shared_made
+  keeps_late : Grows (Place.Poll w.root InPoll.Act) w s0 s' slot slot' → is_late (deadline_of q) w.moments.sampled ≡ true → KeepsBy worker_made driver_made w.home.timers (s0.requests.items ++ record_made ∷ []) s0.sleepers.items shared_made
       → KeepsBy (record w { place = there; names = w'.names; home = record w.home { deferred = reg.mid.home.deferred } }) (driver_of reg.mid) w.home.timers (s0.requests.items ++ reg.made ∷ []) s0.sleepers.items shared_made
   keeps_late grows late keeps =
       let one = one_comes in
@@ -265,7 +253,7 @@ module _ {B : Type 0} (w w' : Worker) (s0 sx s' : Shared B) (q : Asking) (e : Ev
       subst (λ r. KeepsBy (record w { place = there; names = w'.names; home = record w.home { deferred = reg.mid.home.deferred } }) (driver_of reg.mid) w.home.timers (rs ++ r ∷ []) s0.sleepers.items shared_made) (sym made)
       (subst (λ xs. KeepsBy (record w { place = there; names = w'.names; home = record w.home { deferred = reg.mid.home.deferred } }) (driver_of reg.mid) w.home.timers xs s0.sleepers.items shared_made) (changed_last rs record_made f (number_in w'.names.requests.items reg.id.0) number_made) over)
 
-  pub keeps_now : Grows (at.Poll w.root poll.Act) w s0 s' slot slot' → slot'.held.items ≡ slot.held.items ++ length s0.requests.items ∷ [] → slot'.waiting ≡ waiting.Nothing
+  pub keeps_now : Grows (Place.Poll w.root InPoll.Act) w s0 s' slot slot' → slot'.held.items ≡ slot.held.items ++ length s0.requests.items ∷ [] → slot'.waiting ≡ Waiting.Nothing
       → KeepsBy (record w { place = there; names = w'.names; home = record w.home { deferred = reg.mid.home.deferred } }) (driver_of reg.mid) w.home.timers (s0.requests.items ++ reg.made ∷ []) s0.sleepers.items shared_made
   keeps_now grows held waits = by (is_late (deadline_of q) w.moments.sampled) refl
     where

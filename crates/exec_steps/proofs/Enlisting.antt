@@ -1,21 +1,12 @@
 -- A request that the root made: what holds again, once it is queued, and where it is over at once.
-use Rattle.std.proofs.Common.{◌≡◌, ℕ, ◌+◌, ◌^◌, ◌<◌, ◌≤◌, Bool, true, false, not, List, [], ◌∷◌, ◌++◌, length, Option, Some, None, refl, sym, ap, subst, ◌∙◌, arith, inr}
-use Rattle.std.proofs.lemmas.Bool.{eq-eqb}
-use Rattle.std.proofs.lemmas.List.{append-nil, set_past}
-use Rattle.std.proofs.lemmas.List.Elements.{filter-append}
-use Rattle.std.specs.Prelude.{slice_get, slice_set, if◌then◌else◌}
-use Rattle.std.specs.Vec.{vec_capacity}
-use Rattle.exec_base.specs.{Slab.{Slab, slot_at, generation_of, filled, inserted, next_id, written, IsPast, TakesId}, declared.slab.{Id.Id, Slot.TheVariants.Live}}
+use Rattle.std.{proofs.{Common.{◌≡◌, ℕ, ◌+◌, ◌^◌, ◌<◌, ◌≤◌, Bool, true, false, not, List, [], ◌∷◌, ◌++◌, length, Option, Some, None, refl, sym, ap, subst, ◌∙◌, arith, inr, slice_get, slice_set, if◌then◌else◌}, lemmas.{Bool.eq-eqb, List.{append-nil, set_past, Elements.filter-append}}}, specs.Vec.vec_capacity}
+use Rattle.exec_base.{specs.{Slab.{Slab, slot_at, generation_of, filled, inserted, next_id, written, IsPast, TakesId}, declared.slab.{Id.Id, Slot.TheVariants.Live}}, proofs.Slots.{NextIs, some_of_if}}
 use Rattle.exec_outcomes.specs.{declared.outcome.Outcome.Outcome, Accounts.is_durable}
 use Rattle.exec_request.specs.{Requests.{deadline_of, gate_of, output_of}, declared.request.Request.Request as Asking}
-use Rattle.exec_request.specs.declared.request.Request.TheVariants as asks
 use Rattle.exec_waiters.specs.{Events.finished, declared.{observer.Observer.TheVariants.Local, waiter.Entry.{Entry, TheVariants.{Pending, Ready}}, waiter_id.WaiterId.WaiterId}}
 use Rattle.exec_driver.specs.{Admission.with_rooms, Driving.{Driving, seen}, Lists.{Lists, is_same, with_enrolment, with_queued, withdrawn, without}, Steps.{ended, in_place, is_late, newcomer, placed_at, taken_in, timed_out, with_deadline}}
-use Rattle.exec_machine.specs.{declared.state.Operation.Operation, Requests.{new_request, resolved_if}}
-use Rattle.exec_machine.specs.declared.state.RequestPhase.TheVariants as phase
-use Rattle.exec_steps.specs.{declared.parts.{mail.Reply.Reply, names.Names.Names, shared.Shared.Shared, task_slot.TaskSlot.TaskSlot, worker.Worker.Worker}, Admitting.{MayMake, TakesIn}, Records.{HasRequestRoom, IsInRange, outcome_in}, Scripts.IsPlainRequest, View.driver_of}
-use Rattle.exec_base.proofs.Slots.{NextIs, some_of_if}
-use Rattle.exec_steps.proofs.{Growing.{rooms_there, rooms_within}, Plainly.plainly, Taken.{Takes, takes_by, takes_room, enrolled_if}}
+use Rattle.exec_machine.specs.{declared.state.{Operation.Operation, RequestPhase.RequestPhase}, Requests.{new_request, resolved_if}}
+use Rattle.exec_steps.{specs.{declared.parts.{mail.Reply.Reply, names.Names.Names, shared.Shared.Shared, task_slot.TaskSlot.TaskSlot, worker.Worker.Worker}, Admitting.{MayMake, TakesIn}, Records.{HasRequestRoom, IsInRange, outcome_in}, Scripts.IsPlainRequest, View.driver_of}, proofs.{Growing.{rooms_there, rooms_within}, Plainly.plainly, Taken.{Takes, takes_by, takes_room, enrolled_if}}}
 
 -- THE DRIVER, once the request is queued
 
@@ -174,8 +165,8 @@ module _ {B : Type 0} (t : ℕ) (q : Asking) (id : WaiterId) (w w' : Worker) (s 
 
 -- a plain request reads no file
 pub plain_range : (q : Asking) → IsPlainRequest q → IsInRange q
-plain_range (asks.Send s) plain = tt
-plain_range (asks.Poll p) plain = tt
+plain_range (Asking.Send s) plain = tt
+plain_range (Asking.Poll p) plain = tt
 plain_range _ plain = absurd plain
 
 -- how a new record ended, if it did
@@ -183,6 +174,6 @@ pub outcome_shown : (o : Option Outcome) (i : ℕ) (x : Operation) → outcome_i
 outcome_shown (Some outcome) i x = refl
 outcome_shown None i x = by (is_durable x.kind)
   where
-    by : (b : Bool) → outcome_in (if b then phase.Gated else phase.Queued) ≡ None
+    by : (b : Bool) → outcome_in (if b then RequestPhase.Gated else RequestPhase.Queued) ≡ None
     by true = refl
     by false = refl

@@ -1,20 +1,14 @@
 -- What the machine sees of a worker whose root has made a request.
-use Rattle.std.proofs.Common.{◌≡◌, ℕ, ◌+◌, ◌^◌, ◌<◌, ◌==◌, Bool, true, false, not, List, [], ◌∷◌, ◌++◌, length, filter, map, Option, Some, None, IsSome, IfSome, refl, sym, ap, ◌∙◌, arith}
-use Rattle.std.proofs.lemmas.List.{append-nil, map-append}
-use Rattle.std.proofs.lemmas.Option.{slice_get_within}
-use Rattle.std.specs.Prelude.{is_some, if◌then◌else◌}
+use Rattle.std.proofs.{Common.{◌≡◌, ℕ, ◌+◌, ◌^◌, ◌<◌, ◌==◌, Bool, true, false, not, List, [], ◌∷◌, ◌++◌, length, filter, map, Option, Some, None, IsSome, IfSome, refl, sym, ap, ◌∙◌, arith, is_some, if◌then◌else◌}, lemmas.{List.{append-nil, map-append}, Option.slice_get_within}}
 use Rattle.exec_base.specs.{Slab.value_at, declared.{slab.Id.Id, error.Error.TheVariants.Timeout}}
 use Rattle.exec_request.specs.{Requests.{deadline_of, gate_of}, declared.request.Request.Request as Asking}
 use Rattle.exec_outcomes.specs.declared.outcome.Outcome.TheVariants.{Failure}
 use Rattle.exec_ring.specs.Rings.{RingState, completions}
 use Rattle.exec_waiters.specs.{Events.told_by_finish, States.{counts_flying, flying_count, waiter_at}, Told.nothing_told, declared.{observer.Observer.TheVariants.Local, waiter.Waiter.Waiter, waiter_id.WaiterId.WaiterId}}
 use Rattle.exec_driver.specs.{Admission.with_rooms, Driving.{Driving, is_cancelled, is_queued, is_unenrolled}, Lists.{is_among, without}, Steps.{ended, in_place, is_late, newcomer, taken_in, timed_out, with_deadline}}
-use Rattle.exec_machine.specs.{declared.event.Event.Event, Requests.{own_after_admit, outcome_if_late}, Same.is_none, World.Own}
-use Rattle.exec_machine.specs.declared.state.Next.TheVariants as next
-use Rattle.exec_moves.specs.declared.place.InPoll.TheVariants as poll
-use Rattle.exec_moves.specs.declared.place.Place.TheVariants as at
-use Rattle.exec_steps.specs.{declared.parts.{mail.Reply.Reply, shared.Shared.Shared, task_slot.TaskSlot.TaskSlot, worker.Worker.Worker}, Admitting.Registers, Flown.operations, Records.{number_in, plain_operation}, Scripts.IsPlainRequest, Sound.SoundAt, View.{desk_of, driver_of, landed_in, numbers_of, own_of, trailing, visible}}
-use Rattle.exec_steps.proofs.{Asked.flat, Ends.{flying_ended, later_in, numbers_without}, Enlisted.{driver_is, driver_late, driver_made, names_made, one_comes, record_made, tells_now, wakes_now}, Enlisting.{enrolments_are, placed_queued, queued_are}, Flown.numbers_on, Growing.{desk_by, own_by}, Late.stands, Newcomer.{OneComes, flies_on, is_here, number_here, number_there}, Taken.{enrolled_if, or_first, same_self}, Plainly.{late_is, plainly}}
+use Rattle.exec_machine.specs.{declared.{event.Event.Event, state.Next.Next}, Requests.{own_after_admit, outcome_if_late}, Same.is_none, World.Own}
+use Rattle.exec_steps.{specs.{declared.parts.{mail.Reply.Reply, shared.Shared.Shared, task_slot.TaskSlot.TaskSlot, worker.Worker.Worker}, Admitting.Registers, Flown.operations, Records.{number_in, plain_operation}, Scripts.IsPlainRequest, Sound.SoundAt, View.{desk_of, driver_of, landed_in, numbers_of, own_of, trailing, visible}}, proofs.{Asked.flat, Ends.{flying_ended, later_in, numbers_without}, Enlisted.{driver_is, driver_late, driver_made, names_made, one_comes, record_made, tells_now, wakes_now}, Enlisting.{enrolments_are, placed_queued, queued_are}, Flown.numbers_on, Growing.{desk_by, own_by}, Late.stands, Newcomer.{OneComes, flies_on, is_here, number_here, number_there}, Taken.{enrolled_if, or_first, same_self}, Plainly.{late_is, plainly}}}
+use Rattle.exec_moves.specs.declared.place.{InPoll.InPoll, Place.Place}
 
 -- a placing leaves the ring
 ring_placed : (d : Driving Reply Reply) (id : WaiterId) (w : Waiter Reply Reply) (o g : Option ℕ) (b : Bool)
@@ -25,7 +19,7 @@ ring_placed d id w None (Some f) false = (refl, refl)
 ring_placed d id w (Some n) None false = (refl, refl)
 ring_placed d id w (Some n) (Some f) false = (refl, refl)
 
-module _ {B : Type 0} (w w' : Worker) (s sx s' : Shared B) (q : Asking) (e : Event) (slot : TaskSlot B) (sound : SoundAt (at.Poll w.root poll.Act) w s)
+module _ {B : Type 0} (w w' : Worker) (s sx s' : Shared B) (q : Asking) (e : Event) (slot : TaskSlot B) (sound : SoundAt (Place.Poll w.root InPoll.Act) w s)
     (reg : Registers w.root q w w' (record s { tasks = sx.tasks }) s' e) (plain : IsPlainRequest q) (near : IfSome (deadline_of q) (λ d. d < 2 ^ 63)) where
   one : OneComes w.index w.names (names_made w w' s sx s' q e slot reg.slot' sound reg plain near) (driver_of w) (driver_made w w' s sx s' q e slot reg.slot' sound reg plain near) s.requests.items reg.id.0 (newcomer q (Local None)) (record_made w w' s sx s' q e slot reg.slot' sound reg plain near)
   one = one_comes w w' s sx s' q e slot reg.slot' sound reg plain near
@@ -70,7 +64,7 @@ module _ {B : Type 0} (w w' : Worker) (s sx s' : Shared B) (q : Asking) (e : Eve
 
   abbrev parts : List ℕ → List ℕ → List ℕ → List ℕ → ℕ → Own
   parts ready unenrolled cancels ended flying =
-      record (own_of (record w { place = at.Poll w.root poll.Act })) { ready = ready; unenrolled = unenrolled; cancels = cancels; ended = ended; in_flight = flying; unreleased = w.names.unreleased + 1 }
+      record (own_of (record w { place = Place.Poll w.root InPoll.Act })) { ready = ready; unenrolled = unenrolled; cancels = cancels; ended = ended; in_flight = flying; unreleased = w.names.unreleased + 1 }
 
   parts_same : {a b c e : List ℕ} {m n : ℕ} {a' b' c' e' : List ℕ} → a ≡ a' → b ≡ b' → c ≡ c' → e ≡ e' → m ≡ n → parts a b c e m ≡ parts a' b' c' e' n
   parts_same x y z u v = rw (x, y, z, u, v) refl
@@ -78,11 +72,11 @@ module _ {B : Type 0} (w w' : Worker) (s sx s' : Shared B) (q : Asking) (e : Eve
   here_at : waiter_at (driver_made w w' s sx s' q e slot reg.slot' sound reg plain near).requests reg.id.0 ≡ Some (newcomer q (Local None))
   here_at = is_here w.index w.names (names_made w w' s sx s' q e slot reg.slot' sound reg plain near) (driver_of w) (driver_made w w' s sx s' q e slot reg.slot' sound reg plain near) w.home.timers s.requests.items s.sleepers.items reg.id.0 (newcomer q (Local None)) (record_made w w' s sx s' q e slot reg.slot' sound reg plain near) one
 
-  own_flat : own_of w' ≡ record (own_by (record w { place = at.Poll w.root poll.Act }) (driver_of reg.mid) w'.names) { untold = w.names.untold.items; unreleased = w.names.unreleased + 1 }
+  own_flat : own_of w' ≡ record (own_by (record w { place = Place.Poll w.root InPoll.Act }) (driver_of reg.mid) w'.names) { untold = w.names.untold.items; unreleased = w.names.unreleased + 1 }
   own_flat =
       ap own_of (flat w w' s sx s' q e slot sound reg plain near)
-      ∙ ap (λ xs. record (own_by (record w { place = at.Poll w.root poll.Act }) (driver_of reg.mid) w'.names) { untold = xs }) (ap (λ x. x.items) one.untold)
-      ∙ ap (λ n. record (own_by (record w { place = at.Poll w.root poll.Act }) (driver_of reg.mid) w'.names) { untold = w.names.untold.items; unreleased = n }) one.unreleased
+      ∙ ap (λ xs. record (own_by (record w { place = Place.Poll w.root InPoll.Act }) (driver_of reg.mid) w'.names) { untold = xs }) (ap (λ x. x.items) one.untold)
+      ∙ ap (λ n. record (own_by (record w { place = Place.Poll w.root InPoll.Act }) (driver_of reg.mid) w'.names) { untold = w.names.untold.items; unreleased = n }) one.unreleased
 
   unenrolled_by : (o : Option ℕ) → numbers_of w'.names.requests.items (enrolled_if o reg.id (driver_of w).lists.enrolments)
       ≡ (if is_none o then numbers_of w.names.requests.items (driver_of w).lists.enrolments else numbers_of w.names.requests.items (driver_of w).lists.enrolments ++ length s.requests.items ∷ [])
@@ -93,14 +87,14 @@ module _ {B : Type 0} (w w' : Worker) (s sx s' : Shared B) (q : Asking) (e : Eve
   flying_made = let n = one.takes.counts counts_flying (λ g. refl) refl in omega (arith, n)
 
   -- all that the worker has
-  pub own_asked : own_of w' ≡ record (own_after_admit (plain_operation q) (outcome_if_late w.moments.sampled (deadline_of q)) (length s.requests.items) (own_of (record w { place = at.Poll w.root poll.Act }))) { serving = false }
+  pub own_asked : own_of w' ≡ record (own_after_admit (plain_operation q) (outcome_if_late w.moments.sampled (deadline_of q)) (length s.requests.items) (own_of (record w { place = Place.Poll w.root InPoll.Act }))) { serving = false }
   own_asked = own_flat ∙ by (is_late (deadline_of q) w.moments.sampled) refl
     where
       dl : Driving Reply Reply
       dl = driver_of w
 
-      by : (b : Bool) → is_late (deadline_of q) w.moments.sampled ≡ b → record (own_by (record w { place = at.Poll w.root poll.Act }) (driver_of reg.mid) w'.names) { untold = w.names.untold.items; unreleased = w.names.unreleased + 1 }
-          ≡ record (own_after_admit (plain_operation q) (outcome_if_late w.moments.sampled (deadline_of q)) (length s.requests.items) (own_of (record w { place = at.Poll w.root poll.Act }))) { serving = false }
+      by : (b : Bool) → is_late (deadline_of q) w.moments.sampled ≡ b → record (own_by (record w { place = Place.Poll w.root InPoll.Act }) (driver_of reg.mid) w'.names) { untold = w.names.untold.items; unreleased = w.names.unreleased + 1 }
+          ≡ record (own_after_admit (plain_operation q) (outcome_if_late w.moments.sampled (deadline_of q)) (length s.requests.items) (own_of (record w { place = Place.Poll w.root InPoll.Act }))) { serving = false }
       by false late =
           let none : outcome_if_late w.moments.sampled (deadline_of q) ≡ None = late_is w.moments.sampled (deadline_of q) ∙ ap (λ b. if b then Some (Failure Timeout) else None) late in
           let driver : driver_of reg.mid ≡ driver_made w w' s sx s' q e slot reg.slot' sound reg plain near = driver_is w w' s sx s' q e slot reg.slot' sound reg plain near ∙ placed_queued (driver_of reg.mid) dl reg.id q w.moments.sampled (plainly q plain).gateless late in
@@ -111,12 +105,12 @@ module _ {B : Type 0} (w w' : Worker) (s sx s' : Shared B) (q : Asking) (e : Eve
           let c = ap (λ x. numbers_of n x.lists.cancels) driver ∙ ap (numbers_of n) one.cancels ∙ still dl.lists.cancels cancels_live in
           let ended : w'.names.ended.items ≡ w.names.ended.items = ap (λ x. x.items) (reg.names.untouched (ap is_some none)) ∙ one.ended in
           let flying : flying_count (driver_of reg.mid).requests ≡ flying_count dl.requests = ap (λ x. flying_count x.requests) driver ∙ flying_made in
-          let me = own_of (record w { place = at.Poll w.root poll.Act }) in
+          let me = own_of (record w { place = Place.Poll w.root InPoll.Act }) in
           let k = length s.requests.items in
           let target : record (own_after_admit (plain_operation q) (outcome_if_late w.moments.sampled (deadline_of q)) k me) { serving = false }
           ≡ parts (me.ready ++ k ∷ []) (if is_none (deadline_of q) then me.unenrolled else me.unenrolled ++ k ∷ []) me.cancels me.ended me.in_flight =
           ap (λ o. record (own_after_admit (plain_operation q) o k me) { serving = false }) none
-          ∙ ap (λ b. record (if b then (record me { next = next.Joins k; unreleased = me.unreleased + 1 }) else (record me { ready = me.ready ++ k ∷ []; unenrolled = if is_none (deadline_of q) then me.unenrolled else me.unenrolled ++ k ∷ []; unreleased = me.unreleased + 1 })) { serving = false }) (plainly q plain).undurable in
+          ∙ ap (λ b. record (if b then (record me { next = Next.Joins k; unreleased = me.unreleased + 1 }) else (record me { ready = me.ready ++ k ∷ []; unenrolled = if is_none (deadline_of q) then me.unenrolled else me.unenrolled ++ k ∷ []; unreleased = me.unreleased + 1 })) { serving = false }) (plainly q plain).undurable in
           parts_same r u c ended flying ∙ sym target
       by true late =
           let some : outcome_if_late w.moments.sampled (deadline_of q) ≡ Some (Failure Timeout) = late_is w.moments.sampled (deadline_of q) ∙ ap (λ b. if b then Some (Failure Timeout) else None) late in
@@ -125,7 +119,7 @@ module _ {B : Type 0} (w w' : Worker) (s sx s' : Shared B) (q : Asking) (e : Eve
           driver_is w w' s sx s' q e slot reg.slot' sound reg plain near
           ∙ ap (λ b. with_rooms (driver_of reg.mid) (if b then ended x reg.id (newcomer q (Local None)) timed_out None else in_place (with_deadline x reg.id (deadline_of q)) reg.id (gate_of q))) late in
           let n = w'.names.requests.items in
-          let me = own_of (record w { place = at.Poll w.root poll.Act }) in
+          let me = own_of (record w { place = Place.Poll w.root InPoll.Act }) in
           let k = length s.requests.items in
           let r = ap (λ y. numbers_of n y.lists.queued) driver ∙ gone dl.lists.queued queued_live in
           let u = ap (λ y. numbers_of n y.lists.enrolments) driver ∙ gone dl.lists.enrolments enrolments_live in
@@ -154,9 +148,9 @@ module _ {B : Type 0} (w w' : Worker) (s sx s' : Shared B) (q : Asking) (e : Eve
       by true = refl
       by false = refl
 
-  pub desk_asked : desk_of w' ≡ record (desk_of w) { place = at.Poll w.root poll.Act }
+  pub desk_asked : desk_of w' ≡ record (desk_of w) { place = Place.Poll w.root InPoll.Act }
   desk_asked =
-      let w0 : Worker = record w { place = at.Poll w.root poll.Act } in
+      let w0 : Worker = record w { place = Place.Poll w.root InPoll.Act } in
       let left = reg.mid.home.deferred in
       let wakes : left.notes.wakes.items ≡ w.home.deferred.notes.wakes.items = wakes_now w w' s sx s' q e slot reg.slot' sound reg plain near ∙ sym (sound.quiet refl) in
       ap desk_of (flat w w' s sx s' q e slot sound reg plain near)

@@ -1,23 +1,11 @@
 -- The enrolment of a deadline is a step.
-use Rattle.std.proofs.Common.{◌≡◌, ◌≢◌, ℕ, zero, suc, ◌+◌, ◌-◌, ◌*◌, ◌^◌, ◌<◌, ◌≤◌, ◌==◌, ◌&&◌, Bool, true, false, not, List, [], ◌∷◌, ◌++◌, length, map, filter, Option, Some, None, IsSome, refl, sym, ap, subst, ◌∙◌, arith, inl, inr}
-use Rattle.std.proofs.lemmas.Bool.{false≢true, eq-eqb}
-use Rattle.std.proofs.lemmas.Bool.Decides.{nat_tests}
-use Rattle.std.specs.Prelude.{slice_get, slice_set, drop, is_some, unwrap_or, if◌then◌else◌, Result, Ok, Err}
-use Rattle.std.specs.VecDeque.{deque_capacity}
-use Rattle.exec_base.specs.{Slab.{value_at, written}, declared.{error.Error.Error, slab.Id.Id}}
-use Rattle.exec_base.proofs.Slots.{id_cases}
-use Rattle.exec_outcomes.specs.declared.outcome.Outcome.{Outcome, TheVariants.Failure}
-use Rattle.exec_request.specs.{Requests.deadline_of, States.asks_cancel}
-use Rattle.exec_time.specs.Wheel.{Wheel, scheduled}
-use Rattle.exec_waiters.proofs.Changes.{entry_of, one_if}
-use Rattle.exec_waiters.specs.{Events.with_tick, States.{waiter_at, takes_tick, tick_in}, declared.{deferred.Deferred.Deferred, waiter.Waiter.Waiter, waiter_id.WaiterId.WaiterId}}
-use Rattle.exec_driver.specs.{Driving.{Driving, request_at, is_unenrolled}, Lists.{first_of, rest_of, is_among}, Punctual.IsPunctual, Steps.{EnrolsAs, enrolled as enrolled_driver, enrolled_by, ended_by, tick_for}}
-use Rattle.exec_machine.specs.{declared.{config.Configuration.Configuration, event.Event.{Event, TheVariants.Enrol}}, Deadlines.enrolled, Requests.joined_if, Tests.is_resolved}
-use Rattle.exec_machine.specs.declared.state.RequestPhase.TheVariants as phase
-use Rattle.exec_moves.specs.declared.place.InService.TheVariants as step
-use Rattle.exec_moves.specs.declared.place.Place.TheVariants as at
-use Rattle.exec_steps.specs.{declared.parts.{mail.Reply.Reply, record.Record.Record, shared.Shared.Shared, worker.Worker.Worker}, Due.IsWheelAt, Records.number_in, Serving.{changed_at, first_tick, outcome_of_error}, Sound.{SoundAt, IsAlike}, Submitting.IsNewIn, View.driver_of}
-use Rattle.exec_steps.proofs.{Staging.among_first, Starting.queued_phase}
+use Rattle.std.{proofs.{Common.{◌≡◌, ◌≢◌, ℕ, ◌^◌, ◌<◌, ◌&&◌, Bool, true, false, not, Option, Some, None, refl, sym, ap, ◌∙◌, slice_get, is_some}, lemmas.Bool.false≢true}, specs.{Prelude.unwrap_or, VecDeque.deque_capacity}}
+use Rattle.exec_base.specs.{Slab.value_at, declared.error.Error.Error}
+use Rattle.exec_request.specs.Requests.{deadline_of}
+use Rattle.exec_waiters.{proofs.Changes.entry_of, specs.{States.{waiter_at, takes_tick}, declared.{waiter.Waiter.Waiter, waiter_id.WaiterId.WaiterId}}}
+use Rattle.exec_driver.specs.{Driving.{request_at, is_unenrolled}, Lists.first_of, Punctual.IsPunctual, Steps.EnrolsAs}
+use Rattle.exec_machine.specs.{declared.{event.Event.{Event, TheVariants.Enrol}, state.RequestPhase.RequestPhase}, Deadlines.enrolled, Requests.joined_if}
+use Rattle.exec_steps.{specs.{declared.parts.{mail.Reply.Reply, record.Record.Record, shared.Shared.Shared, worker.Worker.Worker}, Records.number_in, Serving.{changed_at, first_tick, outcome_of_error}, Sound.IsAlike, Submitting.IsNewIn, View.driver_of}, proofs.{Staging.among_first, Starting.queued_phase}}
 
 -- THE FIRST NEW DEADLINE
 
@@ -45,7 +33,7 @@ pub record NewAt {B : Type 0} (w : Worker) (s : Shared B) (id : WaiterId) : Type
   pub takes : takes_tick it.state ≡ true
   pub asked : deadline_of it.request ≡ Some deadline
   pub told : r.shown.operation.deadline ≡ Some deadline
-  pub queued : r.shown.phase ≡ phase.Queued
+  pub queued : r.shown.phase ≡ RequestPhase.Queued
 
 module _ {B : Type 0} (w : Worker) (s : Shared B) (new : IsNewIn w s) (id : WaiterId) (first : first_of (driver_of w).lists.enrolments ≡ Some id) where
   new_by : (o : Option (Waiter Reply Reply)) → request_at (driver_of w) id ≡ o → NewAt w s id

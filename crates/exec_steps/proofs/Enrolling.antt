@@ -1,16 +1,10 @@
 -- What an enrolment of a deadline gives, for the driver and for the machine.
-use Rattle.std.proofs.Common.{◌≡◌, ℕ, zero, suc, ◌+◌, ◌-◌, ◌*◌, ◌/◌, ◌%◌, ◌^◌, ◌<◌, ◌≤◌, ◌==◌, ◌&&◌, ◌||◌, Bool, true, false, not, Option, Some, None, refl, sym, ap, subst, ◌∙◌, arith}
-use Rattle.std.proofs.lemmas.Bool.{false≢true}
-use Rattle.std.proofs.lemmas.Bool.Decides.{nat_tests}
-use Rattle.std.proofs.lemmas.Grind.{div_ceil_times}
-use Rattle.std.proofs.Math.Nat.{div-eq_of_lt-le, div-lt_iff_lt-mul}
-use Rattle.std.specs.Prelude.{nat_le, nat_lt, min, if◌then◌else◌, Result, Ok, Err}
-use Rattle.std.specs.Int.{div_ceil}
+use Rattle.std.{proofs.{Common.{◌≡◌, ℕ, ◌+◌, ◌-◌, ◌*◌, ◌/◌, ◌%◌, ◌^◌, ◌<◌, ◌≤◌, ◌&&◌, ◌||◌, Bool, true, false, not, Option, Some, None, refl, sym, ap, ◌∙◌, arith, nat_le, nat_lt, min, if◌then◌else◌, Result, Ok, Err}, lemmas.{Bool.{false≢true, Decides.nat_tests}, Grind.div_ceil_times}, Math.Nat.{div-eq_of_lt-le, div-lt_iff_lt-mul}}, specs.Int.div_ceil}
 use Rattle.exec_base.specs.declared.error.{Cause.TheVariants.InvalidInput, Error.{Error, TheVariants.{Timeout, Io}}}
 use Rattle.exec_outcomes.specs.declared.outcome.Outcome.{Outcome, TheVariants.Failure}
 use Rattle.exec_time.specs.Wheel.{Wheel, target_of, moment_of}
-use Rattle.exec_driver.specs.Steps.{tick_by, tick_for, in_time, ended_by}
-use Rattle.exec_machine.specs.{declared.config.Configuration.Configuration, Deadlines.{outcome_at_enrol, tick_from, tick_of}, Ranges.{horizon, wheel_slots}, World.Own}
+use Rattle.exec_driver.specs.Steps.{tick_by, tick_for, ended_by}
+use Rattle.exec_machine.specs.{declared.config.Configuration.Configuration, Deadlines.{outcome_at_enrol, tick_from}, Ranges.{horizon, wheel_slots}, World.Own}
 use Rattle.exec_steps.specs.{Due.IsWheelAt, Serving.{first_tick, outcome_of_error}}
 
 -- NUMBERS

@@ -1,19 +1,12 @@
 -- An enter of a worker, from any place where it may let the kernel work, is a step of it.
-use Rattle.std.proofs.Common.{◌≡◌, ℕ, ◌+◌, ◌≤◌, ◌==◌, Bool, true, false, not, List, [], ◌∷◌, length, map, filter, Option, Some, None, refl, sym, ap, subst, ◌∙◌, arith}
-use Rattle.std.specs.Prelude.{slice_get, slice_set, if◌then◌else◌}
-use Rattle.exec_base.specs.Slab.{live_count}
+use Rattle.std.proofs.Common.{◌≡◌, ℕ, ◌+◌, ◌≤◌, Bool, true, false, not, List, [], length, map, filter, Option, None, refl, sym, ap, subst, ◌∙◌, arith, slice_set}
 use Rattle.exec_ring.specs.{Kernels.{all_taken, entered as entered_ring}, Rings.{RingState, completions}}
 use Rattle.exec_waiters.specs.States.{flying_count, pending_count}
 use Rattle.exec_task.specs.declared.body.Said.{Said}
 use Rattle.exec_driver.specs.{Driving.Driving, Steps.is_control}
-use Rattle.exec_machine.specs.{declared.{event.Event.{Event, TheVariants.{Enter, Busy}}, state.Request.Request}, Choice.{Choice, Choice.Plain}, World.{Own, Seat, Open, Common, seat_of}, Progress.Plan, Requests.flown}
-use Rattle.exec_moves.specs.declared.place.InService.TheVariants as step
-use Rattle.exec_moves.specs.declared.place.InRingWait.TheVariants as ring
-use Rattle.exec_moves.specs.declared.place.Reaping.TheVariants as reaping
-use Rattle.exec_moves.specs.{declared.place.{Stay.Stay, Service.Service, Place.Place}, State.{Desk, Things, Moved}, Move.move_at, Seen.{polls_at, next_at, serves_at}, Serve.enter}
-use Rattle.exec_moves.specs.declared.place.Place.TheVariants as at
-use Rattle.exec_steps.specs.{declared.parts.{mail.Reply.Reply, shared.Shared.Shared, worker.{PutOff.PutOff, Worker.Worker}}, Carried.IsCarried, Serving.{Enters, flown_in, is_cancel}, Sound.{SoundAt, IsAlone, IsInTime, IsNamed, IsSubmitted, IsTold, served_in, has_wakes_at, is_armed_at}, Due.{IsWheelAt, may_be_due}, Flown.{AreAcks, operations}, Rooted.IsRooted, Spots.Spot, View.{Visible, visible, own_of, desk_of, driver_of, common_of, things_of, seats_seen, seat_seen, open_seen, numbers_of, number_told, trailing}, Works.{Works, Suits, Steps}}
-use Rattle.exec_steps.proofs.{Carrier.carried_entered, Conveying.carried_ring, Hearing.unheard, Turning.set_found, Serving.{IsCalm, calm, is_calm, Follows, Serves, Keeps, KeepsBy, keeps_all, own_seat, seats_set, sound_again}, Flying.all_flown, Keys.{same_opens, flown_names}, Rings.{Acknowledges, all_acknowledged}, Entering.{submitted_busy, submitted_free, named_beside, named_free, all_go, timed_flown, flown_entered}, Going.{over_on, owed_on, rooted_on}}
+use Rattle.exec_machine.specs.{declared.{event.Event.{Event, TheVariants.{Enter, Busy}}, state.Request.Request}, Choice.{Choice, Choice.Plain}, World.{Own, Seat, Open, Common}, Progress.Plan, Requests.flown}
+use Rattle.exec_moves.specs.{declared.place.{Stay.Stay, Service.Service, Place.Place, InService.InService, InRingWait.InRingWait, Reaping.Reaping}, State.{Desk, Things, Moved}, Move.move_at, Seen.{polls_at, next_at, serves_at}, Serve.enter}
+use Rattle.exec_steps.{specs.{declared.parts.{mail.Reply.Reply, shared.Shared.Shared, worker.{PutOff.PutOff, Worker.Worker}}, Carried.IsCarried, Serving.{Enters, flown_in}, Sound.{SoundAt, IsNamed, IsSubmitted, served_in}, Due.{IsWheelAt, may_be_due}, Flown.{AreAcks, operations}, Rooted.IsRooted, Spots.Spot, View.{Visible, visible, own_of, desk_of, driver_of, common_of, things_of, seats_seen, seat_seen, open_seen, numbers_of, number_told, trailing}, Works.{Works, Suits, Steps}}, proofs.{Carrier.carried_entered, Conveying.carried_ring, Hearing.unheard, Turning.set_found, Serving.{calm, Follows, Serves, KeepsBy, keeps_all, own_seat, seats_set, sound_again}, Flying.all_flown, Keys.{same_opens, flown_names}, Rings.all_acknowledged, Entering.{submitted_busy, submitted_free, named_beside, named_free, all_go, timed_flown, flown_entered}, Going.{over_on, owed_on, rooted_on}}}
 
 -- what a move makes, and what is seen of a ring
 abbrev pub made : Event → Choice → Desk → Things → Moved Things
@@ -260,27 +253,27 @@ module _ {B L : Type 0} (left : B → L) (spot : L → Option Said → Spot) whe
   enter_from me d p x false = refl
 
   -- THE LAST ENTER OF A SERVICE
-  follows_last : (v : Service) → Follows (at.Service step.EnterLast v) (at.Service (step.Reap reaping.Last) v)
+  follows_last : (v : Service) → Follows (Place.Service InService.EnterLast v) (Place.Service (InService.Reap Reaping.Last) v)
   follows_last v = record { from = refl; to = refl; serves = refl; armed = refl; closes = refl; wakes = refl; permits = refl; moment = λ m. refl }
 
-  pub last_entered : (v : Service) (w w' : Worker) (s s' : Shared B) (e : Event) → SoundAt (at.Service step.EnterLast v) w s → Enters w s e (record w' { place = w.place }) s'
-      → w'.place ≡ at.Service (step.Reap reaping.Last) v → Steps left spot w s e w' s'
+  pub last_entered : (v : Service) (w w' : Worker) (s s' : Shared B) (e : Event) → SoundAt (Place.Service InService.EnterLast v) w s → Enters w s e (record w' { place = w.place }) s'
+      → w'.place ≡ Place.Service (InService.Reap Reaping.Last) v → Steps left spot w s e w' s'
   last_entered v w w' s s' e sound it there =
-      let q : Place = at.Service step.EnterLast v in
+      let q : Place = Place.Service InService.EnterLast v in
       let chair = sound.alone.seat in
       let same : w'.put_off ≡ w.put_off = ap (λ v. v.put_off) it.worker in
       entered q w w' s s' e sound (subst (λ p. Follows q p) (sym there) (follows_last v)) (λ h. sound.due.told refl) (without_putting_off w w' s s' e it)
-      (λ p vs suits. rw (there, same, own_seat left spot p vs w s chair suits sound.alone.there) (enter_there (own_of w) (desk_of w) (at.Service (step.Reap reaping.Last) v) (things_of w.index s) (driver_of w).ring.busy))
+      (λ p vs suits. rw (there, same, own_seat left spot p vs w s chair suits sound.alone.there) (enter_there (own_of w) (desk_of w) (Place.Service (InService.Reap Reaping.Last) v) (things_of w.index s) (driver_of w).ring.busy))
 
   -- THE ENTER OF A FULL RING, BEFORE A WAIT
-  follows_full : (y : Stay) → Follows (at.RingWait ring.EnterFullRing y) (at.RingWait ring.TestRing y)
+  follows_full : (y : Stay) → Follows (Place.RingWait InRingWait.EnterFullRing y) (Place.RingWait InRingWait.TestRing y)
   follows_full y = record { from = refl; to = refl; serves = refl; armed = refl; closes = refl; wakes = refl; permits = refl; moment = λ m. refl }
 
-  pub full_ring_entered : (y : Stay) (w w' : Worker) (s s' : Shared B) (e : Event) → SoundAt (at.RingWait ring.EnterFullRing y) w s → Enters w s e (record w' { place = w.place }) s'
-      → w'.place ≡ at.RingWait ring.TestRing y → Steps left spot w s e w' s'
+  pub full_ring_entered : (y : Stay) (w w' : Worker) (s s' : Shared B) (e : Event) → SoundAt (Place.RingWait InRingWait.EnterFullRing y) w s → Enters w s e (record w' { place = w.place }) s'
+      → w'.place ≡ Place.RingWait InRingWait.TestRing y → Steps left spot w s e w' s'
   full_ring_entered y w w' s s' e sound it there =
-      let q : Place = at.RingWait ring.EnterFullRing y in
+      let q : Place = Place.RingWait InRingWait.EnterFullRing y in
       let chair = sound.alone.seat in
       let same : w'.put_off ≡ w.put_off = ap (λ v. v.put_off) it.worker in
       entered q w w' s s' e sound (subst (λ p. Follows q p) (sym there) (follows_full y)) (λ h. sound.due.told refl) (without_putting_off w w' s s' e it)
-      (λ p vs suits. rw (there, same, own_seat left spot p vs w s chair suits sound.alone.there) (enter_from (own_of w) (desk_of w) (at.RingWait ring.TestRing y) (things_of w.index s) (driver_of w).ring.busy))
+      (λ p vs suits. rw (there, same, own_seat left spot p vs w s chair suits sound.alone.there) (enter_from (own_of w) (desk_of w) (Place.RingWait InRingWait.TestRing y) (things_of w.index s) (driver_of w).ring.busy))

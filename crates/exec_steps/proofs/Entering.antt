@@ -1,36 +1,30 @@
 -- What an enter is to the machine.
-use Rattle.std.proofs.Common.{◌≡◌, ℕ, zero, suc, ◌+◌, ◌<◌, ◌≤◌, ◌==◌, ◌&&◌, Bool, true, false, not, List, [], ◌∷◌, length, map, Option, Some, None, refl, sym, ap, subst, ◌∙◌, arith}
-use Rattle.std.proofs.lemmas.Bool.{false≢true, eq-eqb}
-use Rattle.std.specs.Prelude.{slice_get, slice_set, if◌then◌else◌, IsSome}
-use Rattle.std.specs.Option.{option_map}
-use Rattle.std.specs.Vec.{vec_capacity}
-use Rattle.exec_base.specs.{Slab.{Slab, value_at}, declared.slab.Id.Id}
+use Rattle.std.{proofs.{Common.{◌≡◌, ℕ, ◌+◌, ◌≤◌, ◌==◌, ◌&&◌, Bool, true, false, List, [], length, Option, Some, None, refl, sym, ap, subst, ◌∙◌, slice_get, if◌then◌else◌}, lemmas.Bool.{false≢true, eq-eqb}}, specs.{Option.option_map, Vec.vec_capacity}}
+use Rattle.exec_base.specs.Slab.{Slab}
 use Rattle.exec_time.specs.declared.timers.Sleeper.{Sleeper as Sleeping}
-use Rattle.exec_ring.specs.{Kernels.{Landing, all_taken, entered}, Rings.RingState}
+use Rattle.exec_ring.specs.{Kernels.Landing, Rings.RingState}
 use Rattle.exec_waiters.specs.{States.waiter_at, declared.waiter.Waiter.Waiter}
 use Rattle.exec_driver.specs.Driving.{Driving}
 use Rattle.exec_outcomes.specs.declared.outcome.OpResult.{OpResult}
 use Rattle.exec_machine.specs.{declared.state.{Request.Request, RequestPhase.RequestPhase}, Requests.flown, Tests.{is_staged, is_in_flight, is_resolved}}
-use Rattle.exec_machine.specs.declared.state.RequestPhase.TheVariants as phase
-use Rattle.exec_steps.specs.{declared.parts.{mail.Reply.Reply, names.Names.Names, record.Record.Record, sleeping.SleeperRecord.SleeperRecord}, Due.AreTimed, Flown.{AreAcks, IsPlain, HasFlown, operations, passes_permit}, Records.number_in, Serving.{flies, flown_in, cancels_in, is_one_of}, Sound.{IsNamed, IsAlike, IsSubmitted}}
+use Rattle.exec_steps.{specs.{declared.parts.{mail.Reply.Reply, names.Names.Names, record.Record.Record, sleeping.SleeperRecord.SleeperRecord}, Due.AreTimed, Flown.{AreAcks, IsPlain, HasFlown, operations, passes_permit}, Records.number_in, Serving.{flies, flown_in, cancels_in, is_one_of}, Sound.{IsNamed, IsAlike, IsSubmitted}}, proofs.{Flown.landed_on, Going.{GoesOn, AllGoOn, still, same_worker, same_id}, Flying.{flies_if, worker_kept, get_flown}, Rings.Acknowledges}}
 use Rattle.exec_moves.specs.declared.place.InService.{InService}
-use Rattle.exec_steps.proofs.{Flown.landed_on, Going.{GoesOn, AllGoOn, still, same_worker, same_id}, Flying.{flies_if, worker_kept, get_flown}, Rings.{Acknowledges, all_acknowledged}}
 
 -- A REQUEST THAT FLIES
 
 staged_flies : (p : RequestPhase) → is_staged p ≡ true → is_in_flight p ≡ true
-staged_flies phase.Staged h = refl
+staged_flies RequestPhase.Staged h = refl
 staged_flies _ h = absurd (false≢true h)
 
 staged_stands : (p : RequestPhase) → is_staged p ≡ true → is_resolved p ≡ false
-staged_stands phase.Staged h = refl
+staged_stands RequestPhase.Staged h = refl
 staged_stands _ h = absurd (false≢true h)
 
 and_right : (a b : Bool) → (a && b) ≡ true → b ≡ true
 and_right true b h = h
 and_right false b h = absurd (false≢true h)
 
-alike_by : (start tick : ℕ) (b : Bool) (it : Waiter Reply Reply) (r : Request) → (b ≡ true → is_staged r.phase ≡ true) → IsAlike start tick it r → IsAlike start tick it (if b then (record r { phase = phase.Flying }) else r)
+alike_by : (start tick : ℕ) (b : Bool) (it : Waiter Reply Reply) (r : Request) → (b ≡ true → is_staged r.phase ≡ true) → IsAlike start tick it r → IsAlike start tick it (if b then (record r { phase = RequestPhase.Flying }) else r)
 alike_by start tick true it r staged a =
     record {
       asked = a.asked;
@@ -59,7 +53,7 @@ alike_flies : (start tick : ℕ) (b : Bool) (it : Waiter Reply Reply) (r : Recor
 alike_flies start tick true it r a = alike_flown start tick r.shown.worker it r.shown a
 alike_flies start tick false it r a = a
 
-resolved_by : (b : Bool) (r : Request) → (b ≡ true → is_staged r.phase ≡ true) → is_resolved (if b then (record r { phase = phase.Flying }) else r).phase ≡ is_resolved r.phase
+resolved_by : (b : Bool) (r : Request) → (b ≡ true → is_staged r.phase ≡ true) → is_resolved (if b then (record r { phase = RequestPhase.Flying }) else r).phase ≡ is_resolved r.phase
 resolved_by true r staged = sym (staged_stands r.phase (staged refl))
 resolved_by false r staged = refl
 
@@ -75,7 +69,7 @@ worker_flies : (b : Bool) (r : Record) → (flies_if b r).shown.worker ≡ r.sho
 worker_flies true r = worker_kept r.shown.worker r.shown
 worker_flies false r = refl
 
-flown_none : (b : Bool) (r : Request) → ((r.worker == r.worker) && is_staged r.phase) ≡ b → is_staged (if b then (record r { phase = phase.Flying }) else r).phase ≡ false
+flown_none : (b : Bool) (r : Request) → ((r.worker == r.worker) && is_staged r.phase) ≡ b → is_staged (if b then (record r { phase = RequestPhase.Flying }) else r).phase ≡ false
 flown_none true r is = refl
 flown_none false r is = not_staged (is_staged r.phase) (r.worker == r.worker) (eq-eqb r.worker r.worker refl) is
   where
@@ -89,7 +83,7 @@ still_staged true r h = absurd (false≢true (sym (flown_none ((r.shown.worker =
 still_staged false r h = (refl, h)
 
 -- a record that flies goes on
-goes_by : (i : ℕ) (b : Bool) (r : Record) → (b ≡ true → is_staged r.shown.phase ≡ true) → GoesOn r (record r { shown = (if b then (record r.shown { phase = phase.Flying }) else r.shown) })
+goes_by : (i : ℕ) (b : Bool) (r : Record) → (b ≡ true → is_staged r.shown.phase ≡ true) → GoesOn r (record r { shown = (if b then (record r.shown { phase = RequestPhase.Flying }) else r.shown) })
 goes_by i true r staged =
     record { same = refl; over = sym (staged_stands r.shown.phase (staged refl)); ended = λ h. absurd (false≢true (sym (staged_stands r.shown.phase (staged refl)) ∙ h)) }
 goes_by i false r staged = still r
@@ -99,16 +93,16 @@ goes_flies true r = goes_by r.shown.worker ((r.shown.worker == r.shown.worker) &
 goes_flies false r = still r
 
 -- what has landed doesn't fly
-landed_by : (b : Bool) (r : Request) (n : OpResult) → (b ≡ true → is_staged r.phase ≡ true) → r.phase ≡ phase.Landed n → (if b then (record r { phase = phase.Flying }) else r).phase ≡ r.phase
+landed_by : (b : Bool) (r : Request) (n : OpResult) → (b ≡ true → is_staged r.phase ≡ true) → r.phase ≡ RequestPhase.Landed n → (if b then (record r { phase = RequestPhase.Flying }) else r).phase ≡ r.phase
 landed_by true r n staged landed = absurd (false≢true (ap is_staged (sym landed) ∙ staged refl))
 landed_by false r n staged landed = refl
 
-pub landed_flies : (b : Bool) (r : Record) (n : OpResult) → r.shown.phase ≡ phase.Landed n → (flies_if b r).shown.phase ≡ r.shown.phase
+pub landed_flies : (b : Bool) (r : Record) (n : OpResult) → r.shown.phase ≡ RequestPhase.Landed n → (flies_if b r).shown.phase ≡ r.shown.phase
 landed_flies true r n landed = landed_by ((r.shown.worker == r.shown.worker) && is_staged r.shown.phase) r.shown n (and_right (r.shown.worker == r.shown.worker) (is_staged r.shown.phase)) landed
 landed_flies false r n landed = refl
 
 -- nor does what flies change but by that
-plain_by : (b : Bool) (r : Request) → IsPlain r → IsPlain (if b then (record r { phase = phase.Flying }) else r)
+plain_by : (b : Bool) (r : Request) → IsPlain r → IsPlain (if b then (record r { phase = RequestPhase.Flying }) else r)
 plain_by true r p = record { bounded = p.bounded; moved = p.moved; first_part = p.first_part; unhinted = p.unhinted; ungated = refl; deadline = p.deadline }
 plain_by false r p = p
 
@@ -116,7 +110,7 @@ plain_flies : (b : Bool) (r : Record) → IsPlain r.shown → IsPlain (flies_if 
 plain_flies true r p = plain_by ((r.shown.worker == r.shown.worker) && is_staged r.shown.phase) r.shown p
 plain_flies false r p = p
 
-timer_by : (b : Bool) (r : Request) → (if b then (record r { phase = phase.Flying }) else r).timer ≡ r.timer
+timer_by : (b : Bool) (r : Request) → (if b then (record r { phase = RequestPhase.Flying }) else r).timer ≡ r.timer
 timer_by true r = refl
 timer_by false r = refl
 
@@ -124,7 +118,7 @@ timer_flies : (b : Bool) (r : Record) → (flies_if b r).shown.timer ≡ r.shown
 timer_flies true r = timer_by ((r.shown.worker == r.shown.worker) && is_staged r.shown.phase) r.shown
 timer_flies false r = refl
 
-cancel_by : (b : Bool) (r : Request) → (if b then (record r { phase = phase.Flying }) else r).cancel_staged ≡ r.cancel_staged
+cancel_by : (b : Bool) (r : Request) → (if b then (record r { phase = RequestPhase.Flying }) else r).cancel_staged ≡ r.cancel_staged
 cancel_by true r = refl
 cancel_by false r = refl
 

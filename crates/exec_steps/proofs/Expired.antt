@@ -1,28 +1,14 @@
 -- A deadline that has come ends its request, which the kernel doesn't have.
-use Rattle.std.proofs.Common.{◌≡◌, ◌≢◌, ℕ, zero, suc, ◌+◌, ◌-◌, ◌*◌, ◌^◌, ◌<◌, ◌≤◌, ◌==◌, ◌&&◌, Bool, true, false, not, List, [], ◌∷◌, ◌++◌, length, map, filter, Option, Some, None, IsSome, IfSome, refl, sym, ap, subst, ◌∙◌, arith, inl, inr}
-use Rattle.std.proofs.lemmas.Bool.{false≢true, eq-eqb}
-use Rattle.std.proofs.lemmas.Bool.Decides.{nat_tests}
-use Rattle.std.specs.Prelude.{slice_get, slice_set, drop, is_some, unwrap_or, if◌then◌else◌, Result, Ok, Err}
-use Rattle.std.specs.Option.{option_map}
-use Rattle.exec_base.specs.{Slab.{Slab, value_at, written}, declared.{error.{Error.{Error, TheVariants.Timeout}, Cause.Cause}, slab.Id.Id}}
-use Rattle.exec_base.proofs.Slots.{id_cases}
+use Rattle.std.proofs.{Common.{◌≡◌, ◌≢◌, ℕ, ◌+◌, ◌≤◌, ◌==◌, Bool, true, false, not, [], ◌∷◌, ◌++◌, length, map, filter, Option, Some, None, IsSome, refl, sym, ap, subst, ◌∙◌, arith, slice_set, is_some, if◌then◌else◌, Err}, lemmas.Bool.false≢true}
+use Rattle.exec_base.specs.{Slab.value_at, declared.error.Error.{Error, TheVariants.Timeout}}
 use Rattle.exec_outcomes.specs.declared.outcome.Outcome.{Outcome, TheVariants.Failure}
-use Rattle.exec_request.specs.{Requests.{deadline_of, asked_of, output_of}, States.asks_cancel, declared.{results.WaiterState.{WaiterState, TheVariants.{Active, CancelRequested}}, output.RequestOutput.RequestOutput, request.Request.Request as Asking}}
+use Rattle.exec_request.specs.{Requests.{asked_of, output_of}, States.asks_cancel}
 use Rattle.exec_task.specs.declared.body.Said.{Said}
-use Rattle.exec_time.specs.declared.timers.Sleeper.{Sleeper as Sleeping}
-use Rattle.exec_waiters.proofs.Changes.{entry_of, one_if}
-use Rattle.exec_waiters.specs.{Events.{with_tick, finished, output_told, told_by_finish, waker_in}, States.{waiter_at, takes_tick, tick_in, flying_count}, Told.{Tells, nothing_told, Told, tasks_of}, declared.{deferred.Deferred.Deferred, waiter.{Entry.TheVariants.Pending, Waiter.Waiter}, waiter_id.WaiterId.WaiterId, observer.Observer.{Observer, TheVariants.{Local, Orphaned}}}}
-use Rattle.exec_driver.specs.{Driving.{Driving, request_at, is_queued, is_unenrolled, is_cancelled}, Lists.{first_of, rest_of, is_among, is_same, after_due, without, withdrawn}, Punctual.IsPunctual, Steps.{cancelled_from, cancelling, ended, told_by_cancel, timed_out, unscheduled}}
-use Rattle.exec_machine.specs.{declared.{config.Configuration.Configuration, event.Event.{Event, TheVariants.Expire}, state.Request.Request}, Deadlines.{expired, outcome_at_expiry}, Progress.Plan, Same.{is_none, is_number, same_end, same_cause, same_error}, Tests.{is_queued as is_phase_queued, is_resolved, is_staged}, World.{Own, Common, request_of}, Requests.{joined_if, resolved}}
-use Rattle.exec_machine.specs.declared.state.RequestPhase.TheVariants as phase
-use Rattle.exec_moves.specs.{Move.move_submit, Callback.{told_if_ended, told_of_end, waker_of}, State.{Desk, Moved, Things}, Submit.{due_next, first_due, submits, Due.Expires}, declared.place.{Service.Service, Place.Place}}
-use Rattle.exec_moves.specs.declared.place.InService.TheVariants as step
-use Rattle.exec_moves.specs.declared.place.Place.TheVariants as at
-use Rattle.exec_steps.specs.{declared.parts.{mail.Reply.Reply, names.Names.Names, record.Record.Record, shared.Shared.Shared, sleeping.SleeperRecord.SleeperRecord, worker.Worker.Worker}, Due.IsWheelAt, Flown.{HasFlown, IsPlain, operations, IsUpTo, longest}, Phased.closes_at, Records.number_in, Serving.{changed_at, first_tick, is_one_of, outcome_of_error}, Sound.{SoundAt, AreOwed, IsAlike, IsSubmitted, IsTold, served_in, is_armed_at, has_wakes_at}, Spots.Spot, Submitting.{IsDueIn, IsInOrder}, View.{Visible, visible, own_of, desk_of, driver_of, common_of, things_of, numbers_of}, Works.{Suits, Steps}, Rooted.{IsNear, outcome_told}}
-use Rattle.exec_steps.proofs.{Calling.request_seen, Seeing.{makes, shows, served, common_changed, desk_with}, Serving.{is_calm, Follows, Serves, Keeps, KeepsBy, calm, kept}, Staging.split_first, Turning.set_found, Ends.{desk_ended, flying_ended, later_in, numbers_without, without_first}, Orders.alike_unticked, Ousting.keeps_ended, Over.OneEnds, Resolving.{slab_after, told_once, unticked_at}, Starting.{fills, reads, writes_bytes, queued_phase}, Expiring.{DueAt, HasExpired, comes_to_due, due_first, expires, move_expire, same_change, told_first, unticked_start, unticked_tick}, Late.{same_error_self, same_place, tells_error, wakes_are}}
-use Rattle.exec_base.specs.declared.error.Cause.TheVariants as cause
-use Rattle.exec_base.specs.declared.error.Error.TheVariants as error
-use Rattle.exec_request.specs.declared.request.Request.TheVariants as asks
+use Rattle.exec_waiters.{proofs.Changes.entry_of, specs.{Events.{finished, told_by_finish}, States.{tick_in, flying_count}, Told.{Tells, nothing_told, Told}, declared.{waiter.Waiter.Waiter, waiter_id.WaiterId.WaiterId}}}
+use Rattle.exec_driver.specs.{Driving.{Driving, request_at, is_queued, is_unenrolled, is_cancelled}, Lists.{first_of, rest_of, after_due, without, withdrawn}, Punctual.IsPunctual, Steps.{cancelled_from, cancelling, ended, told_by_cancel, timed_out, unscheduled}}
+use Rattle.exec_machine.specs.{declared.{event.Event.{Event, TheVariants.Expire}, state.RequestPhase.RequestPhase}, Deadlines.{expired, outcome_at_expiry}, Same.same_end, Tests.is_queued as is_phase_queued, World.request_of, Requests.{joined_if, resolved}}
+use Rattle.exec_moves.specs.{Move.move_submit, Callback.{told_if_ended, told_of_end, waker_of}, Submit.{due_next, first_due, submits, Due.Expires}, declared.place.{Service.Service, Place.Place, InService.InService}}
+use Rattle.exec_steps.{specs.{declared.parts.{mail.Reply.Reply, record.Record.Record, shared.Shared.Shared, worker.Worker.Worker}, Due.IsWheelAt, Flown.{IsUpTo, longest}, Phased.closes_at, Records.number_in, Serving.changed_at, Sound.is_armed_at, Spots.Spot, Submitting.{IsDueIn, IsInOrder}, View.{visible, own_of, desk_of, driver_of, common_of, things_of, numbers_of}, Works.Steps}, proofs.{Calling.request_seen, Seeing.{makes, shows, served, common_changed, desk_with}, Serving.{is_calm, Serves, Keeps, KeepsBy, calm, kept}, Staging.split_first, Turning.set_found, Ends.{desk_ended, flying_ended, numbers_without, without_first}, Orders.alike_unticked, Ousting.keeps_ended, Over.OneEnds, Resolving.{slab_after, told_once, unticked_at}, Starting.queued_phase, Expiring.{HasExpired, comes_to_due, due_first, expires, move_expire, same_change, told_first, unticked_start, unticked_tick}, Late.{same_error_self, same_place, tells_error, wakes_are}}}
 
 abbrev ends_as : Outcome → Record → Record
 ends_as outcome r = record r { shown = resolved outcome r.shown }
@@ -36,7 +22,7 @@ module _ {B L : Type 0} (left : B → L) (spot : L → Option Said → Spot) whe
   expiry_ends w w' s s' e id new order first idle by =
       let v = new.submits.service in
       let gate = new.submits.gate in
-      let q : Place = at.Service (step.Submit gate) v in
+      let q : Place = Place.Service (InService.Submit gate) v in
       let sound = new.submits.sound in
       let d = driver_of w in
       let rs = s.requests.items in
@@ -50,7 +36,7 @@ module _ {B L : Type 0} (left : B → L) (spot : L → Option Said → Spot) whe
       let now = w.moments.sampled in
       let outcome = Failure Timeout in
       let error : Error = Timeout in
-      let phase_is : who.r.shown.phase ≡ phase.Queued = queued_phase who.r.shown.phase (who.alike.flying ∙ idle) who.alike.open_still who.ungated in
+      let phase_is : who.r.shown.phase ≡ RequestPhase.Queued = queued_phase who.r.shown.phase (who.alike.flying ∙ idle) who.alike.open_still who.ungated in
       let ends : outcome_at_expiry who.r.shown ≡ Some outcome = ap (λ x. if is_phase_queued x then Some outcome else None) phase_is in
       let told = output_of it.request (Err error) None in
       let others = rest_of d.lists.due in

@@ -1,21 +1,13 @@
 -- The request whose deadline has come first.
-use Rattle.std.proofs.Common.{◌≡◌, ◌≢◌, ℕ, zero, suc, ◌+◌, ◌<◌, ◌≤◌, ◌==◌, ◌&&◌, ◌||◌, Bool, true, false, not, List, [], ◌∷◌, ◌++◌, length, map, Option, Some, None, IsSome, refl, sym, ap, subst, ◌∙◌, arith}
-use Rattle.std.proofs.lemmas.Bool.{false≢true, eq-eqb}
-use Rattle.std.proofs.lemmas.Option.{slice_get_within}
-use Rattle.std.specs.Prelude.{slice_get, slice_set, is_some, if◌then◌else◌, Err}
-use Rattle.std.specs.VecDeque.{deque_capacity}
+use Rattle.std.{proofs.{Common.{◌≡◌, ◌≢◌, ℕ, suc, ◌<◌, Bool, true, false, List, [], ◌∷◌, length, Option, Some, None, refl, sym, ap, subst, ◌∙◌, slice_get, slice_set, is_some, if◌then◌else◌, Err}, lemmas.{Bool.false≢true, Option.slice_get_within}}, specs.VecDeque.deque_capacity}
 use Rattle.exec_base.specs.{Slab.value_at, declared.error.Error.TheVariants.Timeout}
-use Rattle.exec_outcomes.specs.declared.outcome.Outcome.{Outcome, TheVariants.Failure}
 use Rattle.exec_request.specs.{States.asks_cancel, declared.results.WaiterState.{WaiterState, TheVariants.{Active, CancelRequested}}}
 use Rattle.exec_time.specs.Wheel.{Wheel, removed}
-use Rattle.exec_waiters.proofs.Changes.{entry_of}
-use Rattle.exec_waiters.specs.{States.{waiter_at, tick_in, pending_count}, Told.{HasPlaces, Tells}, declared.{waiter.Waiter.Waiter, waiter_id.WaiterId.WaiterId}}
-use Rattle.exec_driver.specs.{Driving.{Driving, request_at, is_enrolled}, Lists.{first_of, is_among}, Punctual.IsPunctual, Steps.{expired as expired_at, told_by_cancel, unscheduled}}
-use Rattle.exec_machine.specs.{declared.{event.Event.{Event, TheVariants.Expire}, state.{RequestPhase.RequestPhase, Request.Request}, config.Configuration.Configuration}, World.{Own, Common}, Deadlines.{outcome_at_expiry, expired, is_first_due}, Requests.joined_if, Tests.{is_in_flight, is_queued, is_resolved, is_gated}}
-use Rattle.exec_machine.specs.declared.state.RequestPhase.TheVariants as phase
+use Rattle.exec_waiters.{proofs.Changes.entry_of, specs.{States.{waiter_at, tick_in, pending_count}, Told.Tells, declared.{waiter.Waiter.Waiter, waiter_id.WaiterId.WaiterId}}}
+use Rattle.exec_driver.specs.{Driving.{request_at, is_enrolled}, Lists.first_of, Punctual.IsPunctual, Steps.{expired as expired_at, told_by_cancel, unscheduled}}
+use Rattle.exec_machine.specs.{declared.{event.Event.{Event, TheVariants.Expire}, state.{RequestPhase.RequestPhase, Request.Request}, config.Configuration.Configuration}, World.{Own, Common}, Deadlines.{outcome_at_expiry, expired, is_first_due}, Requests.joined_if, Tests.{is_in_flight, is_queued, is_gated}}
 use Rattle.exec_moves.specs.{declared.place.Service.Service, Callback.told_if_ended, Serve.first_numbered, State.{Desk, Moved, Things}, Submit.{due_next, first_due, submits, Due.Expires}}
-use Rattle.exec_steps.specs.{declared.parts.{mail.Reply.Reply, record.Record.Record, shared.Shared.Shared, worker.Worker.Worker}, Records.number_in, Serving.{changed_at, changed_in}, Sound.IsAlike, Submitting.IsDueIn, View.driver_of}
-use Rattle.exec_steps.proofs.{Dating.{one_pending, room_by}, Resolving.slab_after, Seeing.makes, Staging.among_first}
+use Rattle.exec_steps.{specs.{declared.parts.{mail.Reply.Reply, record.Record.Record, shared.Shared.Shared, worker.Worker.Worker}, Records.number_in, Serving.{changed_at, changed_in}, Sound.IsAlike, Submitting.IsDueIn, View.driver_of}, proofs.{Dating.{one_pending, room_by}, Resolving.slab_after, Seeing.makes, Staging.among_first}}
 
 some_of : {A : Type 0} (o : Option A) → is_some o ≡ true → (x : A) × (o ≡ Some x)
 some_of None h = absurd (false≢true h)
@@ -96,12 +88,12 @@ pub same_change : (rs : List Record) (k : ℕ) (r : Record) (f g : Record → Re
 same_change rs k r f g there same = ap (changed_in rs k f) there ∙ ap (slice_set rs k) same ∙ sym (ap (changed_in rs k g) there)
 
 pub flies_not_queued : (p : RequestPhase) → is_in_flight p ≡ true → is_queued p ≡ false
-flies_not_queued phase.Staged h = refl
-flies_not_queued phase.Flying h = refl
-flies_not_queued (phase.Landed n) h = refl
-flies_not_queued phase.Queued h = absurd (false≢true h)
-flies_not_queued phase.Gated h = absurd (false≢true h)
-flies_not_queued (phase.Resolved o) h = absurd (false≢true h)
+flies_not_queued RequestPhase.Staged h = refl
+flies_not_queued RequestPhase.Flying h = refl
+flies_not_queued (RequestPhase.Landed n) h = refl
+flies_not_queued RequestPhase.Queued h = absurd (false≢true h)
+flies_not_queued RequestPhase.Gated h = absurd (false≢true h)
+flies_not_queued (RequestPhase.Resolved o) h = absurd (false≢true h)
 
 -- THE WHEEL without it
 

@@ -1,28 +1,14 @@
 -- An operation that has landed, whose request is over: a step.
-use Rattle.std.proofs.Common.{◌≡◌, ◌≢◌, ℕ, ◌+◌, ◌^◌, ◌<◌, ◌≤◌, ◌==◌, ◌&&◌, ◌||◌, Bool, true, false, not, List, [], ◌∷◌, ◌++◌, length, map, Option, Some, None, IsSome, refl, sym, ap, subst, ◌∙◌, arith, inl, inr, suc, ◌-◌, filter}
-use Rattle.std.proofs.lemmas.Bool.{false≢true, eq-eqb}
-use Rattle.std.proofs.lemmas.Bool.Decides.{nat_tests}
-use Rattle.std.specs.Prelude.{slice_get, slice_index_or, is_some, if◌then◌else◌, slice_set}
-use Rattle.exec_base.specs.{Slab.{value_at, written}, declared.slab.Id.Id}
-use Rattle.exec_base.proofs.Slots.{id_cases, Updates-write}
-use Rattle.exec_outcomes.specs.{Lawful.{is_lawful, window_in, window_of}, Outcomes.{HasCome, bytes_of, counted_for, first_length, first_part, moves_on, part_now, second_part}, declared.outcome.{Kind.Kind, OpResult.OpResult, Outcome.Outcome}}
-use Rattle.exec_request.specs.{Judging.{Judges, judged_as}, Kept.kept_of, Requests.{asked_of, cursor_of, deadline_of, hinted_of, output_of}, declared.{request.Request.Request as Asking, output.RequestOutput.RequestOutput}, States.{Ended, as_outcome}}
-use Rattle.exec_ring.specs.{Completions.result_in, declared.completion.Completion.Completion, Rings.completions}
-use Rattle.exec_waiters.specs.{Ids.{index_in, user_data_of}, States.{waiter_at, takes_tick, flying_count, tick_in, waiter_of, pending_count}, declared.{waiter.{Entry.TheVariants.Pending, Waiter.Waiter}, deferred.Deferred.Deferred, waiter_id.WaiterId.WaiterId}, Told.{Tells, nothing_told, Told}, Events.{finished, told_by_finish}}
-use Rattle.exec_driver.specs.{Driving.{Driving, request_at, is_queued, is_unenrolled, is_cancelled}, Lists.{is_among, with_queued, without, withdrawn}, Punctual.IsPunctual, Placed.ListsRequests, Steps.unscheduled}
-use Rattle.exec_machine.specs.{declared.{state.{Request.Request, RequestPhase.TheVariants.{Landed, Queued, Resolved}}, event.Event.{Event, TheVariants.Reap}}, Requests.{judged_of, reaped, went_on, asked_of as asked_in, cursor_of as cursor_in, outcome_given}, Tests.{is_gated, is_resolved, is_staged}, Progress.Plan}
-use Rattle.exec_moves.specs.{declared.place.{Place.Place, Reaping.Reaping, Service.Service}, Move.aside, Seen.serves_at, Serve.{after_permit, back_from_reap, others_after_reap}, State.Desk, Callback.{told_of_end, waker_of}}
-use Rattle.exec_steps.specs.{declared.parts.{mail.Reply.Reply, names.Names.Names, record.Record.Record, shared.Shared.Shared, worker.Worker.Worker}, Carried.IsUnderWay, Due.{IsWheelAt, may_be_due, wheel_moment}, Flown.{AreLanded, HasFlown, HasLanded, IsPlain, IsUpTo, longest, operations, passes_permit}, Records.number_in, Serving.{changed_at, is_one_of, cancels_in, AreTagged}, Sound.{SoundAt, IsAlike, IsSubmitted, served_in, is_armed_at}, View.{driver_of, number_told, Visible, visible, own_of, desk_of, common_of, things_of, numbers_of, trailing}, Phased.closes_at, Spots.Spot, Works.{Suits, Steps}, Rooted.outcome_told}
-use Rattle.exec_steps.proofs.{Changing.{OneGoesOn, all_go_one, changes_one, keeps_one, flying_after, live_still, pending_still}, Flown.{FliesOn, landed_on}, Going.GoesOn, Judging.{bytes_fit, cancel_decides, first_still, given_is, moved_is, stays_first, switched_is, total_fits}, Marking.{mark_if, marked, was_marked}, Serving.{Follows, KeepsBy, Keeps, Serves, is_calm, calm, kept}, Staging.known_then, Starting.{fills, reads, writes_bytes, simple}, Trailing.{RingAfter, others_left}, Requeued.{not_same, GoesBack, back_alike, back_waiter, goes_back, keeps_back, landed_rest, lawful_shown, moved_fits, number_landed}, Seeing.{desk_with, makes, own_with, served, shows}, Sweeping.follows_reap, Timed.keeps_untold, Viewed.{common_seen, may_seen, moves_seen, reap_as}, Ends.{desk_ended, flying_ended, numbers_without}, Late.{stands, wakes_are}, Orders.{TurnsAlike, alike_unticked, past_written}, Ousting.keeps_over, Over.OneEnds, Resolving.{EntryAfter, SlabAfter, slab_after, told_once, unticked_at}, Returned.{desk_left, follows_back, not_due, one_fewer, served_back}}
-use Rattle.std.proofs.lemmas.List.{append-nil, length-set}
-use Rattle.exec_task.specs.declared.body.Said.{Said}
-use Rattle.exec_waiters.proofs.Changes.{one_if, entry_of}
-use Rattle.std.specs.VecDeque.{deque_capacity}
-use Rattle.exec_outcomes.specs.declared.outcome.Kind.TheVariants as kind
-use Rattle.exec_moves.specs.declared.place.InService.TheVariants as step
-use Rattle.exec_moves.specs.declared.place.Place.TheVariants as at
-use Rattle.exec_moves.specs.declared.place.Reaping.TheVariants as reaping
-use Rattle.exec_request.specs.declared.request.Request.TheVariants as asks
+use Rattle.std.{proofs.{Common.{◌≡◌, ◌≢◌, ℕ, ◌+◌, Bool, true, false, List, [], ◌∷◌, ◌++◌, length, map, Some, None, IsSome, refl, sym, ap, subst, ◌∙◌, arith, ◌-◌, if◌then◌else◌}, lemmas.List.length-set}, specs.VecDeque.deque_capacity}
+use Rattle.exec_base.{specs.Slab.{value_at, written}, proofs.Slots.Updates-write}
+use Rattle.exec_outcomes.specs.{Outcomes.first_part, declared.outcome.OpResult.OpResult}
+use Rattle.exec_request.specs.{Judging.{Judges, judged_as}, Kept.kept_of, Requests.{asked_of, cursor_of, hinted_of, output_of}, declared.{request.Request.Request as Asking, output.RequestOutput.RequestOutput}, States.{Ended, as_outcome}}
+use Rattle.exec_ring.specs.{Completions.result_in, declared.completion.Completion.Completion}
+use Rattle.exec_waiters.{specs.{Ids.user_data_of, States.{waiter_at, tick_in, waiter_of}, declared.{waiter.{Entry.TheVariants.Pending, Waiter.Waiter}, deferred.Deferred.Deferred}, Told.{Tells, Told}, Events.{finished, told_by_finish}}, proofs.Changes.entry_of}
+use Rattle.exec_driver.specs.{Driving.Driving, Lists.{without, withdrawn}, Punctual.IsPunctual, Steps.unscheduled}
+use Rattle.exec_machine.specs.{declared.event.Event.TheVariants.Reap, Requests.{judged_of, reaped, asked_of as asked_in, cursor_of as cursor_in}}
+use Rattle.exec_moves.specs.{declared.place.{Place.Place, Reaping.Reaping, Service.Service, InService.InService}, Serve.{after_permit, back_from_reap}, State.Desk}
+use Rattle.exec_steps.{specs.{declared.parts.{mail.Reply.Reply, names.Names.Names, record.Record.Record, shared.Shared.Shared, worker.Worker.Worker}, Carried.IsUnderWay, Due.{IsWheelAt, wheel_moment}, Flown.{AreLanded, HasLanded, IsPlain, IsUpTo, longest, operations}, Records.number_in, Serving.{changed_at, is_one_of}, Sound.{SoundAt, IsAlike, served_in}, View.{driver_of, number_told}, Rooted.outcome_told}, proofs.{Changing.{changes_one, live_still, pending_still}, Flown.landed_on, Judging.first_still, Marking.{mark_if, marked}, Serving.{KeepsBy, calm, kept}, Starting.{fills, reads, writes_bytes}, Trailing.RingAfter, Requeued.{not_same, landed_rest, lawful_shown, moved_fits, number_landed}, Late.wakes_are, Orders.{TurnsAlike, alike_unticked, past_written}, Ousting.keeps_over, Over.OneEnds, Resolving.{SlabAfter, slab_after, told_once, unticked_at}, Returned.{follows_back, not_due}}}
 
 -- WHAT THE DRIVER DID
 
@@ -40,13 +26,13 @@ pub record GoesOver {B : Type 0} (w : Worker) (s : Shared B) (d' : Driving Reply
 
 -- what its task hears is what the log tells
 tells_ending : (q : Asking) (n : ℕ) (how : Ended) → IsUpTo (longest (asked_of q).kind) n → outcome_told (output_of q how None) ≡ as_outcome how
-tells_ending (asks.Send x) n how h = refl
-tells_ending (asks.Poll x) n how h = refl
-tells_ending (asks.Recv r) n how h = absurd (fills r.exact n h)
-tells_ending (asks.ReadAt r) n how h = absurd (reads r.way (length r.buf.bytes) n h)
-tells_ending (asks.WriteAt x) n how h = absurd (writes_bytes x.state n h)
-tells_ending (asks.Sync x) n how h = absurd h
-tells_ending (asks.Connect x) n how h = absurd h
+tells_ending (Asking.Send x) n how h = refl
+tells_ending (Asking.Poll x) n how h = refl
+tells_ending (Asking.Recv r) n how h = absurd (fills r.exact n h)
+tells_ending (Asking.ReadAt r) n how h = absurd (reads r.way (length r.buf.bytes) n h)
+tells_ending (Asking.WriteAt x) n how h = absurd (writes_bytes x.state n h)
+tells_ending (Asking.Sync x) n how h = absurd h
+tells_ending (Asking.Connect x) n how h = absurd h
 
 abbrev pub goes_over : OpResult → Ended → Record → Record
 goes_over given how r = record r { shown = reaped given (Some (as_outcome how)) r.shown }
@@ -61,7 +47,7 @@ renamed n n' d rs cs same are =
     landed_on n n' d d rs rs cs are
     (λ id it r given at flies there landed. record { it' = it; r' = r; live = at; flies = refl; same = refl; number = ap (λ v. number_in v.items id) same; there = there; phase = refl })
 
-module _ {B : Type 0} (rp : Reaping) (v : Service) (w : Worker) (s : Shared B) (sound : SoundAt (at.Service (step.Reap rp) v) w s) (c : Completion) (cs : List Completion) (d' : Driving Reply Reply) (how : Ended) (over : GoesOver w s d' c cs how) where
+module _ {B : Type 0} (rp : Reaping) (v : Service) (w : Worker) (s : Shared B) (sound : SoundAt (Place.Service (InService.Reap rp) v) w s) (c : Completion) (cs : List Completion) (d' : Driving Reply Reply) (how : Ended) (over : GoesOver w s d' c cs how) where
   abbrev pub over_waiter : Waiter Reply Reply
   over_waiter = record over.h.it { in_flight = false; request = over.request }
 
@@ -72,7 +58,7 @@ module _ {B : Type 0} (rp : Reaping) (v : Service) (w : Worker) (s : Shared B) (
   over_tells = told_by_finish over.h.id over_waiter how None
 
   abbrev pub over_place : Place
-  over_place = at.Service (after_permit (back_from_reap rp (map (number_told w.names.requests.items) cs))) v
+  over_place = Place.Service (after_permit (back_from_reap rp (map (number_told w.names.requests.items) cs))) v
 
   pub over_alike : IsAlike (driver_of w).wheel.start (driver_of w).wheel.tick over.h.it over.h.r.shown
   over_alike = sound.named.alike over.h.id over.h.it over.h.r over.h.live over.h.there
@@ -137,7 +123,7 @@ module _ {B : Type 0} (rp : Reaping) (v : Service) (w : Worker) (s : Shared B) (
       → KeepsBy (record w { place = over_place; names = record w.names { ended = v'.ended }; home = record w.home { deferred = left } }) d' w.home.timers (changed_at s.requests.items (number_in w.names.requests.items over.h.id) (goes_over (result_in c.result) how)) s.sleepers.items s
   keeps_gone v' left tells ended capacity punctual =
       let d = driver_of w in
-      let q : Place = at.Service (step.Reap rp) v in
+      let q : Place = Place.Service (InService.Reap rp) v in
       let r = over.h.r.shown in
       let start = w.moments.start in
       let follows = follows_back rp v (map (number_told w.names.requests.items) cs) in

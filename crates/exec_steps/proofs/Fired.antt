@@ -1,24 +1,12 @@
 -- A sleeper of a worker is told that its moment has come.
-use Rattle.std.proofs.Common.{◌≡◌, ◌≢◌, ℕ, zero, suc, ◌+◌, ◌-◌, ◌<◌, ◌≤◌, ◌==◌, ◌&&◌, ◌||◌, Bool, true, false, not, List, [], ◌∷◌, ◌++◌, length, map, Option, Some, None, IsSome, refl, sym, ap, subst, ◌∙◌, arith, inl, inr}
-use Rattle.std.proofs.lemmas.Bool.{false≢true, eq-eqb}
-use Rattle.std.proofs.lemmas.Bool.Decides.{nat_tests}
-use Rattle.std.proofs.lemmas.List.{length-append, map-set}
-use Rattle.std.proofs.lemmas.Option.{slice_get-map, get_or_from_slice_get}
-use Rattle.std.specs.Prelude.{slice_get, slice_set, slice_index_or, nat_le, if◌then◌else◌}
-use Rattle.std.specs.List.{list_all}
-use Rattle.std.specs.Option.{option_map}
-use Rattle.std.specs.Vec.{vec_capacity}
-use Rattle.exec_base.specs.{Slab.{Slab, value_at, live_count, removed}, declared.{slab.Id.Id, task_no.TaskNo.TaskNo}}
-use Rattle.exec_base.proofs.Slots.{id_cases}
-use Rattle.exec_time.specs.{Notes.{Adds, HasRoom}, Sleepers.{wakes_of, completions_of}, declared.{notes.Notes.Notes, timers.{Observer.Observer, Sleeper.Sleeper as Sleeping}}}
-use Rattle.exec_time.specs.declared.timers.Observer.TheVariants as sleep
-use Rattle.exec_waiters.specs.{Told.HasPlaces, declared.deferred.Deferred.Deferred}
-use Rattle.exec_machine.specs.{declared.state.{Sleeper.Sleeper, Waiting.Waiting}, Deadlines.is_none_earlier, Tests.is_asleep}
-use Rattle.exec_machine.specs.declared.state.Waiting.TheVariants as waiting
+use Rattle.std.{proofs.{Common.{◌≡◌, ◌≢◌, ℕ, zero, suc, ◌+◌, ◌-◌, ◌≤◌, ◌==◌, ◌&&◌, Bool, true, false, not, List, [], ◌∷◌, ◌++◌, length, Some, None, IsSome, refl, sym, ap, subst, ◌∙◌, arith, slice_get, slice_set, nat_le, if◌then◌else◌}, lemmas.{Bool.{false≢true, eq-eqb, Decides.nat_tests}, List.length-append}}, specs.List.list_all}
+use Rattle.exec_base.specs.{Slab.{Slab, value_at, removed}, declared.{slab.Id.Id, task_no.TaskNo.TaskNo}}
+use Rattle.exec_time.specs.{Notes.Adds, declared.timers.Sleeper.Sleeper as Sleeping}
+use Rattle.exec_waiters.specs.declared.deferred.Deferred.{Deferred}
+use Rattle.exec_machine.specs.{declared.state.Waiting.Waiting, Tests.is_asleep}
 use Rattle.exec_moves.specs.Serve.{first_numbered}
-use Rattle.exec_steps.specs.{declared.parts.{mail.Reply.Reply, names.Names.Names, record.Record.Record, sleeping.SleeperRecord.SleeperRecord}, Due.{AreAsleep, IsAsleepAs}, Records.number_in, Rooted.{Awaits, AwaitsTimer, Holds}, Sound.IsTold}
+use Rattle.exec_steps.{specs.{declared.parts.{mail.Reply.Reply, names.Names.Names, record.Record.Record, sleeping.SleeperRecord.SleeperRecord}, Due.AreAsleep, Records.number_in, Rooted.{Awaits, AwaitsTimer, Holds}, Sound.IsTold}, proofs.Flying.get_set}
 use Rattle.exec_driver.specs.Driving.{Driving}
-use Rattle.exec_steps.proofs.Flying.{get_set}
 
 abbrev pub fires : SleeperRecord → SleeperRecord
 fires z = record z { shown = record z.shown { fired = true } }
@@ -121,10 +109,10 @@ asleep_still i n zs zs' ss id z asleep there named others gone apart =
 -- WHAT THE ROOT WAITS FOR
 
 -- two sleepers that a task waits for are one
-pub same_timer : (what : Waiting) (j k : ℕ) → what ≡ waiting.Timer j → what ≡ waiting.Timer k → j ≡ k
+pub same_timer : (what : Waiting) (j k : ℕ) → what ≡ Waiting.Timer j → what ≡ Waiting.Timer k → j ≡ k
 same_timer what j k a b = cc
 
-awaits_fired : (ends : Bool) (i t k : ℕ) (held : List ℕ) (what : Waiting) (rs : List Record) (ss : List SleeperRecord) (z : SleeperRecord) → ends ≡ false → slice_get ss k ≡ Some z → what ≡ waiting.Timer k → Awaits ends i t held what rs ss
+awaits_fired : (ends : Bool) (i t k : ℕ) (held : List ℕ) (what : Waiting) (rs : List Record) (ss : List SleeperRecord) (z : SleeperRecord) → ends ≡ false → slice_get ss k ≡ Some z → what ≡ Waiting.Timer k → Awaits ends i t held what rs ss
     → Awaits ends i t held what rs (slice_set ss k (fires z))
 awaits_fired ends i t k held what rs ss z going there is waits =
     subst (λ x. Awaits ends i t held x rs (slice_set ss k (fires z))) (sym is)
@@ -134,7 +122,7 @@ awaits_fired ends i t k held what rs ss z going there is waits =
     (fires z, fired_there ss k z there, record { worker = a.worker; task = a.task; unsent = a.unsent; kept = a.kept; unpaid = λ h. absurd (false≢true (sym h)); asleep = λ h. absurd (false≢true (sym going ∙ h)) }))
 
 pub holds_fired : (ends : Bool) (i t : ℕ) (held : List ℕ) (what : Waiting) (done : Bool) (n : Names) (d : Driving Reply Reply) (zs zs' : Slab (Sleeping Reply)) (rs : List Record) (ss : List SleeperRecord) (id : Id) (z : SleeperRecord)
-    → ends ≡ false → Holds ends i t held what done n d zs rs ss → slice_get ss (number_in n.timers.items id) ≡ Some z → what ≡ waiting.Timer (number_in n.timers.items id)
+    → ends ≡ false → Holds ends i t held what done n d zs rs ss → slice_get ss (number_in n.timers.items id) ≡ Some z → what ≡ Waiting.Timer (number_in n.timers.items id)
     → ((other : Id) → other ≢ id → value_at zs' other ≡ value_at zs other) → value_at zs' id ≡ None → Holds ends i t held what done n d zs' rs (slice_set ss (number_in n.timers.items id) (fires z))
 holds_fired ends i t held what done n d zs zs' rs ss id z going holds there is others gone =
     let k = number_in n.timers.items id in

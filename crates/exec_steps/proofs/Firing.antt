@@ -1,22 +1,11 @@
 -- The end of a service: a sleeper is told, or the service leads on.
-use Rattle.std.proofs.Common.{◌≡◌, ◌≢◌, ℕ, zero, suc, ◌+◌, ◌<◌, ◌≤◌, ◌==◌, ◌&&◌, ◌||◌, Bool, true, false, not, List, [], ◌∷◌, ◌++◌, length, map, Option, Some, None, IsSome, refl, sym, ap, subst, ◌∙◌, arith, inl, inr}
-use Rattle.std.proofs.lemmas.Bool.{false≢true, eq-eqb}
-use Rattle.std.proofs.lemmas.Bool.Decides.{nat_tests}
-use Rattle.std.specs.Prelude.{slice_get, slice_set, nat_le, if◌then◌else◌}
+use Rattle.std.proofs.{Common.{◌≡◌, ◌≢◌, ℕ, zero, suc, ◌≤◌, ◌&&◌, Bool, true, false, List, [], ◌∷◌, map, Option, Some, None, IsSome, refl, sym, ap, subst, ◌∙◌, arith, slice_get, nat_le, if◌then◌else◌}, lemmas.Bool.{false≢true, Decides.nat_tests}}
 use Rattle.exec_base.specs.{Slab.{Slab, value_at}, declared.slab.Id.Id}
 use Rattle.exec_time.specs.{Sleepers.IsDue as IsSleepDue, declared.{notes.Notes.Notes, timers.Sleeper.Sleeper as Sleeping}}
 use Rattle.exec_task.specs.declared.body.Said.{Said}
-use Rattle.exec_machine.specs.{declared.{event.Event.{Event, TheVariants.Serve}, state.Sleeper.Sleeper}, Deadlines.is_none_earlier, Progress.Plan, Tests.{is_asleep, is_open}, World.{Own, Common, seat_of}}
-use Rattle.exec_machine.specs.declared.state.Next.TheVariants as next
-use Rattle.exec_moves.specs.{Seen.{polls_at, next_at, serves_at}, State.Desk, Serve.{after_service, first_numbered, first_to_fire}, declared.place.{AfterService.AfterService, Service.Service, Place.Place}}
-use Rattle.exec_moves.specs.declared.place.AfterService.TheVariants as back
-use Rattle.exec_moves.specs.declared.place.AfterCallbacks.TheVariants as after
-use Rattle.exec_moves.specs.declared.place.InCallbacks.TheVariants as callback
-use Rattle.exec_moves.specs.declared.place.InMail.TheVariants as mail
-use Rattle.exec_moves.specs.declared.place.InService.TheVariants as step
-use Rattle.exec_moves.specs.declared.place.Place.TheVariants as at
-use Rattle.exec_steps.specs.{declared.parts.{mail.Reply.Reply, names.Names.Names, shared.Shared.Shared, sleeping.SleeperRecord.SleeperRecord, worker.Worker.Worker}, Due.{AreAsleep, IsWheelAt}, Phased.closes_at, Records.number_in, Sound.{SoundAt, served_in, is_armed_at}, Spots.Spot, View.{Visible, visible, own_of, desk_of, driver_of, common_of, things_of, message_of}, Works.{Suits, Steps}}
-use Rattle.exec_steps.proofs.{Ceasing.{keeps_ring, same_ring}, Idling.first_none, Seeing.{makes, own_with, desk_with, visible_with, served, common_same}, Serving.{is_calm, kept, calm, Follows, Serves, Keeps, KeepsBy}}
+use Rattle.exec_machine.specs.{declared.{event.Event.{Event, TheVariants.Serve}, state.{Sleeper.Sleeper, Next.Next}}, Deadlines.is_none_earlier, Tests.{is_asleep, is_open}, World.{Own, Common, seat_of}}
+use Rattle.exec_moves.specs.{Seen.{polls_at, next_at, serves_at}, State.Desk, Serve.{after_service, first_numbered, first_to_fire}, declared.place.{AfterService.AfterService, Service.Service, Place.Place, AfterCallbacks.AfterCallbacks, InCallbacks.InCallbacks, InMail.InMail, InService.InService}}
+use Rattle.exec_steps.{specs.{declared.parts.{mail.Reply.Reply, names.Names.Names, shared.Shared.Shared, sleeping.SleeperRecord.SleeperRecord, worker.Worker.Worker}, Due.AreAsleep, Phased.closes_at, Sound.{SoundAt, is_armed_at}, Spots.Spot, View.{visible, own_of, desk_of, driver_of, common_of, things_of, message_of}, Works.Steps}, proofs.{Ceasing.{keeps_ring, same_ring}, Idling.first_none, Seeing.{makes, served, common_same}, Serving.{is_calm, Follows, Serves, Keeps, KeepsBy}}}
 
 -- WHO IS NEXT
 
@@ -68,20 +57,20 @@ none_fires i me s n zs ss shown asleep none =
 -- WHERE THE SERVICE LEADS
 
 abbrev pub place_after : AfterService → Place
-place_after back.Mail = at.Mail mail.LoadMailWord
-place_after back.Begin = at.Callbacks callback.TakeBatch after.Begin
-place_after back.Finish = at.Callbacks callback.TakeBatch after.Finish
+place_after AfterService.Mail = Place.Mail InMail.LoadMailWord
+place_after AfterService.Begin = Place.Callbacks InCallbacks.TakeBatch AfterCallbacks.Begin
+place_after AfterService.Finish = Place.Callbacks InCallbacks.TakeBatch AfterCallbacks.Finish
 
-follows_end : (d : Bool) (x : AfterService) → Follows (at.Service step.EndService (record { defer = d; back = x })) (place_after x)
-follows_end d back.Mail = record { from = refl; to = refl; serves = refl; armed = refl; closes = refl; wakes = refl; permits = refl; moment = λ m. refl }
-follows_end d back.Begin = record { from = refl; to = refl; serves = refl; armed = refl; closes = refl; wakes = refl; permits = refl; moment = λ m. refl }
-follows_end d back.Finish = record { from = refl; to = refl; serves = refl; armed = refl; closes = refl; wakes = refl; permits = refl; moment = λ m. refl }
+follows_end : (d : Bool) (x : AfterService) → Follows (Place.Service InService.EndService (record { defer = d; back = x })) (place_after x)
+follows_end d AfterService.Mail = record { from = refl; to = refl; serves = refl; armed = refl; closes = refl; wakes = refl; permits = refl; moment = λ m. refl }
+follows_end d AfterService.Begin = record { from = refl; to = refl; serves = refl; armed = refl; closes = refl; wakes = refl; permits = refl; moment = λ m. refl }
+follows_end d AfterService.Finish = record { from = refl; to = refl; serves = refl; armed = refl; closes = refl; wakes = refl; permits = refl; moment = λ m. refl }
 
 -- nothing was taken from the mailbox
 leads_on : (x : AfterService) (d : Desk) → d.batch ≡ [] → after_service x d ≡ place_after x
-leads_on back.Mail d none = rw none refl
-leads_on back.Begin d none = refl
-leads_on back.Finish d none = refl
+leads_on AfterService.Mail d none = rw none refl
+leads_on AfterService.Begin d none = refl
+leads_on AfterService.Finish d none = refl
 
 -- the worker where the service leads, with these sleepers and notes
 abbrev pub gone_on : AfterService → Worker → Slab (Sleeping Reply) → Notes Reply → Worker
@@ -93,10 +82,10 @@ pub gone_same : (x : AfterService) (w w' : Worker) (zs : Slab (Sleeping Reply)) 
 gone_same x w w' zs notes is timers told = is ∙ ap (λ t. gone_on x w t notes) timers ∙ ap (gone_on x w w.home.timers) told
 
 module _ {B L : Type 0} (left : B → L) (spot : L → Option Said → Spot) where
-  pub service_over : (v : Service) (w w' : Worker) (s : Shared B) (e : Event) → SoundAt (at.Service step.EndService v) w s → e ≡ Serve → ((id : Id) → IsSleepDue w.home.timers w.moments.sampled id → ⊥)
+  pub service_over : (v : Service) (w w' : Worker) (s : Shared B) (e : Event) → SoundAt (Place.Service InService.EndService v) w s → e ≡ Serve → ((id : Id) → IsSleepDue w.home.timers w.moments.sampled id → ⊥)
       → w' ≡ record w { place = after_service v.back (desk_of w) } → Steps left spot w s e w' s
   service_over v w w' s e sound event none is =
-      let q : Place = at.Service step.EndService v in
+      let q : Place = Place.Service InService.EndService v in
       let p : Place = place_after v.back in
       let goes : after_service v.back (desk_of w) ≡ p = leads_on v.back (desk_of w) (ap (map message_of) sound.batch) in
       let same : w' ≡ record w { place = p } = is ∙ ap (λ x. record w { place = x }) goes in
@@ -127,16 +116,16 @@ module _ {B L : Type 0} (left : B → L) (spot : L → Option Said → Spot) whe
       }))
     where
       served_by : (x : AfterService) → serves_at (place_after x) ≡ true
-      served_by back.Mail = refl
-      served_by back.Begin = refl
-      served_by back.Finish = refl
+      served_by AfterService.Mail = refl
+      served_by AfterService.Begin = refl
+      served_by AfterService.Finish = refl
 
       polls_by : (x : AfterService) → polls_at (place_after x) ≡ None
-      polls_by back.Mail = refl
-      polls_by back.Begin = refl
-      polls_by back.Finish = refl
+      polls_by AfterService.Mail = refl
+      polls_by AfterService.Begin = refl
+      polls_by AfterService.Finish = refl
 
-      next_by : (x : AfterService) → next_at (place_after x) ≡ next.Free
-      next_by back.Mail = refl
-      next_by back.Begin = refl
-      next_by back.Finish = refl
+      next_by : (x : AfterService) → next_at (place_after x) ≡ Next.Free
+      next_by AfterService.Mail = refl
+      next_by AfterService.Begin = refl
+      next_by AfterService.Finish = refl

@@ -1,18 +1,14 @@
 -- What has landed, as a driver and the records of its requests change.
-use Rattle.std.proofs.Common.{◌≡◌, ℕ, ◌≤◌, ◌==◌, Bool, true, false, List, [], ◌∷◌, map, Option, Some, None, refl, sym, ap, subst, ◌∙◌, arith}
-use Rattle.std.proofs.lemmas.Bool.Decides.{nat_tests}
-use Rattle.std.specs.Prelude.{slice_get, slice_index_or}
-use Rattle.std.specs.VecDeque.{deque_capacity}
+use Rattle.std.{proofs.{Common.{◌≡◌, ℕ, ◌≤◌, ◌==◌, Bool, true, false, List, [], ◌∷◌, map, Option, Some, refl, sym, ap, subst, ◌∙◌, arith, slice_get, slice_index_or}, lemmas.Bool.Decides.nat_tests}, specs.VecDeque.deque_capacity}
 use Rattle.exec_base.specs.declared.slab.Id.{Id}
 use Rattle.exec_outcomes.specs.{declared.outcome.OpResult.OpResult, Lawful.{is_lawful, window_of}}
 use Rattle.exec_ring.specs.{Completions.result_in, declared.completion.Completion.Completion}
-use Rattle.exec_request.specs.{declared.request.Request.Request as Asking, Requests.{asked_of, cursor_of}}
-use Rattle.exec_waiters.specs.{States.waiter_at, Ids.index_in, declared.{waiter.Waiter.Waiter, waiter_id.WaiterId.WaiterId}}
-use Rattle.exec_driver.specs.{Driving.Driving, Lists.is_among}
+use Rattle.exec_request.specs.Requests.{asked_of, cursor_of}
+use Rattle.exec_waiters.specs.{States.waiter_at, declared.waiter.Waiter.Waiter}
+use Rattle.exec_driver.specs.Driving.{Driving}
 use Rattle.exec_machine.specs.{declared.state.RequestPhase.TheVariants.Landed, Tests.is_resolved}
 use Rattle.exec_moves.specs.declared.place.InService.{InService}
-use Rattle.exec_steps.specs.{declared.parts.{mail.Reply.Reply, names.Names.Names, record.Record.Record}, Flown.{IsPlain, HasLanded, AreLanded, HasFlown, operations}, Records.number_in, Serving.{changed_at, is_one_of}, View.number_told}
-use Rattle.exec_steps.proofs.Marking.{mark_if, marked, was_marked}
+use Rattle.exec_steps.{specs.{declared.parts.{mail.Reply.Reply, names.Names.Names, record.Record.Record}, Flown.{IsPlain, HasLanded, AreLanded, HasFlown, operations}, Records.number_in, Serving.changed_at, View.number_told}, proofs.Marking.{mark_if, marked, was_marked}}
 
 -- A request that flies goes on flying: with its operation, by its number, and its record has come no further.
 pub record FliesOn (n n' : Names) (d d' : Driving Reply Reply) (rs rs' : List Record) (id : Id) (it : Waiter Reply Reply) (r : Record) : Type 0 where

@@ -1,6 +1,5 @@
 -- An enter that took nothing ends the staging.
-use Rattle.std.proofs.Common.{◌≡◌, Bool, true, false, refl, sym, ap, ◌∙◌}
-use Rattle.std.specs.Prelude.{if◌then◌else◌}
+use Rattle.std.proofs.Common.{◌≡◌, Bool, true, false, refl, sym, ◌∙◌, if◌then◌else◌}
 use Rattle.exec_machine.specs.declared.event.Event.{Event, TheVariants.{Busy, Enter}}
 use Rattle.exec_moves.specs.declared.place.Service.{Service}
 use Rattle.exec_steps.specs.{declared.parts.worker.Worker.Worker, Serving.with_staging_ended, Submitting.after_flush}

@@ -1,15 +1,7 @@
 -- The records of what was staged, once the kernel took it in: for the machine all requests of the worker that are Staged
 -- fly.
-use Rattle.std.proofs.Common.{◌≡◌, ℕ, zero, suc, ◌<◌, ◌==◌, ◌&&◌, ◌||◌, Bool, true, false, List, [], ◌∷◌, ◌++◌, length, map, get_or, Option, Some, None, refl, sym, ap, subst, ◌∙◌, arith}
-use Rattle.std.proofs.lemmas.Bool.{false≢true, eq-eqb}
-use Rattle.std.proofs.lemmas.Bool.Decides.{nat_tests}
-use Rattle.std.proofs.lemmas.List.{length-set}
-use Rattle.std.proofs.lemmas.Option.{slice_get-map, slice_get-get_or}
-use Rattle.std.specs.Prelude.{slice_get, slice_set, if◌then◌else◌}
-use Rattle.std.specs.List.{list_any}
-use Rattle.std.specs.Option.{option_map}
+use Rattle.std.{proofs.{Common.{◌≡◌, ℕ, zero, suc, ◌<◌, ◌==◌, ◌&&◌, ◌||◌, Bool, true, false, List, [], ◌∷◌, ◌++◌, length, map, get_or, Option, Some, None, refl, sym, ap, subst, ◌∙◌, arith, slice_get, slice_set, if◌then◌else◌}, lemmas.{Bool.{false≢true, Decides.nat_tests}, List.length-set, Option.{slice_get-map, slice_get-get_or}}}, specs.Option.option_map}
 use Rattle.exec_machine.specs.{declared.state.{Request.Request, RequestPhase.RequestPhase}, Requests.flown, Tests.is_staged}
-use Rattle.exec_machine.specs.declared.state.RequestPhase.TheVariants as phase
 use Rattle.exec_steps.specs.{declared.parts.record.Record.Record, Serving.{AreKnown, changed_in, changed_at, flies, flown_in, is_one_of}}
 
 -- LISTS
@@ -67,16 +59,16 @@ flies_if true r = flies r
 flies_if false r = r
 
 pub worker_kept : (i : ℕ) (r : Request) → (flown i r).worker ≡ r.worker
-worker_kept i r = elim ((r.worker == i) && is_staged r.phase) as (λ b. (if b then (record r { phase = phase.Flying }) else r).worker ≡ r.worker) [ true ↦ refl | false ↦ refl ]
+worker_kept i r = elim ((r.worker == i) && is_staged r.phase) as (λ b. (if b then (record r { phase = RequestPhase.Flying }) else r).worker ≡ r.worker) [ true ↦ refl | false ↦ refl ]
 
 flown_again : (i : ℕ) (r : Request) → flown i (flown i r) ≡ flown i r
 flown_again i r =
-    elim ((r.worker == i) && is_staged r.phase) as (λ b. ((r.worker == i) && is_staged r.phase) ≡ b → flown i (if b then (record r { phase = phase.Flying }) else r) ≡ (if b then (record r { phase = phase.Flying }) else r)) [
+    elim ((r.worker == i) && is_staged r.phase) as (λ b. ((r.worker == i) && is_staged r.phase) ≡ b → flown i (if b then (record r { phase = RequestPhase.Flying }) else r) ≡ (if b then (record r { phase = RequestPhase.Flying }) else r)) [
       | true ↦ λ is. not_staged i (r.worker == i) r
       | false ↦ λ is. rw is refl
     ] refl
   where
-    not_staged : (i : ℕ) (b : Bool) (r : Request) → (if b && false then (record r { phase = phase.Flying }) else (record r { phase = phase.Flying })) ≡ (record r { phase = phase.Flying })
+    not_staged : (i : ℕ) (b : Bool) (r : Request) → (if b && false then (record r { phase = RequestPhase.Flying }) else (record r { phase = RequestPhase.Flying })) ≡ (record r { phase = RequestPhase.Flying })
     not_staged i true r = refl
     not_staged i false r = refl
 
@@ -115,7 +107,7 @@ all_flown i ks rs own staged =
     of_one k x there true is = ap (λ j. flown j x.shown) (own k x is there)
     of_one k x there false is = sym (stays (x.shown.worker == i) refl (is_staged x.shown.phase) refl)
       where
-        stays : (a : Bool) → (x.shown.worker == i) ≡ a → (b : Bool) → is_staged x.shown.phase ≡ b → (if a && b then (record x.shown { phase = phase.Flying }) else x.shown) ≡ x.shown
+        stays : (a : Bool) → (x.shown.worker == i) ≡ a → (b : Bool) → is_staged x.shown.phase ≡ b → (if a && b then (record x.shown { phase = RequestPhase.Flying }) else x.shown) ≡ x.shown
         stays true mine true flying = absurd (false≢true (sym is ∙ staged k x there (same_number x.shown.worker i mine) flying))
         stays true mine false flying = refl
         stays false mine b flying = refl

@@ -1,20 +1,12 @@
 -- An output is taken: its request leaves the driver, and nobody observes it any more.
-use Rattle.std.proofs.Common.{◌≡◌, ◌≢◌, ℕ, zero, suc, ◌+◌, ◌-◌, ◌<◌, ◌≤◌, ◌==◌, ◌||◌, Bool, true, false, List, [], ◌∷◌, ◌++◌, length, Some, None, IsSome, refl, sym, ap, subst, ◌∙◌, inl, inr, arith, length-append}
-use Rattle.std.proofs.lemmas.Bool.{false≢true, eq-eqb}
-use Rattle.std.proofs.lemmas.Bool.Decides.{nat_tests}
-use Rattle.std.proofs.lemmas.Option.{slice_get_within}
-use Rattle.std.specs.Prelude.{slice_get, is_some}
-use Rattle.exec_base.specs.{Slab.{Slab, value_at, removed, freed}, declared.slab.Id.Id}
-use Rattle.exec_base.proofs.Slots.{Changed-set, id_cases, IsLiveAt-from_value, Updates-free, live_within, was_live}
+use Rattle.std.proofs.{Common.{◌≡◌, ◌≢◌, ℕ, zero, suc, ◌+◌, ◌-◌, ◌==◌, ◌||◌, Bool, true, false, List, [], ◌∷◌, ◌++◌, length, Some, None, IsSome, refl, sym, ap, subst, ◌∙◌, inl, inr, arith, length-append, slice_get, is_some}, lemmas.{Bool.{false≢true, eq-eqb, Decides.nat_tests}, Option.slice_get_within}}
+use Rattle.exec_base.{specs.{Slab.{Slab, value_at, removed, freed}, declared.slab.Id.Id}, proofs.Slots.{Changed-set, id_cases, IsLiveAt-from_value, Updates-free, live_within, was_live}}
 use Rattle.exec_request.specs.declared.output.RequestOutput.{RequestOutput}
 use Rattle.exec_time.specs.declared.timers.Sleeper.{Sleeper as Sleeping}
 use Rattle.exec_waiters.specs.{States.{waiter_at, pending_count, flying_count, is_flying}, declared.waiter.Entry.{Entry, TheVariants.Ready}}
-use Rattle.exec_driver.specs.Driving.{Driving}
-use Rattle.exec_driver.proofs.Counting.{OneChanged, one_removed, pending_is, flying_is}
+use Rattle.exec_driver.{specs.Driving.Driving, proofs.Counting.{OneChanged, one_removed, pending_is, flying_is}}
 use Rattle.exec_machine.specs.{declared.state.Waiting.Waiting, Tests.is_resolved}
-use Rattle.exec_machine.specs.declared.state.Waiting.TheVariants as waiting
-use Rattle.exec_steps.specs.{declared.parts.{mail.Reply.Reply, names.Names.Names, record.Record.Record, sleeping.SleeperRecord.SleeperRecord}, Records.number_in, Rooted.{Holds, IsHeld, IsKept}, Serving.is_one_of, Sound.IsNamed}
-use Rattle.exec_steps.proofs.Watching.{Watched, apart_number, now_there, other_still, other_there}
+use Rattle.exec_steps.{specs.{declared.parts.{mail.Reply.Reply, names.Names.Names, record.Record.Record, sleeping.SleeperRecord.SleeperRecord}, Records.number_in, Rooted.{Holds, IsHeld, IsKept}, Serving.is_one_of, Sound.IsNamed}, proofs.Watching.{Watched, apart_number, now_there, other_still, other_there}}
 
 same_number : (a b : ℕ) → (a == b) ≡ true → a ≡ b
 same_number a b h = grind (arith, nat_tests)
@@ -147,8 +139,8 @@ module _ (i t : ℕ) (n : Names) (d d' : Driving Reply Reply) (zs : Slab (Sleepi
       )
 
   pub holds_fewer : (f r).shown.observed ≡ false → (holding fewer : List ℕ) (u : Waiting) (ended : Bool) → Without holding fewer (number_in n.requests.items id)
-      → ((z : ℕ) → u ≡ waiting.Timer z → ⊥) → ((q : ℕ) → u ≡ waiting.Request q → q ≡ number_in n.requests.items id)
-      → Holds false i t holding u ended n d zs rs ss → Holds false i t fewer waiting.Nothing ended (record n { held = n.held - 1 }) d' zs rs' ss
+      → ((z : ℕ) → u ≡ Waiting.Timer z → ⊥) → ((q : ℕ) → u ≡ Waiting.Request q → q ≡ number_in n.requests.items id)
+      → Holds false i t holding u ended n d zs rs ss → Holds false i t fewer Waiting.Nothing ended (record n { held = n.held - 1 }) d' zs rs' ss
   holds_fewer unseen holding fewer u ended without no_timer request old =
       let k = number_in n.requests.items id in
       let apart : (j q : ℕ) → slice_get fewer j ≡ Some q → k ≡ q → ⊥ = λ j q found same.
@@ -176,7 +168,7 @@ module _ (i t : ℕ) (n : Names) (d d' : Driving Reply Reply) (zs : Slab (Sleepi
       }
 
   pub holds_awaiting : IsSome (value_at d'.requests id) → (f r).shown.observed ≡ r.shown.observed → (f r).shown.waiter ≡ Some t → is_resolved r.shown.phase ≡ false → r.shown.wakes_paid ≡ 0 → (holding : List ℕ) (ended : Bool) → ended ≡ false
-      → slice_get holding (length holding - 1) ≡ Some (number_in n.requests.items id) → Holds false i t holding waiting.Nothing ended n d zs rs ss → Holds true i t holding (waiting.Request (number_in n.requests.items id)) ended n d' zs rs' ss
+      → slice_get holding (length holding - 1) ≡ Some (number_in n.requests.items id) → Holds false i t holding Waiting.Nothing ended n d zs rs ss → Holds true i t holding (Waiting.Request (number_in n.requests.items id)) ended n d' zs rs' ss
   holds_awaiting live_now observed waits open_still unpaid holding ended going newest old =
       let k = number_in n.requests.items id in
       let now = now_there i n 0 d d' zs rs rs' ss id r f by in
@@ -212,13 +204,13 @@ module _ (i t : ℕ) (n : Names) (d d' : Driving Reply Reply) (zs : Slab (Sleepi
             by_number k j (λ differs away. absurd (nothing_awaited j (old.awaited j y v (still j y found differs) mine_j unresolved seen waiter).1))
             (λ same.
             let same_t : Some v ≡ Some t = sym waiter ∙ ap (λ z. z.shown.waiter) (it_is j y found same) ∙ waits in
-            (cc (same_t), ap (λ z. waiting.Request z) same));
+            (cc (same_t), ap (λ z. Waiting.Request z) same));
         kept = kept_still old.kept;
         waits = (f r, now, record { newest = newest; waiter = waits; unpaid = λ h. ap (λ z. z.shown.wakes_paid) by.keeps ∙ unpaid; open_still = λ h. ap (λ z. is_resolved z.shown.phase) by.keeps ∙ open_still });
-        sleeping = λ x it live. absurd (let never : waiting.Nothing ≡ waiting.Timer (number_in n.timers.items x) = (old.sleeping x it live).1 in cc);
-        asleep = λ j z found mine_j unfired kept. absurd (let never : waiting.Nothing ≡ waiting.Timer j = old.asleep j z found mine_j unfired kept in cc);
+        sleeping = λ x it live. absurd (let never : Waiting.Nothing ≡ Waiting.Timer (number_in n.timers.items x) = (old.sleeping x it live).1 in cc);
+        asleep = λ j z found mine_j unfired kept. absurd (let never : Waiting.Nothing ≡ Waiting.Timer j = old.asleep j z found mine_j unfired kept in cc);
         over = λ h. absurd (false≢true (sym going ∙ h));
       }
     where
-      nothing_awaited : (j : ℕ) → waiting.Nothing ≡ waiting.Request j → ⊥
+      nothing_awaited : (j : ℕ) → Waiting.Nothing ≡ Waiting.Request j → ⊥
       nothing_awaited j h = cc

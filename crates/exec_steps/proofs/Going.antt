@@ -1,15 +1,13 @@
 -- Requests that go on: none ends, nor begins, nor is let go of. What that leaves as it was.
-use Rattle.std.proofs.Common.{◌≡◌, ℕ, ◌<◌, ◌==◌, Bool, true, false, List, [], ◌∷◌, length, Option, Some, None, IsSome, refl, sym, ap, subst, ◌∙◌}
-use Rattle.std.specs.Prelude.{slice_get}
+use Rattle.std.proofs.Common.{◌≡◌, ℕ, Bool, true, List, [], ◌∷◌, Option, Some, IsSome, refl, sym, ap, ◌∙◌, slice_get}
 use Rattle.exec_base.specs.{Slab.{Slab, value_at}, declared.{slab.Id.Id, task_no.TaskNo.TaskNo}}
 use Rattle.exec_request.specs.declared.output.RequestOutput.{RequestOutput}
 use Rattle.exec_time.specs.declared.timers.Sleeper.{Sleeper as Sleeping}
 use Rattle.exec_waiters.specs.declared.waiter.Entry.TheVariants.{Ready}
 use Rattle.exec_driver.specs.Driving.{Driving}
 use Rattle.exec_machine.specs.{declared.state.Waiting.Waiting, Tests.is_resolved}
-use Rattle.exec_machine.specs.declared.state.Waiting.TheVariants as waiting
 use Rattle.exec_moves.specs.declared.place.InPoll.{InPoll}
-use Rattle.exec_steps.specs.{declared.parts.{mail.Reply.Reply, names.Names.Names, record.Record.Record, sleeping.SleeperRecord.SleeperRecord, task_slot.TaskSlot.TaskSlot}, Records.number_in, Rooted.{IsHeld, IsKept, AwaitsRequest, Awaits, Holds, IsRooted}, Sound.{AreOver, AreOwed, OwesWake, RequestOwes}}
+use Rattle.exec_steps.specs.{declared.parts.{mail.Reply.Reply, names.Names.Names, record.Record.Record, sleeping.SleeperRecord.SleeperRecord, task_slot.TaskSlot.TaskSlot}, Records.number_in, Rooted.{Awaits, Holds, IsRooted}, Sound.{AreOver, AreOwed, OwesWake, RequestOwes}}
 
 -- of a request how far its operation came, its deadline and its cancel may change
 pub record GoesOn (r r' : Record) : Type 0 where
@@ -73,10 +71,10 @@ module _ (rs rs' : List Record) (all : AllGoOn rs rs') where
       record { worker = same_worker r r' on ∙ owes.worker; waiter = same_waiter r r' on ∙ owes.waiter; unpaid = same_paid r r' on ∙ owes.unpaid; over = on.over ∙ owes.over }
 
   wake_on : (i t : ℕ) (what : Waiting) (zs : List SleeperRecord) → OwesWake i t what rs zs → OwesWake i t what rs' zs
-  wake_on i t (waiting.Request n) zs owes =
+  wake_on i t (Waiting.Request n) zs owes =
       let new = all.becomes n owes.0 owes.1 in
       (new.r', new.there, owes_on i t owes.0 new.r' new.on owes.2)
-  wake_on i t (waiting.Timer n) zs owes = owes
+  wake_on i t (Waiting.Timer n) zs owes = owes
   wake_on i t _ zs owes = absurd owes
 
   pub owed_on : {B : Type 0} (i t : ℕ) (ws : List TaskNo) (tasks : List (TaskSlot B)) (zs : List SleeperRecord) → AreOwed i t ws tasks rs zs → AreOwed i t ws tasks rs' zs
@@ -86,7 +84,7 @@ module _ (rs rs' : List Record) (all : AllGoOn rs rs') where
 
   -- WHAT THE ROOT HOLDS
   awaits_on : (ends : Bool) (i t : ℕ) (held : List ℕ) (what : Waiting) (zs : List SleeperRecord) → Awaits ends i t held what rs zs → Awaits ends i t held what rs' zs
-  awaits_on ends i t held (waiting.Request k) zs waits =
+  awaits_on ends i t held (Waiting.Request k) zs waits =
       let new = all.becomes k waits.0 waits.1 in
       let old = waits.2 in (
         new.r',
@@ -98,11 +96,11 @@ module _ (rs rs' : List Record) (all : AllGoOn rs rs') where
           open_still = λ h. new.on.over ∙ old.open_still h;
         },
       )
-  awaits_on ends i t held (waiting.Timer k) zs waits = waits
-  awaits_on ends i t held waiting.Nothing zs waits = tt
-  awaits_on ends i t held waiting.Wake zs waits = tt
-  awaits_on ends i t held waiting.Woken zs waits = tt
-  awaits_on ends i t held waiting.Yielded zs waits = tt
+  awaits_on ends i t held (Waiting.Timer k) zs waits = waits
+  awaits_on ends i t held Waiting.Nothing zs waits = tt
+  awaits_on ends i t held Waiting.Wake zs waits = tt
+  awaits_on ends i t held Waiting.Woken zs waits = tt
+  awaits_on ends i t held Waiting.Yielded zs waits = tt
 
   -- where at the driver what is there stays there, and no output comes
   pub holds_on : (ends : Bool) (i t : ℕ) (held : List ℕ) (what : Waiting) (done : Bool) (n n' : Names) (d d' : Driving Reply Reply) (zs : Slab (Sleeping Reply)) (sleepers : List SleeperRecord)

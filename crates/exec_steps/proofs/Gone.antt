@@ -1,28 +1,14 @@
 -- An operation that has landed, whose request is over: what is seen of it.
-use Rattle.std.proofs.Common.{◌≡◌, ◌≢◌, ℕ, ◌+◌, ◌^◌, ◌<◌, ◌≤◌, ◌==◌, ◌&&◌, ◌||◌, Bool, true, false, not, List, [], ◌∷◌, ◌++◌, length, map, Option, Some, None, IsSome, refl, sym, ap, subst, ◌∙◌, arith, inl, inr, suc, ◌-◌, filter}
-use Rattle.std.proofs.lemmas.Bool.{false≢true, eq-eqb}
-use Rattle.std.proofs.lemmas.Bool.Decides.{nat_tests}
-use Rattle.std.specs.Prelude.{slice_get, slice_index_or, is_some, if◌then◌else◌, slice_set}
+use Rattle.std.{proofs.Common.{◌≡◌, ◌≢◌, ℕ, ◌+◌, ◌==◌, false, not, List, [], ◌∷◌, ◌++◌, length, map, Option, Some, None, IsSome, refl, sym, ap, subst, ◌∙◌, ◌-◌, filter, slice_get}, specs.VecDeque.deque_capacity}
 use Rattle.exec_base.specs.{Slab.{value_at, written}, declared.slab.Id.Id}
-use Rattle.exec_base.proofs.Slots.{id_cases, Updates-write}
-use Rattle.exec_outcomes.specs.{Lawful.{is_lawful, window_in, window_of}, Outcomes.{HasCome, bytes_of, counted_for, first_length, first_part, moves_on, part_now, second_part}, declared.outcome.{Kind.Kind, OpResult.OpResult, Outcome.Outcome}}
-use Rattle.exec_request.specs.{Judging.{Judges, judged_as}, Kept.kept_of, Requests.{asked_of, cursor_of, deadline_of, hinted_of, output_of}, declared.{request.Request.Request as Asking, output.RequestOutput.RequestOutput}, States.{Ended, as_outcome}}
+use Rattle.exec_request.specs.{Requests.output_of, declared.output.RequestOutput.RequestOutput, States.{Ended, as_outcome}}
 use Rattle.exec_ring.specs.{Completions.result_in, declared.completion.Completion.Completion, Rings.completions}
-use Rattle.exec_waiters.specs.{Ids.index_in, States.{waiter_at, takes_tick, flying_count, tick_in, waiter_of, pending_count}, declared.{waiter.{Entry.TheVariants.Pending, Waiter.Waiter}, deferred.Deferred.Deferred, waiter_id.WaiterId.WaiterId}, Told.{Tells, nothing_told, Told}, Events.{finished, told_by_finish, output_told}}
-use Rattle.exec_driver.specs.{Driving.{Driving, request_at, is_queued, is_unenrolled, is_cancelled}, Lists.{is_among, with_queued, without, withdrawn}, Punctual.IsPunctual, Placed.ListsRequests, Steps.unscheduled}
-use Rattle.exec_machine.specs.{declared.{state.{Request.Request, RequestPhase.TheVariants.{Landed, Queued, Resolved}}, event.Event.{Event, TheVariants.Reap}}, Requests.{judged_of, reaped, went_on, asked_of as asked_in, cursor_of as cursor_in, outcome_given}, Tests.{is_gated, is_resolved, is_staged}, Progress.Plan, World.Own}
-use Rattle.exec_moves.specs.{declared.place.{Place.Place, Reaping.Reaping, Service.Service}, Move.aside, Seen.serves_at, Serve.{after_permit, back_from_reap, others_after_reap}, State.Desk, Callback.{told_of_end, waker_of}}
-use Rattle.exec_steps.specs.{declared.parts.{mail.Reply.Reply, names.Names.Names, record.Record.Record, shared.Shared.Shared, worker.Worker.Worker}, Due.{IsWheelAt, may_be_due, wheel_moment}, Flown.{AreLanded, HasFlown, HasLanded, IsPlain, IsUpTo, longest, operations, passes_permit}, Records.number_in, Serving.{changed_at, is_one_of, cancels_in, AreTagged}, Sound.{SoundAt, IsAlike, IsSubmitted, served_in, is_armed_at}, View.{driver_of, number_told, Visible, visible, own_of, desk_of, common_of, things_of, numbers_of, trailing}, Phased.closes_at, Spots.Spot, Works.{Suits, Steps}, Rooted.outcome_told}
-use Rattle.exec_steps.proofs.{Changing.{OneGoesOn, all_go_one, changes_one, keeps_one, flying_after, live_still, pending_still}, Flown.{FliesOn, landed_on}, Going.GoesOn, Judging.{bytes_fit, cancel_decides, first_still, given_is, moved_is, stays_first, switched_is, total_fits}, Marking.{mark_if, marked, was_marked}, Serving.{Follows, KeepsBy, Keeps, Serves, is_calm, calm, kept}, Staging.known_then, Starting.{fills, reads, writes_bytes, simple}, Trailing.{RingAfter, others_left}, Requeued.{not_same, GoesBack, back_alike, back_waiter, goes_back, keeps_back, landed_rest, lawful_shown, moved_fits, number_landed}, Seeing.{desk_with, makes, own_with, served, shows}, Sweeping.follows_reap, Timed.keeps_untold, Viewed.{common_seen, may_seen, moves_seen, reap_as}, Ends.{desk_ended, flying_ended, numbers_without, shows_left}, Late.{stands, wakes_are}, Ousting.keeps_over, Over.OneEnds, Resolving.{EntryAfter, SlabAfter, slab_after, told_once, unticked_at}, Returned.{desk_left, follows_back, not_due, one_fewer, served_back}, Finished.{GoesOver, goes_over, keeps_gone, over_alike, over_place, over_tells, over_told, over_waiter, over_written, told_place}}
-use Rattle.std.proofs.lemmas.List.{append-nil}
+use Rattle.exec_waiters.{specs.{States.flying_count, declared.{waiter.{Entry.TheVariants.Pending, Waiter.Waiter}, waiter_id.WaiterId.WaiterId}, Told.{Tells, Told}, Events.told_by_finish}, proofs.Changes.{one_if, entry_of}}
+use Rattle.exec_driver.specs.{Driving.{Driving, request_at, is_queued, is_unenrolled, is_cancelled}, Lists.without, Punctual.IsPunctual, Placed.ListsRequests}
+use Rattle.exec_machine.specs.{declared.event.Event.{Event, TheVariants.Reap}, Requests.outcome_given}
+use Rattle.exec_moves.specs.{declared.place.{Place.Place, Reaping.Reaping, Service.Service, InService.InService}, Move.aside, Serve.{after_permit, back_from_reap, others_after_reap}, State.Desk, Callback.{told_of_end, waker_of}}
+use Rattle.exec_steps.{specs.{declared.parts.{mail.Reply.Reply, record.Record.Record, shared.Shared.Shared, worker.Worker.Worker}, Flown.operations, Records.number_in, Serving.changed_at, Sound.{SoundAt, is_armed_at}, View.{driver_of, number_told, visible, own_of, desk_of, things_of, numbers_of, trailing}, Phased.closes_at, Spots.Spot, Works.Steps}, proofs.{Changing.{changes_one, flying_after}, Judging.given_is, Serving.{KeepsBy, Keeps, Serves, is_calm}, Seeing.{desk_with, makes, own_with, served, shows}, Viewed.{common_seen, may_seen, moves_seen}, Ends.{desk_ended, flying_ended, numbers_without}, Late.stands, Returned.{desk_left, follows_back, one_fewer, served_back}, Finished.{GoesOver, goes_over, keeps_gone, over_alike, told_place}}}
 use Rattle.exec_task.specs.declared.body.Said.{Said}
-use Rattle.exec_waiters.proofs.Changes.{one_if, entry_of}
-use Rattle.std.specs.VecDeque.{deque_capacity}
-use Rattle.exec_outcomes.specs.declared.outcome.Kind.TheVariants as kind
-use Rattle.exec_moves.specs.declared.place.InService.TheVariants as step
-use Rattle.exec_moves.specs.declared.place.Place.TheVariants as at
-use Rattle.exec_moves.specs.declared.place.Reaping.TheVariants as reaping
-use Rattle.exec_request.specs.declared.request.Request.TheVariants as asks
 
 -- another has another number
 apart_by : {B : Type 0} (q : Place) (w : Worker) (s : Shared B) → SoundAt q w s → (id : Id) (r : Record) → slice_get s.requests.items (number_in w.names.requests.items id) ≡ Some r → r.id.0 ≡ id
@@ -32,7 +18,7 @@ apart_by q w s sound id r there name x some differs same =
     let both : one.0 ≡ r = cc (one.1, there, same) in
     differs (sym one.2 ∙ ap (λ y. y.id.0) both ∙ name)
 
-module _ {B L : Type 0} (left : B → L) (spot : L → Option Said → Spot) (rp : Reaping) (v : Service) (w : Worker) (s : Shared B) (sound : SoundAt (at.Service (step.Reap rp) v) w s) (lists : ListsRequests (driver_of w)) (c : Completion) (cs : List Completion) (is : operations (driver_of w).ring ≡ c ∷ cs) (how : Ended) where
+module _ {B L : Type 0} (left : B → L) (spot : L → Option Said → Spot) (rp : Reaping) (v : Service) (w : Worker) (s : Shared B) (sound : SoundAt (Place.Service (InService.Reap rp) v) w s) (lists : ListsRequests (driver_of w)) (c : Completion) (cs : List Completion) (is : operations (driver_of w).ring ≡ c ∷ cs) (how : Ended) where
   over_name : (d' : Driving Reply Reply) (over : GoesOver w s d' c cs how) → over.h.r.id.0 ≡ over.h.id
   over_name d' over =
       let one = sound.named.requests over.h.id (rw (entry_of (value_at (driver_of w).requests over.h.id) over.h.it over.h.live) refl) in
@@ -56,7 +42,7 @@ module _ {B L : Type 0} (left : B → L) (spot : L → Option Said → Spot) (rp
       let flying : flying_count d'.requests ≡ flying_count d.requests - 1 =
       ap flying_count over.requests ∙ flying_ended s1 id it1 how None (changes_one d.requests id over.h.it it1 over.h.live).is_at refl
       ∙ one_fewer _ _ _ _ (flying_after d.requests id over.h.it it1 over.h.live) (ap one_if over.h.flies) refl in
-      let apart = apart_by (at.Service (step.Reap rp) v) w s sound id over.h.r over.h.there (over_name d' over) in
+      let apart = apart_by (Place.Service (InService.Reap rp) v) w s sound id over.h.r over.h.there (over_name d' over) in
       let ready = numbers_without n name d.lists.queued (λ x among. apart x (stands d x is_queued (request_at d x) refl refl (lists.queued x among))) in
       let unenrolled = numbers_without n name d.lists.enrolments (λ x among. apart x (stands d x is_unenrolled (request_at d x) refl refl (lists.enrolments x among))) in
       let cancels = numbers_without n name d.lists.cancels (λ x among. apart x (stands d x is_cancelled (request_at d x) refl refl (lists.cancels x among))) in
@@ -70,12 +56,12 @@ module _ {B L : Type 0} (left : B → L) (spot : L → Option Said → Spot) (rp
       → s'.requests.items ≡ changed_at s.requests.items (number_in w.names.requests.items over.h.id) (goes_over (result_in c.result) how) → s' ≡ record s { requests = s'.requests }
       → Tells w.home.deferred w'.home.deferred (told_by_finish over.h.id (record over.h.it { in_flight = false; request = over.request }) how None)
       → w'.names.ended.items ≡ w.names.ended.items ++ number_in w.names.requests.items over.h.id ∷ [] → deque_capacity w'.names.ended ≡ deque_capacity w.names.ended
-      → w' ≡ record w { place = at.Service (after_permit (back_from_reap rp (map (number_told w.names.requests.items) cs))) v; home = record w.home { driver = w'.home.driver; deferred = w'.home.deferred }; names = record w.names { ended = w'.names.ended } } → Steps left spot w s e w' s'
+      → w' ≡ record w { place = Place.Service (after_permit (back_from_reap rp (map (number_told w.names.requests.items) cs))) v; home = record w.home { driver = w'.home.driver; deferred = w'.home.deferred }; names = record w.names { ended = w'.names.ended } } → Steps left spot w s e w' s'
   reaped_over w' s' e over punctual event records shared tells ended capacity same =
-      let q : Place = at.Service (step.Reap rp) v in
+      let q : Place = Place.Service (InService.Reap rp) v in
       let n = w.names.requests.items in
       let later = map (number_told n) cs in
-      let q' : Place = at.Service (after_permit (back_from_reap rp later)) v in
+      let q' : Place = Place.Service (after_permit (back_from_reap rp later)) v in
       let d = driver_of w in
       let d' = driver_of w' in
       let rs = s.requests.items in

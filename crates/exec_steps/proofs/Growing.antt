@@ -1,23 +1,15 @@
 -- An act that makes something: what holds then, and what is seen where there was no memory.
-use Rattle.std.proofs.Common.{◌≡◌, ℕ, zero, suc, ◌+◌, ◌*◌, ◌<◌, ◌≤◌, false, List, [], ◌∷◌, length, map, Option, Some, None, refl, sym, ap, subst, ◌∙◌, arith}
-use Rattle.std.proofs.lemmas.List.{append-nil, length-set, set-get_or, set-set}
-use Rattle.std.proofs.lemmas.Option.{get_or_from_slice_get, slice_get_within}
-use Rattle.std.proofs.lemmas.List.Sums.{count_by-le-length}
-use Rattle.std.specs.Prelude.{slice_get, slice_set, OnOk, Result, Ok, Err}
+use Rattle.std.proofs.{Common.{◌≡◌, ℕ, zero, suc, ◌+◌, ◌*◌, ◌<◌, ◌≤◌, false, List, [], ◌∷◌, length, map, Option, Some, None, refl, sym, ap, subst, ◌∙◌, arith, slice_get, slice_set, OnOk, Result, Ok, Err}, lemmas.{List.{append-nil, length-set, set-get_or, set-set, Sums.count_by-le-length}, Option.{get_or_from_slice_get, slice_get_within}}}
 use Rattle.exec_base.specs.{Slab.{Slab, is_live, live_count}, declared.error.Error.TheVariants.NoMemory}
 use Rattle.exec_words.specs.Queue.{room_of}
 use Rattle.exec_task.specs.{Sight.Sight, declared.body.{Act.Act, Said.Said}}
-use Rattle.exec_task.specs.declared.body.Said.TheVariants as hears
 use Rattle.exec_time.specs.declared.timers.Sleeper.{Sleeper as Sleeping}
 use Rattle.exec_ring.specs.Rings.{completions}
 use Rattle.exec_waiters.specs.{States.{counts_pending, flying_count, pending_count}, Told.{HasPlaces, Tells, nothing_told}, declared.{deferred.Deferred.Deferred, waiter.Entry.Entry}}
 use Rattle.exec_driver.specs.{Admission.with_rooms, Driving.Driving}
 use Rattle.exec_machine.specs.{Ranges.ring_size, World.Own, Progress.Plan}
-use Rattle.exec_moves.specs.{Seen.{polls_at, next_at, serves_at}, State.Desk, declared.place.Place.Place}
-use Rattle.exec_moves.specs.declared.place.InPoll.TheVariants as poll
-use Rattle.exec_moves.specs.declared.place.Place.TheVariants as at
-use Rattle.exec_steps.specs.{declared.parts.{mail.Reply.Reply, names.Names.Names, record.Record.Record, shared.Shared.Shared, sleeping.SleeperRecord.SleeperRecord, task_slot.TaskSlot.TaskSlot, worker.Worker.Worker}, Acting.HasActed, Admitting.{MakesRoom, MayMake, Refuses}, Carried.IsCarried, Due.IsDue, Flown.HasFlown, Phased.{IsPhased, is_complete, closing_in, stage_of}, Records.SameNames, Rooted.IsRooted, Sound.{SoundAt, AreOver, AreOwed, InHand, IsAlone, IsNamed, IsRunnable, IsTold, Stands, one_of, polled_in, tellers}, Scripts.is_last, Spots.Spot, View.{common_of, desk_of, driver_of, landed_in, numbers_of, open_seen, own_of, queue_seen, task_seen, things_of, trailing, visible}, Works.Same}
-use Rattle.exec_steps.proofs.{Performing.{same_slot, unmoved_seen}, Phased.{phased_count, phased_task}, Polling.IsAfter, Turning.set_there}
+use Rattle.exec_moves.specs.{Seen.{polls_at, next_at, serves_at}, State.Desk, declared.place.{Place.Place, InPoll.InPoll}}
+use Rattle.exec_steps.{specs.{declared.parts.{mail.Reply.Reply, names.Names.Names, record.Record.Record, shared.Shared.Shared, sleeping.SleeperRecord.SleeperRecord, task_slot.TaskSlot.TaskSlot, worker.Worker.Worker}, Acting.HasActed, Admitting.{MakesRoom, MayMake, Refuses}, Carried.IsCarried, Due.IsDue, Flown.HasFlown, Phased.{IsPhased, is_complete, closing_in, stage_of}, Records.SameNames, Rooted.IsRooted, Sound.{SoundAt, AreOver, AreOwed, InHand, IsAlone, IsNamed, IsRunnable, IsTold, Stands, one_of, polled_in, tellers}, Scripts.is_last, Spots.Spot, View.{common_of, desk_of, driver_of, landed_in, numbers_of, open_seen, own_of, queue_seen, task_seen, things_of, trailing, visible}, Works.Same}, proofs.{Performing.{same_slot, unmoved_seen}, Phased.{phased_count, phased_task}, Polling.IsAfter, Turning.set_there}}
 
 -- WHAT MUST HOLD AGAIN
 
@@ -43,7 +35,7 @@ module _ {B : Type 0} where
     pub stands : Stands (polled_in q) w.index slot'
     pub hand : InHand q w.root w.hand
 
-  pub sound_grown : (q : Place) (w w' : Worker) (s s' : Shared B) (slot slot' : TaskSlot B) → SoundAt (at.Poll w.root poll.Act) w s → IsAfter q → Grows q w s s' slot slot'
+  pub sound_grown : (q : Place) (w w' : Worker) (s s' : Shared B) (slot slot' : TaskSlot B) → SoundAt (Place.Poll w.root InPoll.Act) w s → IsAfter q → Grows q w s s' slot slot'
       → w' ≡ record w { place = q; names = w'.names; home = record w.home { driver = w'.home.driver; timers = w'.home.timers; deferred = w'.home.deferred } }
       → s' ≡ record s { tasks = s'.tasks; requests = s'.requests; sleepers = s'.sleepers; store = s'.store }
       → Grown q w' (driver_of w') w'.home.timers s'.requests.items s'.sleepers.items s' → SoundAt q w' s'
@@ -213,12 +205,12 @@ module _ {B : Type 0} where
   rooms_there {t} {f} {w} {w'} {s} {s'} r o there = cc (there, ap (λ ts. slice_get ts t) r.tasks ∙ set_there s.tasks.items t r.slot' r.slot r.there)
 
   -- and then it is told that there was no memory
-  pub refuses_by : {t : ℕ} {w w' : Worker} {s s' s'' : Shared B} (o new : TaskSlot B) → MakesRoom t (λ slot. slot.told) w w' s s' → slice_get s'.tasks.items t ≡ Some o → new ≡ record o { told = Some (hears.Refused NoMemory) }
+  pub refuses_by : {t : ℕ} {w w' : Worker} {s s' s'' : Shared B} (o new : TaskSlot B) → MakesRoom t (λ slot. slot.told) w w' s s' → slice_get s'.tasks.items t ≡ Some o → new ≡ record o { told = Some (Said.Refused NoMemory) }
       → s'' ≡ record s' { tasks = s''.tasks } → s''.tasks.items ≡ slice_set s'.tasks.items t new → Refuses t w w' s s''
   refuses_by {t} {w} {w'} {s} {s'} {s''} o new r there tells shared tasks =
       let is : o ≡ r.slot' = rooms_there r o there in
-      let now : new ≡ record r.slot { held = o.held; told = Some (hears.Refused NoMemory) } =
-      tells ∙ ap (λ (x : TaskSlot B). record x { told = Some (hears.Refused NoMemory) }) (is ∙ r.same ∙ ap (λ (x : TaskSlot B). record r.slot { held = x.held; told = r.slot.told }) (sym is)) in
+      let now : new ≡ record r.slot { held = o.held; told = Some (Said.Refused NoMemory) } =
+      tells ∙ ap (λ (x : TaskSlot B). record x { told = Some (Said.Refused NoMemory) }) (is ∙ r.same ∙ ap (λ (x : TaskSlot B). record r.slot { held = x.held; told = r.slot.told }) (sym is)) in
       let all : s'' ≡ record s { tasks = s''.tasks; requests = s'.requests; sleepers = s'.sleepers; store = s'.store } = shared ∙ ap (λ (x : Shared B). record x { tasks = s''.tasks }) r.shared in
       record {
         worker = r.worker;
@@ -231,7 +223,7 @@ module _ {B : Type 0} where
         slot = r.slot;
         there = r.there;
         slot' = new;
-        same = subst (λ (x : TaskSlot B). x ≡ record r.slot { held = x.held; told = Some (hears.Refused NoMemory) }) (sym now) refl;
+        same = subst (λ (x : TaskSlot B). x ≡ record r.slot { held = x.held; told = Some (Said.Refused NoMemory) }) (sym now) refl;
         held = ap (λ (x : TaskSlot B). x.held.items) now ∙ ap (λ (x : TaskSlot B). x.held.items) is ∙ r.held;
         tasks = tasks ∙ ap (λ ts. slice_set ts t new) r.tasks ∙ set-set s.tasks.items t r.slot' new;
       }
@@ -314,8 +306,8 @@ module _ {B L : Type 0} (left : B → L) (runs : L → Plan → Type 0) (holds :
       let old = h.sound.tied.stands m.slot m.there in
       let found : slice_get s1.tasks.items w.root ≡ Some m.slot' = ap (λ ts. slice_get ts w.root) m.tasks ∙ set_there s.tasks.items w.root m.slot' m.slot m.there in
       let same : r.slot ≡ acted = cc (r.there, found, m.acts.slot) in
-      let told : TaskSlot B = record m.slot { body = Some m.acts.body'; told = Some (hears.Refused NoMemory) } in
-      let is : r.slot' ≡ record told { held = r.slot'.held } = r.same ∙ ap (λ (x : TaskSlot B). record x { held = r.slot'.held; told = Some (hears.Refused NoMemory) }) same in
+      let told : TaskSlot B = record m.slot { body = Some m.acts.body'; told = Some (Said.Refused NoMemory) } in
+      let is : r.slot' ≡ record told { held = r.slot'.held } = r.same ∙ ap (λ (x : TaskSlot B). record x { held = r.slot'.held; told = Some (Said.Refused NoMemory) }) same in
       let kept : r.slot'.held.items ≡ m.slot.held.items = r.held ∙ ap (λ (x : TaskSlot B). x.held.items) same in
       let back = ((h.asks h.one.0 [] h.one.2).goes_on on).refused in
       let seen : task_seen left spot r.slot' ≡ task_seen left spot m.slot =

@@ -1,27 +1,24 @@
 -- Where no act was made: a root can be told what it could.
-use Rattle.std.proofs.Common.{◌≡◌, ℕ, List, Option, Some, None, refl, sym, ap, subst, ◌∙◌}
-use Rattle.std.specs.Prelude.{slice_get}
+use Rattle.std.proofs.Common.{◌≡◌, ℕ, List, Option, Some, None, refl, sym, ap, subst, ◌∙◌, slice_get}
 use Rattle.exec_task.specs.declared.body.Said.{Said}
-use Rattle.exec_task.specs.declared.body.Said.TheVariants as said
 use Rattle.exec_machine.specs.{declared.state.Waiting.Waiting, Tasks.begun_waiting}
-use Rattle.exec_machine.specs.declared.state.Waiting.TheVariants as waiting
 use Rattle.exec_steps.specs.{declared.parts.{shared.Shared.Shared, task_slot.TaskSlot.TaskSlot, worker.Worker.Worker}, Hearing.{CanHear, Hears, StillHears, held_once_come}, View.body_in}
 
 -- what is waited for as a poll begins can be heard as before
 pub hears_begun : (told : Option Said) (u : Waiting) (held : List ℕ) (answer : Said) → CanHear told (begun_waiting u) answer → CanHear told u answer × (held_once_come u held ≡ held_once_come (begun_waiting u) held)
-hears_begun (Some x) waiting.Nothing held answer h = (h, refl)
-hears_begun (Some x) (waiting.Request r) held answer h = (h, refl)
-hears_begun (Some x) (waiting.Timer z) held answer h = (h, refl)
-hears_begun (Some x) waiting.Wake held answer h = (h, refl)
-hears_begun (Some x) waiting.Woken held answer h = (h, refl)
-hears_begun (Some x) waiting.Yielded held answer h = (h, refl)
-hears_begun None waiting.Nothing held answer h = (h, refl)
-hears_begun None (waiting.Request r) held answer h = (h, refl)
-hears_begun None (waiting.Timer z) held answer h = (h, refl)
-hears_begun None waiting.Wake held said.Pass h = (tt, refl)
-hears_begun None waiting.Wake held answer h = absurd h
-hears_begun None waiting.Woken held answer h = (h, refl)
-hears_begun None waiting.Yielded held answer h = absurd h
+hears_begun (Some x) Waiting.Nothing held answer h = (h, refl)
+hears_begun (Some x) (Waiting.Request r) held answer h = (h, refl)
+hears_begun (Some x) (Waiting.Timer z) held answer h = (h, refl)
+hears_begun (Some x) Waiting.Wake held answer h = (h, refl)
+hears_begun (Some x) Waiting.Woken held answer h = (h, refl)
+hears_begun (Some x) Waiting.Yielded held answer h = (h, refl)
+hears_begun None Waiting.Nothing held answer h = (h, refl)
+hears_begun None (Waiting.Request r) held answer h = (h, refl)
+hears_begun None (Waiting.Timer z) held answer h = (h, refl)
+hears_begun None Waiting.Wake held Said.Pass h = (tt, refl)
+hears_begun None Waiting.Wake held answer h = absurd h
+hears_begun None Waiting.Woken held answer h = (h, refl)
+hears_begun None Waiting.Yielded held answer h = absurd h
 
 module _ {B : Type 0} where
   -- with the same tasks
@@ -49,7 +46,7 @@ module _ {B : Type 0} where
 
   -- what it waited for has come
   pub hears_come : (slot slot' : TaskSlot B) (u : Waiting) (x : Said) → slot.told ≡ None → slot.waiting ≡ u → CanHear None u x → held_once_come u slot.held.items ≡ slot'.held.items
-      → slot' ≡ record slot { held = slot'.held; waiting = waiting.Nothing; told = Some x } → Hears slot slot'
+      → slot' ≡ record slot { held = slot'.held; waiting = Waiting.Nothing; told = Some x } → Hears slot slot'
   hears_come slot slot' u x untold waits may held came =
       record {
         body = ap (λ (o : TaskSlot B). body_in o.cell.phase o.body) came;

@@ -1,23 +1,14 @@
 -- What the middle of a service finds where no deadline has come, none is new, and no request waits at a gate.
-use Rattle.std.proofs.Common.{◌≡◌, ℕ, zero, suc, ◌+◌, ◌-◌, ◌*◌, ◌/◌, ◌<◌, ◌≤◌, ◌==◌, ◌&&◌, Bool, true, false, not, List, [], ◌∷◌, length, map, Option, Some, None, refl, sym, ap, subst, ◌∙◌, arith}
-use Rattle.std.proofs.lemmas.Bool.{false≢true, eq-eqb}
-use Rattle.std.proofs.lemmas.Bool.Decides.{nat_tests}
-use Rattle.std.proofs.Math.Nat.{div-lt_iff_lt-mul}
-use Rattle.std.specs.Prelude.{slice_get, slice_index_or, nat_le, nat_lt, if◌then◌else◌}
-use Rattle.std.specs.List.{list_any}
-use Rattle.std.specs.Option.{option_map}
+use Rattle.std.{proofs.{Common.{◌≡◌, ℕ, zero, suc, ◌+◌, ◌-◌, ◌*◌, ◌/◌, ◌<◌, ◌≤◌, ◌==◌, ◌&&◌, Bool, true, false, not, List, [], ◌∷◌, length, map, Option, Some, None, refl, sym, ap, subst, ◌∙◌, arith, slice_get, nat_le}, lemmas.Bool.{false≢true, eq-eqb, Decides.nat_tests}, Math.Nat.div-lt_iff_lt-mul}, specs.{List.list_any, Option.option_map}}
 use Rattle.exec_base.specs.Slab.{Slab}
 use Rattle.exec_time.specs.declared.timers.Sleeper.{Sleeper as Sleeping}
 use Rattle.exec_outcomes.specs.{declared.outcome.Kind.Kind, Accounts.is_durable}
-use Rattle.exec_outcomes.specs.declared.outcome.Kind.TheVariants as kind
 use Rattle.exec_request.specs.{Requests.asked_of, States.asks_cancel}
-use Rattle.exec_waiters.proofs.Changes.{entry_of}
-use Rattle.exec_waiters.specs.{States.{waiter_at, tick_in, needs_permit}, declared.{waiter.Waiter.Waiter, waiter_id.WaiterId.WaiterId}}
-use Rattle.exec_driver.specs.{Driving.{Driving, request_at, is_gated as waits_gated}, Lists.{first_of, has_first, is_among, is_same}, Placed.ListsRequests, Steps.lowest_gate}
-use Rattle.exec_machine.specs.{declared.{config.Configuration.Configuration, state.Request.Request}, Deadlines.{is_due, is_first_due}, Requests.asked_of as asked_in, Tests.{is_gated, is_resolved}, World.{Own, Open, Common}}
-use Rattle.exec_moves.specs.{declared.place.InService.InService, Serve.first_numbered, State.Desk, Submit.{Due, first_due, next_gate, waits_at, due_next, staging_due, or_else, Due.{Expires, Enrols, AtGate}}}
-use Rattle.exec_steps.specs.{declared.parts.{mail.Reply.Reply, names.Names.Names, record.Record.Record, shared.Shared.Shared, sleeping.SleeperRecord.SleeperRecord, worker.{Worker.Worker, Moments.Moments}}, Due.{IsDue, wheel_moment}, Flown.{IsPlain, HasFlown, longest, IsUpTo}, Records.number_in, Sound.IsNamed, Submitting.IsGatedIn, View.driver_of}
-use Rattle.exec_steps.proofs.Calling.{request_seen}
+use Rattle.exec_waiters.{proofs.Changes.entry_of, specs.{States.{waiter_at, tick_in, needs_permit}, declared.{waiter.Waiter.Waiter, waiter_id.WaiterId.WaiterId}}}
+use Rattle.exec_driver.specs.{Driving.{Driving, request_at, is_gated as waits_gated}, Lists.{is_among, is_same}, Placed.ListsRequests, Steps.lowest_gate}
+use Rattle.exec_machine.specs.{declared.{config.Configuration.Configuration, state.Request.Request}, Deadlines.{is_due, is_first_due}, Tests.{is_gated, is_resolved}, World.{Own, Common}}
+use Rattle.exec_moves.specs.{declared.place.InService.InService, Serve.first_numbered, State.Desk, Submit.{first_due, next_gate, waits_at, due_next, staging_due}}
+use Rattle.exec_steps.{specs.{declared.parts.{mail.Reply.Reply, names.Names.Names, record.Record.Record, shared.Shared.Shared, sleeping.SleeperRecord.SleeperRecord, worker.{Worker.Worker, Moments.Moments}}, Due.{IsDue, wheel_moment}, Flown.{HasFlown, longest, IsUpTo}, Records.number_in, Sound.IsNamed, Submitting.IsGatedIn, View.driver_of}, proofs.Calling.request_seen}
 
 -- LISTS
 
@@ -130,8 +121,8 @@ none_gated x i gate n d rs s shown flown =
 
 -- no request of the driver waits at a gate either
 pub plain_kind : (k : Kind) (n : ℕ) → IsUpTo (longest k) n → is_durable k ≡ false
-plain_kind kind.Poll n h = refl
-plain_kind kind.Send n h = refl
+plain_kind Kind.Poll n h = refl
+plain_kind Kind.Send n h = refl
 plain_kind _ n h = absurd h
 
 gated_needs : (a b c : Bool) → b ≡ false → (not a && b && not c) ≡ true → ⊥

@@ -1,14 +1,9 @@
 -- One more result of a request of the first kinds: the driver and the machine judge it the same.
-use Rattle.std.proofs.Common.{◌≡◌, ℕ, ◌+◌, ◌-◌, ◌^◌, ◌<◌, ◌≤◌, ◌==◌, ◌&&◌, ◌||◌, Bool, true, false, not, List, [], ◌∷◌, length, Option, Some, None, refl, sym, ap, subst, ◌∙◌, arith}
-use Rattle.std.proofs.lemmas.Bool.{false≢true}
-use Rattle.std.proofs.lemmas.Bool.Decides.{nat_tests}
-use Rattle.std.specs.Prelude.{nat_le, min, if◌then◌else◌}
-use Rattle.std.specs.List.{after_first, find, list_any}
-use Rattle.exec_outcomes.specs.{Lawful.{is_lawful, window_in, window_of}, Outcomes.{Asked, Cursor, Part, bytes_of, counted_for, cursor_next, first_part, lasting, moves_on, outcome_by_stop, outcome_next, part_now, passes_on, results_in, stops, with_totals}, declared.outcome.{Judged.Judged, Kind.Kind, OpResult.{OpResult, TheVariants.{Count, Errno}}, Outcome.Outcome}}
-use Rattle.exec_outcomes.specs.declared.outcome.Kind.TheVariants as kind
-use Rattle.exec_request.specs.{Judging.{Judges, judged_as}, Requests.{asked_of, cursor_of, hinted_of}, States.asks_cancel, declared.request.Request.Request as Asking}
+use Rattle.std.{proofs.{Common.{◌≡◌, ℕ, ◌+◌, ◌-◌, ◌^◌, ◌<◌, ◌≤◌, ◌&&◌, ◌||◌, Bool, true, false, not, List, [], ◌∷◌, length, Option, Some, None, refl, sym, ap, ◌∙◌, arith, nat_le, min}, lemmas.Bool.{false≢true, Decides.nat_tests}}, specs.List.{after_first, find, list_any}}
+use Rattle.exec_outcomes.specs.{Lawful.{is_lawful, window_in}, Outcomes.{Asked, Cursor, Part, bytes_of, counted_for, cursor_next, first_part, lasting, moves_on, outcome_by_stop, outcome_next, passes_on, results_in, stops, with_totals}, declared.outcome.{Judged.Judged, Kind.Kind, OpResult.{OpResult, TheVariants.{Count, Errno}}, Outcome.Outcome}}
+use Rattle.exec_request.specs.{Judging.{Judges, judged_as}, Requests.{asked_of, cursor_of, hinted_of}, declared.request.Request.Request as Asking}
 use Rattle.exec_waiters.specs.declared.waiter.Waiter.{Waiter}
-use Rattle.exec_machine.specs.{declared.state.Request.Request, Requests.{outcome_given, went_on, judged_of, asked_of as asked_in, cursor_of as cursor_in}}
+use Rattle.exec_machine.specs.{declared.state.Request.Request, Requests.{outcome_given, went_on, judged_of, cursor_of as cursor_in}}
 use Rattle.exec_steps.specs.{declared.parts.mail.Reply.Reply, Flown.{IsUpTo, longest}, Sound.IsAlike}
 
 -- WHAT A RESULT MEANS doesn't hang on whether the operations may still have the hint
@@ -55,8 +50,8 @@ module _ (start tick : ℕ) (it : Waiter Reply Reply) (r : Request) (a : IsAlike
 -- THE FIRST KINDS have one part
 
 passes_none : (k : Kind) (n : ℕ) (part : Part) (r : Judged × ℕ) → IsUpTo (longest k) n → passes_on k part r ≡ false
-passes_none kind.Poll n part r h = refl
-passes_none kind.Send n part r h = refl
+passes_none Kind.Poll n part r h = refl
+passes_none Kind.Send n part r h = refl
 passes_none _ n part r h = absurd h
 
 none_pass : (k : Kind) (n : ℕ) (part : Part) (rs : List (Judged × ℕ)) → IsUpTo (longest k) n → list_any (passes_on k part) rs ≡ false
@@ -96,11 +91,11 @@ le_is : (a b : ℕ) (c : Bool) → (nat_le a b && c) ≡ true → a ≤ b
 le_is a b c h = grind (arith, nat_tests)
 
 pub bytes_fit : (k : Kind) (l moved : ℕ) (given : OpResult) → IsUpTo (longest k) l → moved ≤ l → is_lawful (window_in k l moved) given ≡ true → moved + counted_for (record { kind = k; length = l }) given ≤ l
-bytes_fit kind.Poll l moved given h within lawful = omega (arith, within)
-bytes_fit kind.Send l moved (Count x) h within lawful =
+bytes_fit Kind.Poll l moved given h within lawful = omega (arith, within)
+bytes_fit Kind.Send l moved (Count x) h within lawful =
     let fits : x ≤ l - moved = least (l - moved) (2 ^ 32 - 1) x (le_is x (min (l - moved) (2 ^ 32 - 1)) _ lawful) in
     omega (arith, fits, within)
-bytes_fit kind.Send l moved (Errno x) h within lawful = omega (arith, within)
+bytes_fit Kind.Send l moved (Errno x) h within lawful = omega (arith, within)
 bytes_fit _ l moved given h within lawful = absurd h
 
 least_of : (n w m : ℕ) → (nat_le n w && nat_le n m) ≡ true → n ≤ m
@@ -112,9 +107,9 @@ few w (Errno n) h = omega arith
 
 -- nor do they come to more than a word can say
 pub total_fits : (k : Kind) (l moved : ℕ) (given : OpResult) → IsUpTo (longest k) l → moved ≤ l → is_lawful (window_in k l moved) given ≡ true → bytes_of given + moved < 2 ^ 64
-total_fits kind.Poll l moved given h within lawful = omega (arith, few (2 ^ 31 - 1) given lawful, within, h)
-total_fits kind.Send l moved (Count x) h within lawful =
+total_fits Kind.Poll l moved given h within lawful = omega (arith, few (2 ^ 31 - 1) given lawful, within, h)
+total_fits Kind.Send l moved (Count x) h within lawful =
     let fits : x ≤ l - moved = least (l - moved) (2 ^ 32 - 1) x (le_is x (min (l - moved) (2 ^ 32 - 1)) _ lawful) in
     omega (arith, fits, within, h)
-total_fits kind.Send l moved (Errno x) h within lawful = omega (arith, within, h)
+total_fits Kind.Send l moved (Errno x) h within lawful = omega (arith, within, h)
 total_fits _ l moved given h within lawful = absurd h

@@ -1,12 +1,8 @@
 -- The opens show the same while the names of all requests stay.
-use Rattle.std.proofs.Common.{◌≡◌, ℕ, suc, ◌==◌, ◌&&◌, List, [], ◌∷◌, map, Option, Some, None, refl, sym, ap, ◌∙◌}
-use Rattle.std.proofs.Math.Seq.{map-set_same}
-use Rattle.std.proofs.lemmas.Option.{get_or_from_slice_get}
-use Rattle.std.specs.Prelude.{slice_get, if◌then◌else◌}
+use Rattle.std.proofs.{Common.{◌≡◌, ℕ, suc, ◌==◌, ◌&&◌, List, [], ◌∷◌, map, Option, Some, None, refl, sym, ap, ◌∙◌, slice_get, if◌then◌else◌}, Math.Seq.map-set_same, lemmas.Option.get_or_from_slice_get}
 use Rattle.exec_base.specs.declared.slab.Id.{Id}
 use Rattle.exec_driver.specs.{Opens.OpenState, declared.opens.WaiterKey.WaiterKey}
-use Rattle.exec_steps.specs.{declared.parts.record.Record.Record, Serving.{changed_in, changed_at, flies, flown_in}, View.{number_of_key, holder_seen, open_seen}}
-use Rattle.exec_steps.proofs.Flying.{worker_kept}
+use Rattle.exec_steps.{specs.{declared.parts.record.Record.Record, Serving.{changed_in, changed_at, flies, flown_in}, View.{number_of_key, holder_seen, open_seen}}, proofs.Flying.worker_kept}
 
 -- whose a request is, and its name in its driver
 pub record Named : Type 0 where

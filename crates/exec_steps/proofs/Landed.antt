@@ -1,20 +1,12 @@
 -- A result has landed: what holds again, and what is seen.
-use Rattle.std.proofs.Common.{◌≡◌, ◌≢◌, ℕ, zero, suc, ◌+◌, ◌<◌, ◌≤◌, ◌==◌, Bool, true, false, not, List, [], ◌∷◌, ◌++◌, length, map, Option, Some, None, IsSome, refl, sym, ap, subst, ◌∙◌, arith, inl, inr}
-use Rattle.std.proofs.lemmas.Bool.{false≢true, eq-eqb}
-use Rattle.std.proofs.lemmas.List.{map-append, length-set}
-use Rattle.std.proofs.lemmas.Option.{slice_get_within}
-use Rattle.std.specs.Prelude.{slice_get, slice_set, slice_index_or, is_some, if◌then◌else◌}
-use Rattle.exec_base.specs.{Slab.{value_at, written}, declared.slab.Id.Id}
+use Rattle.std.proofs.{Common.{◌≡◌, ◌≢◌, ℕ, zero, suc, ◌+◌, ◌==◌, Bool, true, false, List, [], ◌∷◌, ◌++◌, map, Option, refl, sym, ap, subst, ◌∙◌, arith, slice_set, slice_index_or}, lemmas.{Bool.false≢true, List.map-append, Option.slice_get_within}}
 use Rattle.exec_outcomes.specs.declared.outcome.OpResult.{OpResult}
-use Rattle.exec_ring.specs.{Completions.completed, declared.store.Store.Store, Rings.completions}
-use Rattle.exec_waiters.proofs.Changes.{one_if}
-use Rattle.exec_waiters.specs.{Ids.{user_data_of, index_in}, States.{waiter_at, flying_count, pending_count}, declared.waiter.Waiter.Waiter}
+use Rattle.exec_ring.specs.{Completions.completed, declared.store.Store.Store}
+use Rattle.exec_waiters.specs.{Ids.user_data_of, States.{flying_count, pending_count}}
 use Rattle.exec_task.specs.declared.body.Said.{Said}
 use Rattle.exec_driver.specs.{Driving.Driving, Punctual.IsPunctual}
-use Rattle.exec_machine.specs.{Callers.after_landing, Progress.Plan, Ranges.ring_size, Tests.{is_resolved, is_staged}, World.{Seat, seat_of, request_of}, declared.state.Rest.TheVariants.Awake}
-use Rattle.exec_machine.specs.declared.state.RequestPhase.TheVariants as phase
-use Rattle.exec_steps.specs.{declared.parts.{mail.Reply.Reply, record.Record.Record, seat.Seat.Seat as Chair, shared.Shared.Shared, worker.Worker.Worker}, Carried.{Carried, IsCarried, landing}, Due.IsDue, Flown.{HasFlown, IsPlain, operations}, Phased.TurnsChair, Records.{number_in, roused}, Rooted.IsRooted, Serving.{changed_at, changed_in, is_one_of}, Sound.{tellers, SoundAt, Sound, IsTold, IsNamed, IsSubmitted, AreOver, AreOwed, served_in, polled_in}, Spots.Spot, View.{Visible, visible, own_of, desk_of, driver_of, common_of, seats_seen, seat_seen, open_seen, number_told, trailing}, Works.Suits}
-use Rattle.exec_steps.proofs.{Calling.{request_seen, shown_changed}, Carrying.{Leaves, one_landed, index_told}, Changing.{OneGoesOn, named_one, timed_one, all_go_one, some_after, ready_before, live_still, pending_still, flying_after}, Going.{over_on, owed_on, rooted_on}, Keys.{same_opens, names_kept}, Landing.{Lander, driver_then, place_of, records_then, there_so, carried_then, landed_then, landing_on, landing_alike, live_before}, Marking.{mark_if, was_marked}, Resting.stir_kept, Seeing.{own_with, desk_with, visible_with}, Serving.own_seat, Staging.known_then, Orders.{alike_self, eased, eases_written, part_self}}
+use Rattle.exec_machine.specs.{Callers.after_landing, Progress.Plan, Ranges.ring_size, Tests.is_staged, World.{Seat, request_of}, declared.state.Rest.TheVariants.Awake}
+use Rattle.exec_steps.{specs.{declared.parts.{mail.Reply.Reply, record.Record.Record, seat.Seat.Seat as Chair, shared.Shared.Shared, worker.Worker.Worker}, Carried.{IsCarried, landing}, Due.IsDue, Flown.{HasFlown, IsPlain, operations}, Phased.TurnsChair, Records.{number_in, roused}, Rooted.IsRooted, Serving.{changed_at, changed_in}, Sound.{tellers, SoundAt, Sound, IsTold, IsNamed, IsSubmitted, AreOver, AreOwed, served_in, polled_in}, Spots.Spot, View.{Visible, visible, own_of, desk_of, driver_of, common_of, seats_seen, seat_seen, open_seen, number_told}, Works.Suits}, proofs.{Calling.{request_seen, shown_changed}, Carrying.{Leaves, one_landed, index_told}, Changing.{OneGoesOn, named_one, timed_one, all_go_one, some_after, ready_before, live_still, pending_still, flying_after}, Going.{over_on, owed_on, rooted_on}, Keys.{same_opens, names_kept}, Landing.{Lander, driver_then, place_of, records_then, there_so, carried_then, landed_then, landing_on, landing_alike, live_before}, Marking.{mark_if, was_marked}, Resting.stir_kept, Seeing.{own_with, desk_with, visible_with}, Serving.own_seat, Staging.known_then, Orders.{alike_self, eased, eases_written, part_self}}}
 
 mark_worker : (n : OpResult) (b : Bool) (r : Record) → (mark_if (landing n) b r).shown.worker ≡ r.shown.worker
 mark_worker n true r = refl

@@ -1,22 +1,13 @@
 -- A result lands: what holds again of the worker and of what it shares, and what is seen then.
-use Rattle.std.proofs.Common.{◌≡◌, ◌≢◌, ℕ, zero, suc, ◌+◌, ◌<◌, ◌≤◌, ◌==◌, ◌||◌, Bool, true, false, not, List, [], ◌∷◌, ◌++◌, length, map, filter, Option, Some, None, IsSome, refl, sym, ap, subst, ◌∙◌, arith, inl, inr}
-use Rattle.std.proofs.lemmas.Bool.{false≢true, eq-eqb}
-use Rattle.std.proofs.lemmas.Bool.Decides.{nat_tests}
-use Rattle.std.proofs.lemmas.List.{map-append}
-use Rattle.std.proofs.lemmas.List.Folds.{list_any-append}
-use Rattle.std.specs.Prelude.{slice_get, slice_set, slice_index_or, is_some, if◌then◌else◌}
-use Rattle.exec_base.specs.{Slab.{Slab, value_at, written}, declared.slab.Id.Id}
-use Rattle.exec_base.proofs.Slots.{id_cases}
+use Rattle.std.proofs.{Common.{◌≡◌, ◌≢◌, ℕ, ◌+◌, ◌<◌, ◌==◌, Bool, true, false, List, [], ◌∷◌, ◌++◌, map, Option, Some, None, refl, sym, ap, subst, ◌∙◌, arith, inl, inr, slice_get, slice_index_or}, lemmas.{Bool.{false≢true, eq-eqb, Decides.nat_tests}, List.{map-append, Folds.list_any-append}}}
+use Rattle.exec_base.{specs.{Slab.{value_at, written}, declared.slab.Id.Id}, proofs.Slots.id_cases}
 use Rattle.exec_outcomes.specs.declared.outcome.OpResult.{OpResult}
 use Rattle.exec_request.specs.Requests.{target_of}
 use Rattle.exec_ring.specs.{Completions.completed, Kernels.{is_of, landed}, declared.{completion.Completion.Completion, store.Store.Store}}
-use Rattle.exec_waiters.proofs.Changes.{entry_of, one_if}
-use Rattle.exec_waiters.specs.{Ids.{user_data_of, index_in}, States.{waiter_at, flying_count}, declared.waiter.{Entry.{Entry, TheVariants.Pending}, Waiter.Waiter}}
+use Rattle.exec_waiters.{proofs.Changes.entry_of, specs.{Ids.{user_data_of, index_in}, States.waiter_at, declared.waiter.{Entry.TheVariants.Pending, Waiter.Waiter}}}
 use Rattle.exec_driver.specs.{Driving.Driving, Steps.LandsOne}
-use Rattle.exec_machine.specs.Tests.{is_in_flight, is_resolved}
-use Rattle.exec_machine.specs.declared.state.RequestPhase.TheVariants as phase
-use Rattle.exec_steps.specs.{declared.parts.{mail.Reply.Reply, names.Names.Names, record.Record.Record, shared.Shared.Shared, worker.Worker.Worker}, Carried.{Carried, IsCarried, IsLone, IsUnderWay, IsWhole, MayLand, those_of, landing}, Flown.{AreLanded, HasLanded, operations}, Records.number_in, Serving.{changed_at, is_one_of}, Sound.{Sound, IsAlike}, View.{driver_of, number_told}}
-use Rattle.exec_steps.proofs.{Carrying.{MayFly, may_fly, Leaves, flown_so, room_landed, under_way_on, others_fly, one_landed, index_told, generation_told, result_told, lone_removed}, Changing.{OneGoesOn, changes_one, flying_after}, Flown.landed_on, Going.GoesOn, Marking.{mark_if, marked, was_marked}}
+use Rattle.exec_machine.specs.{Tests.{is_in_flight, is_resolved}, declared.state.RequestPhase.RequestPhase}
+use Rattle.exec_steps.{specs.{declared.parts.{mail.Reply.Reply, record.Record.Record, shared.Shared.Shared, worker.Worker.Worker}, Carried.{IsCarried, IsLone, IsUnderWay, IsWhole, MayLand, those_of, landing}, Flown.{AreLanded, HasLanded, operations}, Records.number_in, Serving.changed_at, Sound.{Sound, IsAlike}, View.{driver_of, number_told}}, proofs.{Carrying.{MayFly, may_fly, Leaves, flown_so, room_landed, under_way_on, others_fly, one_landed, index_told, generation_told, result_told, lone_removed}, Changing.changes_one, Flown.landed_on, Going.GoesOn, Marking.{mark_if, marked, was_marked}}}
 
 same_number : (a b : ℕ) → (a == b) ≡ true → a ≡ b
 same_number a b h = grind (arith, nat_tests)
@@ -34,7 +25,7 @@ not_same a b apart = by (a == b) refl
 pub record Lander {B : Type 0} (w : Worker) (s : Shared B) (k : ℕ) (n : OpResult) : Type 0 where
   pub r : Record
   pub there : slice_get s.requests.items k ≡ Some r
-  pub flies : r.shown.phase ≡ phase.Flying
+  pub flies : r.shown.phase ≡ RequestPhase.Flying
   pub it : Waiter Reply Reply
   pub live : waiter_at (driver_of w).requests r.id.0 ≡ Some it
   pub number : number_in w.names.requests.items r.id.0 ≡ k
@@ -74,7 +65,7 @@ module _ {B : Type 0} (w : Worker) (s : Shared B) (k : ℕ) (n : OpResult) (soun
         fit = may_fly it.request r (user_data_of id) n s.requests.items k (driver_of w).ring s.store (sound.carried.whole id it live) may.there may.flies a.asked a.moved a.switched (sound.carried.target id it r live there) (flies_alone id it r live there may.flies).0 may.lawful sound.carried.room;
       }
     where
-      flies_alone : (id : Id) (it : Waiter Reply Reply) (r : Record) → waiter_at (driver_of w).requests id ≡ Some it → slice_get s.requests.items (number_in w.names.requests.items id) ≡ Some r → r.shown.phase ≡ phase.Flying → IsUnderWay phase.Flying (user_data_of id) it.request (driver_of w).ring
+      flies_alone : (id : Id) (it : Waiter Reply Reply) (r : Record) → waiter_at (driver_of w).requests id ≡ Some it → slice_get s.requests.items (number_in w.names.requests.items id) ≡ Some r → r.shown.phase ≡ RequestPhase.Flying → IsUnderWay RequestPhase.Flying (user_data_of id) it.request (driver_of w).ring
       flies_alone id it r live there flies = subst (λ p. IsUnderWay p (user_data_of id) it.request (driver_of w).ring) flies (sound.carried.carried id it r live there)
 
   pub lander : Lander w s k n
@@ -82,7 +73,7 @@ module _ {B : Type 0} (w : Worker) (s : Shared B) (k : ℕ) (n : OpResult) (soun
 
 -- WHAT HAS BECOME OF THEM
 
-pub landing_on : (n : OpResult) (r : Record) → r.shown.phase ≡ phase.Flying → GoesOn r (landing n r)
+pub landing_on : (n : OpResult) (r : Record) → r.shown.phase ≡ RequestPhase.Flying → GoesOn r (landing n r)
 landing_on n r flies =
     record { same = refl; over = sym (ap is_resolved flies); ended = λ h. absurd (false≢true (sym (ap is_resolved flies) ∙ h)) }
 
@@ -200,7 +191,7 @@ module _ {B : Type 0} (w : Worker) (s : Shared B) (k : ℕ) (n : OpResult) (who 
         let number : number_told w.names.requests.items c ≡ number_in w.names.requests.items h.id = ap (λ j. slice_index_or w.names.requests.items j 0) (sym h.index) in
         let here : slice_get s.requests.items (number_in w.names.requests.items h.id) ≡ Some who.r = ap (slice_get s.requests.items) (sym (same ∙ number)) ∙ there_so in
         let is : who.r ≡ h.r = cc (here, h.there) in
-        let no : phase.Flying ≡ phase.Landed _ = sym who.flies ∙ ap (λ z. z.shown.phase) is ∙ h.landed in
+        let no : RequestPhase.Flying ≡ RequestPhase.Landed _ = sym who.flies ∙ ap (λ z. z.shown.phase) is ∙ h.landed in
         cc
 
     landed_last : (cs : List Completion) (c : Completion) → AreLanded w.names (driver_of w) s.requests.items cs → AreLanded w.names driver_then records_then cs → HasLanded w.names driver_then records_then c
@@ -225,7 +216,7 @@ module _ {B : Type 0} (w : Worker) (s : Shared B) (k : ℕ) (n : OpResult) (who 
           flies = who.in_flight;
           lawful = rw told who.fit.lawful;
           there = marked (landing n) s.requests.items place_of place_of who.r there_so ∙ ap (λ b. Some (mark_if (landing n) b who.r)) (eq-eqb place_of place_of refl);
-          landed = ap phase.Landed (sym told);
+          landed = ap RequestPhase.Landed (sym told);
         }
 
     pub landed_then : AreLanded w.names driver_then records_then (operations driver_then.ring)
@@ -237,7 +228,7 @@ module _ {B : Type 0} (w : Worker) (s : Shared B) (k : ℕ) (n : OpResult) (who 
         let apart : place_of ≡ j → ⊥ = λ same.
         let here : slice_get s.requests.items j ≡ Some who.r = ap (slice_get s.requests.items) (sym same) ∙ there_so in
         let is : who.r ≡ y = cc (here, found) in
-        let no : phase.Flying ≡ phase.Landed given = sym who.flies ∙ ap (λ z. z.shown.phase) is ∙ landed in
+        let no : RequestPhase.Flying ≡ RequestPhase.Landed given = sym who.flies ∙ ap (λ z. z.shown.phase) is ∙ landed in
         cc in
         record { it' = x; r' = y; live = live_before other ∙ live; flies = refl; same = refl; number = refl; there = marked (landing n) s.requests.items place_of j y found ∙ ap (λ b. Some (mark_if (landing n) b y)) (not_same place_of j apart); phase = refl }) in
         subst (λ cs. AreLanded w.names driver_then records_then cs) (sym one.operated)

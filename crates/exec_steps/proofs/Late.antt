@@ -1,56 +1,42 @@
 -- A deadline that has passed, or is beyond the wheel, ends its request.
-use Rattle.std.proofs.Common.{◌≡◌, ◌≢◌, ℕ, zero, suc, ◌+◌, ◌-◌, ◌*◌, ◌^◌, ◌<◌, ◌≤◌, ◌==◌, ◌&&◌, Bool, true, false, not, List, [], ◌∷◌, ◌++◌, length, map, filter, Option, Some, None, IsSome, IfSome, refl, sym, ap, subst, ◌∙◌, arith, inl, inr}
-use Rattle.std.proofs.lemmas.Bool.{false≢true, eq-eqb}
-use Rattle.std.proofs.lemmas.Bool.Decides.{nat_tests}
-use Rattle.std.specs.Prelude.{slice_get, slice_set, drop, is_some, unwrap_or, if◌then◌else◌, Result, Ok, Err}
-use Rattle.std.specs.Option.{option_map}
-use Rattle.exec_base.specs.{Slab.{Slab, value_at, written}, declared.{error.{Error.Error, Cause.Cause}, slab.Id.Id}}
-use Rattle.exec_base.proofs.Slots.{id_cases}
+use Rattle.std.{proofs.{Common.{◌≡◌, ◌≢◌, ℕ, ◌+◌, ◌-◌, ◌*◌, ◌^◌, ◌<◌, ◌≤◌, ◌==◌, ◌&&◌, Bool, true, false, not, ◌∷◌, ◌++◌, length, map, filter, Option, Some, None, IsSome, IfSome, refl, sym, ap, subst, ◌∙◌, arith, slice_get, slice_set, drop, if◌then◌else◌, Result, Ok, Err}, lemmas.Bool.{false≢true, eq-eqb}}, specs.Option.option_map}
+use Rattle.exec_base.specs.{Slab.value_at, declared.{error.{Error.Error, Cause.Cause}, slab.Id.Id}}
 use Rattle.exec_outcomes.specs.declared.outcome.Outcome.{Outcome, TheVariants.Failure}
-use Rattle.exec_request.specs.{Requests.{deadline_of, asked_of, output_of}, States.asks_cancel, declared.{results.WaiterState.{WaiterState, TheVariants.{Active, CancelRequested}}, output.RequestOutput.RequestOutput, request.Request.Request as Asking}}
+use Rattle.exec_request.specs.{Requests.{asked_of, output_of}, declared.{output.RequestOutput.RequestOutput, request.Request.Request as Asking}}
 use Rattle.exec_task.specs.declared.body.Said.{Said}
-use Rattle.exec_time.specs.declared.timers.Sleeper.{Sleeper as Sleeping}
-use Rattle.exec_waiters.proofs.Changes.{entry_of, one_if}
-use Rattle.exec_waiters.specs.{Events.{with_tick, finished, output_told, told_by_finish, waker_in}, States.{waiter_at, takes_tick, tick_in, flying_count}, Told.{Tells, nothing_told, Told, tasks_of}, declared.{deferred.Deferred.Deferred, waiter.{Entry.TheVariants.Pending, Waiter.Waiter}, waiter_id.WaiterId.WaiterId, observer.Observer.{Observer, TheVariants.{Local, Orphaned}}}}
-use Rattle.exec_driver.specs.{Driving.{Driving, request_at, is_queued, is_unenrolled, is_cancelled}, Lists.{first_of, rest_of, is_among, is_same, after_enrolment, without, withdrawn}, Punctual.IsPunctual, Steps.{enrolled_by, told_by_enrolment, tick_for, ended_by, unscheduled}}
-use Rattle.exec_machine.specs.{declared.{config.Configuration.Configuration, event.Event.{Event, TheVariants.Enrol}, state.Request.Request}, Deadlines.{fires_at, outcome_at_enrol}, Progress.Plan, Same.{is_none, is_number, same_end, same_cause, same_error}, Tests.{is_queued as is_phase_queued, is_resolved, is_staged}, World.{Own, Common, request_of}, Requests.resolved}
-use Rattle.exec_machine.specs.declared.state.RequestPhase.TheVariants as phase
-use Rattle.exec_moves.specs.{Move.move_submit, Callback.{told_if_ended, told_of_end, waker_of}, State.{Desk, Moved, Things}, Submit.{due_next, first_due, submits, Due.Enrols}, declared.place.{Service.Service, Place.Place}}
-use Rattle.exec_moves.specs.declared.place.InService.TheVariants as step
-use Rattle.exec_moves.specs.declared.place.Place.TheVariants as at
-use Rattle.exec_steps.specs.{declared.parts.{mail.Reply.Reply, names.Names.Names, record.Record.Record, shared.Shared.Shared, sleeping.SleeperRecord.SleeperRecord, worker.Worker.Worker}, Due.IsWheelAt, Flown.{HasFlown, IsPlain, operations, IsUpTo, longest}, Phased.closes_at, Records.number_in, Serving.{changed_at, first_tick, is_one_of, outcome_of_error}, Sound.{SoundAt, AreOwed, IsAlike, IsSubmitted, IsTold, served_in, is_armed_at, has_wakes_at}, Spots.Spot, Submitting.IsNewIn, View.{Visible, visible, own_of, desk_of, driver_of, common_of, things_of, numbers_of}, Works.{Suits, Steps}, Rooted.{IsNear, outcome_told}}
-use Rattle.exec_steps.proofs.{Calling.request_seen, Enrolled.{HasEnrolled, NewAt, new_first}, Enrolling.enrol_same, Idling.none_due, Seeing.{makes, shows, served, common_changed, desk_with}, Serving.{is_calm, Follows, Serves, Keeps, KeepsBy, calm, kept}, Staging.split_first, Turning.set_found, Ends.{desk_ended, flying_ended, later_in, numbers_without, without_first}, Orders.alike_unticked, Ousting.keeps_ended, Over.OneEnds, Resolving.{slab_after, told_once, unticked_at}, Starting.{fills, reads, writes_bytes}, Timed.{comes_to_new, move_enrol, unset}}
-use Rattle.exec_base.specs.declared.error.Cause.TheVariants as cause
-use Rattle.exec_base.specs.declared.error.Error.TheVariants as error
-use Rattle.exec_request.specs.declared.request.Request.TheVariants as asks
+use Rattle.exec_waiters.{proofs.Changes.entry_of, specs.{Events.{finished, output_told, told_by_finish, waker_in}, States.{tick_in, flying_count}, Told.{Tells, Told, tasks_of}, declared.{waiter.Waiter.Waiter, waiter_id.WaiterId.WaiterId, observer.Observer.{Observer, TheVariants.{Local, Orphaned}}}}}
+use Rattle.exec_driver.specs.{Driving.{Driving, request_at, is_queued, is_unenrolled, is_cancelled}, Lists.{first_of, rest_of, is_among, after_enrolment, without, withdrawn}, Punctual.IsPunctual, Steps.{enrolled_by, told_by_enrolment, tick_for, ended_by, unscheduled}}
+use Rattle.exec_machine.specs.{declared.event.Event.{Event, TheVariants.Enrol}, Deadlines.outcome_at_enrol, Same.{is_none, is_number, same_end, same_cause, same_error}, Tests.is_queued as is_phase_queued, World.request_of, Requests.resolved}
+use Rattle.exec_moves.specs.{Move.move_submit, Callback.{told_of_end, waker_of}, State.Desk, Submit.{due_next, first_due, submits, Due.Enrols}, declared.place.{Service.Service, Place.Place, InService.InService}}
+use Rattle.exec_steps.{specs.{declared.parts.{mail.Reply.Reply, record.Record.Record, shared.Shared.Shared, worker.Worker.Worker}, Due.IsWheelAt, Flown.{IsUpTo, longest}, Phased.closes_at, Records.number_in, Serving.{changed_at, outcome_of_error}, Sound.is_armed_at, Spots.Spot, Submitting.IsNewIn, View.{visible, own_of, desk_of, driver_of, common_of, things_of, numbers_of}, Works.Steps, Rooted.{IsNear, outcome_told}}, proofs.{Calling.request_seen, Enrolled.{HasEnrolled, new_first}, Enrolling.enrol_same, Idling.none_due, Seeing.{makes, shows, served, common_changed, desk_with}, Serving.{is_calm, Serves, Keeps, KeepsBy, calm, kept}, Staging.split_first, Turning.set_found, Ends.{desk_ended, flying_ended, later_in, numbers_without, without_first}, Orders.alike_unticked, Ousting.keeps_ended, Over.OneEnds, Resolving.{slab_after, told_once, unticked_at}, Starting.{fills, reads, writes_bytes}, Timed.{comes_to_new, move_enrol, unset}}}
 
 -- THE OUTCOME
 
 same_cause_self : (x : Cause) → same_cause x x ≡ true
-same_cause_self (cause.Code n) = eq-eqb n n refl
-same_cause_self cause.InvalidInput = refl
-same_cause_self cause.Closed = refl
+same_cause_self (Cause.Code n) = eq-eqb n n refl
+same_cause_self Cause.InvalidInput = refl
+same_cause_self Cause.Closed = refl
 
 both_so : (a b : Bool) → a ≡ true → b ≡ true → (a && b) ≡ true
 both_so true b h g = g
 both_so false b h g = absurd (false≢true h)
 
 pub same_error_self : (x : Error) → same_error x x ≡ true
-same_error_self error.Timeout = refl
-same_error_self error.Closed = refl
-same_error_self error.SendFailed = refl
-same_error_self error.RecvFailed = refl
-same_error_self error.ReadFailed = refl
-same_error_self error.WriteFailed = refl
-same_error_self error.ConnectionFailed = refl
-same_error_self error.BindFailed = refl
-same_error_self (error.Io x) = same_cause_self x
-same_error_self error.BlobInsufficientLength = refl
-same_error_self error.OffsetOverflow = refl
-same_error_self (error.BlobSyncFailed n x) = both_so (n == n) (same_cause x x) (eq-eqb n n refl) (same_cause_self x)
-same_error_self (error.BlobResizeFailed n x) = both_so (n == n) (same_cause x x) (eq-eqb n n refl) (same_cause_self x)
-same_error_self error.NoMemory = refl
-same_error_self error.Full = refl
+same_error_self Error.Timeout = refl
+same_error_self Error.Closed = refl
+same_error_self Error.SendFailed = refl
+same_error_self Error.RecvFailed = refl
+same_error_self Error.ReadFailed = refl
+same_error_self Error.WriteFailed = refl
+same_error_self Error.ConnectionFailed = refl
+same_error_self Error.BindFailed = refl
+same_error_self (Error.Io x) = same_cause_self x
+same_error_self Error.BlobInsufficientLength = refl
+same_error_self Error.OffsetOverflow = refl
+same_error_self (Error.BlobSyncFailed n x) = both_so (n == n) (same_cause x x) (eq-eqb n n refl) (same_cause_self x)
+same_error_self (Error.BlobResizeFailed n x) = both_so (n == n) (same_cause x x) (eq-eqb n n refl) (same_cause_self x)
+same_error_self Error.NoMemory = refl
+same_error_self Error.Full = refl
 
 ended_is : (r : Result ℕ Error) (x : Error) → Some x ≡ ended_by r → r ≡ Err x
 ended_is (Ok t) x is = absurd (cc)
@@ -58,13 +44,13 @@ ended_is (Err y) x is = cc
 
 -- what its task hears is what the log tells
 pub tells_error : (q : Asking) (n : ℕ) (x : Error) → IsUpTo (longest (asked_of q).kind) n → outcome_told (output_of q (Err x) None) ≡ Failure x
-tells_error (asks.Send s) n x h = refl
-tells_error (asks.Poll p) n x h = refl
-tells_error (asks.Recv r) n x h = absurd (fills r.exact n h)
-tells_error (asks.ReadAt r) n x h = absurd (reads r.way (length r.buf.bytes) n h)
-tells_error (asks.WriteAt w) n x h = absurd (writes_bytes w.state n h)
-tells_error (asks.Sync s) n x h = absurd h
-tells_error (asks.Connect c) n x h = absurd h
+tells_error (Asking.Send s) n x h = refl
+tells_error (Asking.Poll p) n x h = refl
+tells_error (Asking.Recv r) n x h = absurd (fills r.exact n h)
+tells_error (Asking.ReadAt r) n x h = absurd (reads r.way (length r.buf.bytes) n h)
+tells_error (Asking.WriteAt w) n x h = absurd (writes_bytes w.state n h)
+tells_error (Asking.Sync s) n x h = absurd h
+tells_error (Asking.Connect c) n x h = absurd h
 
 pub wakes_are : (id : Id) (out : RequestOutput) (o : Observer Reply Reply) → IsNear o → (output_told id out o).wakes ≡ tasks_of (waker_in o)
 wakes_are id out (Local waker) near = refl
@@ -88,7 +74,7 @@ module _ {B L : Type 0} (left : B → L) (spot : L → Option Said → Spot) whe
   enrol_ends w w' s s' e id error new first by =
       let v = new.submits.service in
       let gate = new.submits.gate in
-      let q : Place = at.Service (step.Submit gate) v in
+      let q : Place = Place.Service (InService.Submit gate) v in
       let sound = new.submits.sound in
       let d = driver_of w in
       let rs = s.requests.items in

@@ -1,25 +1,13 @@
 -- Where the callbacks lead, for a worker and for the machine.
-use Rattle.std.proofs.Common.{◌≡◌, ℕ, suc, ◌+◌, ◌==◌, ◌&&◌, ◌||◌, Bool, true, false, not, List, [], ◌∷◌, length, map, Option, Some, None, refl, sym, ap, subst, ◌∙◌, arith}
-use Rattle.std.proofs.lemmas.Bool.{false≢true}
-use Rattle.std.proofs.lemmas.Bool.Decides.{nat_tests}
-use Rattle.std.specs.Prelude.{slice_get, nat_lt, if◌then◌else◌}
-use Rattle.std.specs.List.{list_any}
+use Rattle.std.{proofs.{Common.{◌≡◌, ℕ, suc, ◌+◌, ◌==◌, ◌&&◌, ◌||◌, Bool, true, false, not, List, [], ◌∷◌, length, map, Option, Some, None, refl, sym, ap, subst, ◌∙◌, arith, slice_get, nat_lt, if◌then◌else◌}, lemmas.Bool.{false≢true, Decides.nat_tests}}, specs.List.list_any}
 use Rattle.exec_base.specs.declared.task_no.TaskNo.{TaskNo}
 use Rattle.exec_waiters.specs.{States.pending_count, Told.is_untold, declared.deferred.Deferred.Deferred}
 use Rattle.exec_task.specs.declared.runnable.Runnable.{Runnable}
 use Rattle.exec_words.specs.Queue.{room_of}
 use Rattle.exec_driver.specs.Driving.{is_full as is_ring_full}
-use Rattle.exec_machine.specs.{declared.config.Configuration.Configuration, Ranges.ring_size, Tests.{is_empty, is_resolved}, World.{Common, Own as Books}}
-use Rattle.exec_machine.specs.declared.state.Next.TheVariants as next
-use Rattle.exec_moves.specs.{declared.place.{AfterCallbacks.AfterCallbacks, InCallbacks.InCallbacks, InClosing.InClosing, Place.Place}, Callback.{has_callbacks, has_requests, is_full, after_callbacks, next_callback}, Seen.{polls_at, next_at, serves_at}, State.Desk}
-use Rattle.exec_moves.specs.declared.place.AfterCallbacks.TheVariants as after
-use Rattle.exec_moves.specs.declared.place.InCallbacks.TheVariants as callback
-use Rattle.exec_moves.specs.declared.place.InClosing.TheVariants as closing
-use Rattle.exec_moves.specs.declared.place.InRingWait.TheVariants as ring
-use Rattle.exec_moves.specs.declared.place.Stay.TheVariants as stay
-use Rattle.exec_moves.specs.declared.place.Place.TheVariants as at
-use Rattle.exec_steps.specs.{declared.parts.{mail.Reply.Reply, names.Names.Names, record.Record.Record, seat.Seat.Seat as Chair, shared.Shared.Shared, sleeping.SleeperRecord.SleeperRecord, task_slot.TaskSlot.TaskSlot, worker.Worker.Worker}, Carried.IsCarried, Phased.{IsPhased, Stage, closes_at, closing_in, stage_of}, Sound.{tellers, SoundAt, IsAlone, IsTold, IsNamed, IsTied, AreOver, HasRunnable, InHand, HasShare, HasLeft, has_wakes_at, polled_in, served_in, is_armed_at}, Due.IsDue, Flown.HasFlown, Rooted.IsRooted, Tests.{is_anything_told, has_open_requests, after_callbacks_of, next_callback_of}, View.{driver_of, queue_seen}}
-use Rattle.exec_steps.proofs.{Standing.requests_seen, Phased.{phased_count, phased_end}, Turning.{is_between, between}}
+use Rattle.exec_machine.specs.{declared.{config.Configuration.Configuration, state.Next.Next}, Ranges.ring_size, Tests.{is_empty, is_resolved}, World.{Common, Own as Books}}
+use Rattle.exec_moves.specs.{declared.place.{AfterCallbacks.AfterCallbacks, InCallbacks.InCallbacks, InClosing.InClosing, Place.Place, InRingWait.InRingWait, Stay.Stay}, Callback.{has_callbacks, has_requests, is_full, after_callbacks, next_callback}, Seen.{polls_at, next_at, serves_at}, State.Desk}
+use Rattle.exec_steps.{specs.{declared.parts.{mail.Reply.Reply, names.Names.Names, record.Record.Record, seat.Seat.Seat as Chair, shared.Shared.Shared, sleeping.SleeperRecord.SleeperRecord, task_slot.TaskSlot.TaskSlot, worker.Worker.Worker}, Carried.IsCarried, Phased.{IsPhased, Stage, closes_at, closing_in, stage_of}, Sound.{tellers, SoundAt, IsAlone, IsTold, IsNamed, IsTied, AreOver, HasRunnable, InHand, HasShare, HasLeft, has_wakes_at, polled_in, served_in, is_armed_at}, Due.IsDue, Flown.HasFlown, Rooted.IsRooted, Tests.{is_anything_told, has_open_requests, after_callbacks_of, next_callback_of}, View.{driver_of, queue_seen}}, proofs.{Standing.requests_seen, Phased.{phased_count, phased_end}, Turning.{is_between, between}}}
 
 -- TESTS
 
@@ -77,19 +65,19 @@ no_wakes left h =
 -- FOR THE MACHINE
 
 after_seen : (size i : ℕ) (s : Common) (x : AfterCallbacks) (d : Desk) (v : Worker) → has_requests i s ≡ has_open_requests v → is_full size d ≡ is_ring_full (driver_of v) → after_callbacks size i s x d ≡ after_callbacks_of x v
-after_seen size i s after.Look d v asks full = refl
-after_seen size i s after.Test d v asks full = refl
-after_seen size i s after.Begin d v asks full = refl
-after_seen size i s after.Drain d v asks full = refl
-after_seen size i s after.Finish d v asks full =
-    ap (λ b. if b then (if is_full size d then at.RingWait ring.EnterFullRing stay.Closing else at.RingWait ring.TestRing stay.Closing) else at.Closing closing.End) asks
-    ∙ ap (λ b. if has_open_requests v then (if b then at.RingWait ring.EnterFullRing stay.Closing else at.RingWait ring.TestRing stay.Closing) else at.Closing closing.End) full
+after_seen size i s AfterCallbacks.Look d v asks full = refl
+after_seen size i s AfterCallbacks.Test d v asks full = refl
+after_seen size i s AfterCallbacks.Begin d v asks full = refl
+after_seen size i s AfterCallbacks.Drain d v asks full = refl
+after_seen size i s AfterCallbacks.Finish d v asks full =
+    ap (λ b. if b then (if is_full size d then Place.RingWait InRingWait.EnterFullRing Stay.Closing else Place.RingWait InRingWait.TestRing Stay.Closing) else Place.Closing InClosing.End) asks
+    ∙ ap (λ b. if has_open_requests v then (if b then Place.RingWait InRingWait.EnterFullRing Stay.Closing else Place.RingWait InRingWait.TestRing Stay.Closing) else Place.Closing InClosing.End) full
 
 next_seen : (size i : ℕ) (me : Books) (s : Common) (x : AfterCallbacks) (d : Desk) (v : Worker) → has_callbacks me d ≡ is_anything_told v → has_requests i s ≡ has_open_requests v → is_full size d ≡ is_ring_full (driver_of v)
     → next_callback size i me s x d ≡ next_callback_of x v
 next_seen size i me s x d v told asks full =
-    ap (λ b. if b then at.Callbacks callback.CallBack x else after_callbacks size i s x d) told
-    ∙ ap (λ q. if is_anything_told v then at.Callbacks callback.CallBack x else q) (after_seen size i s x d v asks full)
+    ap (λ b. if b then Place.Callbacks InCallbacks.CallBack x else after_callbacks size i s x d) told
+    ∙ ap (λ q. if is_anything_told v then Place.Callbacks InCallbacks.CallBack x else q) (after_seen size i s x d v asks full)
 
 -- The next place is the machine's, for a worker with these things left and these requests.
 pub placed : (c : Configuration) (i live : ℕ) (me : Books) (s : Common) (x : AfterCallbacks) (d : Desk) (v : Worker) (records : List Record) (sleepers : List SleeperRecord)
@@ -105,7 +93,7 @@ placed c i live me s x d v records sleepers told wakes outputs entries shown nam
 -- WHERE A STEP COMES FROM: nothing is polled, served or owed, no wait is armed, and the hand is empty
 pub record Comes (q : Place) : Type 0 where
   pub polls : polls_at q ≡ None
-  pub free : next_at q ≡ next.Free
+  pub free : next_at q ≡ Next.Free
   pub unarmed : is_armed_at q ≡ false
   pub stands : polled_in q ≡ None
   pub served : served_in q ≡ None
@@ -117,12 +105,12 @@ pub record Comes (q : Place) : Type 0 where
 -- a closing is at its end there, and nothing is unreleased
 abbrev pub IsAtEnd : Option InClosing → Bool → ℕ → Type 0
 IsAtEnd None closes unreleased = Unit {0}
-IsAtEnd (Some closing.End) closes unreleased = (closes ≡ true) × (unreleased ≡ 0)
+IsAtEnd (Some InClosing.End) closes unreleased = (closes ≡ true) × (unreleased ≡ 0)
 IsAtEnd (Some x) closes unreleased = ⊥
 
 pub record Leads (closes : Bool) (unreleased : ℕ) (q : Place) (left : Deferred Reply Reply) : Type 0 where
   pub polls : polls_at q ≡ None
-  pub free : next_at q ≡ next.Free
+  pub free : next_at q ≡ Next.Free
   pub unserved : serves_at q ≡ false
   pub unarmed : is_armed_at q ≡ false
   pub stands : polled_in q ≡ None
@@ -140,18 +128,18 @@ leads_between n q left h unarmed share none =
     record { polls = it.polls; free = it.free; unserved = it.unserved; unarmed = unarmed; stands = it.stands; served = it.served; closes_there = refl; ended = subst (λ x. IsAtEnd x (closes_at q) n) (sym it.closing) tt; hands = it.hands; share = share; some_left = it.left left; quiet = λ q. none }
 
 leads_finish : (n : ℕ) (asks full : Bool) (left : Deferred Reply Reply) → (asks ≡ false → n ≡ 0) → left.notes.wakes.items ≡ []
-    → Leads true n (if asks then (if full then at.RingWait ring.EnterFullRing stay.Closing else at.RingWait ring.TestRing stay.Closing) else at.Closing closing.End) left
-leads_finish n true true left end none = leads_between n (at.RingWait ring.EnterFullRing stay.Closing) left refl refl (λ n. tt) none
-leads_finish n true false left end none = leads_between n (at.RingWait ring.TestRing stay.Closing) left refl refl (λ n. tt) none
+    → Leads true n (if asks then (if full then Place.RingWait InRingWait.EnterFullRing Stay.Closing else Place.RingWait InRingWait.TestRing Stay.Closing) else Place.Closing InClosing.End) left
+leads_finish n true true left end none = leads_between n (Place.RingWait InRingWait.EnterFullRing Stay.Closing) left refl refl (λ n. tt) none
+leads_finish n true false left end none = leads_between n (Place.RingWait InRingWait.TestRing Stay.Closing) left refl refl (λ n. tt) none
 leads_finish n false full left end none =
     record { polls = refl; free = refl; unserved = refl; unarmed = refl; stands = refl; served = refl; closes_there = refl; ended = (refl, end refl); hands = λ root hand e. e; share = λ n. tt; some_left = tt; quiet = λ q. none }
 
-leads_after : (c : InCallbacks) (n : ℕ) (x : AfterCallbacks) (v : Worker) → (has_open_requests v ≡ false → n ≡ 0) → v.home.deferred.notes.wakes.items ≡ [] → Leads (closes_at (at.Callbacks c x)) n (after_callbacks_of x v) v.home.deferred
-leads_after c n after.Look v end none = leads_between n (after_callbacks_of after.Look v) v.home.deferred refl refl (λ n. tt) none
-leads_after c n after.Test v end none = leads_between n (after_callbacks_of after.Test v) v.home.deferred refl refl (λ n. tt) none
-leads_after c n after.Begin v end none = leads_between n (after_callbacks_of after.Begin v) v.home.deferred refl refl (λ n. tt) none
-leads_after c n after.Drain v end none = leads_between n (after_callbacks_of after.Drain v) v.home.deferred refl refl (λ n. tt) none
-leads_after c n after.Finish v end none = leads_finish n (has_open_requests v) (is_ring_full (driver_of v)) v.home.deferred end none
+leads_after : (c : InCallbacks) (n : ℕ) (x : AfterCallbacks) (v : Worker) → (has_open_requests v ≡ false → n ≡ 0) → v.home.deferred.notes.wakes.items ≡ [] → Leads (closes_at (Place.Callbacks c x)) n (after_callbacks_of x v) v.home.deferred
+leads_after c n AfterCallbacks.Look v end none = leads_between n (after_callbacks_of AfterCallbacks.Look v) v.home.deferred refl refl (λ n. tt) none
+leads_after c n AfterCallbacks.Test v end none = leads_between n (after_callbacks_of AfterCallbacks.Test v) v.home.deferred refl refl (λ n. tt) none
+leads_after c n AfterCallbacks.Begin v end none = leads_between n (after_callbacks_of AfterCallbacks.Begin v) v.home.deferred refl refl (λ n. tt) none
+leads_after c n AfterCallbacks.Drain v end none = leads_between n (after_callbacks_of AfterCallbacks.Drain v) v.home.deferred refl refl (λ n. tt) none
+leads_after c n AfterCallbacks.Finish v end none = leads_finish n (has_open_requests v) (is_ring_full (driver_of v)) v.home.deferred end none
 
 nothing_left : (a : ℕ) (b c d e : Bool) → (b && c && d && (a == 0) && e) ≡ true → a ≡ 0
 nothing_left a b c d e h = grind (arith, nat_tests)
@@ -163,7 +151,7 @@ none_unreleased left pending n h counted asks =
     omega (arith, none, over, counted)
 
 leads_by : (c : InCallbacks) (n : ℕ) (told : Bool) (x : AfterCallbacks) (v : Worker) → length v.home.deferred.resources.items + pending_count (driver_of v).requests ≡ n → is_anything_told v ≡ told
-    → Leads (closes_at (at.Callbacks c x)) n (if told then at.Callbacks callback.CallBack x else after_callbacks_of x v) v.home.deferred
+    → Leads (closes_at (Place.Callbacks c x)) n (if told then Place.Callbacks InCallbacks.CallBack x else after_callbacks_of x v) v.home.deferred
 leads_by c n true x v counted h =
     record {
       polls = refl;
@@ -185,13 +173,13 @@ leads_by c n false x v counted h =
 
 -- from a callback, with so many requests that aren't released
 pub leads : (c : InCallbacks) (x : AfterCallbacks) (v : Worker) → length v.home.deferred.resources.items + pending_count (driver_of v).requests ≡ v.names.unreleased
-    → Leads (closes_at (at.Callbacks c x)) v.names.unreleased (next_callback_of x v) v.home.deferred
+    → Leads (closes_at (Place.Callbacks c x)) v.names.unreleased (next_callback_of x v) v.home.deferred
 leads c x v counted = leads_by c v.names.unreleased (is_anything_told v) x v counted refl
 
 phased_led : {B : Type 0} (closes : Bool) (x : Option InClosing) (told : Bool) (t n m : ℕ) (st : Stage) (tasks : List (TaskSlot B)) → IsAtEnd x closes m → IsPhased closes None told t n st tasks → IsPhased closes x told t m st tasks
 phased_led closes None told t n m st tasks end phased = phased_count closes told t n m st tasks phased
-phased_led closes (Some closing.End) told t n m st tasks end phased =
-    subst (λ c. IsPhased c (Some closing.End) told t m st tasks) (sym end.0) (phased_end told t n m st tasks end.1 (subst (λ c. IsPhased c None told t n st tasks) end.0 phased))
+phased_led closes (Some InClosing.End) told t n m st tasks end phased =
+    subst (λ c. IsPhased c (Some InClosing.End) told t m st tasks) (sym end.0) (phased_end told t n m st tasks end.1 (subst (λ c. IsPhased c None told t n st tasks) end.0 phased))
 phased_led closes (Some x) told t n m st tasks end phased = absurd end
 
 -- WHAT HOLDS AGAIN: of the worker its flag, what has ended and what is left may change, and of what is shared tasks,

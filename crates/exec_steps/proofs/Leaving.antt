@@ -1,23 +1,14 @@
 -- What the root holds and is owed, and what has landed, once a request is over.
-use Rattle.std.proofs.Common.{◌≡◌, ◌≢◌, ◌⊎◌, ℕ, ◌+◌, ◌≤◌, ◌==◌, Bool, true, false, List, [], ◌∷◌, ◌++◌, length, Option, Some, None, IsSome, refl, sym, ap, subst, ◌∙◌, arith, inl, inr}
-use Rattle.std.proofs.lemmas.Bool.{false≢true, eq-eqb}
-use Rattle.std.proofs.lemmas.Bool.Decides.{nat_tests}
-use Rattle.std.proofs.lemmas.List.{append-nil}
-use Rattle.std.specs.Prelude.{slice_get, is_some}
-use Rattle.std.specs.VecDeque.{deque_capacity}
-use Rattle.exec_base.specs.{Slab.{Slab, value_at}, declared.{slab.Id.Id, task_no.TaskNo.TaskNo}}
-use Rattle.exec_base.proofs.Slots.{id_cases}
+use Rattle.std.{proofs.{Common.{◌≡◌, ◌≢◌, ℕ, ◌+◌, ◌==◌, Bool, true, false, List, [], ◌∷◌, ◌++◌, Option, Some, None, IsSome, refl, sym, ap, subst, ◌∙◌, arith, inl, inr, slice_get}, lemmas.Bool.{false≢true, eq-eqb, Decides.nat_tests}}, specs.VecDeque.deque_capacity}
+use Rattle.exec_base.{specs.{Slab.{Slab, value_at}, declared.{slab.Id.Id, task_no.TaskNo.TaskNo}}, proofs.Slots.id_cases}
 use Rattle.exec_outcomes.specs.declared.outcome.Outcome.{Outcome}
-use Rattle.exec_request.specs.{Requests.deadline_of, declared.output.RequestOutput.RequestOutput}
+use Rattle.exec_request.specs.declared.output.RequestOutput.{RequestOutput}
 use Rattle.exec_time.specs.declared.timers.Sleeper.{Sleeper as Sleeping}
-use Rattle.exec_waiters.proofs.Changes.{entry_of}
-use Rattle.exec_waiters.specs.{Events.waker_in, States.{waiter_at, waiter_of, is_held_by, takes_tick}, Told.tasks_of, declared.{observer.Observer.{Observer, TheVariants.{Local, Orphaned}}, waiter.{Entry.{Entry, TheVariants.{Pending, Ready}}, Waiter.Waiter}, waiter_id.WaiterId.WaiterId}}
+use Rattle.exec_waiters.{proofs.Changes.entry_of, specs.{States.{waiter_at, waiter_of, is_held_by}, declared.{observer.Observer.{Observer, TheVariants.{Local, Orphaned}}, waiter.{Entry.{Entry, TheVariants.{Pending, Ready}}, Waiter.Waiter}, waiter_id.WaiterId.WaiterId}}}
 use Rattle.exec_driver.specs.{Driving.Driving, Lists.{is_among, withdrawn}}
 use Rattle.exec_machine.specs.{declared.state.{RequestPhase.TheVariants.Resolved, Waiting.Waiting}, Tests.is_resolved}
-use Rattle.exec_machine.specs.declared.state.Waiting.TheVariants as waiting
 use Rattle.exec_moves.specs.declared.place.InService.{InService}
-use Rattle.exec_steps.specs.{declared.parts.{mail.Reply.Reply, names.Names.Names, record.Record.Record, sleeping.SleeperRecord.SleeperRecord, task_slot.TaskSlot.TaskSlot}, Due.AreTimed, Flown.{AreAcks, AreLanded, HasFlown, IsPlain, operations, passes_permit}, Records.number_in, Rooted.{Awaits, AwaitsRequest, Holds, IsKept, IsNear, outcome_told}, Serving.changed_at, Sound.{AreOwed, IsNamed, OwesWake, RequestOwes, map_waker}}
-use Rattle.exec_steps.proofs.{Flown.landed_on, Marking.{mark_if, marked, was_marked}, Over.{OneEnds, kept_worker, is_over, unresolved_before}, Resolving.{EntryAfter, SlabAfter, among_still, left_among}, Rooted.Changes}
+use Rattle.exec_steps.{specs.{declared.parts.{mail.Reply.Reply, names.Names.Names, record.Record.Record, sleeping.SleeperRecord.SleeperRecord, task_slot.TaskSlot.TaskSlot}, Due.AreTimed, Flown.{AreAcks, AreLanded, HasFlown, IsPlain, operations}, Records.number_in, Rooted.{Awaits, AwaitsRequest, IsNear, outcome_told}, Serving.changed_at, Sound.{AreOwed, IsNamed, OwesWake}}, proofs.{Flown.landed_on, Marking.{mark_if, marked, was_marked}, Over.{OneEnds, kept_worker, is_over, unresolved_before}, Resolving.{EntryAfter, among_still, left_among}, Rooted.Changes}}
 
 -- WHAT IS OWED
 
@@ -31,12 +22,12 @@ number_not k m apart false is = refl
 module _ (rs : List Record) (k : ℕ) (f : Record → Record) (r : Record) (there : slice_get rs k ≡ Some r) (open_still : is_resolved r.shown.phase ≡ false) where
   -- who owes a wake already is another
   owes_still : (i t : ℕ) (what : Waiting) (ss : List SleeperRecord) → OwesWake i t what rs ss → OwesWake i t what (changed_at rs k f) ss
-  owes_still i t (waiting.Request m) ss owes =
+  owes_still i t (Waiting.Request m) ss owes =
       let apart : k ≡ m → ⊥ = λ same.
       let both : owes.0 ≡ r = cc (owes.1, there, same) in
       false≢true (sym open_still ∙ ap (λ y. is_resolved y.shown.phase) (sym both) ∙ owes.2.over) in
       (owes.0, marked f rs k m owes.0 owes.1 ∙ ap (λ b. Some (mark_if f b owes.0)) (number_not k m apart (k == m) refl), owes.2)
-  owes_still i t (waiting.Timer m) ss owes = owes
+  owes_still i t (Waiting.Timer m) ss owes = owes
   owes_still i t _ ss owes = absurd owes
 
   pub owed_still : {B : Type 0} (i t : ℕ) (ws : List TaskNo) (tasks : List (TaskSlot B)) (ss : List SleeperRecord) → AreOwed i t ws tasks rs ss → AreOwed i t ws tasks (changed_at rs k f) ss
@@ -45,7 +36,7 @@ module _ (rs : List Record) (k : ℕ) (f : Record → Record) (r : Record) (ther
   owed_still i t (n ∷ (m ∷ ns)) tasks ss owed = absurd owed
 
   -- none is owed where the root waits for what isn't over
-  none_owed : {B : Type 0} (i t : ℕ) (ws : List TaskNo) (tasks : List (TaskSlot B)) (ss : List SleeperRecord) (slot : TaskSlot B) → slice_get tasks t ≡ Some slot → slot.waiting ≡ waiting.Request k → AreOwed i t ws tasks rs ss → ws ≡ []
+  none_owed : {B : Type 0} (i t : ℕ) (ws : List TaskNo) (tasks : List (TaskSlot B)) (ss : List SleeperRecord) (slot : TaskSlot B) → slice_get tasks t ≡ Some slot → slot.waiting ≡ Waiting.Request k → AreOwed i t ws tasks rs ss → ws ≡ []
   none_owed i t [] tasks ss slot at what owed = refl
   none_owed i t (n ∷ []) tasks ss slot at what owed =
       let wake = subst (λ o. OwesWake i t o rs ss) what (owed.1 slot at) in
@@ -53,7 +44,7 @@ module _ (rs : List Record) (k : ℕ) (f : Record → Record) (r : Record) (ther
       absurd (false≢true (sym open_still ∙ ap (λ y. is_resolved y.shown.phase) (sym both) ∙ wake.2.over))
   none_owed i t (n ∷ (m ∷ ns)) tasks ss slot at what owed = absurd owed
 
-  awaited_request : (ends : Bool) (t : ℕ) (i : ℕ) (held : List ℕ) (what : Waiting) (ss : List SleeperRecord) → what ≡ waiting.Request k → Awaits ends i t held what rs ss → AwaitsRequest ends t k held r
+  awaited_request : (ends : Bool) (t : ℕ) (i : ℕ) (held : List ℕ) (what : Waiting) (ss : List SleeperRecord) → what ≡ Waiting.Request k → Awaits ends i t held what rs ss → AwaitsRequest ends t k held r
   awaited_request ends t i held what ss is waits =
       let a = subst (λ x. Awaits ends i t held x rs ss) is waits in
       let same : a.0 ≡ r = cc (a.1, there) in
@@ -61,7 +52,7 @@ module _ (rs : List Record) (k : ℕ) (f : Record → Record) (r : Record) (ther
 
   -- the task that waits for it is the root, which is owed a wake by that alone
   pub owed_ended : {B : Type 0} (i t u : ℕ) (ws : List TaskNo) (tasks : List (TaskSlot B)) (ss : List SleeperRecord) (slot : TaskSlot B) (ends : Bool) (held : List ℕ) → slice_get tasks t ≡ Some slot
-      → slot.waiting ≡ waiting.Request k → u ≡ t → Awaits ends i t held slot.waiting rs ss → r.shown.worker ≡ i
+      → slot.waiting ≡ Waiting.Request k → u ≡ t → Awaits ends i t held slot.waiting rs ss → r.shown.worker ≡ i
       → is_resolved (f r).shown.phase ≡ true → (f r).shown.worker ≡ r.shown.worker → (f r).shown.waiter ≡ r.shown.waiter → (f r).shown.wakes_paid ≡ r.shown.wakes_paid
       → AreOwed i t ws tasks rs ss → AreOwed i t (ws ++ record { 0 = u } ∷ []) tasks (changed_at rs k f) ss
   owed_ended i t u ws tasks ss slot ends held at what is waits mine over worker waiter paid owed =

@@ -1,18 +1,12 @@
 -- Nobody holds a request any more: what holds again.
-use Rattle.std.proofs.Common.{◌≡◌, ◌≢◌, ◌⊎◌, ℕ, ◌+◌, ◌-◌, ◌<◌, ◌≤◌, ◌&&◌, true, false, List, [], ◌∷◌, ◌++◌, length, Some, None, refl, sym, ap, subst, ◌∙◌, inl, arith, length-append}
-use Rattle.std.proofs.lemmas.Bool.{false≢true}
-use Rattle.std.proofs.lemmas.List.{append-nil, length-set}
-use Rattle.std.specs.Prelude.{slice_get, slice_set, if◌then◌else◌}
+use Rattle.std.proofs.{Common.{◌≡◌, ◌≢◌, ℕ, ◌+◌, ◌-◌, true, false, List, [], length, Some, None, refl, sym, ap, subst, ◌∙◌, inl, arith, length-append, slice_get, slice_set}, lemmas.{Bool.false≢true, List.{append-nil, length-set}}}
 use Rattle.exec_base.specs.{Slab.{value_at, written, removed, live_count, freed}, declared.slab.Id.Id}
 use Rattle.exec_request.specs.declared.output.RequestOutput.{RequestOutput}
 use Rattle.exec_waiters.specs.{Events.{cancelled as cancelled_of, with_observer, untaken}, States.{waiter_at, waiter_of, pending_count, tick_in, tick_of, awaits_tick}, Told.{Told, Tells}, declared.{deferred.Deferred.Deferred, observer.Observer.TheVariants.Orphaned, waiter.{Entry.TheVariants.{Pending, Ready}, Waiter.Waiter}}}
 use Rattle.exec_driver.specs.{Driving.Driving, Punctual.IsPunctual, Steps.ended}
-use Rattle.exec_machine.specs.declared.state.Waiting.TheVariants as waiting
-use Rattle.exec_moves.specs.declared.place.InPoll.{InPoll}
-use Rattle.exec_moves.specs.declared.place.InPoll.TheVariants as poll
-use Rattle.exec_moves.specs.declared.place.Place.TheVariants as at
-use Rattle.exec_steps.specs.{declared.parts.{mail.Reply.Reply, names.Names.Names, record.Record.Record, shared.Shared.Shared, task_slot.TaskSlot.TaskSlot, worker.Worker.Worker}, Due.IsWheelAt, Phased.is_complete, Polls.unobserved, Records.number_in, Rooted.{Holds, IsHeld, IsRooted, ends_poll}, Serving.changed_at, Sound.{SoundAt, IsAlike, IsTold, AreOver, AreOwed, polled_in, tellers}, View.driver_of}
-use Rattle.exec_steps.proofs.{Changing.{changes_one, live_still, pending_still}, Getting.{Without, holds_fewer, other_entry, same_pending, same_waiters, still_there}, Resolving.told_once, Rooted.rooted_set, Serving.KeepsBy, Watching.{Watched, Rewatched, still_pending, by_name, due_watched, flown_watched, named_watched, over_watched, carried_watched}, Orders.{alike_self, past_removed}}
+use Rattle.exec_moves.specs.declared.place.{InPoll.InPoll, Place.Place}
+use Rattle.exec_steps.{specs.{declared.parts.{mail.Reply.Reply, names.Names.Names, record.Record.Record, shared.Shared.Shared, task_slot.TaskSlot.TaskSlot, worker.Worker.Worker}, Due.IsWheelAt, Phased.is_complete, Polls.unobserved, Records.number_in, Rooted.{Holds, IsHeld, IsRooted, ends_poll}, Serving.changed_at, Sound.{SoundAt, IsAlike, IsTold, AreOver, AreOwed, polled_in, tellers}, View.driver_of}, proofs.{Changing.{changes_one, live_still, pending_still}, Getting.{Without, holds_fewer, other_entry, same_pending, same_waiters, still_there}, Resolving.told_once, Rooted.rooted_set, Serving.KeepsBy, Watching.{Watched, Rewatched, still_pending, by_name, due_watched, flown_watched, named_watched, over_watched, carried_watched}, Orders.{alike_self, past_removed}}}
+use Rattle.exec_machine.specs.declared.state.Waiting.{Waiting}
 
 -- WHAT IS TOLD: an output that nobody takes
 
@@ -113,9 +107,9 @@ let_worker w v left = record w { names = record w.names { held = w.names.held - 
 
 module _ {B : Type 0} where
   abbrev pub KeepsActing : Worker → Driving Reply Reply → List Record → Shared B → Type 0
-  KeepsActing w d rs s = KeepsBy (record w { place = at.Poll w.root poll.Act }) d w.home.timers rs s.sleepers.items s
+  KeepsActing w d rs s = KeepsBy (record w { place = Place.Poll w.root InPoll.Act }) d w.home.timers rs s.sleepers.items s
 
-  pub keeps_acting : (x : InPoll) (w : Worker) (s : Shared B) → ends_poll (polled_in (at.Poll w.root x)) ≡ false → SoundAt (at.Poll w.root x) w s → KeepsActing w (driver_of w) s.requests.items s
+  pub keeps_acting : (x : InPoll) (w : Worker) (s : Shared B) → ends_poll (polled_in (Place.Poll w.root x)) ≡ false → SoundAt (Place.Poll w.root x) w s → KeepsActing w (driver_of w) s.requests.items s
   keeps_acting x w s going sound =
       record {
         told = sound.told;
@@ -137,7 +131,7 @@ module _ {B : Type 0} where
 -- The task that holds a request without which it holds fewer: its slot becomes another.
 module _ {B : Type 0} (w : Worker) (s s' : Shared B) (slot slot' : TaskSlot B) (id : Id) (keeps : KeepsActing w (driver_of w) s.requests.items s) (there : slice_get s.tasks.items w.root ≡ Some slot)
     (tasks : s'.tasks.items ≡ slice_set s.tasks.items w.root slot') (without : Without slot.held.items slot'.held.items (number_in w.names.requests.items id))
-    (no_timer : (z : ℕ) → slot.waiting ≡ waiting.Timer z → ⊥) (request : (q : ℕ) → slot.waiting ≡ waiting.Request q → q ≡ number_in w.names.requests.items id) (still_waits : slot'.waiting ≡ waiting.Nothing) (complete : is_complete slot'.cell.phase ≡ is_complete slot.cell.phase) where
+    (no_timer : (z : ℕ) → slot.waiting ≡ Waiting.Timer z → ⊥) (request : (q : ℕ) → slot.waiting ≡ Waiting.Request q → q ≡ number_in w.names.requests.items id) (still_waits : slot'.waiting ≡ Waiting.Nothing) (complete : is_complete slot'.cell.phase ≡ is_complete slot.cell.phase) where
   pub keeps_watched : (left : Deferred Reply Reply) (d' : Driving Reply Reply) (rs' : List Record) (r : Record) (f : Record → Record) → Watched w.names (driver_of w) d' s.requests.items rs' id r f → (f r).shown.observed ≡ false
       → ((told : RequestOutput) → value_at d'.requests id ≡ Some (Ready told) → ⊥) → IsPunctual d' → d'.lists.due ≡ [] → IsWheelAt s.config w.moments.start w.moments.sampled d'.wheel → pending_count d'.requests ≡ pending_count (driver_of w).requests
       → IsTold w.names.ended.items left (tellers d'.requests w.home.timers) → left.notes.wakes.items ≡ [] → KeepsActing (let_worker w w.names left) d' rs' (let_shared s s')
@@ -152,7 +146,7 @@ module _ {B : Type 0} (w : Worker) (s s' : Shared B) (slot slot' : TaskSlot B) (
       let ss = s.sleepers.items in
       let fewer = holds_fewer i w.root n d d' zs rs rs' ss id r f by none keeps.named unseen slot.held.items slot'.held.items slot.waiting (is_complete slot.cell.phase) without no_timer request (keeps.rooted.root slot there) in
       let now : Holds false i w.root slot'.held.items slot'.waiting (is_complete slot'.cell.phase) n' d' zs rs' ss =
-      subst (λ u. Holds false i w.root slot'.held.items u (is_complete slot'.cell.phase) n' d' zs rs' ss) (sym still_waits) (subst (λ b. Holds false i w.root slot'.held.items waiting.Nothing b n' d' zs rs' ss) (sym complete) fewer) in
+      subst (λ u. Holds false i w.root slot'.held.items u (is_complete slot'.cell.phase) n' d' zs rs' ss) (sym still_waits) (subst (λ b. Holds false i w.root slot'.held.items Waiting.Nothing b n' d' zs rs' ss) (sym complete) fewer) in
       record {
         told = told;
         named = named_watched i n h d d' zs rs rs' ss id r f by keeps.named;

@@ -1,21 +1,11 @@
 -- What the steps of the look before a wait, and of the withdrawal after it, are to the machine.
-use Rattle.std.proofs.Common.{◌≡◌, ℕ, ◌<◌, ◌≤◌, ◌&&◌, ◌||◌, Bool, true, false, not, List, [], length, Option, Some, None, inl, inr, refl, sym, ap, subst, ◌∙◌, arith}
-use Rattle.std.proofs.lemmas.Bool.{cases_Bool}
-use Rattle.std.specs.Prelude.{slice_set, nat_lt, if◌then◌else◌}
+use Rattle.std.proofs.{Common.{◌≡◌, ℕ, ◌≤◌, ◌&&◌, ◌||◌, Bool, true, false, not, List, length, Option, inl, inr, refl, sym, ap, subst, ◌∙◌, arith, slice_set, nat_lt, if◌then◌else◌}, lemmas.Bool.cases_Bool}
 use Rattle.exec_words.specs.Idle.{Idle}
 use Rattle.exec_task.specs.declared.body.Said.{Said}
-use Rattle.exec_machine.specs.{declared.{config.Configuration.Configuration, event.Event.{Event, TheVariants.Turn}}, Progress.Plan}
-use Rattle.exec_moves.specs.declared.place.AfterService.TheVariants as back
-use Rattle.exec_moves.specs.{declared.place.{AfterWait.AfterWait, Found.Found, Place.Place}, Callback.serve, Load.{has_come, next_turn, is_ready, test_for_work}, Move.move_at, State.{Desk, does, turns}, Wait.{publish, after_withdrawal}}
-use Rattle.exec_moves.specs.declared.place.AfterWait.TheVariants as next
-use Rattle.exec_moves.specs.declared.place.InLook.TheVariants as look
-use Rattle.exec_moves.specs.declared.place.InRingWait.TheVariants as ring
-use Rattle.exec_moves.specs.declared.place.InWordWait.TheVariants as word
-use Rattle.exec_moves.specs.declared.place.Stay.TheVariants as stay
-use Rattle.exec_moves.specs.declared.place.Place.TheVariants as at
+use Rattle.exec_machine.specs.{declared.event.Event.{Event, TheVariants.Turn}, Progress.Plan}
+use Rattle.exec_moves.specs.{declared.place.{AfterWait.AfterWait, Found.Found, Place.Place, AfterService.AfterService, InLook.InLook, InRingWait.InRingWait, InWordWait.InWordWait, Stay.Stay}, Callback.serve, Load.{has_come, next_turn, is_ready}, Move.move_at, State.{Desk, turns}, Wait.{publish, after_withdrawal}}
 use Rattle.exec_driver.specs.Driving.{has_pending, is_full}
-use Rattle.exec_steps.specs.{declared.parts.{shared.Shared.Shared, worker.Worker.Worker}, Sound.{SoundAt, IsAlone, is_armed_at}, Spots.Spot, Phased.closes_at, Tests.{has_open_requests, next_turn_of, has_put_off, place_withdrawn, ring_wait_of, word_wait_of, is_within, IsNextMoment}, View.{Visible, driver_of, own_of, desk_of, common_of, things_of}, Works.{Makes, Goes, Suits, Steps}}
-use Rattle.exec_steps.proofs.{Standing.{requests_seen, submissions_seen}, NextDue.moment_seen, Turning.{IsPlain, either_place, reaches, is_quiet, is_plain, turned, with_read}}
+use Rattle.exec_steps.{specs.{declared.parts.{shared.Shared.Shared, worker.Worker.Worker}, Sound.{SoundAt, is_armed_at}, Spots.Spot, Phased.closes_at, Tests.{has_open_requests, next_turn_of, has_put_off, place_withdrawn, ring_wait_of, word_wait_of, is_within, IsNextMoment}, View.{Visible, driver_of, own_of, desk_of, common_of, things_of}, Works.{Makes, Goes, Suits, Steps}}, proofs.{Standing.{requests_seen, submissions_seen}, NextDue.moment_seen, Turning.{IsPlain, either_place, reaches, is_quiet, is_plain, turned, with_read}}}
 
 turns_by : {T : Type 0} (b : Bool) (p q : Place) (d : Desk) (x : T) → (if b then turns p d x else turns q d x) ≡ turns (if b then p else q) d x
 turns_by true p q d x = refl
@@ -29,12 +19,12 @@ of_turn : {q : Place} → is_plain q ≡ true → is_armed_at q ≡ false → cl
 of_turn plain unarmed opened = record { plain = plain; armed_there = unarmed; closes_there = opened }
 
 next_is_plain : (w : Worker) → IsOfTurn (next_turn_of w)
-next_is_plain w = either_place false false (has_put_off w) (serve back.Begin) at.BeginTurn (of_turn refl refl refl) (of_turn refl refl refl)
+next_is_plain w = either_place false false (has_put_off w) (serve AfterService.Begin) Place.BeginTurn (of_turn refl refl refl) (of_turn refl refl refl)
 
 withdrawn_is_plain : (n : AfterWait) (w : Worker) → IsOfTurn (place_withdrawn n w)
-withdrawn_is_plain next.Begin w = of_turn refl refl refl
-withdrawn_is_plain next.Serve w = of_turn refl refl refl
-withdrawn_is_plain next.MakeUp w = next_is_plain w
+withdrawn_is_plain AfterWait.Begin w = of_turn refl refl refl
+withdrawn_is_plain AfterWait.Serve w = of_turn refl refl refl
+withdrawn_is_plain AfterWait.MakeUp w = next_is_plain w
 
 module _ {B L : Type 0} (left : B → L) (spot : L → Option Said → Spot) where
   -- A worker goes to a place that is told beforehand, with what it read off the clock; of what is shared the idle set may change.
@@ -56,37 +46,37 @@ module _ {B L : Type 0} (left : B → L) (spot : L → Option Said → Spot) whe
   next_seen p vs q w s sound config =
       rw (requests_seen w.index w.names (driver_of w) w.home.timers s.requests.items s.sleepers.items sound.named, submissions_seen s.config w sound.sized, config) refl
 
-  pub tested : (f : Found) (w w' : Worker) (s : Shared B) (e : Event) → SoundAt (at.TestForWork f) w s → e ≡ Turn
-      → w' ≡ record w { place = (if is_ready (own_of w) f (desk_of w) || has_pending (driver_of w) then next_turn_of w else at.ReadClock) } → Steps left spot w s e w' s
+  pub tested : (f : Found) (w w' : Worker) (s : Shared B) (e : Event) → SoundAt (Place.TestForWork f) w s → e ≡ Turn
+      → w' ≡ record w { place = (if is_ready (own_of w) f (desk_of w) || has_pending (driver_of w) then next_turn_of w else Place.ReadClock) } → Steps left spot w s e w' s
   tested f w w' s e sound turn goes =
       let b = is_ready (own_of w) f (desk_of w) || has_pending (driver_of w) in
-      went (at.TestForWork f) (if b then next_turn_of w else at.ReadClock) w w' w.moments.read s s.idle e sound refl refl refl turn sound.time.read goes (either_place false false b (next_turn_of w) at.ReadClock (next_is_plain w) (of_turn refl refl refl))
-      (λ p vs suits. rw (← next_seen p vs (at.TestForWork f) w s sound suits.config, ← suits.config, ← submissions_seen s.config w sound.sized)
-      (ap (λ m. record { event = m.event; choice = m.choice; desk = m.desk; thing = things_of w.index s }) (turns_by b (next_turn_of w) at.ReadClock (desk_of w) (tt {0}))))
+      went (Place.TestForWork f) (if b then next_turn_of w else Place.ReadClock) w w' w.moments.read s s.idle e sound refl refl refl turn sound.time.read goes (either_place false false b (next_turn_of w) Place.ReadClock (next_is_plain w) (of_turn refl refl refl))
+      (λ p vs suits. rw (← next_seen p vs (Place.TestForWork f) w s sound suits.config, ← suits.config, ← submissions_seen s.config w sound.sized)
+      (ap (λ m. record { event = m.event; choice = m.choice; desk = m.desk; thing = things_of w.index s }) (turns_by b (next_turn_of w) Place.ReadClock (desk_of w) (tt {0}))))
 
-  pub clock_read : (moment : Option ℕ) (w w' : Worker) (s : Shared B) (e : Event) → SoundAt at.ReadClock w s → IsNextMoment w moment → e ≡ Turn
-      → w' ≡ record w { place = (if has_come s.clock moment then next_turn_of w else at.Look look.Publish); moments = record w.moments { read = s.clock } } → Steps left spot w s e w' s
+  pub clock_read : (moment : Option ℕ) (w w' : Worker) (s : Shared B) (e : Event) → SoundAt Place.ReadClock w s → IsNextMoment w moment → e ≡ Turn
+      → w' ≡ record w { place = (if has_come s.clock moment then next_turn_of w else Place.Look InLook.Publish); moments = record w.moments { read = s.clock } } → Steps left spot w s e w' s
   clock_read moment w w' s e sound upcoming turn goes =
       let b = has_come s.clock moment in
-      went at.ReadClock (if b then next_turn_of w else at.Look look.Publish) w w' s.clock s s.idle e sound refl refl refl turn (omega arith) goes (either_place false false b (next_turn_of w) (at.Look look.Publish) (next_is_plain w) (of_turn refl refl refl))
-      (λ p vs suits. rw (← next_seen p vs at.ReadClock w s sound suits.config, ← moment_seen left spot p vs at.ReadClock w s moment suits sound upcoming)
-      (ap (λ m. record { event = m.event; choice = m.choice; desk = m.desk; thing = things_of w.index s }) (turns_by b (next_turn_of w) (at.Look look.Publish) (record (desk_of w) { read = s.clock }) (tt {0}))))
+      went Place.ReadClock (if b then next_turn_of w else Place.Look InLook.Publish) w w' s.clock s s.idle e sound refl refl refl turn (omega arith) goes (either_place false false b (next_turn_of w) (Place.Look InLook.Publish) (next_is_plain w) (of_turn refl refl refl))
+      (λ p vs suits. rw (← next_seen p vs Place.ReadClock w s sound suits.config, ← moment_seen left spot p vs Place.ReadClock w s moment suits sound upcoming)
+      (ap (λ m. record { event = m.event; choice = m.choice; desk = m.desk; thing = things_of w.index s }) (turns_by b (next_turn_of w) (Place.Look InLook.Publish) (record (desk_of w) { read = s.clock }) (tt {0}))))
 
   -- the first step of a wait on the ring, or on the wake word
-  count_on_ring : (w w' : Worker) (s : Shared B) (e : Event) → SoundAt (at.Look look.LookAtCount) w s → has_open_requests w ≡ true → e ≡ Turn → w' ≡ record w { place = ring_wait_of stay.Turn w } → Steps left spot w s e w' s
+  count_on_ring : (w w' : Worker) (s : Shared B) (e : Event) → SoundAt (Place.Look InLook.LookAtCount) w s → has_open_requests w ≡ true → e ≡ Turn → w' ≡ record w { place = ring_wait_of Stay.Turn w } → Steps left spot w s e w' s
   count_on_ring w w' s e sound some turn goes =
-      went (at.Look look.LookAtCount) (ring_wait_of stay.Turn w) w w' w.moments.read s s.idle e sound refl refl refl turn sound.time.read goes
-      (either_place false false (is_full (driver_of w)) (at.RingWait ring.EnterFullRing stay.Turn) (at.RingWait ring.TestRing stay.Turn) (of_turn refl refl refl) (of_turn refl refl refl))
+      went (Place.Look InLook.LookAtCount) (ring_wait_of Stay.Turn w) w w' w.moments.read s s.idle e sound refl refl refl turn sound.time.read goes
+      (either_place false false (is_full (driver_of w)) (Place.RingWait InRingWait.EnterFullRing Stay.Turn) (Place.RingWait InRingWait.TestRing Stay.Turn) (of_turn refl refl refl) (of_turn refl refl refl))
       (λ p vs suits. rw (← requests_seen w.index w.names (driver_of w) w.home.timers s.requests.items s.sleepers.items sound.named, some, ← suits.config, ← sound.sized) refl)
 
-  count_on_word : (moment : Option ℕ) (w w' : Worker) (s : Shared B) (e : Event) → SoundAt (at.Look look.LookAtCount) w s → has_open_requests w ≡ false → IsNextMoment w moment → e ≡ Turn
+  count_on_word : (moment : Option ℕ) (w w' : Worker) (s : Shared B) (e : Event) → SoundAt (Place.Look InLook.LookAtCount) w s → has_open_requests w ≡ false → IsNextMoment w moment → e ≡ Turn
       → w' ≡ record w { place = word_wait_of s.config.spin.most moment w } → Steps left spot w s e w' s
   count_on_word moment w w' s e sound none upcoming turn goes =
-      went (at.Look look.LookAtCount) (word_wait_of s.config.spin.most moment w) w w' w.moments.read s s.idle e sound refl refl refl turn sound.time.read goes
-      (either_place false false (nat_lt 0 w.spinner.budget && not (is_within s.config.spin.most w.moments.read moment)) (at.WordWait (word.SpinOnBatch w.spinner.budget)) (at.WordWait word.ArmWord) (of_turn refl refl refl) (of_turn refl refl refl))
-      (λ p vs suits. rw (← requests_seen w.index w.names (driver_of w) w.home.timers s.requests.items s.sleepers.items sound.named, none, ← moment_seen left spot p vs (at.Look look.LookAtCount) w s moment suits sound upcoming, ← suits.config) refl)
+      went (Place.Look InLook.LookAtCount) (word_wait_of s.config.spin.most moment w) w w' w.moments.read s s.idle e sound refl refl refl turn sound.time.read goes
+      (either_place false false (nat_lt 0 w.spinner.budget && not (is_within s.config.spin.most w.moments.read moment)) (Place.WordWait (InWordWait.SpinOnBatch w.spinner.budget)) (Place.WordWait InWordWait.ArmWord) (of_turn refl refl refl) (of_turn refl refl refl))
+      (λ p vs suits. rw (← requests_seen w.index w.names (driver_of w) w.home.timers s.requests.items s.sleepers.items sound.named, none, ← moment_seen left spot p vs (Place.Look InLook.LookAtCount) w s moment suits sound upcoming, ← suits.config) refl)
 
-  pub count_looked : (w w' : Worker) (s : Shared B) (e : Event) → SoundAt (at.Look look.LookAtCount) w s → e ≡ Turn → Goes w w' → (has_open_requests w ≡ true → w'.place ≡ ring_wait_of stay.Turn w)
+  pub count_looked : (w w' : Worker) (s : Shared B) (e : Event) → SoundAt (Place.Look InLook.LookAtCount) w s → e ≡ Turn → Goes w w' → (has_open_requests w ≡ true → w'.place ≡ ring_wait_of Stay.Turn w)
       → (has_open_requests w ≡ false → (moment : Option ℕ) × IsNextMoment w moment × (w'.place ≡ word_wait_of s.config.spin.most moment w)) → Steps left spot w s e w' s
   count_looked w w' s e sound turn goes on_ring on_word =
       elim (cases_Bool (has_open_requests w)) [
@@ -94,27 +84,27 @@ module _ {B L : Type 0} (left : B → L) (spot : L → Option Said → Spot) whe
         | inr none ↦ let found = on_word none in count_on_word found.0 w w' s e sound none found.1 turn (goes ∙ ap (λ q. record w { place = q }) found.2)
       ]
 
-  pub published : (w w' : Worker) (s : Shared B) (x : Idle) (e : Event) → SoundAt (at.Look look.Publish) w s → Makes (publish w.index (desk_of w) s.idle) e w' → Goes w w'
+  pub published : (w w' : Worker) (s : Shared B) (x : Idle) (e : Event) → SoundAt (Place.Look InLook.Publish) w s → Makes (publish w.index (desk_of w) s.idle) e w' → Goes w w'
       → x ≡ record s.idle { published = slice_set s.idle.published w.index true } → Steps left spot w s e w' (record s { idle = x })
   published w w' s x e sound makes goes is =
-      went (at.Look look.Publish) (at.Look look.LookAtMirror) w w' w.moments.read s x e sound refl refl refl makes.event sound.time.read
+      went (Place.Look InLook.Publish) (Place.Look InLook.LookAtMirror) w w' w.moments.read s x e sound refl refl refl makes.event sound.time.read
       (goes ∙ ap (λ place. record w { place = place }) (ap (λ d. d.place) makes.desk)) (of_turn refl refl refl) (λ p vs suits. rw is refl)
 
-  pub mirror_looked : (mirror : ℕ) (w w' : Worker) (s : Shared B) (e : Event) → SoundAt (at.Look look.LookAtMirror) w s → mirror ≡ length s.global.values → e ≡ Turn
-      → w' ≡ record w { place = (if nat_lt 0 mirror then at.Withdraw next.MakeUp else at.Look look.LookAtCount) } → Steps left spot w s e w' s
+  pub mirror_looked : (mirror : ℕ) (w w' : Worker) (s : Shared B) (e : Event) → SoundAt (Place.Look InLook.LookAtMirror) w s → mirror ≡ length s.global.values → e ≡ Turn
+      → w' ≡ record w { place = (if nat_lt 0 mirror then Place.Withdraw AfterWait.MakeUp else Place.Look InLook.LookAtCount) } → Steps left spot w s e w' s
   mirror_looked mirror w w' s e sound is turn goes =
       let none : mirror ≡ 0 = is ∙ ap length sound.alone.elsewhere in
-      went (at.Look look.LookAtMirror) (at.Look look.LookAtCount) w w' w.moments.read s s.idle e sound refl refl refl turn sound.time.read
-      (goes ∙ ap (λ n. record w { place = (if nat_lt 0 n then at.Withdraw next.MakeUp else at.Look look.LookAtCount) }) none) (of_turn refl refl refl)
+      went (Place.Look InLook.LookAtMirror) (Place.Look InLook.LookAtCount) w w' w.moments.read s s.idle e sound refl refl refl turn sound.time.read
+      (goes ∙ ap (λ n. record w { place = (if nat_lt 0 n then Place.Withdraw AfterWait.MakeUp else Place.Look InLook.LookAtCount) }) none) (of_turn refl refl refl)
       (λ p vs suits. rw sound.alone.elsewhere refl)
 
-  pub withdrew : (n : AfterWait) (w w' : Worker) (s : Shared B) (x : Idle) (e : Event) → SoundAt (at.Withdraw n) w s → e ≡ Turn → w' ≡ record w { place = place_withdrawn n w }
+  pub withdrew : (n : AfterWait) (w w' : Worker) (s : Shared B) (x : Idle) (e : Event) → SoundAt (Place.Withdraw n) w s → e ≡ Turn → w' ≡ record w { place = place_withdrawn n w }
       → x ≡ record s.idle { published = slice_set s.idle.published w.index false } → Steps left spot w s e w' (record s { idle = x })
   withdrew n w w' s x e sound turn goes is =
       let seen : (p : Plan) (vs : List Visible) (m : AfterWait) → s.config ≡ p.config → after_withdrawal p.config w.index (own_of w) (common_of left spot p vs s) m (desk_of w) ≡ place_withdrawn m w = λ p vs m config.
       elim m as (λ k. after_withdrawal p.config w.index (own_of w) (common_of left spot p vs s) k (desk_of w) ≡ place_withdrawn k w) [
-        | next.Begin ↦ refl
-        | next.Serve ↦ refl
-        | next.MakeUp ↦ sym (next_seen p vs (at.Withdraw n) w s sound config)
+        | AfterWait.Begin ↦ refl
+        | AfterWait.Serve ↦ refl
+        | AfterWait.MakeUp ↦ sym (next_seen p vs (Place.Withdraw n) w s sound config)
       ] in
-      went (at.Withdraw n) (place_withdrawn n w) w w' w.moments.read s x e sound refl refl refl turn sound.time.read goes (withdrawn_is_plain n w) (λ p vs suits. rw (seen p vs n suits.config, is) refl)
+      went (Place.Withdraw n) (place_withdrawn n w) w w' w.moments.read s x e sound refl refl refl turn sound.time.read goes (withdrawn_is_plain n w) (λ p vs suits. rw (seen p vs n suits.config, is) refl)

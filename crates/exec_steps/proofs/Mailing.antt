@@ -1,20 +1,15 @@
 -- What the steps at the mailbox are to the machine: no message is ever there.
-use Rattle.std.proofs.Common.{◌≡◌, ℕ, zero, suc, Bool, true, false, List, [], ◌∷◌, Option, Some, refl, sym, ap, subst, ◌∙◌}
-use Rattle.std.proofs.lemmas.Bool.{false≢true}
-use Rattle.std.specs.Prelude.{slice_get, slice_set, slice_index_or, if◌then◌else◌}
+use Rattle.std.proofs.{Common.{◌≡◌, ℕ, zero, suc, Bool, true, false, List, [], ◌∷◌, Option, Some, refl, sym, ap, subst, ◌∙◌, slice_get, slice_set, slice_index_or, if◌then◌else◌}, lemmas.Bool.false≢true}
 use Rattle.exec_words.specs.{Queue.room_of, declared.word.PureWord.PureWord}
 use Rattle.exec_task.specs.declared.body.Said.{Said}
 use Rattle.exec_machine.specs.{declared.event.Event.{Event, TheVariants.Turn}, World.no_seat}
 use Rattle.exec_moves.specs.{declared.place.{InMail.InMail, Place.Place}, Load.has_mail, Mail.{load_mail_word, take_mail, to_callbacks}, State.{Desk, turns}}
-use Rattle.exec_moves.specs.declared.place.InMail.TheVariants as mail
-use Rattle.exec_moves.specs.declared.place.Place.TheVariants as at
-use Rattle.exec_steps.specs.{declared.parts.{seat.Seat.Seat as Chair, shared.Shared.Shared, worker.Worker.Worker}, Phased.{IsPhased, closes_at, closing_in, stage_of}, Sound.{SoundAt, IsAlone, HasShare, is_armed_at}, Spots.Spot, View.{Visible, visible, desk_of, common_of, things_of, seats_seen, queue_at, queue_seen, word_at}, Works.{Makes, Goes, SameShared, Steps}}
-use Rattle.exec_steps.proofs.{Calling.led, Leading.{Comes, Leads}}
+use Rattle.exec_steps.{specs.{declared.parts.{seat.Seat.Seat as Chair, shared.Shared.Shared, worker.Worker.Worker}, Phased.{IsPhased, closes_at, closing_in, stage_of}, Sound.{SoundAt, IsAlone, HasShare, is_armed_at}, Spots.Spot, View.{Visible, visible, desk_of, common_of, things_of, seats_seen, queue_at, queue_seen, word_at}, Works.{Makes, Goes, SameShared, Steps}}, proofs.{Calling.led, Leading.{Comes, Leads}}}
 
-from_mail : (x : InMail) → Comes (at.Mail x)
+from_mail : (x : InMail) → Comes (Place.Mail x)
 from_mail x = record { polls = refl; free = refl; unarmed = refl; stands = refl; served = refl; closing = refl; empty = λ root hand h. h }
 
-word_turns : (b : Bool) (d : Desk) (w : PureWord) → (if b then turns (at.Mail mail.TakeMail) d w else turns to_callbacks d w) ≡ turns (if b then at.Mail mail.TakeMail else to_callbacks) d w
+word_turns : (b : Bool) (d : Desk) (w : PureWord) → (if b then turns (Place.Mail InMail.TakeMail) d w else turns to_callbacks d w) ≡ turns (if b then Place.Mail InMail.TakeMail else to_callbacks) d w
 word_turns true d w = refl
 word_turns false d w = refl
 
@@ -27,7 +22,7 @@ inbox_seen (x ∷ vs) (seat ∷ seats) zero v chair here there none =
     rw (same, none) refl
 inbox_seen (x ∷ vs) (seat ∷ seats) (suc i) v chair here there none = inbox_seen vs seats i v chair here there none
 
-leads_mail : (b : Bool) (w : Worker) → Leads false w.names.unreleased (if b then at.Mail mail.TakeMail else to_callbacks) w.home.deferred
+leads_mail : (b : Bool) (w : Worker) → Leads false w.names.unreleased (if b then Place.Mail InMail.TakeMail else to_callbacks) w.home.deferred
 leads_mail true w = record { polls = refl; free = refl; unserved = refl; unarmed = refl; stands = refl; served = refl; closes_there = refl; ended = tt; hands = λ root hand e. e; share = λ n. tt; some_left = tt; quiet = λ h. absurd (false≢true (sym h)) }
 leads_mail false w = record { polls = refl; free = refl; unserved = refl; unarmed = refl; stands = refl; served = refl; closes_there = refl; ended = tt; hands = λ root hand e. e; share = λ n. tt; some_left = tt; quiet = λ h. absurd (false≢true (sym h)) }
 
@@ -59,23 +54,23 @@ module _ {B L : Type 0} (left : B → L) (spot : L → Option Said → Spot) whe
       ) in
       subst (λ x. Steps left spot w s e w' x) (sym same.kept) done
 
-  pub word_loaded : (w w' : Worker) (s : Shared B) (e : Event) → SoundAt (at.Mail mail.LoadMailWord) w s → Makes (load_mail_word (desk_of w) (things_of w.index s).word) e w' → Goes w w' → Steps left spot w s e w' s
+  pub word_loaded : (w w' : Worker) (s : Shared B) (e : Event) → SoundAt (Place.Mail InMail.LoadMailWord) w s → Makes (load_mail_word (desk_of w) (things_of w.index s).word) e w' → Goes w w' → Steps left spot w s e w' s
   word_loaded w w' s e sound makes goes =
       let word = (things_of w.index s).word in
       let b = has_mail (desk_of w) word in
-      let q : Place = if b then at.Mail mail.TakeMail else to_callbacks in
+      let q : Place = if b then Place.Mail InMail.TakeMail else to_callbacks in
       let how = word_turns b (desk_of w) word in
       let is : w' ≡ record w { place = q } = goes ∙ ap (λ y. record w { place = y }) (ap (λ d. d.place) makes.desk ∙ ap (λ m. m.desk.place) how) in
       let done : Steps left spot w s Turn (record w { place = q }) s =
-      led left spot (at.Mail mail.LoadMailWord) q w s sound (from_mail mail.LoadMailWord) (leads_mail b w)
+      led left spot (Place.Mail InMail.LoadMailWord) q w s sound (from_mail InMail.LoadMailWord) (leads_mail b w)
       (λ p vs suits. ap (λ m. record { event = m.event; choice = m.choice; desk = m.desk; thing = record (things_of w.index s) { word = m.thing } }) how) in
       subst (λ y. Steps left spot w s e y s) (sym is) (subst (λ y. Steps left spot w s y (record w { place = q }) s) (sym (makes.event ∙ ap (λ m. m.event) how)) done)
 
-  pub mail_taken : (w w' : Worker) (s s' : Shared B) (e : Event) → SoundAt (at.Mail mail.TakeMail) w s → Makes (take_mail (desk_of w) []) e w' → Goes w w' → SameShared s s' → Steps left spot w s e w' s'
+  pub mail_taken : (w w' : Worker) (s s' : Shared B) (e : Event) → SoundAt (Place.Mail InMail.TakeMail) w s → Makes (take_mail (desk_of w) []) e w' → Goes w w' → SameShared s s' → Steps left spot w s e w' s'
   mail_taken w w' s s' e sound makes goes same =
       let is : w' ≡ record w { place = to_callbacks } = goes ∙ ap (λ y. record w { place = y }) (ap (λ d. d.place) makes.desk) in
       let done : Steps left spot w s Turn (record w { place = to_callbacks }) s =
-      led left spot (at.Mail mail.TakeMail) to_callbacks w s sound (from_mail mail.TakeMail) (leads_mail false w)
+      led left spot (Place.Mail InMail.TakeMail) to_callbacks w s sound (from_mail InMail.TakeMail) (leads_mail false w)
       (λ p vs suits. ap (λ xs. record { event = (take_mail (desk_of w) xs).event; choice = (take_mail (desk_of w) xs).choice; desk = (take_mail (desk_of w) xs).desk; thing = things_of w.index s })
       (inbox_seen vs s.seats.items w.index (visible w) sound.alone.seat suits.seen sound.alone.there sound.alone.inbox)) in
       same_again w w' s s' e same (subst (λ y. Steps left spot w s e y s) (sym is) (subst (λ y. Steps left spot w s y (record w { place = to_callbacks }) s) (sym makes.event) done))

@@ -1,9 +1,5 @@
 -- A record that is marked, as released or as one that has paid: what is named by it stays.
-use Rattle.std.proofs.Common.{◌≡◌, ℕ, ◌==◌, Bool, true, false, List, [], ◌∷◌, length, Option, Some, None, IsSome, refl, sym, ap, subst, ◌∙◌, arith}
-use Rattle.std.proofs.lemmas.Bool.Decides.{nat_tests}
-use Rattle.std.proofs.lemmas.List.{length-set}
-use Rattle.std.specs.Prelude.{slice_get, slice_set, if◌then◌else◌}
-use Rattle.std.specs.Option.{option_map}
+use Rattle.std.{proofs.{Common.{◌≡◌, ℕ, ◌==◌, Bool, true, false, List, [], ◌∷◌, length, Option, Some, None, IsSome, refl, sym, ap, subst, ◌∙◌, arith, slice_get, slice_set, if◌then◌else◌}, lemmas.{Bool.Decides.nat_tests, List.length-set}}, specs.Option.option_map}
 use Rattle.exec_base.specs.{Slab.{Slab, value_at}, declared.slab.Id.Id}
 use Rattle.exec_time.specs.declared.timers.Sleeper.{Sleeper as Sleeping}
 use Rattle.exec_waiters.specs.States.{waiter_at}
@@ -11,8 +7,7 @@ use Rattle.exec_ring.specs.Rings.{RingState}
 use Rattle.exec_driver.specs.Driving.{Driving}
 use Rattle.exec_machine.specs.{declared.config.Configuration.Configuration, Tests.{is_asleep, is_resolved, is_staged}}
 use Rattle.exec_moves.specs.declared.place.InService.{InService}
-use Rattle.exec_steps.specs.{declared.parts.{mail.Reply.Reply, names.Names.Names, record.Record.Record, sleeping.SleeperRecord.SleeperRecord, worker.Moments.Moments}, Calls.{paying, releasing, sleeper_paying}, Records.number_in, Serving.{AreKnown, changed_in, changed_at, is_one_of}, Sound.{IsNamed, IsAlike, IsSubmitted}, Due.{IsDue, IsTimed, AreTimed, AreAsleep, IsAsleepAs}}
-use Rattle.exec_steps.proofs.Flying.{get_set, get_changed}
+use Rattle.exec_steps.{specs.{declared.parts.{mail.Reply.Reply, names.Names.Names, record.Record.Record, sleeping.SleeperRecord.SleeperRecord, worker.Moments.Moments}, Calls.{paying, releasing, sleeper_paying}, Records.number_in, Serving.{AreKnown, changed_in, changed_at, is_one_of}, Sound.{IsNamed, IsAlike, IsSubmitted}, Due.{IsDue, IsTimed, AreTimed, AreAsleep, IsAsleepAs}}, proofs.Flying.{get_set, get_changed}}
 
 -- A mark changes only what was paid and released.
 abbrev pub Marks : (Record → Record) → Type 0

@@ -1,24 +1,14 @@
 -- One more request is queued: what holds again of the requests.
-use Rattle.std.proofs.Common.{◌≡◌, ◌≢◌, ◌⊎◌, ℕ, ◌+◌, ◌<◌, ◌≤◌, Bool, true, false, List, [], ◌∷◌, ◌++◌, length, Option, Some, None, IsSome, refl, sym, ap, subst, ◌∙◌, arith, inl, inr}
-use Rattle.std.proofs.lemmas.Bool.{false≢true}
-use Rattle.std.proofs.lemmas.List.{length-append}
-use Rattle.std.proofs.lemmas.Option.{slice_get_within}
-use Rattle.std.specs.Prelude.{slice_get, is_some}
-use Rattle.std.specs.List.{AllByRecursion}
-use Rattle.std.specs.VecDeque.{deque_capacity}
+use Rattle.std.{proofs.{Common.{◌≡◌, ◌≢◌, ◌⊎◌, ℕ, ◌+◌, ◌<◌, ◌≤◌, Bool, true, false, List, [], ◌∷◌, ◌++◌, length, Option, Some, None, IsSome, refl, sym, ap, subst, ◌∙◌, arith, inl, inr, slice_get, is_some}, lemmas.{Bool.false≢true, List.length-append, Option.slice_get_within}}, specs.{List.AllByRecursion, VecDeque.deque_capacity}}
 use Rattle.exec_base.specs.{Slab.{Slab, value_at, next_id, IsPast}, declared.slab.Id.Id}
 use Rattle.exec_request.specs.{Requests.{asked_of, cursor_of, deadline_of, target_of}, declared.request.Request.Request as Asking}
 use Rattle.exec_ring.specs.{Rings.RingState, Stores.Reserves, declared.store.Store.Store}
 use Rattle.exec_time.specs.declared.timers.Sleeper.{Sleeper as Sleeping}
-use Rattle.exec_waiters.proofs.Changes.{entry_of}
-use Rattle.exec_waiters.specs.{States.{awaits_tick, waiter_at, waiter_of, tick_in, tick_of}, declared.waiter.{Entry.TheVariants.{Pending, Ready}, Waiter.Waiter}}
+use Rattle.exec_waiters.{proofs.Changes.entry_of, specs.{States.{awaits_tick, waiter_at, waiter_of, tick_in, tick_of}, declared.waiter.{Entry.TheVariants.{Pending, Ready}, Waiter.Waiter}}}
 use Rattle.exec_driver.specs.{Driving.{Driving, is_cancelled, is_unenrolled}, Lists.is_among, Placed.ListsRequests, Punctual.IsPunctual, Steps.footprint_of}
-use Rattle.exec_machine.specs.{declared.state.Operation.Operation, Requests.{new_request, asked_of as asked_in}, Tests.{is_in_flight, is_resolved, is_staged}}
-use Rattle.exec_machine.specs.declared.state.RequestPhase.TheVariants as phase
-use Rattle.exec_machine.specs.declared.state.Waiting.TheVariants as waiting
+use Rattle.exec_machine.specs.{declared.state.{Operation.Operation, RequestPhase.RequestPhase, Waiting.Waiting}, Requests.{new_request, asked_of as asked_in}, Tests.{is_in_flight, is_resolved, is_staged}}
 use Rattle.exec_moves.specs.declared.place.InService.{InService}
-use Rattle.exec_steps.specs.{declared.parts.{mail.Reply.Reply, names.Names.Names, record.Record.Record, sleeping.SleeperRecord.SleeperRecord}, Carried.IsCarried, Due.AreTimed, Flown.{AreLanded, HasFlown, IsPlain, operations}, Ordered.IsOrdered, Records.number_in, Rooted.Holds, Scripts.IsPlainRequest, Serving.is_one_of, Sound.{AreOver, IsAlike, IsNamed, IsSubmitted}}
-use Rattle.exec_steps.proofs.{Flown.{AllFlyOn, landed_on}, Admitted.{carried_joined, plain_whole, room_made}, Conveying.carried_ring, Late.stands, Orders.{Eases, comes_in, joins}, Over.in_append, Taken.{Takes, got_new, got_old, name_apart, number_new, number_old, past_still, slot_apart, some_still, value_before, value_new, value_old, was_got, apart_or_same, enrolled_if, among_before, among_now, one_before, one_now, all_listed, known_more}}
+use Rattle.exec_steps.{specs.{declared.parts.{mail.Reply.Reply, names.Names.Names, record.Record.Record, sleeping.SleeperRecord.SleeperRecord}, Carried.IsCarried, Due.AreTimed, Flown.{AreLanded, HasFlown, IsPlain, operations}, Ordered.IsOrdered, Records.number_in, Rooted.Holds, Scripts.IsPlainRequest, Serving.is_one_of, Sound.{AreOver, IsAlike, IsNamed, IsSubmitted}}, proofs.{Flown.{AllFlyOn, landed_on}, Admitted.{carried_joined, plain_whole, room_made}, Conveying.carried_ring, Late.stands, Orders.{Eases, comes_in, joins}, Over.in_append, Taken.{Takes, got_new, got_old, name_apart, number_new, number_old, past_still, slot_apart, some_still, value_before, value_new, value_old, was_got, apart_or_same, enrolled_if, among_before, among_now, one_before, one_now, all_listed, known_more}}}
 
 -- A request came in under this name, queued, with the next number.
 pub record OneComes (i : ℕ) (n n' : Names) (d d' : Driving Reply Reply) (rs : List Record) (id : Id) (it : Waiter Reply Reply) (r : Record) : Type 0 where
@@ -37,7 +27,7 @@ pub record OneComes (i : ℕ) (n n' : Names) (d d' : Driving Reply Reply) (rs : 
   pub room : n'.unreleased ≤ deque_capacity n'.ended
   pub name : r.id.0 ≡ id
   pub o : Operation
-  pub shown : r.shown ≡ record (new_request i o) { phase = phase.Queued }
+  pub shown : r.shown ≡ record (new_request i o) { phase = RequestPhase.Queued }
   pub alike : IsAlike d.wheel.start d.wheel.tick it r.shown
   pub plain : IsPlain r.shown
   pub lists : ListsRequests d
@@ -68,7 +58,7 @@ module _ (i : ℕ) (n n' : Names) (d d' : Driving Reply Reply) (zs : Slab (Sleep
   pub number_there : (other : Id) → IsSome (value_at d.requests other) → number_in n'.requests.items other ≡ number_in n.requests.items other
   number_there other some = number_old n.requests.items n'.requests.items id (length rs) one.number_is one.others other (slot_apart d.requests d'.requests id (Pending it) one.takes other some)
 
-  queued : r.shown.phase ≡ phase.Queued
+  queued : r.shown.phase ≡ RequestPhase.Queued
   queued = ap (λ x. x.phase) one.shown
 
   unresolved : is_resolved r.shown.phase ≡ false
@@ -281,7 +271,7 @@ module _ (i : ℕ) (n n' : Names) (d d' : Driving Reply Reply) (zs : Slab (Sleep
 
   -- WHAT THE ROOT HOLDS
 
-  pub holds_next : (t : ℕ) (holding : List ℕ) (over : Bool) → over ≡ false → IsNamed i n d zs rs ss → Holds false i t holding waiting.Nothing over n d zs rs ss → Holds false i t (holding ++ length rs ∷ []) waiting.Nothing over n' d' zs (rs ++ r ∷ []) ss
+  pub holds_next : (t : ℕ) (holding : List ℕ) (over : Bool) → over ≡ false → IsNamed i n d zs rs ss → Holds false i t holding Waiting.Nothing over n d zs rs ss → Holds false i t (holding ++ length rs ∷ []) Waiting.Nothing over n' d' zs (rs ++ r ∷ []) ss
   holds_next t holding over going named holds =
       record {
         counted = omega (arith, one.held, holds.counted, length-append holding (length rs ∷ []));

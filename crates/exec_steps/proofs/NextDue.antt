@@ -1,18 +1,13 @@
 -- What is due next of a worker is what the machine says: the earliest of its requests' deadlines and of its sleepers.
-use Rattle.std.proofs.Common.{◌≡◌, ℕ, zero, suc, ◌+◌, ◌*◌, ◌≤◌, ◌<◌, ◌==◌, ◌&&◌, Bool, true, false, not, List, [], ◌∷◌, map, Option, Some, None, IsSome, refl, sym, ap, subst, ◌∙◌, arith}
-use Rattle.std.proofs.lemmas.Bool.{false≢true, eq-eqb, and_parts, and_from, cases_Bool}
-use Rattle.std.proofs.lemmas.Bool.Decides.{nat_tests}
-use Rattle.std.specs.Prelude.{slice_get, is_some, if◌then◌else◌}
-use Rattle.std.specs.Option.{option_map}
+use Rattle.std.{proofs.{Common.{◌≡◌, ℕ, ◌+◌, ◌*◌, ◌≤◌, ◌==◌, Bool, true, false, not, List, [], ◌∷◌, map, Option, Some, None, IsSome, refl, sym, ap, subst, ◌∙◌, arith, slice_get, if◌then◌else◌}, lemmas.Bool.{false≢true, eq-eqb, Decides.nat_tests}}, specs.Option.option_map}
 use Rattle.exec_base.specs.{Slab.{Slab, value_at}, declared.slab.Id.Id}
-use Rattle.exec_time.specs.{Sleepers.{IsEmpty, IsFirst, deadline_at}, Wheel.{IsSettled, Wheel, moment_of, next_moment, least_active}, declared.timers.Sleeper.Sleeper as Sleeping}
-use Rattle.exec_waiters.specs.{States.{waiter_at, waiter_of, tick_in, tick_of}, declared.{waiter.{Entry.Entry, Waiter.Waiter}, waiter_id.WaiterId.WaiterId}}
-use Rattle.exec_driver.specs.{Driving.{Driving, request_at}, Lists.has_first, Punctual.IsFirstTick}
+use Rattle.exec_time.specs.{Wheel.{Wheel, moment_of, next_moment, least_active}, declared.timers.Sleeper.Sleeper as Sleeping}
+use Rattle.exec_waiters.specs.{States.{waiter_at, waiter_of, tick_in, tick_of}, declared.waiter.{Entry.Entry, Waiter.Waiter}}
+use Rattle.exec_driver.specs.{Driving.Driving, Lists.has_first, Punctual.IsFirstTick}
 use Rattle.exec_task.specs.declared.body.Said.{Said}
-use Rattle.exec_machine.specs.{declared.state.{Request.Request, Sleeper.Sleeper}, Deadlines.{earlier, first_timer, first_until, next_due}, Progress.Plan, Tests.{is_asleep, is_open, is_resolved}}
-use Rattle.exec_steps.specs.{declared.parts.{mail.Reply.Reply, names.Names.Names, record.Record.Record, shared.Shared.Shared, sleeping.SleeperRecord.SleeperRecord, worker.Worker.Worker}, Due.{AreAsleep, AreTimed, may_be_due}, Records.number_in, Sound.{IsNamed, SoundAt, served_in}, Spots.Spot, Tests.{HasToldDue, IsFirstSleep, IsNextIn, IsNextMoment}, View.{Visible, visible, driver_of, common_of}, Works.Suits}
+use Rattle.exec_machine.specs.{Deadlines.{earlier, first_timer, first_until, next_due}, Progress.Plan, Tests.{is_asleep, is_open, is_resolved}}
+use Rattle.exec_steps.{specs.{declared.parts.{mail.Reply.Reply, names.Names.Names, record.Record.Record, shared.Shared.Shared, sleeping.SleeperRecord.SleeperRecord, worker.Worker.Worker}, Due.{AreAsleep, AreTimed, may_be_due}, Records.number_in, Sound.{IsNamed, SoundAt, served_in}, Spots.Spot, Tests.{HasToldDue, IsFirstSleep, IsNextIn, IsNextMoment}, View.{Visible, driver_of, common_of}, Works.Suits}, proofs.{Leasts.{HasAt, IsLeast, least_in, least_there, least_once}, Seats.own_seat}}
 use Rattle.exec_moves.specs.declared.place.Place.{Place}
-use Rattle.exec_steps.proofs.{Leasts.{HasAt, IsLeast, least_in, least_there, least_once}, Seats.own_seat}
 
 -- THE MACHINE'S MOMENTS
 

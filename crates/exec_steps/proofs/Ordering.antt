@@ -1,20 +1,10 @@
 -- What is due first at the driver is what the machine tells first.
-use Rattle.std.proofs.Common.{◌≡◌, ◌≢◌, ◌⊎◌, ℕ, zero, suc, ◌+◌, ◌-◌, ◌*◌, ◌/◌, ◌%◌, ◌<◌, ◌≤◌, ◌==◌, ◌&&◌, ◌||◌, Bool, true, false, not, List, [], ◌∷◌, map, Option, Some, None, refl, sym, ap, subst, ◌∙◌, arith, inl, inr}
-use Rattle.std.proofs.lemmas.Bool.{false≢true, eq-eqb}
-use Rattle.std.proofs.lemmas.Bool.Decides.{nat_tests}
-use Rattle.std.proofs.Math.Nat.{le-div_iff_mul-le, mul-div_cancel}
-use Rattle.std.specs.List.{AllByRecursion}
-use Rattle.std.specs.Prelude.{slice_get, nat_le, nat_lt, if◌then◌else◌}
-use Rattle.std.specs.Option.{option_map}
+use Rattle.std.{proofs.{Common.{◌≡◌, ◌≢◌, ◌⊎◌, ℕ, zero, suc, ◌+◌, ◌-◌, ◌*◌, ◌/◌, ◌%◌, ◌<◌, ◌≤◌, ◌==◌, ◌&&◌, ◌||◌, Bool, true, false, not, List, [], ◌∷◌, map, Option, Some, None, refl, sym, ap, subst, ◌∙◌, arith, inl, inr, slice_get, nat_le, nat_lt, if◌then◌else◌}, lemmas.{Bool.{false≢true, eq-eqb, Decides.nat_tests}, Option.slice_get-map}, Math.Nat.{le-div_iff_mul-le, mul-div_cancel}}, specs.{List.AllByRecursion, Option.option_map}}
 use Rattle.exec_waiters.specs.declared.waiter_id.WaiterId.{WaiterId}
-use Rattle.exec_driver.proofs.Names.{same_tells}
-use Rattle.exec_driver.specs.Lists.{first_of, rest_of, is_among}
+use Rattle.exec_driver.{proofs.Names.same_tells, specs.Lists.{first_of, rest_of, is_among}}
 use Rattle.exec_machine.specs.{declared.{config.Configuration.Configuration, state.Request.Request}, Ranges.wheel_slots, Deadlines.{is_due, is_first_due, is_told_after, is_told_before, order_on_wheel}, Tests.all_numbered}
 use Rattle.exec_moves.specs.Serve.{first_numbered}
-use Rattle.exec_moves.specs.declared.place.InService.TheVariants as step
-use Rattle.exec_steps.specs.{declared.parts.{record.Record.Record, shared.Shared.Shared, worker.Worker.Worker}, Ordered.{IsToldBefore, Pairwise, tick_at, turn_of, went_round}, Records.number_in, Submitting.{IsDueIn, IsInOrder}, View.{driver_of, own_of}}
-use Rattle.exec_steps.proofs.{Calling.request_seen, Expiring.{DueAt, due_first}, Idling.stands_timed, Staging.{among_first, split_first}}
-use Rattle.std.proofs.lemmas.Option.{slice_get-map}
+use Rattle.exec_steps.{specs.{declared.parts.{record.Record.Record, shared.Shared.Shared, worker.Worker.Worker}, Ordered.{IsToldBefore, Pairwise, tick_at, turn_of, went_round}, Records.number_in, Submitting.{IsDueIn, IsInOrder}, View.{driver_of, own_of}}, proofs.{Calling.request_seen, Expiring.{DueAt, due_first}, Idling.stands_timed, Staging.{among_first, split_first}}}
 
 -- TESTS OVER A LIST
 

@@ -1,16 +1,9 @@
 -- What keeps the order of deadlines: that ticks go, that one comes, that a new request waits for one.
-use Rattle.std.proofs.Common.{◌≡◌, ◌≢◌, ◌⊎◌, ℕ, ◌+◌, ◌%◌, ◌^◌, ◌<◌, eqb, Bool, true, false, List, [], ◌∷◌, ◌++◌, Option, Some, None, IsSome, refl, sym, ap, subst, ◌∙◌, arith, inl, inr}
-use Rattle.std.proofs.lemmas.Bool.{false≢true}
-use Rattle.std.proofs.lemmas.Bool.Decides.{eqb_tells}
-use Rattle.std.specs.List.{AllByRecursion}
-use Rattle.std.specs.Prelude.{if◌then◌else◌, length, nat_lt}
-use Rattle.exec_base.specs.{Slab.{Slab, IsPast, freed, generation_of, next_generation, next_id, next_index, removed, slot_at, value_at, written}, declared.slab.{Id.Id, Slot.TheVariants.Live}}
-use Rattle.exec_base.proofs.Slots.{Changed-set, IsLiveAt-from_value, id_cases, live_within, ltb_tells, past-write, was_live}
+use Rattle.std.{proofs.{Common.{◌≡◌, ◌≢◌, ◌⊎◌, ℕ, ◌+◌, ◌%◌, ◌^◌, ◌<◌, eqb, Bool, true, false, List, [], ◌∷◌, ◌++◌, Option, Some, None, IsSome, refl, sym, ap, subst, ◌∙◌, arith, inl, inr, if◌then◌else◌, length, nat_lt}, lemmas.Bool.{false≢true, Decides.eqb_tells}}, specs.List.AllByRecursion}
+use Rattle.exec_base.{specs.{Slab.{Slab, IsPast, freed, generation_of, next_generation, next_id, next_index, removed, slot_at, value_at, written}, declared.slab.{Id.Id, Slot.TheVariants.Live}}, proofs.Slots.{Changed-set, IsLiveAt-from_value, id_cases, live_within, ltb_tells, past-write, was_live}}
 use Rattle.exec_time.specs.Wheel.{Wheel, fresh, scheduled, removed as unticked}
-use Rattle.exec_waiters.proofs.Changes.{entry_of}
-use Rattle.exec_waiters.specs.{Events.with_tick, States.{awaits_tick, takes_tick, tick_in, tick_of, waiter_at}, declared.{waiter.{Entry.{Entry, TheVariants.Pending}, Waiter.Waiter}, waiter_id.WaiterId.WaiterId}}
-use Rattle.exec_driver.specs.{Lists.{rest_of, without}, Steps.unscheduled}
-use Rattle.exec_driver.proofs.{Counting.{OneChanged, one_written}, Names.same_tells}
+use Rattle.exec_waiters.{proofs.Changes.entry_of, specs.{Events.with_tick, States.{awaits_tick, takes_tick, tick_in, tick_of, waiter_at}, declared.{waiter.{Entry.{Entry, TheVariants.Pending}, Waiter.Waiter}, waiter_id.WaiterId.WaiterId}}}
+use Rattle.exec_driver.{specs.{Lists.{rest_of, without}, Steps.unscheduled}, proofs.{Counting.{OneChanged, one_written}, Names.same_tells}}
 use Rattle.exec_steps.specs.{declared.parts.mail.Reply.Reply, Ordered.{HasCome, IsOlder, IsOrdered, IsToldBefore, Pairwise, StandsBefore, StandsIn, tick_at}, Records.number_in}
 
 -- PARTS OF A LIST

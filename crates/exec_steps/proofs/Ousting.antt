@@ -1,24 +1,15 @@
 -- All that holds again once a request is over, which the kernel doesn't have.
-use Rattle.std.proofs.Common.{◌≡◌, ◌≢◌, ℕ, ◌+◌, ◌≤◌, ◌==◌, Bool, true, false, List, [], ◌∷◌, ◌++◌, length, Option, Some, None, refl, sym, ap, subst, ◌∙◌, arith}
-use Rattle.std.proofs.lemmas.Bool.{false≢true}
-use Rattle.std.proofs.lemmas.Bool.Decides.{nat_tests}
-use Rattle.std.proofs.lemmas.List.{append-nil}
-use Rattle.std.specs.Prelude.{slice_get}
-use Rattle.std.specs.VecDeque.{deque_capacity}
-use Rattle.exec_base.specs.{Slab.{Slab, live_count, value_at}, declared.{slab.Id.Id, task_no.TaskNo.TaskNo}}
+use Rattle.std.{proofs.{Common.{◌≡◌, ◌≢◌, ℕ, ◌+◌, ◌≤◌, ◌==◌, Bool, true, false, List, [], ◌∷◌, ◌++◌, Option, Some, None, refl, sym, ap, subst, ◌∙◌, arith, slice_get}, lemmas.{Bool.{false≢true, Decides.nat_tests}, List.append-nil}}, specs.VecDeque.deque_capacity}
+use Rattle.exec_base.specs.{Slab.{Slab, value_at}, declared.{slab.Id.Id, task_no.TaskNo.TaskNo}}
 use Rattle.exec_outcomes.specs.declared.outcome.Outcome.{Outcome}
 use Rattle.exec_request.specs.declared.{output.RequestOutput.RequestOutput, request.Request.Request as Asking}
 use Rattle.exec_ring.specs.Rings.{RingState}
 use Rattle.exec_time.specs.declared.timers.Sleeper.{Sleeper as Sleeping}
-use Rattle.exec_waiters.specs.{Events.{output_told, waker_in}, Ids.user_data_of, States.{is_held_by, pending_count, waiter_of}, Told.{Tells, Told, tasks_of}, declared.{deferred.Deferred.Deferred, observer.Observer.{Observer, TheVariants.{Local, Orphaned}}, waiter.Waiter.Waiter}}
-use Rattle.exec_waiters.proofs.Changes.{entry_of}
+use Rattle.exec_waiters.{specs.{Events.waker_in, Ids.user_data_of, States.{is_held_by, pending_count, waiter_of}, Told.{Tells, Told, tasks_of}, declared.{deferred.Deferred.Deferred, observer.Observer.{Observer, TheVariants.{Local, Orphaned}}, waiter.Waiter.Waiter}}, proofs.Changes.entry_of}
 use Rattle.exec_driver.specs.{Driving.Driving, Lists.withdrawn, Punctual.IsPunctual}
-use Rattle.exec_machine.specs.declared.state.Waiting.TheVariants as waiting
-use Rattle.exec_machine.specs.{Ranges.ring_size, Tests.{is_in_flight, is_resolved, is_staged}, declared.state.RequestPhase.RequestPhase}
-use Rattle.exec_machine.specs.declared.state.RequestPhase.TheVariants as phase
+use Rattle.exec_machine.specs.{Tests.{is_in_flight, is_staged}, declared.state.RequestPhase.RequestPhase}
 use Rattle.exec_moves.specs.declared.place.Place.{Place}
-use Rattle.exec_steps.specs.{declared.parts.{mail.Reply.Reply, names.Names.Names, record.Record.Record, shared.Shared.Shared, sleeping.SleeperRecord.SleeperRecord, task_slot.TaskSlot.TaskSlot, worker.Worker.Worker}, Carried.{IsCarried, IsUnderWay, those_of}, Due.{IsDue, IsWheelAt, may_be_due, wheel_moment}, Flown.{AreAcks, AreLanded, HasFlown, IsPlain, operations, passes_permit}, Ordered.{IsOrdered, went_round}, Phased.is_complete, Records.number_in, Rooted.{Holds, IsNear, ends_poll, outcome_told}, Serving.{AreTagged, cancels_in, changed_at, is_one_of}, Sound.{AreOwed, IsNamed, IsSubmitted, IsTold, has_wakes_at, map_waker, served_in, tellers}}
-use Rattle.exec_steps.proofs.{Carries.carried_over, Conveying.carried_ring, Leaving.{changes_ended, flown_over, landed_still, owed_ended, owed_still}, Marking.{mark_if, was_marked}, Over.{OneEnds, is_over, kept_worker, named_ended, over_ended, timed_ended, unresolved_before, apart_number, gone_here}, Orders.{IsPartOf, TurnsAlike, eased, eases_one, part_without}, Resolving.{ToldOnce, places_fewer, told_ended}, Rooted.rooted_changed, Serving.KeepsBy, Staging.known_then}
+use Rattle.exec_steps.{specs.{declared.parts.{mail.Reply.Reply, names.Names.Names, record.Record.Record, shared.Shared.Shared, sleeping.SleeperRecord.SleeperRecord, task_slot.TaskSlot.TaskSlot, worker.Worker.Worker}, Carried.{IsCarried, IsUnderWay, those_of}, Due.{IsWheelAt, may_be_due, wheel_moment}, Flown.{AreAcks, AreLanded, IsPlain, operations, passes_permit}, Ordered.{IsOrdered, went_round}, Records.number_in, Rooted.{IsNear, ends_poll, outcome_told}, Serving.{AreTagged, cancels_in, changed_at, is_one_of}, Sound.{AreOwed, IsSubmitted, has_wakes_at, map_waker, served_in, tellers}}, proofs.{Carries.carried_over, Conveying.carried_ring, Leaving.{changes_ended, flown_over, landed_still, owed_ended, owed_still}, Marking.{mark_if, was_marked}, Over.{OneEnds, is_over, kept_worker, named_ended, over_ended, timed_ended, unresolved_before, apart_number, gone_here}, Orders.{IsPartOf, TurnsAlike, eased, eases_one, part_without}, Resolving.{ToldOnce, places_fewer, told_ended}, Rooted.rooted_changed, Serving.KeepsBy, Staging.known_then}}
 
 -- what was put to be told of a request that is over: a wake of the task that waits for it, if any
 pub record TellsEnd (o : Observer Reply Reply) (t : Told Reply Reply) : Type 0 where
@@ -36,8 +27,8 @@ waits_by (Some n) u h =
 
 -- the kernel has nothing of it where it isn't in flight
 nothing_has : (p : RequestPhase) (u : ℕ) (q : Asking) (r : RingState) → is_in_flight p ≡ false → IsUnderWay p u q r → (those_of u r.flying ≡ []) × (those_of u r.staged ≡ [])
-nothing_has phase.Staged u q r idle h = absurd (false≢true (sym idle))
-nothing_has phase.Flying u q r idle h = absurd (false≢true (sym idle))
+nothing_has RequestPhase.Staged u q r idle h = absurd (false≢true (sym idle))
+nothing_has RequestPhase.Flying u q r idle h = absurd (false≢true (sym idle))
 nothing_has _ u q r idle h = h
 
 module _ {B : Type 0} (w : Worker) (s : Shared B) (d d' : Driving Reply Reply) (zs : Slab (Sleeping Reply)) (rs : List Record) (ss : List SleeperRecord) (id : Id) (it : Waiter Reply Reply) (r : Record) (f : Record → Record) (outcome : Outcome) (told : RequestOutput)

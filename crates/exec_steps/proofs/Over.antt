@@ -1,22 +1,13 @@
 -- What holds again once a request is over, which the kernel doesn't have.
-use Rattle.std.proofs.Common.{◌≡◌, ◌≢◌, ◌⊎◌, ℕ, zero, suc, ◌+◌, ◌<◌, ◌≤◌, ◌==◌, ◌||◌, Bool, true, false, List, [], ◌∷◌, ◌++◌, length, Option, Some, None, IsSome, refl, sym, ap, subst, ◌∙◌, arith, inl, inr}
-use Rattle.std.proofs.lemmas.Bool.{false≢true, eq-eqb}
-use Rattle.std.proofs.lemmas.Bool.Decides.{nat_tests}
-use Rattle.std.proofs.lemmas.List.{length-append, length-set}
-use Rattle.std.proofs.lemmas.Option.{slice_get_within}
-use Rattle.std.specs.Prelude.{slice_get, is_some}
-use Rattle.std.specs.VecDeque.{deque_capacity}
-use Rattle.exec_base.specs.{Slab.{Slab, value_at, live_count}, declared.{slab.Id.Id, task_no.TaskNo.TaskNo}}
-use Rattle.exec_base.proofs.Slots.{id_cases}
-use Rattle.exec_outcomes.specs.{Accounts.Account, declared.outcome.Outcome.Outcome}
-use Rattle.exec_request.specs.{Requests.output_of, States.Ended, declared.output.RequestOutput.RequestOutput}
+use Rattle.std.proofs.{Common.{◌≡◌, ◌≢◌, ◌⊎◌, ℕ, zero, suc, ◌+◌, ◌==◌, Bool, true, false, List, [], ◌∷◌, ◌++◌, length, Option, Some, None, IsSome, refl, sym, ap, subst, ◌∙◌, arith, inl, inr, slice_get}, lemmas.{Bool.{false≢true, eq-eqb, Decides.nat_tests}, List.length-append}}
+use Rattle.exec_base.{specs.{Slab.{Slab, value_at}, declared.slab.Id.Id}, proofs.Slots.id_cases}
+use Rattle.exec_outcomes.specs.declared.outcome.Outcome.{Outcome}
+use Rattle.exec_request.specs.declared.output.RequestOutput.{RequestOutput}
 use Rattle.exec_time.specs.declared.timers.Sleeper.{Sleeper as Sleeping}
-use Rattle.exec_waiters.proofs.Changes.{entry_of}
-use Rattle.exec_waiters.specs.{Events.told_by_finish, States.{waiter_at, waiter_of, pending_count}, Told.Tells, declared.{deferred.Deferred.Deferred, observer.Observer.{Observer, TheVariants.{Local, Orphaned}}, waiter.{Entry.{Entry, TheVariants.{Pending, Ready}}, Waiter.Waiter}, waiter_id.WaiterId.WaiterId}}
-use Rattle.exec_driver.specs.{Driving.Driving, Steps.ended}
-use Rattle.exec_machine.specs.{declared.state.RequestPhase.TheVariants.Resolved, Tests.{is_resolved, is_staged}}
-use Rattle.exec_steps.specs.{declared.parts.{mail.Reply.Reply, names.Names.Names, record.Record.Record, sleeping.SleeperRecord.SleeperRecord}, Due.AreTimed, Records.number_in, Serving.{changed_at, is_one_of}, Sound.{AreOver, IsNamed, IsAlike, IsSubmitted}}
-use Rattle.exec_steps.proofs.{Marking.{mark_if, marked, was_marked, marked_length}, Resolving.{EntryAfter, SlabAfter}, Staging.known_then}
+use Rattle.exec_waiters.{proofs.Changes.entry_of, specs.{States.{waiter_at, waiter_of}, declared.{observer.Observer.{Observer, TheVariants.{Local, Orphaned}}, waiter.{Entry.{Entry, TheVariants.Pending}, Waiter.Waiter}}}}
+use Rattle.exec_driver.specs.Driving.{Driving}
+use Rattle.exec_machine.specs.{declared.state.RequestPhase.TheVariants.Resolved, Tests.is_resolved}
+use Rattle.exec_steps.{specs.{declared.parts.{mail.Reply.Reply, names.Names.Names, record.Record.Record, sleeping.SleeperRecord.SleeperRecord}, Due.AreTimed, Records.number_in, Serving.changed_at, Sound.{AreOver, IsNamed, IsAlike, IsSubmitted}}, proofs.{Marking.{mark_if, marked, was_marked}, Resolving.{EntryAfter, SlabAfter}}}
 
 same_number : (a b : ℕ) → (a == b) ≡ true → a ≡ b
 same_number a b h = grind (arith, nat_tests)

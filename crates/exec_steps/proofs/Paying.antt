@@ -1,24 +1,13 @@
 -- What pays a wake: a request or a sleeper that is over.
-use Rattle.std.proofs.Common.{◌≡◌, inl, ℕ, ◌+◌, ◌==◌, ◌&&◌, ◌||◌, Bool, true, false, not, List, [], ◌∷◌, map, Option, Some, None, refl, sym, ap, subst, ◌∙◌, arith}
-use Rattle.std.proofs.lemmas.Bool.{false≢true, eq-eqb}
-use Rattle.std.proofs.lemmas.Bool.Decides.{nat_tests}
-use Rattle.std.proofs.lemmas.List.{map-set}
-use Rattle.std.proofs.lemmas.Option.{get_or_from_slice_get, slice_get-map}
-use Rattle.std.specs.Prelude.{slice_get, slice_set, slice_index_or, if◌then◌else◌}
-use Rattle.std.specs.Option.{option_map}
+use Rattle.std.{proofs.{Common.{◌≡◌, inl, ℕ, ◌+◌, ◌==◌, ◌&&◌, ◌||◌, Bool, true, false, not, List, [], ◌∷◌, map, Option, Some, None, refl, sym, ap, subst, ◌∙◌, arith, slice_get, slice_set, slice_index_or, if◌then◌else◌}, lemmas.{Bool.{false≢true, eq-eqb, Decides.nat_tests}, List.map-set, Option.{get_or_from_slice_get, slice_get-map}}}, specs.Option.option_map}
 use Rattle.exec_base.specs.Slab.{Slab}
 use Rattle.exec_time.specs.declared.timers.Sleeper.{Sleeper as Sleeping}
 use Rattle.exec_waiters.specs.States.{pending_count}
 use Rattle.exec_driver.specs.Driving.{Driving}
 use Rattle.exec_task.specs.declared.body.Said.{Said}
-use Rattle.exec_task.specs.declared.task.Phase.TheVariants as cell
 use Rattle.exec_machine.specs.{declared.{event.Event.{Event, TheVariants.Wake}, state.{Waiting.Waiting, Request.Request, Sleeper.Sleeper, Forwarding.Forwarding}}, After.common_after, Same.is_number, Tasks.{may_wake, request_owes, sleeper_owes, may_pay, is_unpaid, is_woken_here}, Tests.{AllTrue, is_resolved, is_open, is_unsent}, World.{Task, Open, Common, seat_of, request_of, sleeper_of, no_sleeper}}
-use Rattle.exec_machine.specs.declared.state.Waiting.TheVariants as waiting
-use Rattle.exec_moves.specs.{declared.place.AfterCallbacks.AfterCallbacks, Callback.payer_of}
-use Rattle.exec_moves.specs.declared.place.InCallbacks.TheVariants as callback
-use Rattle.exec_moves.specs.declared.place.Place.TheVariants as at
-use Rattle.exec_steps.specs.{declared.parts.{mail.Reply.Reply, names.Names.Names, record.Record.Record, shared.Shared.Shared, sleeping.SleeperRecord.SleeperRecord, worker.Worker.Worker}, Calls.{paying, sleeper_paying, sleeper_paid_in, records_paid, sleepers_paid}, Records.number_in, Serving.changed_at, Phased.is_complete, Rooted.Holds, Sound.{SoundAt, IsNamed, AreOver, OwesWake}, Spots.Spot, Tests.next_callback_of, View.{own_of, driver_of, common_of, open_seen, task_seen}, Works.Steps}
-use Rattle.exec_steps.proofs.{Calling.{request_seen, shown_changed}, Carries.carried_marked, Flying.get_set, Keys.{same_opens, names_kept}, Marking.{pays, named_marked, due_marked, due_paid, marked, mark_if}, Flown.flown_marked, Rooted.{Changes, holds_changed, holds_paid}, Waking.{HasWoken, owed_root, task_there, tasks_woken, woken_with}}
+use Rattle.exec_moves.specs.{declared.place.{AfterCallbacks.AfterCallbacks, InCallbacks.InCallbacks, Place.Place}, Callback.payer_of}
+use Rattle.exec_steps.{specs.{declared.parts.{mail.Reply.Reply, names.Names.Names, record.Record.Record, shared.Shared.Shared, sleeping.SleeperRecord.SleeperRecord, worker.Worker.Worker}, Calls.{paying, sleeper_paying, sleeper_paid_in, records_paid, sleepers_paid}, Records.number_in, Serving.changed_at, Phased.is_complete, Rooted.Holds, Sound.{SoundAt, IsNamed, AreOver, OwesWake}, Spots.Spot, Tests.next_callback_of, View.{own_of, driver_of, common_of, open_seen, task_seen}, Works.Steps}, proofs.{Calling.{request_seen, shown_changed}, Carries.carried_marked, Flying.get_set, Keys.{same_opens, names_kept}, Marking.{pays, named_marked, due_marked, due_paid, marked, mark_if}, Flown.flown_marked, Rooted.{Changes, holds_changed, holds_paid}, Waking.{HasWoken, owed_root, task_there, tasks_woken, woken_with}}}
 
 -- WHAT PAYS
 
@@ -104,7 +93,7 @@ request_paid n rs m d r there over =
     }
 
 timer_paid : (zs : List SleeperRecord) (n : ℕ) (z : SleeperRecord) → slice_get zs n ≡ Some z → (i t : ℕ) (held : List ℕ) (over : Bool) (m : Names) (d : Driving Reply Reply) (ts : Slab (Sleeping Reply)) (rs : List Record)
-    → (z.shown.fired || z.shown.removed) ≡ true → Holds false i t held (waiting.Timer n) over m d ts rs zs → Holds false i t held (waiting.Timer n) over m d ts rs (slice_set zs n (sleeper_paying z))
+    → (z.shown.fired || z.shown.removed) ≡ true → Holds false i t held (Waiting.Timer n) over m d ts rs zs → Holds false i t held (Waiting.Timer n) over m d ts rs (slice_set zs n (sleeper_paying z))
 timer_paid zs n z there i t held over m d ts rs ended holds =
     let same : holds.waits.0 ≡ z = cc (holds.waits.1, there) in
     let kept : z.shown.removed ≡ false = sym (ap (λ y. y.shown.removed) same) ∙ holds.waits.2.kept in
@@ -120,15 +109,15 @@ all_seen : (all : Common) (ts ts' : List Task) (qs qs' : List Request) (zs zs' :
 all_seen all ts ts' qs qs' zs zs' os os' a b c d = rw (a, b, c, d) refl
 
 module _ {B L : Type 0} (left : B → L) (spot : L → Option Said → Spot) where
-  by_waiting : (x : AfterCallbacks) (w w' : Worker) (s s' : Shared B) (e : Event) → SoundAt (at.Callbacks callback.CallBack x) w s → e ≡ Wake w.root → w'.place ≡ next_callback_of x w'
+  by_waiting : (x : AfterCallbacks) (w w' : Worker) (s s' : Shared B) (e : Event) → SoundAt (Place.Callbacks InCallbacks.CallBack x) w s → e ≡ Wake w.root → w'.place ≡ next_callback_of x w'
       → w.home.deferred.notes.wakes.items ≡ record { 0 = w.root } ∷ [] → (it : HasWoken w w' s s') → (what : Waiting) → it.slot.waiting ≡ what
       → OwesWake w.index w.root what s.requests.items s.sleepers.items → Steps left spot w s e w' s'
-  by_waiting x w w' s s' e sound event place only it (waiting.Request n) wait owes =
+  by_waiting x w w' s s' e sound event place only it (Waiting.Request n) wait owes =
       let rs = s.requests.items in
       let requests : s'.requests.items ≡ changed_at rs n paying = it.requests ∙ ap (λ what. records_paid what rs) wait in
       let sleepers : s'.sleepers.items ≡ s.sleepers.items = it.sleepers ∙ ap (λ what. sleepers_paid what s.sleepers.items) wait in
       let home : it.slot.home ≡ Some w.index = ap (λ slot. slot.home) (let same : it.slot ≡ sound.runnable.root = cc (it.there, sound.runnable.there) in same) ∙ sound.runnable.home in
-      let w0 : Worker = record w { place = at.Callbacks callback.CallBack x } in
+      let w0 : Worker = record w { place = Place.Callbacks InCallbacks.CallBack x } in
       woken_with left spot x w w' s s' e sound event place only it
       (rw (requests, sleepers) (named_marked paying rs n pays w.index w.names (driver_of w) w.home.timers s.sleepers.items sound.named))
       (rw requests (over_paying w.index w.names.ended.items w.names.unreleased (pending_count (driver_of w).requests) n rs sound.over))
@@ -154,12 +143,12 @@ module _ {B L : Type 0} (left : B → L) (spot : L → Option Said → Spot) whe
       (ap (map (λ r. r.shown)) requests ∙ shown_changed paying rs n owes.0 owes.1 ∙ ap (λ q. slice_set (map (λ r. r.shown) rs) n (paid_request q)) (sym request))
       (ap (map (λ z. z.shown)) sleepers)
       (ap (λ qs. map (open_seen qs) s.opens) requests ∙ same_opens rs (changed_at rs n paying) (names_kept rs n paying (λ r. refl)) s.opens)))
-  by_waiting x w w' s s' e sound event place only it (waiting.Timer n) wait owes =
+  by_waiting x w w' s s' e sound event place only it (Waiting.Timer n) wait owes =
       let zs = s.sleepers.items in
       let requests : s'.requests.items ≡ s.requests.items = it.requests ∙ ap (λ what. records_paid what s.requests.items) wait in
       let sleepers : s'.sleepers.items ≡ slice_set zs n (sleeper_paying owes.0) = it.sleepers ∙ ap (λ what. sleepers_paid what zs) wait ∙ ap (sleeper_paid_in zs n) owes.1 in
       let home : it.slot.home ≡ Some w.index = ap (λ slot. slot.home) (let same : it.slot ≡ sound.runnable.root = cc (it.there, sound.runnable.there) in same) ∙ sound.runnable.home in
-      let w0 : Worker = record w { place = at.Callbacks callback.CallBack x } in
+      let w0 : Worker = record w { place = Place.Callbacks InCallbacks.CallBack x } in
       woken_with left spot x w w' s s' e sound event place only it
       (rw (requests, sleepers) (named_sleeping w.index w.names (driver_of w) w.home.timers s.requests.items zs n owes.0 owes.1 sound.named))
       (rw requests sound.over)
@@ -188,12 +177,12 @@ module _ {B L : Type 0} (left : B → L) (spot : L → Option Said → Spot) whe
       (ap (map (λ r. r.shown)) requests)
       (ap (map (λ z. z.shown)) sleepers ∙ map-set (λ z. z.shown) zs n (sleeper_paying owes.0) ∙ ap (λ q. slice_set (map (λ z. z.shown) zs) n (paid_sleeper q)) (sym sleeper))
       (ap (λ qs. map (open_seen qs) s.opens) requests)))
-  by_waiting x w w' s s' e sound event place only it waiting.Nothing wait owes = absurd owes
-  by_waiting x w w' s s' e sound event place only it waiting.Wake wait owes = absurd owes
-  by_waiting x w w' s s' e sound event place only it waiting.Woken wait owes = absurd owes
-  by_waiting x w w' s s' e sound event place only it waiting.Yielded wait owes = absurd owes
+  by_waiting x w w' s s' e sound event place only it Waiting.Nothing wait owes = absurd owes
+  by_waiting x w w' s s' e sound event place only it Waiting.Wake wait owes = absurd owes
+  by_waiting x w w' s s' e sound event place only it Waiting.Woken wait owes = absurd owes
+  by_waiting x w w' s s' e sound event place only it Waiting.Yielded wait owes = absurd owes
 
-  pub awoken : (x : AfterCallbacks) (w w' : Worker) (s s' : Shared B) (e : Event) → SoundAt (at.Callbacks callback.CallBack x) w s → e ≡ Wake w.root → w'.place ≡ next_callback_of x w'
+  pub awoken : (x : AfterCallbacks) (w w' : Worker) (s s' : Shared B) (e : Event) → SoundAt (Place.Callbacks InCallbacks.CallBack x) w s → e ≡ Wake w.root → w'.place ≡ next_callback_of x w'
       → w.home.deferred.notes.wakes.items ≡ record { 0 = w.root } ∷ [] → HasWoken w w' s s' → Steps left spot w s e w' s'
   awoken x w w' s s' e sound event place only it =
       by_waiting x w w' s s' e sound event place only it it.slot.waiting refl

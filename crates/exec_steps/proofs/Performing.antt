@@ -1,35 +1,26 @@
 -- A cell in its poll; what a body runs and holds after its act; and what is seen of an act that got no memory.
-use Rattle.std.proofs.Common.{◌≡◌, ℕ, Bool, true, false, List, [], map, Option, Some, None, refl, sym, ap, subst, ◌∙◌}
-use Rattle.std.proofs.lemmas.Bool.{false≢true}
-use Rattle.std.proofs.lemmas.List.{map-set, set-get_or}
-use Rattle.std.proofs.lemmas.Option.{get_or_from_slice_get}
-use Rattle.std.specs.Prelude.{slice_get, slice_index_or, slice_set}
+use Rattle.std.proofs.{Common.{◌≡◌, ℕ, true, false, List, map, Option, Some, None, refl, sym, ap, subst, ◌∙◌, slice_get, slice_set}, lemmas.{Bool.false≢true, List.{map-set, set-get_or}, Option.get_or_from_slice_get}}
 use Rattle.exec_base.specs.declared.error.Error.TheVariants.{NoMemory}
 use Rattle.exec_task.specs.{Phases.{is_polled, woken as cell_woken}, Sight.Sight, declared.{body.{Act.Act, Said.Said}, runnable.Runnable.Runnable, task.Phase.Phase}}
-use Rattle.exec_task.specs.declared.body.Act.TheVariants as act
-use Rattle.exec_task.specs.declared.body.Said.TheVariants as said
-use Rattle.exec_task.specs.declared.task.Phase.TheVariants as cell
 use Rattle.exec_machine.specs.{declared.state.Waiting.Waiting, Progress.Plan, Tasks.woken_phase, World.Task}
-use Rattle.exec_machine.specs.declared.state.Waiting.TheVariants as waiting
-use Rattle.exec_steps.specs.{declared.parts.{shared.Shared.Shared, task_slot.TaskSlot.TaskSlot, worker.Worker.Worker}, Acting.{Performs, StillPerforms}, Hearing.{CanHear, held_once_come}, Phased.is_complete, Polls.yielded_slot, Scripts.{GoesOn, IsAnswer, held_after}, Sound.IsRunnable, Spots.{Spot, spot_of, standing_at}, View.{Visible, common_of, things_of, phase_seen, task_seen, spot_by, body_in}, Works.{Same, TurnsSlot}}
-use Rattle.exec_steps.proofs.Turning.{set_there}
+use Rattle.exec_steps.{specs.{declared.parts.{shared.Shared.Shared, task_slot.TaskSlot.TaskSlot, worker.Worker.Worker}, Acting.{Performs, StillPerforms}, Hearing.{CanHear, held_once_come}, Phased.is_complete, Polls.yielded_slot, Scripts.{GoesOn, IsAnswer, held_after}, Sound.IsRunnable, Spots.{Spot, spot_of, standing_at}, View.{common_of, things_of, phase_seen, task_seen, spot_by, body_in}, Works.{Same, TurnsSlot}}, proofs.Turning.set_there}
 
 -- A CELL IN ITS POLL
 
 module _ {B : Type 0} where
   pub in_poll : (p : Phase B) (o : Option B) → is_polled p ≡ true → body_in p o ≡ o
-  in_poll (cell.Idle b) o h = absurd (false≢true h)
-  in_poll (cell.Queued b) o h = absurd (false≢true h)
-  in_poll cell.Running o h = refl
-  in_poll cell.Notified o h = refl
-  in_poll cell.Complete o h = absurd (false≢true h)
+  in_poll (Phase.Idle b) o h = absurd (false≢true h)
+  in_poll (Phase.Queued b) o h = absurd (false≢true h)
+  in_poll Phase.Running o h = refl
+  in_poll Phase.Notified o h = refl
+  in_poll Phase.Complete o h = absurd (false≢true h)
 
   pub going_on : (p : Phase B) → is_polled p ≡ true → is_complete p ≡ false
-  going_on (cell.Idle b) h = refl
-  going_on (cell.Queued b) h = refl
-  going_on cell.Running h = refl
-  going_on cell.Notified h = refl
-  going_on cell.Complete h = absurd (false≢true h)
+  going_on (Phase.Idle b) h = refl
+  going_on (Phase.Queued b) h = refl
+  going_on Phase.Running h = refl
+  going_on Phase.Notified h = refl
+  going_on Phase.Complete h = absurd (false≢true h)
 
   pub run_on : (o : Option Runnable) (slot slot' : TaskSlot B) → is_polled slot.cell.phase ≡ true → is_polled slot'.cell.phase ≡ true → IsRunnable o slot → IsRunnable o slot'
   run_on None slot slot' before after run = λ b is. absurd (false≢true (sym (ap is_polled is) ∙ after))
@@ -43,11 +34,11 @@ module _ {B : Type 0} where
     pub complete : is_complete (cell_woken p) ≡ is_complete p
 
   pub wakes_as : (p : Phase B) (o : Option B) (i : ℕ) → is_polled p ≡ true → WakesAs p o i
-  wakes_as (cell.Idle b) o i h = absurd (false≢true h)
-  wakes_as (cell.Queued b) o i h = absurd (false≢true h)
-  wakes_as cell.Running o i h = record { shown = refl; same_body = refl; polled = refl; complete = refl }
-  wakes_as cell.Notified o i h = record { shown = refl; same_body = refl; polled = refl; complete = refl }
-  wakes_as cell.Complete o i h = absurd (false≢true h)
+  wakes_as (Phase.Idle b) o i h = absurd (false≢true h)
+  wakes_as (Phase.Queued b) o i h = absurd (false≢true h)
+  wakes_as Phase.Running o i h = record { shown = refl; same_body = refl; polled = refl; complete = refl }
+  wakes_as Phase.Notified o i h = record { shown = refl; same_body = refl; polled = refl; complete = refl }
+  wakes_as Phase.Complete o i h = absurd (false≢true h)
 
 -- WHAT IT RUNS AND HOLDS THEN
 
@@ -79,47 +70,47 @@ module _ {B L : Type 0} (left : B → L) (runs : L → Plan → Type 0) (holds :
 
   -- one that is told that there was no memory performs it still
   pub performs_refused : (p : Plan) (t : Task) (a : Act B) (slot' : TaskSlot B) (b' : B) → GoesOn runs holds spot gives p t a (left b') → body_in slot'.cell.phase slot'.body ≡ Some b'
-      → slot'.told ≡ Some (said.Refused NoMemory) → slot'.waiting ≡ waiting.Nothing → slot'.held.items ≡ t.held → Performs left runs holds p slot'
+      → slot'.told ≡ Some (Said.Refused NoMemory) → slot'.waiting ≡ Waiting.Nothing → slot'.held.items ≡ t.held → Performs left runs holds p slot'
   performs_refused p t a slot' b' goes body told nothing held =
       record {
         runs_it = λ b answer is hears. let same : b' ≡ b = cc (body, is) in subst (λ x. runs (left x) p) same goes.runs_on;
         holding = λ b answer is hears.
             let same : b' ≡ b = cc (body, is) in
-            let heard : CanHear (Some (said.Refused NoMemory)) slot'.waiting answer = subst (λ o. CanHear o slot'.waiting answer) told hears in
+            let heard : CanHear (Some (Said.Refused NoMemory)) slot'.waiting answer = subst (λ o. CanHear o slot'.waiting answer) told hears in
             ap (λ x. holds (left x) (Some answer)) (sym same) ∙ ap (λ y. holds (left b') (Some y)) heard ∙ goes.refused_holding ∙ sym held ∙ sym (ap (λ u. held_once_come u slot'.held.items) nothing);
       }
 
-  pub performs_passed : (p : Plan) (slot : TaskSlot B) (b' : B) → is_polled slot.cell.phase ≡ true → slot.waiting ≡ waiting.Nothing → GoesOn runs holds spot gives p (task_seen left spot slot) (act.Sleep 0) (left b')
-      → Performs left runs holds p (record slot { body = Some b'; told = Some said.Pass })
+  pub performs_passed : (p : Plan) (slot : TaskSlot B) (b' : B) → is_polled slot.cell.phase ≡ true → slot.waiting ≡ Waiting.Nothing → GoesOn runs holds spot gives p (task_seen left spot slot) (Act.Sleep 0) (left b')
+      → Performs left runs holds p (record slot { body = Some b'; told = Some Said.Pass })
   performs_passed p slot b' is nothing goes =
-      performs_on p (task_seen left spot slot) (act.Sleep 0) (record slot { body = Some b'; told = Some said.Pass }) b' goes (in_poll slot.cell.phase (Some b') is)
-      (λ answer hears. subst (λ y. IsAnswer {B = B} (act.Sleep 0) y × (held_after {B = B} (act.Sleep 0) y slot.held.items ≡ held_once_come slot.waiting slot.held.items)) (sym hears) (tt, sym (ap (λ u. held_once_come u slot.held.items) nothing)))
+      performs_on p (task_seen left spot slot) (Act.Sleep 0) (record slot { body = Some b'; told = Some Said.Pass }) b' goes (in_poll slot.cell.phase (Some b') is)
+      (λ answer hears. subst (λ y. IsAnswer {B = B} (Act.Sleep 0) y × (held_after {B = B} (Act.Sleep 0) y slot.held.items ≡ held_once_come slot.waiting slot.held.items)) (sym hears) (tt, sym (ap (λ u. held_once_come u slot.held.items) nothing)))
 
-  pub performs_waiting : (p : Plan) (slot : TaskSlot B) (b' : B) (r : Option ℕ) → is_polled slot.cell.phase ≡ true → GoesOn runs holds spot gives p (task_seen left spot slot) (act.Await r) (left b')
-      → Performs left runs holds p (record slot { body = Some b'; told = None; waiting = waiting.Wake })
+  pub performs_waiting : (p : Plan) (slot : TaskSlot B) (b' : B) (r : Option ℕ) → is_polled slot.cell.phase ≡ true → GoesOn runs holds spot gives p (task_seen left spot slot) (Act.Await r) (left b')
+      → Performs left runs holds p (record slot { body = Some b'; told = None; waiting = Waiting.Wake })
   performs_waiting p slot b' r is goes =
-      performs_on p (task_seen left spot slot) (act.Await r) (record slot { body = Some b'; told = None; waiting = waiting.Wake }) b' goes (in_poll slot.cell.phase (Some b') is) (woken_by r)
+      performs_on p (task_seen left spot slot) (Act.Await r) (record slot { body = Some b'; told = None; waiting = Waiting.Wake }) b' goes (in_poll slot.cell.phase (Some b') is) (woken_by r)
     where
-      woken_by : (o : Option ℕ) (answer : Said) → CanHear None waiting.Wake answer → IsAnswer {B = B} (act.Await o) answer × (held_after {B = B} (act.Await o) answer slot.held.items ≡ slot.held.items)
-      woken_by None said.Pass h = (tt, refl)
-      woken_by (Some k) said.Pass h = (tt, refl)
+      woken_by : (o : Option ℕ) (answer : Said) → CanHear None Waiting.Wake answer → IsAnswer {B = B} (Act.Await o) answer × (held_after {B = B} (Act.Await o) answer slot.held.items ≡ slot.held.items)
+      woken_by None Said.Pass h = (tt, refl)
+      woken_by (Some k) Said.Pass h = (tt, refl)
       woken_by o answer h = absurd h
 
-  pub performs_yielded : (p : Plan) (slot : TaskSlot B) (b' : B) → is_polled slot.cell.phase ≡ true → GoesOn runs holds spot gives p (task_seen left spot slot) act.Yield (left b')
+  pub performs_yielded : (p : Plan) (slot : TaskSlot B) (b' : B) → is_polled slot.cell.phase ≡ true → GoesOn runs holds spot gives p (task_seen left spot slot) Act.Yield (left b')
       → Performs left runs holds p (yielded_slot (record slot { body = Some b'; told = None }))
   performs_yielded p slot b' is goes =
       let wakes = wakes_as slot.cell.phase (Some b') slot.poller is in
-      performs_on p (task_seen left spot slot) act.Yield (yielded_slot (record slot { body = Some b'; told = None })) b' goes (wakes.same_body ∙ in_poll slot.cell.phase (Some b') is)
-      (λ answer hears. subst (λ y. IsAnswer {B = B} act.Yield y × (held_after {B = B} act.Yield y slot.held.items ≡ slot.held.items)) (sym hears) (tt, refl))
+      performs_on p (task_seen left spot slot) Act.Yield (yielded_slot (record slot { body = Some b'; told = None })) b' goes (wakes.same_body ∙ in_poll slot.cell.phase (Some b') is)
+      (λ answer hears. subst (λ y. IsAnswer {B = B} Act.Yield y × (held_after {B = B} Act.Yield y slot.held.items ≡ slot.held.items)) (sym hears) (tt, refl))
 
 -- WHERE THERE IS NO MEMORY
 
 module _ {B L : Type 0} (left : B → L) (spot : L → Option Said → Spot) where
   -- a body that is told so stands where it stood
-  pub unmoved_seen : (slot : TaskSlot B) (b' : B) → is_polled slot.cell.phase ≡ true → spot (left b') (Some (said.Refused NoMemory)) ≡ spot_of (task_seen left spot slot)
-      → task_seen left spot (record slot { body = Some b'; told = Some (said.Refused NoMemory) }) ≡ task_seen left spot slot
+  pub unmoved_seen : (slot : TaskSlot B) (b' : B) → is_polled slot.cell.phase ≡ true → spot (left b') (Some (Said.Refused NoMemory)) ≡ spot_of (task_seen left spot slot)
+      → task_seen left spot (record slot { body = Some b'; told = Some (Said.Refused NoMemory) }) ≡ task_seen left spot slot
   unmoved_seen slot b' is back =
-      ap (λ o. standing_at (spot_by left spot o (Some (said.Refused NoMemory))) (task_seen left spot slot)) (in_poll slot.cell.phase (Some b') is)
+      ap (λ o. standing_at (spot_by left spot o (Some (Said.Refused NoMemory))) (task_seen left spot slot)) (in_poll slot.cell.phase (Some b') is)
       ∙ ap (λ x. standing_at x (task_seen left spot slot)) back
 
   -- nothing is seen of a slot that became another which looks the same

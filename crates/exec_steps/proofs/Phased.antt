@@ -1,13 +1,7 @@
 -- How far a worker has come, where something of what that speaks of changes.
-use Rattle.std.proofs.Common.{◌≡◌, ℕ, ◌<◌, Bool, true, false, List, length, get_or, Option, Some, None, refl, sym, ap, subst, ◌∙◌}
-use Rattle.std.proofs.lemmas.Option.{slice_get_within, slice_get-get_or}
-use Rattle.std.proofs.lemmas.List.{get_or-set_same, length-set}
-use Rattle.std.proofs.lemmas.Bool.{false≢true}
-use Rattle.std.specs.Prelude.{slice_get, slice_set}
+use Rattle.std.proofs.{Common.{◌≡◌, ℕ, ◌<◌, Bool, true, false, List, length, get_or, Option, Some, None, refl, sym, ap, subst, ◌∙◌, slice_get, slice_set}, lemmas.{Option.{slice_get_within, slice_get-get_or}, List.{get_or-set_same, length-set}, Bool.false≢true}}
 use Rattle.exec_machine.specs.{declared.state.WorkerPhase.WorkerPhase, Tests.{is_open, has_ended}}
-use Rattle.exec_machine.specs.declared.state.WorkerPhase.TheVariants as worker
 use Rattle.exec_moves.specs.declared.place.InClosing.{InClosing}
-use Rattle.exec_moves.specs.declared.place.InClosing.TheVariants as closing
 use Rattle.exec_steps.specs.{declared.parts.task_slot.TaskSlot.TaskSlot, Phased.{IsPhased, Stage, is_complete, root_over}}
 
 pub same_thing : {A : Type 0} (x y : A) → Some x ≡ Some y → x ≡ y
@@ -26,9 +20,9 @@ found_before xs i k x y z there found =
     (get_or xs k z, slice_get-get_or xs k z within)
 
 not_ended : (p : WorkerPhase) → is_open p ≡ true → has_ended p ≡ false
-not_ended worker.Open h = refl
-not_ended worker.Closing h = absurd (false≢true h)
-not_ended worker.Ended h = absurd (false≢true h)
+not_ended WorkerPhase.Open h = refl
+not_ended WorkerPhase.Closing h = absurd (false≢true h)
+not_ended WorkerPhase.Ended h = absurd (false≢true h)
 
 module _ {B : Type 0} where
   -- the root's slot changes, and is over then or not
@@ -58,7 +52,7 @@ module _ {B : Type 0} where
 
   -- It is over by this, so the worker is about to close.
   pub phased_over : (told : Bool) (t n : ℕ) (st : Stage) (tasks : List (TaskSlot B)) (slot slot' : TaskSlot B)
-      → slice_get tasks t ≡ Some slot → is_complete slot'.cell.phase ≡ true → IsPhased false None told t n st tasks → IsPhased false (Some closing.Close) told t n st (slice_set tasks t slot')
+      → slice_get tasks t ≡ Some slot → is_complete slot'.cell.phase ≡ true → IsPhased false None told t n st tasks → IsPhased false (Some InClosing.Close) told t n st (slice_set tasks t slot')
   phased_over told t n st tasks slot slot' there over phased =
       record {
         told = phased.told;
@@ -94,7 +88,7 @@ module _ {B : Type 0} where
       }
 
   -- All requests are released, so the worker is about to end.
-  pub phased_end : (told : Bool) (t n m : ℕ) (st : Stage) (tasks : List (TaskSlot B)) → m ≡ 0 → IsPhased true None told t n st tasks → IsPhased true (Some closing.End) told t m st tasks
+  pub phased_end : (told : Bool) (t n m : ℕ) (st : Stage) (tasks : List (TaskSlot B)) → m ≡ 0 → IsPhased true None told t n st tasks → IsPhased true (Some InClosing.End) told t m st tasks
   phased_end told t n m st tasks none phased =
       record {
         told = phased.told;

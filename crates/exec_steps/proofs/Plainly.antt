@@ -1,15 +1,10 @@
 -- Plain requests: polls, and sends of one part.
-use Rattle.std.proofs.Common.{◌≡◌, ℕ, ◌+◌, ◌≤◌, Bool, true, false, List, [], length, Option, Some, None, IfSome, refl, sym, ap, subst, ◌∙◌, arith}
-use Rattle.std.proofs.lemmas.Bool.{false≢true}
-use Rattle.std.specs.Prelude.{if◌then◌else◌, nat_le}
-use Rattle.exec_outcomes.specs.{Accounts.is_durable, Outcomes.HasCome, declared.outcome.{Judged.Judged, Outcome.TheVariants.Failure}}
-use Rattle.exec_outcomes.specs.declared.outcome.Kind.TheVariants as kind
+use Rattle.std.proofs.{Common.{◌≡◌, ℕ, ◌+◌, ◌≤◌, Bool, true, false, List, [], length, Option, Some, None, IfSome, refl, sym, ap, subst, ◌∙◌, arith, if◌then◌else◌, nat_le}, lemmas.Bool.false≢true}
+use Rattle.exec_outcomes.specs.{Accounts.is_durable, Outcomes.HasCome, declared.outcome.{Judged.Judged, Outcome.TheVariants.Failure, Kind.Kind}}
 use Rattle.exec_base.specs.declared.error.Error.TheVariants.{Timeout}
 use Rattle.exec_request.specs.{Requests.{asked_of, cursor_of, deadline_of, gate_of, hinted_of}, Buffers.{length_of, moved_of}, declared.{buffers.WriteBuffers.{WriteBuffers, TheVariants.{Single, Vectored}}, request.Request.Request as Asking, send.SendRequest.SendRequest}}
-use Rattle.exec_request.specs.declared.request.Request.TheVariants as asks
 use Rattle.exec_driver.specs.Steps.{is_late, plainly_written}
 use Rattle.exec_machine.specs.{declared.{config.{Configuration.Configuration, ScriptWord.ScriptWord}, state.Operation.Operation}, Requests.{operation_asked, outcome_if_late, asked_of as asked_in}, Same.{same_end, same_kind}, Tests.is_of_file, World.no_operation}
-use Rattle.exec_machine.specs.declared.config.ScriptWord.TheVariants as word
 use Rattle.exec_steps.specs.{Flown.{IsUpTo, longest}, Records.plain_operation, Scripts.{IsOnePart, IsPlainRequest}, Spots.IsAskedFor}
 
 -- no file has to do with them
@@ -18,7 +13,7 @@ pub record IsPlainly (q : Asking) : Type 0 where
   pub gateless : gate_of q ≡ None
   pub unwritten : plainly_written q ≡ None
   pub fileless : is_of_file (asked_of q).kind ≡ false
-  pub no_write : same_kind (asked_of q).kind kind.Write ≡ false
+  pub no_write : same_kind (asked_of q).kind Kind.Write ≡ false
   pub same : same_kind (asked_of q).kind (asked_of q).kind ≡ true
   pub unhinted : hinted_of q ≡ false
   pub asked_same : asked_in (plain_operation q) ≡ asked_of q
@@ -27,7 +22,7 @@ pub record IsPlainly (q : Asking) : Type 0 where
   pub unswitched : (cursor_of q).switched ≡ false
   pub bounded : IsUpTo (longest (asked_of q).kind) (asked_of q).length
 
-plain_send : (s : SendRequest) (b : WriteBuffers) → s.write ≡ b → IsOnePart b → IsPlainly (asks.Send s)
+plain_send : (s : SendRequest) (b : WriteBuffers) → s.write ≡ b → IsOnePart b → IsPlainly (Asking.Send s)
 plain_send s (Single bytes offset) is plain =
     let unmoved : moved_of s.write ≡ 0 = ap moved_of is ∙ plain.0 in
     let long : length_of s.write ≡ length bytes = ap length_of is in
@@ -48,8 +43,8 @@ plain_send s (Single bytes offset) is plain =
 plain_send s (Vectored bufs chunk offset remaining) is plain = absurd plain
 
 pub plainly : (q : Asking) → IsPlainRequest q → IsPlainly q
-plainly (asks.Send s) plain = plain_send s s.write refl plain
-plainly (asks.Poll p) plain =
+plainly (Asking.Send s) plain = plain_send s s.write refl plain
+plainly (Asking.Poll p) plain =
     record {
       undurable = refl;
       gateless = refl;
@@ -64,11 +59,11 @@ plainly (asks.Poll p) plain =
       unswitched = refl;
       bounded = omega arith;
     }
-plainly (asks.Recv r) plain = absurd plain
-plainly (asks.ReadAt r) plain = absurd plain
-plainly (asks.WriteAt w) plain = absurd plain
-plainly (asks.Sync s) plain = absurd plain
-plainly (asks.Connect c) plain = absurd plain
+plainly (Asking.Recv r) plain = absurd plain
+plainly (Asking.ReadAt r) plain = absurd plain
+plainly (Asking.WriteAt w) plain = absurd plain
+plainly (Asking.Sync s) plain = absurd plain
+plainly (Asking.Connect c) plain = absurd plain
 
 -- THE OPERATION
 
@@ -87,18 +82,18 @@ by_word c m w o asked plain = by w asked
     of_file x is file = let same : x ≡ o = cc in absurd (false≢true (sym plain ∙ ap (λ y. is_of_file y.kind) (sym same) ∙ file))
 
     by : (w : ScriptWord) → operation_asked c m w ≡ Some o → IsSocketOnly c m o
-    by (word.Poll l) is = of_one _ is (record { only = refl; near = omega arith })
-    by (word.Send s n) is = of_one _ is (record { only = refl; near = omega arith })
-    by (word.Recv s n) is = of_one _ is (record { only = refl; near = omega arith })
-    by (word.Fill s n) is = of_one _ is (record { only = refl; near = omega arith })
-    by (word.Connect s) is = of_one _ is (record { only = refl; near = omega arith })
-    by (word.Read f x n) is = of_file _ is refl
-    by (word.Hint f x n) is = of_file _ is refl
-    by (word.Direct f x n) is = of_file _ is refl
-    by (word.Write f x n) is = of_file _ is refl
-    by (word.Dsync f x n) is = of_file _ is refl
-    by (word.Many f x n) is = of_file _ is refl
-    by (word.Sync f) is = of_file _ is refl
+    by (ScriptWord.Poll l) is = of_one _ is (record { only = refl; near = omega arith })
+    by (ScriptWord.Send s n) is = of_one _ is (record { only = refl; near = omega arith })
+    by (ScriptWord.Recv s n) is = of_one _ is (record { only = refl; near = omega arith })
+    by (ScriptWord.Fill s n) is = of_one _ is (record { only = refl; near = omega arith })
+    by (ScriptWord.Connect s) is = of_one _ is (record { only = refl; near = omega arith })
+    by (ScriptWord.Read f x n) is = of_file _ is refl
+    by (ScriptWord.Hint f x n) is = of_file _ is refl
+    by (ScriptWord.Direct f x n) is = of_file _ is refl
+    by (ScriptWord.Write f x n) is = of_file _ is refl
+    by (ScriptWord.Dsync f x n) is = of_file _ is refl
+    by (ScriptWord.Many f x n) is = of_file _ is refl
+    by (ScriptWord.Sync f) is = of_file _ is refl
     by _ is = absurd (cc)
 
 module _ (c : Configuration) (m : ℕ) (w : ScriptWord) (q : Asking) (o : Operation) (plain : IsPlainRequest q) (asked : operation_asked c m w ≡ Some o) (fits : IsAskedFor o q) where

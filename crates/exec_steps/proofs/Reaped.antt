@@ -1,15 +1,10 @@
 -- What a reaping finds: no operation that has landed, or the first of those that have.
-use Rattle.std.proofs.Common.{◌≡◌, ℕ, ◌+◌, ◌<◌, ◌≤◌, ◌&&◌, Bool, true, false, List, [], ◌∷◌, length, Option, Some, None, refl, sym, ap, subst, ◌∙◌, arith}
-use Rattle.std.proofs.lemmas.Bool.{false≢true}
-use Rattle.std.proofs.lemmas.Bool.Decides.{nat_tests}
-use Rattle.std.specs.Prelude.{slice_get, nat_le}
-use Rattle.exec_outcomes.specs.{Lawful.{is_lawful, window_in, window_of}, Outcomes.bytes_of, declared.outcome.{Kind.Kind, OpResult.{OpResult, TheVariants.{Count, Errno}}}}
-use Rattle.exec_outcomes.specs.declared.outcome.Kind.TheVariants as kind
+use Rattle.std.proofs.Common.{◌≡◌, ℕ, true, false, List, [], ◌∷◌, Option, Some, None, refl, sym, ap, subst, ◌∙◌}
+use Rattle.exec_outcomes.specs.declared.outcome.Kind.{Kind}
 use Rattle.exec_ring.specs.{Completions.result_in, Kernels.{is_quiet, next_completion}, declared.completion.Completion.Completion}
 use Rattle.exec_waiters.specs.{States.{file_of, waiter_at}, declared.deferred.Deferred.Deferred}
 use Rattle.exec_driver.specs.{Driving.Driving, Opens.{OpenState, account_in}, Steps.{ReapsFrom, ReapsNext, completed_in, permit_after, swept, told_as, with_landings}, declared.driver.reaping.Reaped.Reaped}
-use Rattle.exec_steps.specs.{declared.parts.{mail.Reply.Reply, names.Names.Names, record.Record.Record}, Flown.{AreLanded, HasLanded, IsUpTo, longest, operations}, Records.has_one_part}
-use Rattle.exec_steps.proofs.{Finding.completed_is, Swept.{NextIs, SweepsTo, none_next, some_next, sweeps, operations_posted, told_in}}
+use Rattle.exec_steps.{specs.{declared.parts.{mail.Reply.Reply, names.Names.Names, record.Record.Record}, Flown.{AreLanded, HasLanded, IsUpTo, longest, operations}, Records.has_one_part}, proofs.{Finding.completed_is, Swept.{none_next, some_next, sweeps, operations_posted, told_in}}}
 
 -- THE FIRST THAT HAS LANDED
 
@@ -91,6 +86,6 @@ module _ (n : Names) (d d' : Driving Reply Reply) (rs : List Record) (opens open
 -- WHAT IS ASKED OF ITS RECORD
 
 pub one_part_of : (k : Kind) (n : ℕ) → IsUpTo (longest k) n → has_one_part k ≡ true
-one_part_of kind.Poll n h = refl
-one_part_of kind.Send n h = refl
+one_part_of Kind.Poll n h = refl
+one_part_of Kind.Send n h = refl
 one_part_of _ n h = absurd h

@@ -1,38 +1,28 @@
 -- What it is to the machine that a task takes the output that it waited for.
-use Rattle.std.proofs.Common.{◌≡◌, ◌⊎◌, ⊎_elim, ℕ, ◌+◌, ◌-◌, ◌<◌, ◌≤◌, ◌==◌, ◌&&◌, ◌||◌, Bool, true, false, List, [], ◌∷◌, ◌++◌, length, take, Option, Some, None, IsSome, refl, sym, ap, subst, ◌∙◌, inl, arith, length-append}
-use Rattle.std.proofs.lemmas.Bool.{false≢true, eq-eqb}
-use Rattle.std.proofs.lemmas.Option.{slice_get_within}
-use Rattle.std.specs.Prelude.{option_to_list, slice_get, slice_set, if◌then◌else◌}
+use Rattle.std.proofs.{Common.{◌≡◌, ◌⊎◌, ⊎_elim, ℕ, ◌+◌, ◌-◌, ◌<◌, ◌==◌, ◌&&◌, ◌||◌, Bool, true, false, List, [], ◌∷◌, ◌++◌, length, take, Option, Some, None, IsSome, refl, sym, ap, subst, ◌∙◌, inl, arith, length-append, option_to_list, slice_get, slice_set, if◌then◌else◌}, lemmas.{Bool.{false≢true, eq-eqb}, Option.slice_get_within}}
 use Rattle.exec_base.specs.{Slab.{value_at, removed}, declared.{error.{Cause.Cause, Error.Error}, task_no.TaskNo.TaskNo}}
-use Rattle.exec_base.specs.declared.error.Cause.TheVariants as cause
-use Rattle.exec_base.specs.declared.error.Error.TheVariants as error
 use Rattle.exec_outcomes.specs.declared.outcome.Outcome.{Outcome, TheVariants.{Success, Failure}}
 use Rattle.exec_request.specs.declared.output.RequestOutput.{RequestOutput}
-use Rattle.exec_time.specs.declared.timers.Observation.TheVariants as observation
 use Rattle.exec_waiters.specs.{Events.{seen_by, taken, taken_from}, States.may_be_seen, declared.waiter.Entry.{Entry, TheVariants.Ready}}
 use Rattle.exec_driver.specs.Punctual.{IsPunctual}
 use Rattle.exec_task.specs.{Phases.is_polled, declared.body.Said.Said}
-use Rattle.exec_task.specs.declared.body.Said.TheVariants as said
-use Rattle.exec_machine.specs.{After.{own_after, common_after}, Allowed.allowed, declared.{event.Event.{Event, TheVariants.Got}, state.{Forwarding.TheVariants.Unsent, Request.Request, RequestPhase.{RequestPhase, TheVariants.{Gated, Queued, Staged, Flying, Landed, Resolved}}}}, Choice.Choice.Plain, Progress.Plan, Same.{is_number, same_cause, same_error}, Tasks.{after_taking, is_here, polls_waiting, without_newest}, Tests.{AllTrue, is_resolved, is_resolved_with, waits_for_nothing, waits_for_request}, Words.{acts, asks_await, moved_on, newest_held}, World.{Task, Common, task_of, request_of}}
-use Rattle.exec_machine.specs.declared.state.Waiting.TheVariants as waiting
+use Rattle.exec_machine.specs.{After.{own_after, common_after}, Allowed.allowed, declared.{event.Event.{Event, TheVariants.Got}, state.{Forwarding.TheVariants.Unsent, Request.Request, RequestPhase.{RequestPhase, TheVariants.{Gated, Queued, Staged, Flying, Landed, Resolved}}, Waiting.Waiting}}, Choice.Choice.Plain, Progress.Plan, Same.{is_number, same_cause, same_error}, Tasks.{after_taking, is_here, polls_waiting, without_newest}, Tests.{AllTrue, is_resolved, is_resolved_with, waits_for_nothing, waits_for_request}, Words.{acts, asks_await, moved_on, newest_held}, World.{Task, Common, task_of, request_of}}
 use Rattle.exec_moves.specs.{declared.place.{InPoll.InPoll, Place.Place}, Move.move_at, Poll.{resume, acts_on}, State.{Desk, does}}
-use Rattle.exec_moves.specs.declared.place.InPoll.TheVariants as poll
-use Rattle.exec_moves.specs.declared.place.Place.TheVariants as at
-use Rattle.exec_steps.specs.{declared.parts.{mail.Reply.Reply, names.Names.Names, record.Record.Record, shared.Shared.Shared, task_slot.TaskSlot.TaskSlot, worker.Worker.Worker}, Phased.is_complete, Polls.{IsReady, OfSlot, TookOutput, unobserved}, Records.number_in, Rooted.{Awaits, ends_poll}, Scripts.IsAnswered, Serving.{changed_at, changed_in}, Sound.{Sound, SoundAt, IsTold, Stands, acts_next, polled_in, tellers}, Spots.Spot, View.{Visible, visible, own_of, desk_of, driver_of, common_of, things_of, task_seen, body_in}, Works.{Works, Suits, Steps}}
-use Rattle.exec_steps.proofs.{Awaiting.{acted_worker, common_acted, desk_acted, sound_acted}, Calling.request_seen, Getting.{Without, get_last, same_flying, same_pending, without_last}, Hearing.{hears_come, hears_so}, Letting.{KeepsActing, keeps_acting, let_shared, let_worker, lets_ready}, Newest.{held_newest, kept_output}, Polling.on_in_poll, Resolving.{live_less, places_fewer}, Seeing.{makes, own_with}, Taking.spot_answered, Turning.set_there, Waking.task_there}
+use Rattle.exec_steps.{specs.{declared.parts.{mail.Reply.Reply, names.Names.Names, record.Record.Record, shared.Shared.Shared, task_slot.TaskSlot.TaskSlot, worker.Worker.Worker}, Phased.is_complete, Polls.{IsReady, OfSlot, TookOutput, unobserved}, Records.number_in, Rooted.{Awaits, ends_poll}, Scripts.IsAnswered, Serving.{changed_at, changed_in}, Sound.{Sound, SoundAt, IsTold, Stands, acts_next, polled_in, tellers}, Spots.Spot, View.{Visible, visible, own_of, desk_of, driver_of, common_of, things_of, task_seen, body_in}, Works.{Works, Suits, Steps}}, proofs.{Awaiting.{acted_worker, common_acted, desk_acted, sound_acted}, Calling.request_seen, Getting.{Without, get_last, same_flying, same_pending, without_last}, Hearing.{hears_come, hears_so}, Letting.{KeepsActing, keeps_acting, let_shared, let_worker, lets_ready}, Newest.{held_newest, kept_output}, Polling.on_in_poll, Resolving.{live_less, places_fewer}, Seeing.{makes, own_with}, Taking.spot_answered, Turning.set_there, Waking.task_there}}
+use Rattle.exec_time.specs.declared.timers.Observation.{Observation}
 
-same_request : (j k : ℕ) → waiting.Request j ≡ waiting.Request k → j ≡ k
+same_request : (j k : ℕ) → Waiting.Request j ≡ Waiting.Request k → j ≡ k
 same_request j k h = cc
 
 -- a look at a request that is over
-looks_at : (t k : ℕ) (s : Common) (d : Desk) (it : Task) (r : Request) (outcome : Outcome) → it.waiting ≡ waiting.Request k → request_of s k ≡ r → r.phase ≡ Resolved outcome → resume t s d it ≡ does (Got k outcome) (acts_on t d) it
+looks_at : (t k : ℕ) (s : Common) (d : Desk) (it : Task) (r : Request) (outcome : Outcome) → it.waiting ≡ Waiting.Request k → request_of s k ≡ r → r.phase ≡ Resolved outcome → resume t s d it ≡ does (Got k outcome) (acts_on t d) it
 looks_at t k s d it r outcome waits found is = rw (waits, found, is) refl
 
 -- a task may look at an output, and takes it then
 pub may_see : {o : Option (Entry Reply Reply)} → (told : RequestOutput) → o ≡ Some (Ready told) → may_be_seen o ≡ true
 may_see {o} told is = rw is refl
 
-pub seen_ready : {o : Option (Entry Reply Reply)} → (task : TaskNo) (told : RequestOutput) → o ≡ Some (Ready told) → seen_by task o ≡ observation.Ready told
+pub seen_ready : {o : Option (Entry Reply Reply)} → (task : TaskNo) (told : RequestOutput) → o ≡ Some (Ready told) → seen_by task o ≡ Observation.Ready told
 seen_ready {o} task told is = rw is refl
 
 -- without the last
@@ -50,51 +40,51 @@ module _ {B : Type 0} where
     pub there : slice_get s.tasks.items w.root ≡ Some slot
     pub request : slice_get s.requests.items k ≡ Some r
     pub newest : slice_get slot.held.items (length slot.held.items - 1) ≡ Some k
-    pub waits : (slot.waiting ≡ waiting.Request k) ⊎ (slot.waiting ≡ waiting.Nothing)
-    pub worker : w' ≡ record w { place = at.Poll w.root poll.Act; names = record w.names { held = w.names.held - 1 }; home = record w.home { driver = w'.home.driver } }
+    pub waits : (slot.waiting ≡ Waiting.Request k) ⊎ (slot.waiting ≡ Waiting.Nothing)
+    pub worker : w' ≡ record w { place = Place.Poll w.root InPoll.Act; names = record w.names { held = w.names.held - 1 }; home = record w.home { driver = w'.home.driver } }
     pub driver : driver_of w' ≡ record (driver_of w) { requests = taken (driver_of w).requests r.id.0 }
     pub punctual : IsPunctual (driver_of w) → IsPunctual (driver_of w')
     pub requests : s'.requests.items ≡ changed_at s.requests.items k unobserved
     pub tasks : s'.tasks.items ≡ slice_set s.tasks.items w.root slot'
     pub kept : s' ≡ record s { tasks = s'.tasks; requests = s'.requests }
     pub output : RequestOutput
-    pub took : slot' ≡ record slot { body = slot'.body; held = slot'.held; waiting = waiting.Nothing; told = Some (said.Output output) }
+    pub took : slot' ≡ record slot { body = slot'.body; held = slot'.held; waiting = Waiting.Nothing; told = Some (Said.Output output) }
     pub body : IsSome slot'.body
     pub held : slot.held.items ≡ slot'.held.items ++ k ∷ []
 
 same_cause_self : (x : Cause) → same_cause x x ≡ true
-same_cause_self (cause.Code n) = eq-eqb n n refl
-same_cause_self cause.InvalidInput = refl
-same_cause_self cause.Closed = refl
+same_cause_self (Cause.Code n) = eq-eqb n n refl
+same_cause_self Cause.InvalidInput = refl
+same_cause_self Cause.Closed = refl
 
 both_true : (a b : Bool) → a ≡ true → b ≡ true → (a && b) ≡ true
 both_true a b h k = rw (h, k) refl
 
 same_error_self : (x : Error) → same_error x x ≡ true
-same_error_self (error.Io c) = same_cause_self c
-same_error_self (error.BlobSyncFailed n c) = both_true (n == n) (same_cause c c) (eq-eqb n n refl) (same_cause_self c)
-same_error_self (error.BlobResizeFailed n c) = both_true (n == n) (same_cause c c) (eq-eqb n n refl) (same_cause_self c)
-same_error_self error.Timeout = refl
-same_error_self error.Closed = refl
-same_error_self error.SendFailed = refl
-same_error_self error.RecvFailed = refl
-same_error_self error.ReadFailed = refl
-same_error_self error.WriteFailed = refl
-same_error_self error.ConnectionFailed = refl
-same_error_self error.BindFailed = refl
-same_error_self error.BlobInsufficientLength = refl
-same_error_self error.OffsetOverflow = refl
-same_error_self error.NoMemory = refl
-same_error_self error.Full = refl
+same_error_self (Error.Io c) = same_cause_self c
+same_error_self (Error.BlobSyncFailed n c) = both_true (n == n) (same_cause c c) (eq-eqb n n refl) (same_cause_self c)
+same_error_self (Error.BlobResizeFailed n c) = both_true (n == n) (same_cause c c) (eq-eqb n n refl) (same_cause_self c)
+same_error_self Error.Timeout = refl
+same_error_self Error.Closed = refl
+same_error_self Error.SendFailed = refl
+same_error_self Error.RecvFailed = refl
+same_error_self Error.ReadFailed = refl
+same_error_self Error.WriteFailed = refl
+same_error_self Error.ConnectionFailed = refl
+same_error_self Error.BindFailed = refl
+same_error_self Error.BlobInsufficientLength = refl
+same_error_self Error.OffsetOverflow = refl
+same_error_self Error.NoMemory = refl
+same_error_self Error.Full = refl
 
 resolved_self : (outcome : Outcome) → is_resolved_with outcome (Resolved outcome) ≡ true
 resolved_self Success = refl
 resolved_self (Failure x) = same_error_self x
 
 module _ {B : Type 0} where
-  sound_got : (x : InPoll) (k : ℕ) (r : Record) (slot slot' : TaskSlot B) (w w' : Worker) (s s' : Shared B) (told : RequestOutput) → polled_in (at.Poll w.root x) ≡ Some x → ends_poll (Some x) ≡ false → w.hand ≡ None → SoundAt (at.Poll w.root x) w s → HasGot k r slot slot' w w' s s'
+  sound_got : (x : InPoll) (k : ℕ) (r : Record) (slot slot' : TaskSlot B) (w w' : Worker) (s s' : Shared B) (told : RequestOutput) → polled_in (Place.Poll w.root x) ≡ Some x → ends_poll (Some x) ≡ false → w.hand ≡ None → SoundAt (Place.Poll w.root x) w s → HasGot k r slot slot' w w' s s'
       → is_resolved r.shown.phase ≡ true → value_at (driver_of w).requests r.id.0 ≡ Some (Ready told)
-      → SoundAt (at.Poll w.root poll.Act) (record w { place = at.Poll w.root poll.Act; names = record w.names { held = w.names.held - 1 }; home = record w.home { driver = w'.home.driver } }) (let_shared s s')
+      → SoundAt (Place.Poll w.root InPoll.Act) (record w { place = Place.Poll w.root InPoll.Act; names = record w.names { held = w.names.held - 1 }; home = record w.home { driver = w'.home.driver } }) (let_shared s s')
   sound_got x k r slot slot' w w' s s' told polled going hand sound it over ready =
       let d = driver_of w in
       let id = r.id.0 in
@@ -106,23 +96,23 @@ module _ {B : Type 0} where
       let live = live_less d.requests id (rw ready refl) in
       let room : IsTold w.names.ended.items w.home.deferred (tellers (driver_of w').requests w.home.timers) = subst (λ y. IsTold w.names.ended.items w.home.deferred (tellers y.requests w.home.timers)) (sym drv) (places_fewer (omega (arith, pending, live)) sound.told) in
       let without = subst (λ xs. Without xs slot'.held.items (number_in w.names.requests.items id)) (sym (it.held ∙ ap (λ q. slot'.held.items ++ q ∷ []) (sym number))) (without_last slot'.held.items (number_in w.names.requests.items id)) in
-      let no_timer : (z : ℕ) → slot.waiting ≡ waiting.Timer z → ⊥ = λ z e. ⊎_elim (λ a. absurd (cc (a, e))) (λ a. absurd (cc (a, e))) it.waits in
-      let request : (q : ℕ) → slot.waiting ≡ waiting.Request q → q ≡ number_in w.names.requests.items id = λ q e. ⊎_elim (λ a. let same : waiting.Request q ≡ waiting.Request k = sym e ∙ a in same_request q k same ∙ sym number) (λ a. absurd (cc (a, e))) it.waits in
-      let waits : slot'.waiting ≡ waiting.Nothing = ap (λ (o : TaskSlot B). o.waiting) it.took in
+      let no_timer : (z : ℕ) → slot.waiting ≡ Waiting.Timer z → ⊥ = λ z e. ⊎_elim (λ a. absurd (cc (a, e))) (λ a. absurd (cc (a, e))) it.waits in
+      let request : (q : ℕ) → slot.waiting ≡ Waiting.Request q → q ≡ number_in w.names.requests.items id = λ q e. ⊎_elim (λ a. let same : Waiting.Request q ≡ Waiting.Request k = sym e ∙ a in same_request q k same ∙ sym number) (λ a. absurd (cc (a, e))) it.waits in
+      let waits : slot'.waiting ≡ Waiting.Nothing = ap (λ (o : TaskSlot B). o.waiting) it.took in
       let cell : slot'.cell ≡ slot.cell = ap (λ (o : TaskSlot B). o.cell) it.took in
       let again = lets_ready w s s' slot slot' id keeps it.there it.tasks without no_timer request waits (ap (λ c. is_complete c.phase) cell) w.home.deferred r told (ap (slice_get s.requests.items) number ∙ it.request) refl ready (driver_of w') drv
       (it.punctual sound.due.punctual) room (sound.quiet refl) in
       let here : KeepsActing (let_worker w w.names w.home.deferred) (driver_of w') s'.requests.items (let_shared s s') =
       subst (λ rs. KeepsActing (let_worker w w.names w.home.deferred) (driver_of w') rs (let_shared s s')) (ap (λ q. changed_at s.requests.items q unobserved) number ∙ sym it.requests) again in
       let found : slice_get s'.tasks.items w.root ≡ Some slot' = ap (λ ts. slice_get ts w.root) it.tasks ∙ set_there s.tasks.items w.root slot' slot it.there in
-      let told_now : slot'.told ≡ Some (said.Output it.output) = ap (λ (o : TaskSlot B). o.told) it.took in
+      let told_now : slot'.told ≡ Some (Said.Output it.output) = ap (λ (o : TaskSlot B). o.told) it.took in
       let wd : Worker = record w { home = record w.home { driver = w'.home.driver } } in
       let n' : Names = record w.names { held = w.names.held - 1 } in
-      sound_acted x (at.Poll w.root poll.Act) w wd n' s s' slot slot' sound it.tasks
+      sound_acted x (Place.Poll w.root InPoll.Act) w wd n' s s' slot slot' sound it.tasks
       (record { told = here.told; named = here.named; ring = ap (λ y. y.ring) drv; over = here.over; wakes = sound.quiet refl; due = here.due; flown = here.flown; carried = here.carried })
       (record {
         there = it.there;
-        after = on_in_poll w.root poll.Act;
+        after = on_in_poll w.root InPoll.Act;
         hand = (refl, hand);
         stands = record {
           polled = ap (λ c. is_polled c.phase) cell ∙ old.polled;
@@ -139,13 +129,13 @@ module _ {B : Type 0} where
         holds = here.rooted.root slot' found;
       })
 
-  pub got_sound : (x : InPoll) (k : ℕ) (r : Record) (slot slot' : TaskSlot B) (w w' : Worker) (s s' : Shared B) → polled_in (at.Poll w.root x) ≡ Some x → ends_poll (Some x) ≡ false → w.hand ≡ None → SoundAt (at.Poll w.root x) w s → HasGot k r slot slot' w w' s s'
+  pub got_sound : (x : InPoll) (k : ℕ) (r : Record) (slot slot' : TaskSlot B) (w w' : Worker) (s s' : Shared B) → polled_in (Place.Poll w.root x) ≡ Some x → ends_poll (Some x) ≡ false → w.hand ≡ None → SoundAt (Place.Poll w.root x) w s → HasGot k r slot slot' w w' s s'
       → is_resolved r.shown.phase ≡ true → Sound w' s'
   got_sound x k r slot slot' w w' s s' polled going hand sound it over =
       let holds = (keeps_acting x w s (ap ends_poll polled ∙ going) sound).rooted.root slot it.there in
       let kept = kept_output w.index w.root slot.held.items slot.waiting (is_complete slot.cell.phase) w.names (driver_of w) w.home.timers s.requests.items s.sleepers.items sound.named holds k r it.newest it.request over in
       let again = sound_got x k r slot slot' w w' s s' kept.0 polled going hand sound it over kept.1 in
-      let w1 : Worker = record w { place = at.Poll w.root poll.Act; names = record w.names { held = w.names.held - 1 }; home = record w.home { driver = w'.home.driver } } in
+      let w1 : Worker = record w { place = Place.Poll w.root InPoll.Act; names = record w.names { held = w.names.held - 1 }; home = record w.home { driver = w'.home.driver } } in
       let by_place : Sound w1 (let_shared s s') = again in
       subst (Sound w') (sym it.kept) (subst (λ y. Sound y (let_shared s s')) (sym it.worker) by_place)
 
@@ -154,23 +144,23 @@ module _ {B L : Type 0} (left : B → L) (spot : L → Option Said → Spot) (an
   pub fewer_held : (slot slot' : TaskSlot B) (k : ℕ) → slot.held.items ≡ slot'.held.items ++ k ∷ [] → without_newest slot.held.items ≡ slot'.held.items
   fewer_held slot slot' k held = ap (λ xs. take (length xs - 1) xs) held ∙ fewer_taken slot'.held.items k
 
-  got_seen : (all : Common) (k : ℕ) (slot slot' : TaskSlot B) (output : RequestOutput) → slot.waiting ≡ waiting.Request k → slot.told ≡ None → slot' ≡ record slot { held = slot'.held; waiting = waiting.Nothing; told = Some (said.Output output) }
+  got_seen : (all : Common) (k : ℕ) (slot slot' : TaskSlot B) (output : RequestOutput) → slot.waiting ≡ Waiting.Request k → slot.told ≡ None → slot' ≡ record slot { held = slot'.held; waiting = Waiting.Nothing; told = Some (Said.Output output) }
       → slot.held.items ≡ slot'.held.items ++ k ∷ [] → task_seen left spot slot' ≡ record (after_taking all (task_seen left spot slot)) { held = without_newest slot.held.items }
   got_seen all k slot slot' output waits untold took held =
       let fewer : slot'.held.items ≡ without_newest slot.held.items = sym (ap (λ xs. take (length xs - 1) xs) held ∙ fewer_taken slot'.held.items k) in
       ap (task_seen left spot) took
-      ∙ ap (λ y. record (task_seen left spot slot) { code = y.code; place = y.place; adapters = y.adapters; call = y.call; held = slot'.held.items; waiting = waiting.Nothing })
-      (spot_answered left spot answered (body_in slot.cell.phase slot.body) (said.Output output) slot.told (λ h. absurd (cc)) untold)
-      ∙ ap (λ xs. record (task_seen left spot slot) { held = xs; waiting = waiting.Nothing }) fewer
-      ∙ ap (λ b. record (if b then moved_on all (task_seen left spot slot) else record (task_seen left spot slot) { waiting = waiting.Nothing }) { held = without_newest slot.held.items }) (sym (ap waits_for_nothing waits))
+      ∙ ap (λ y. record (task_seen left spot slot) { code = y.code; place = y.place; adapters = y.adapters; call = y.call; held = slot'.held.items; waiting = Waiting.Nothing })
+      (spot_answered left spot answered (body_in slot.cell.phase slot.body) (Said.Output output) slot.told (λ h. absurd (cc)) untold)
+      ∙ ap (λ xs. record (task_seen left spot slot) { held = xs; waiting = Waiting.Nothing }) fewer
+      ∙ ap (λ b. record (if b then moved_on all (task_seen left spot slot) else record (task_seen left spot slot) { waiting = Waiting.Nothing }) { held = without_newest slot.held.items }) (sym (ap waits_for_nothing waits))
 
   -- The move is that: what the task waited for, or its next word, says so.
   pub record SeesGot (x : InPoll) (k : ℕ) (outcome : Outcome) (slot slot' : TaskSlot B) (w : Worker) (s : Shared B) (p : Plan) (vs : List Visible) : Type 0 where
-    pub moves : move_at p.config w.index (own_of (record w { place = at.Poll w.root x })) (common_of left spot p vs s) (desk_of (record w { place = at.Poll w.root x })) (things_of w.index s) (at.Poll w.root x) ≡ makes (Got k outcome) (desk_of (record w { place = at.Poll w.root poll.Act })) (things_of w.index s)
-    pub takes : (polls_waiting (own_of (record w { place = at.Poll w.root poll.Act })) (common_of left spot p vs s) (waits_for_request k) || acts (own_of (record w { place = at.Poll w.root poll.Act })) (common_of left spot p vs s) asks_await) ≡ true
+    pub moves : move_at p.config w.index (own_of (record w { place = Place.Poll w.root x })) (common_of left spot p vs s) (desk_of (record w { place = Place.Poll w.root x })) (things_of w.index s) (Place.Poll w.root x) ≡ makes (Got k outcome) (desk_of (record w { place = Place.Poll w.root InPoll.Act })) (things_of w.index s)
+    pub takes : (polls_waiting (own_of (record w { place = Place.Poll w.root InPoll.Act })) (common_of left spot p vs s) (waits_for_request k) || acts (own_of (record w { place = Place.Poll w.root InPoll.Act })) (common_of left spot p vs s) asks_await) ≡ true
     pub seen : task_seen left spot slot' ≡ record (after_taking (common_of left spot p vs s) (task_seen left spot slot)) { held = without_newest slot.held.items }
 
-  pub got_works : (x : InPoll) (k : ℕ) (r : Record) (slot slot' : TaskSlot B) (w w' : Worker) (s s' : Shared B) (e : Event) (outcome : Outcome) → SoundAt (at.Poll w.root x) w s → ends_poll (polled_in (at.Poll w.root x)) ≡ false → own_of (record w { place = at.Poll w.root x }) ≡ own_of (record w { place = at.Poll w.root poll.Act })
+  pub got_works : (x : InPoll) (k : ℕ) (r : Record) (slot slot' : TaskSlot B) (w w' : Worker) (s s' : Shared B) (e : Event) (outcome : Outcome) → SoundAt (Place.Poll w.root x) w s → ends_poll (polled_in (Place.Poll w.root x)) ≡ false → own_of (record w { place = Place.Poll w.root x }) ≡ own_of (record w { place = Place.Poll w.root InPoll.Act })
       → r.shown.phase ≡ Resolved outcome → e ≡ Got k outcome → HasGot k r slot slot' w w' s s' → (p : Plan) (vs : List Visible) → Suits p vs w s → SeesGot x k outcome slot slot' w s p vs → Works left spot p vs w s e w' s'
   got_works x k r slot slot' w w' s s' e outcome sound going polls is event it p vs suits sees =
       let d = driver_of w in
@@ -183,9 +173,9 @@ module _ {B L : Type 0} (left : B → L) (spot : L → Option Said → Spot) (an
       let drv : driver_of w' ≡ record d { requests = removed d.requests id } = it.driver ∙ ap (λ (o : Option (Entry Reply Reply)). record d { requests = taken_from d.requests id o }) kept.1 in
       let wd : Worker = record w { home = record w.home { driver = w'.home.driver } } in
       let n' : Names = record w.names { held = w.names.held - 1 } in
-      let q : Place = at.Poll w.root poll.Act in
+      let q : Place = Place.Poll w.root InPoll.Act in
       let w1 : Worker = acted_worker w q n' wd in
-      let wq : Worker = record w { place = at.Poll w.root x } in
+      let wq : Worker = record w { place = Place.Poll w.root x } in
       let here : wq ≡ w = ap (λ y. record w { place = y }) (sym sound.here) in
       let me = own_of (record w { place = q }) in
       let all = common_of left spot p vs s in
@@ -224,25 +214,25 @@ module _ {B L : Type 0} (left : B → L) (spot : L → Option Said → Spot) (an
       here_unsent i y mine unsent = rw (mine, unsent) (eq-eqb i i refl)
 
   -- where it waited for it
-  pub output_got : (k : ℕ) (r : Record) (slot slot' : TaskSlot B) (w w' : Worker) (s s' : Shared B) (e : Event) (outcome : Outcome) → SoundAt (at.Poll w.root poll.Resume) w s → slot.waiting ≡ waiting.Request k → slot'.body ≡ slot.body → r.shown.phase ≡ Resolved outcome → e ≡ Got k outcome
+  pub output_got : (k : ℕ) (r : Record) (slot slot' : TaskSlot B) (w w' : Worker) (s s' : Shared B) (e : Event) (outcome : Outcome) → SoundAt (Place.Poll w.root InPoll.Resume) w s → slot.waiting ≡ Waiting.Request k → slot'.body ≡ slot.body → r.shown.phase ≡ Resolved outcome → e ≡ Got k outcome
       → HasGot k r slot slot' w w' s s' → Steps left spot w s e w' s'
   output_got k r slot slot' w w' s s' e outcome sound waits body is event it =
       let untold : slot.told ≡ None = (sound.tied.stands slot it.there).untold (ap acts_next waits) in
-      let took : slot' ≡ record slot { held = slot'.held; waiting = waiting.Nothing; told = Some (said.Output it.output) } = it.took ∙ ap (λ b. record slot { body = b; held = slot'.held; waiting = waiting.Nothing; told = Some (said.Output it.output) }) body in (
+      let took : slot' ≡ record slot { held = slot'.held; waiting = Waiting.Nothing; told = Some (Said.Output it.output) } = it.took ∙ ap (λ b. record slot { body = b; held = slot'.held; waiting = Waiting.Nothing; told = Some (Said.Output it.output) }) body in (
         (λ p vs suits.
             let all = common_of left spot p vs s in
             let task : task_of all w.root ≡ task_seen left spot slot = task_there left spot s.tasks.items w.root slot it.there in
-            let what : (task_of all w.root).waiting ≡ waiting.Request k = ap (λ y. y.waiting) task ∙ waits in
-            let wq : Worker = record w { place = at.Poll w.root poll.Resume } in
-            got_works poll.Resume k r slot slot' w w' s s' e outcome sound refl refl is event it p vs suits
+            let what : (task_of all w.root).waiting ≡ Waiting.Request k = ap (λ y. y.waiting) task ∙ waits in
+            let wq : Worker = record w { place = Place.Poll w.root InPoll.Resume } in
+            got_works InPoll.Resume k r slot slot' w w' s s' e outcome sound refl refl is event it p vs suits
             (record {
               moves = ap (λ m. record { event = m.event; choice = m.choice; desk = m.desk; thing = things_of w.index s }) (looks_at w.root k all (desk_of wq) (task_of all w.root) r.shown outcome what (request_seen s.requests.items k r it.request) is);
-              takes = ap (λ b. b || acts (own_of (record w { place = at.Poll w.root poll.Act })) all asks_await) (ap (waits_for_request k) what ∙ eq-eqb k k refl);
+              takes = ap (λ b. b || acts (own_of (record w { place = Place.Poll w.root InPoll.Act })) all asks_await) (ap (waits_for_request k) what ∙ eq-eqb k k refl);
               seen = got_seen all k slot slot' it.output waits untold took it.held;
             })),
-        got_sound poll.Resume k r slot slot' w w' s s' refl refl sound.hand.1 sound it (ap is_resolved is),
+        got_sound InPoll.Resume k r slot slot' w w' s s' refl refl sound.hand.1 sound it (ap is_resolved is),
         hears_so slot slot' (ap (λ x. x.root) it.worker) (ap (λ x. x.config) it.kept) it.there (ap (λ ts. slice_get ts w.root) it.tasks ∙ set_there s.tasks.items w.root slot' slot it.there)
-            (hears_come slot slot' (waiting.Request k) (said.Output it.output) untold waits tt (fewer_held slot slot' k it.held) took),
+            (hears_come slot slot' (Waiting.Request k) (Said.Output it.output) untold waits tt (fewer_held slot slot' k it.held) took),
       )
 
 -- BY THE NUMBER OF THE TASK
@@ -272,7 +262,7 @@ module _ {B : Type 0} where
     pub holds : OfSlot t s (λ slot. 0 < length slot.held.items)
     pub ready : (r : Record) → slice_get s.requests.items k ≡ Some r → IsReady r (driver_of w)
 
-  may_take : (k : ℕ) (r : Record) (slot : TaskSlot B) (w : Worker) (s : Shared B) → SoundAt (at.Poll w.root poll.Resume) w s → slice_get s.tasks.items w.root ≡ Some slot → slot.waiting ≡ waiting.Request k → slice_get s.requests.items k ≡ Some r
+  may_take : (k : ℕ) (r : Record) (slot : TaskSlot B) (w : Worker) (s : Shared B) → SoundAt (Place.Poll w.root InPoll.Resume) w s → slice_get s.tasks.items w.root ≡ Some slot → slot.waiting ≡ Waiting.Request k → slice_get s.requests.items k ≡ Some r
       → is_resolved r.shown.phase ≡ true → MayTake w.root k w s
   may_take k r slot w s sound there waits at_k over =
       let holds = sound.rooted.root slot there in
@@ -289,13 +279,13 @@ module _ {B : Type 0} where
             subst (λ x. IsReady x (driver_of w)) same (record { outcome = is.0; is = is.1; output = kept.0; kept = kept.1 });
       }
 
-  pub output_ready : (t k : ℕ) (r : Record) (slot : TaskSlot B) (w : Worker) (s : Shared B) → SoundAt (at.Poll t poll.Resume) w s → slice_get s.tasks.items t ≡ Some slot → slot.waiting ≡ waiting.Request k → slice_get s.requests.items k ≡ Some r
+  pub output_ready : (t k : ℕ) (r : Record) (slot : TaskSlot B) (w : Worker) (s : Shared B) → SoundAt (Place.Poll t InPoll.Resume) w s → slice_get s.tasks.items t ≡ Some slot → slot.waiting ≡ Waiting.Request k → slice_get s.requests.items k ≡ Some r
       → is_resolved r.shown.phase ≡ true → MayTake t k w s
   output_ready t k r slot w s sound there waits at_k over =
-      subst (λ u. SoundAt (at.Poll u poll.Resume) w s → slice_get s.tasks.items u ≡ Some slot → MayTake u k w s) (sym sound.hand.0) (λ here found. may_take k r slot w s here found waits at_k over) sound there
+      subst (λ u. SoundAt (Place.Poll u InPoll.Resume) w s → slice_get s.tasks.items u ≡ Some slot → MayTake u k w s) (sym sound.hand.0) (λ here found. may_take k r slot w s here found waits at_k over) sound there
 
 module _ {B L : Type 0} (left : B → L) (spot : L → Option Said → Spot) (answered : IsAnswered spot) where
-  taken_by_root : (k : ℕ) (w w' : Worker) (s s' : Shared B) (e : Event) (slot : TaskSlot B) → SoundAt (at.Poll w.root poll.Resume) w s → slice_get s.tasks.items w.root ≡ Some slot → slot.waiting ≡ waiting.Request k → TookOutput w.root k w w' s s' e
+  taken_by_root : (k : ℕ) (w w' : Worker) (s s' : Shared B) (e : Event) (slot : TaskSlot B) → SoundAt (Place.Poll w.root InPoll.Resume) w s → slice_get s.tasks.items w.root ≡ Some slot → slot.waiting ≡ Waiting.Request k → TookOutput w.root k w w' s s' e
       → Steps left spot w s e w' s'
   taken_by_root k w w' s s' e slot sound there waits it =
       let same : slot ≡ it.slot = cc (there, it.there) in
@@ -315,11 +305,11 @@ module _ {B L : Type 0} (left : B → L) (spot : L → Option Said → Spot) (an
         tasks = it.tasks;
         kept = it.kept;
         output = it.output;
-        took = it.took ∙ ap (λ b. record it.slot { body = b; held = it.slot'.held; waiting = waiting.Nothing; told = Some (said.Output it.output) }) (sym (ap (λ (o : TaskSlot B). o.body) it.took));
+        took = it.took ∙ ap (λ b. record it.slot { body = b; held = it.slot'.held; waiting = Waiting.Nothing; told = Some (Said.Output it.output) }) (sym (ap (λ (o : TaskSlot B). o.body) it.took));
         body = subst IsSome (sym (ap (λ (o : TaskSlot B). o.body) it.took)) ((sound.tied.stands it.slot it.there).body refl);
         held = newest_is it.slot.held.items it.slot'.held.items it.newest k it.some it.held newest;
       })
 
-  pub output_taken : (t k : ℕ) (w w' : Worker) (s s' : Shared B) (e : Event) (slot : TaskSlot B) → SoundAt (at.Poll t poll.Resume) w s → slice_get s.tasks.items t ≡ Some slot → slot.waiting ≡ waiting.Request k → TookOutput t k w w' s s' e → Steps left spot w s e w' s'
+  pub output_taken : (t k : ℕ) (w w' : Worker) (s s' : Shared B) (e : Event) (slot : TaskSlot B) → SoundAt (Place.Poll t InPoll.Resume) w s → slice_get s.tasks.items t ≡ Some slot → slot.waiting ≡ Waiting.Request k → TookOutput t k w w' s s' e → Steps left spot w s e w' s'
   output_taken t k w w' s s' e slot sound there waits it =
-      subst (λ u. SoundAt (at.Poll u poll.Resume) w s → slice_get s.tasks.items u ≡ Some slot → TookOutput u k w w' s s' e → Steps left spot w s e w' s') (sym sound.hand.0) (λ here found took. taken_by_root k w w' s s' e slot here found waits took) sound there it
+      subst (λ u. SoundAt (Place.Poll u InPoll.Resume) w s → slice_get s.tasks.items u ≡ Some slot → TookOutput u k w w' s s' e → Steps left spot w s e w' s') (sym sound.hand.0) (λ here found took. taken_by_root k w w' s s' e slot here found waits took) sound there it

@@ -1,21 +1,12 @@
 -- The act by which the root makes a request is a step.
-use Rattle.std.proofs.Common.{◌≡◌, ℕ, ◌+◌, ◌==◌, Bool, false, List, [], ◌∷◌, ◌++◌, length, map, Option, Some, refl, sym, ap, subst, ◌∙◌}
-use Rattle.std.proofs.lemmas.Bool.{eq-eqb}
-use Rattle.std.proofs.lemmas.List.{length-map, map-append, map-set}
-use Rattle.std.specs.Prelude.{slice_set, if◌then◌else◌}
-use Rattle.exec_outcomes.specs.{Accounts.{is_durable, changed as account_changed}, declared.outcome.Outcome.Outcome}
-use Rattle.exec_outcomes.specs.declared.outcome.Kind.TheVariants as kind
+use Rattle.std.proofs.{Common.{◌≡◌, ℕ, ◌+◌, ◌==◌, Bool, false, List, [], ◌∷◌, ◌++◌, length, map, Option, Some, refl, sym, ap, subst, ◌∙◌, slice_set, if◌then◌else◌}, lemmas.{Bool.eq-eqb, List.{length-map, map-append, map-set}}}
+use Rattle.exec_outcomes.specs.{Accounts.{is_durable, changed as account_changed}, declared.outcome.{Outcome.Outcome, Kind.Kind}}
 use Rattle.exec_request.specs.{Requests.{asked_of, deadline_of}, declared.request.Request.Request as Asking}
 use Rattle.exec_task.specs.{Sight.Sight, declared.body.{Act.Act, Said.Said}}
-use Rattle.exec_task.specs.declared.body.Act.TheVariants as act
-use Rattle.exec_task.specs.declared.body.Said.TheVariants as said
 use Rattle.exec_driver.specs.Opens.{OpenState}
 use Rattle.exec_machine.specs.{Choice.Choice.Plain, declared.{event.Event.{Event, TheVariants.Admit}, state.{Operation.Operation, Request.Request}}, Progress.Plan, Requests.{account_after_admit, after_admit, asked_now, asks_kind, new_request, operation_asked, operation_or_none, outcome_if_late, own_after_admit, resolved_if, with_seen}, Same.{same_end, same_kind}, Tests.is_open, Words.{moved_on, next_word}, World.{Task, Common, Open, open_of, task_of}}
-use Rattle.exec_moves.specs.declared.place.InPoll.TheVariants as poll
-use Rattle.exec_moves.specs.declared.place.Place.TheVariants as at
-use Rattle.exec_moves.specs.{Poll.{act_asked, acts_on}, State.{Moved, Things, goes}}
-use Rattle.exec_steps.specs.{declared.parts.{record.Record.Record, shared.Shared.Shared, worker.Worker.Worker}, Acting.{HasActed, Performs, StepsOf}, Admitting.Registers, Polls.OfSlot, Records.plain_operation, Scripts.{IsAnswered, IsPlainRequest}, Sound.{SoundAt, AreFree}, Spots.{Spot, spot_of}, View.{Visible, common_of, desk_of, open_seen, own_of, task_seen, things_of, visible}, Works.{Suits, Works}}
-use Rattle.exec_steps.proofs.{Acting.{acts_so, moved_seen, moves_so}, Asked.{final, held_is, items_are, near, performs_asked, plain, reg, shared_is, sleepers_are, slot_is, sound_asked, worker_is}, Enlists.{desk_asked, own_asked, visible_asked}, Plainly.{operation_is, plainly, same_late}, Serving.own_seat, Turning.set_found, Waking.task_there}
+use Rattle.exec_moves.specs.{Poll.{act_asked, acts_on}, State.{Moved, Things, goes}, declared.place.{InPoll.InPoll, Place.Place}}
+use Rattle.exec_steps.{specs.{declared.parts.{record.Record.Record, shared.Shared.Shared, worker.Worker.Worker}, Acting.{HasActed, Performs, StepsOf}, Admitting.Registers, Polls.OfSlot, Records.plain_operation, Scripts.{IsAnswered, IsPlainRequest}, Sound.{SoundAt, AreFree}, Spots.{Spot, spot_of}, View.{Visible, common_of, desk_of, open_seen, own_of, task_seen, things_of, visible}, Works.{Suits, Works}}, proofs.{Acting.{acts_so, moved_seen, moves_so}, Asked.{final, held_is, items_are, near, performs_asked, plain, reg, shared_is, sleepers_are, slot_is, sound_asked, worker_is}, Enlists.{desk_asked, own_asked, visible_asked}, Plainly.{operation_is, plainly, same_late}, Serving.own_seat, Turning.set_found, Waking.task_there}}
 
 -- gates that nobody has show the same, whatever records there are
 free_seen : (rs rs' : List Record) (opens : List OpenState) → AreFree opens → map (open_seen rs') opens ≡ map (open_seen rs) opens
@@ -23,7 +14,7 @@ free_seen rs rs' [] free = refl
 free_seen rs rs' (o ∷ opens) free = rw (free.0, free.1, free_seen rs rs' opens free.2) refl
 
 module _ {B L : Type 0} (left : B → L) (runs : L → Plan → Type 0) (holds : L → Option Said → List ℕ) (spot : L → Option Said → Spot) (gives : L → Option Sight → Said → Act B → L → Option Sight → Type 0)
-    (w w' : Worker) (s s1 s' : Shared B) (e : Event) (q : Asking) (h : HasActed left runs holds spot gives w s s1 (act.Register q)) (reg1 : Registers w.root q w w' s1 s' e) where
+    (w w' : Worker) (s s1 s' : Shared B) (e : Event) (q : Asking) (h : HasActed left runs holds spot gives w s s1 (Act.Register q)) (reg1 : Registers w.root q w w' s1 s' e) where
   abbrev made : Registers w.root q w w' (record s { tasks = s1.tasks }) s' e
   made = reg left runs holds spot gives w w' s s1 s' e q h reg1
 
@@ -47,7 +38,7 @@ module _ {B L : Type 0} (left : B → L) (runs : L → Plan → Type 0) (holds :
   seen_asked answered p vs fits =
       let all = common_of left spot p vs s in
       let b' = h.made.acts.body' in
-      let told = said.Admitted (length s.requests.items) in
+      let told = Said.Admitted (length s.requests.items) in
       let past : spot (left b') (Some told) ≡ spot_of (moved_on all (task_seen left spot h.made.slot)) = answered (left b') told (λ no. absurd (cc)) ∙ (h.asks p vs fits).stands in
       ap (task_seen left spot) (slot_is left runs holds spot gives w w' s s1 s' e q h reg1)
       ∙ ap (λ xs. record (task_seen left spot (final left runs holds spot gives w w' s s1 s' e q h reg1)) { held = xs }) (held_is left runs holds spot gives w w' s s1 s' e q h reg1)
@@ -60,8 +51,8 @@ module _ {B L : Type 0} (left : B → L) (runs : L → Plan → Type 0) (holds :
       let slot = h.made.slot in
       let k = length s.requests.items in
       let old = h.sound.tied.stands slot h.made.there in
-      let me = own_of (record w { place = at.Poll w.root poll.Act }) in
-      let d0 = record (desk_of w) { place = at.Poll w.root poll.Act } in
+      let me = own_of (record w { place = Place.Poll w.root InPoll.Act }) in
+      let d0 = record (desk_of w) { place = Place.Poll w.root InPoll.Act } in
       let is = plainly q is_plain in
       let qo = plain_operation q in
       let it : task_of all w.root ≡ task_seen left spot slot = task_there left spot s.tasks.items w.root slot h.made.there in
@@ -73,7 +64,7 @@ module _ {B L : Type 0} (left : B → L) (runs : L → Plan → Type 0) (holds :
       let shared = shared_is w w' s s1 s' q e slot h.sound made is_plain (near left runs holds spot gives w w' s s1 s' e q h reg1) in
       let sleepers = sleepers_are w w' s s1 s' q e slot h.sound made is_plain (near left runs holds spot gives w w' s s1 s' e q h reg1) in
       let by_asked : Option Operation → Moved Things = λ o. let m = act_asked w.root me all d0 (task_seen left spot slot) word o in record { event = m.event; choice = m.choice; desk = m.desk; thing = things_of w.index s } in
-      let tells : ℕ → Bool → Moved Things = λ n b. record { event = Admit n (asked_of q).kind late; choice = Plain; desk = if b then goes (at.Poll w.root (poll.JoinGate n)) d0 else acts_on w.root d0; thing = things_of w.index s } in
+      let tells : ℕ → Bool → Moved Things = λ n b. record { event = Admit n (asked_of q).kind late; choice = Plain; desk = if b then goes (Place.Poll w.root (InPoll.JoinGate n)) d0 else acts_on w.root d0; thing = things_of w.index s } in
       let seat = own_seat left spot p vs w s h.sound.alone.seat suits h.sound.alone.there in
       let opened = (h.sound.phased h.sound.alone.seat h.sound.alone.there).opened in
       let seen = seen_asked answered p vs fits in
@@ -85,7 +76,7 @@ module _ {B L : Type 0} (left : B → L) (runs : L → Plan → Type 0) (holds :
       let changed : List Task → List Request → List Open → Common = λ ts rs os. record all { tasks = ts; requests = rs; opens = os } in
       let ts = slice_set all.tasks w.root (record (moved_on all (task_of all w.root)) { held = (task_of all w.root).held ++ k ∷ [] }) in
       let with_write : Operation → List Open = λ o. slice_set all.opens o.target (record (open_of all o.target) { account = account_changed (open_of all o.target).account }) in
-      let after_by : Operation → Common = λ o. changed ts (all.requests ++ resolved_if late (new_request w.index (with_seen o all)) ∷ []) (if same_kind o.kind kind.Write then with_write o else all.opens) in
+      let after_by : Operation → Common = λ o. changed ts (all.requests ++ resolved_if late (new_request w.index (with_seen o all)) ∷ []) (if same_kind o.kind Kind.Write then with_write o else all.opens) in
       let after_plain : after_admit p.config me all w.index k late w.root ≡ changed ts (all.requests ++ resolved_if late (new_request w.index qo) ∷ []) all.opens =
       ap after_by now
       ∙ ap (λ b. changed ts (all.requests ++ resolved_if late (new_request w.index (with_seen qo all)) ∷ []) (if b then with_write qo else all.opens)) is.no_write

@@ -1,16 +1,12 @@
 -- What is asked of the record of an operation that was reaped, and a reaping that found none.
-use Rattle.std.proofs.Common.{◌≡◌, ℕ, ◌+◌, ◌-◌, ◌^◌, ◌<◌, ◌≤◌, Bool, true, false, List, [], ◌∷◌, length, Option, Some, None, refl, sym, ap, subst, ◌∙◌, arith}
-use Rattle.std.proofs.lemmas.Option.{slice_get_within}
-use Rattle.std.specs.Prelude.{slice_get, get_or, Err}
-use Rattle.std.specs.VecDeque.{deque_capacity}
+use Rattle.std.{proofs.{Common.{◌≡◌, ℕ, ◌+◌, ◌^◌, ◌<◌, true, false, List, length, Option, Some, None, refl, sym, ap, subst, ◌∙◌, get_or, Err}, lemmas.Option.slice_get_within}, specs.VecDeque.deque_capacity}
 use Rattle.exec_base.specs.declared.error.Error.TheVariants.{Timeout}
 use Rattle.exec_outcomes.specs.Outcomes.{bytes_of}
 use Rattle.exec_ring.specs.Completions.{result_in}
 use Rattle.exec_waiters.specs.{States.pending_count, declared.deferred.Deferred.Deferred}
 use Rattle.exec_driver.specs.{Driving.Driving, Opens.OpenState, Steps.ReapsNext, declared.driver.reaping.Reaped.Reaped}
 use Rattle.exec_moves.specs.declared.place.Place.{Place}
-use Rattle.exec_steps.specs.{declared.parts.{mail.Reply.Reply, record.Record.Record, shared.Shared.Shared, worker.Worker.Worker}, Flown.{IsPlain, IsUpTo, longest, operations}, Records.{has_one_part, number_in}, Sound.SoundAt, View.driver_of}
-use Rattle.exec_steps.proofs.{Dating.{found_is, one_pending, room_by}, Reaped.{TellsOf, one_part_of, tells_of}, Requeued.{lawful_shown, total_shown}, Resolving.slab_after}
+use Rattle.exec_steps.{specs.{declared.parts.{mail.Reply.Reply, record.Record.Record, shared.Shared.Shared, worker.Worker.Worker}, Flown.IsPlain, Records.{has_one_part, number_in}, Sound.SoundAt, View.driver_of}, proofs.{Dating.{found_is, one_pending, room_by}, Reaped.{TellsOf, one_part_of, tells_of}, Requeued.{lawful_shown, total_shown}, Resolving.slab_after}}
 
 pub none_of : (told : Option Reaped) → ((x : Reaped) → told ≡ Some x → ⊥) → told ≡ None
 none_of None h = refl

@@ -1,21 +1,14 @@
 -- What holds again once an operation has landed whose request goes on.
-use Rattle.std.proofs.Common.{◌≡◌, ◌≢◌, ℕ, ◌+◌, ◌^◌, ◌<◌, ◌≤◌, ◌==◌, ◌&&◌, ◌||◌, Bool, true, false, not, List, [], ◌∷◌, ◌++◌, length, map, Option, Some, None, IsSome, refl, sym, ap, subst, ◌∙◌, arith, inl, inr}
-use Rattle.std.proofs.lemmas.Bool.{false≢true, eq-eqb}
-use Rattle.std.proofs.lemmas.Bool.Decides.{nat_tests}
-use Rattle.std.specs.Prelude.{slice_get, slice_index_or, is_some, if◌then◌else◌}
-use Rattle.exec_base.specs.{Slab.{value_at, written}, declared.slab.Id.Id}
-use Rattle.exec_base.proofs.Slots.{id_cases}
+use Rattle.std.proofs.{Common.{◌≡◌, ◌≢◌, ℕ, ◌+◌, ◌^◌, ◌<◌, ◌≤◌, ◌==◌, ◌||◌, Bool, true, false, List, [], ◌∷◌, ◌++◌, length, map, Some, None, refl, sym, ap, subst, ◌∙◌, arith, inl, inr, slice_get, slice_index_or, is_some, if◌then◌else◌}, lemmas.Bool.{false≢true, eq-eqb, Decides.nat_tests}}
+use Rattle.exec_base.{specs.{Slab.{value_at, written}, declared.slab.Id.Id}, proofs.Slots.id_cases}
 use Rattle.exec_outcomes.specs.{Lawful.{is_lawful, window_in, window_of}, Outcomes.{HasCome, bytes_of, counted_for, first_length, first_part, moves_on, part_now, second_part, moves_bytes}, declared.outcome.{Kind.Kind, OpResult.OpResult}}
-use Rattle.exec_outcomes.specs.declared.outcome.Kind.TheVariants as kind
 use Rattle.exec_request.specs.{Judging.{Judges, judged_as}, Kept.kept_of, Requests.{asked_of, cursor_of, deadline_of, hinted_of}, declared.request.Request.Request as Asking}
 use Rattle.exec_ring.specs.{Completions.result_in, declared.completion.Completion.Completion}
-use Rattle.exec_waiters.proofs.Changes.{entry_of}
-use Rattle.exec_waiters.specs.{Ids.index_in, States.{waiter_at, takes_tick}, declared.{waiter.{Entry.TheVariants.Pending, Waiter.Waiter}, waiter_id.WaiterId.WaiterId}}
+use Rattle.exec_waiters.{proofs.Changes.entry_of, specs.{States.{waiter_at, takes_tick}, declared.waiter.{Entry.TheVariants.Pending, Waiter.Waiter}}}
 use Rattle.exec_driver.specs.{Driving.Driving, Lists.{is_among, with_queued}, Punctual.IsPunctual}
-use Rattle.exec_machine.specs.{declared.state.{Request.Request, RequestPhase.TheVariants.{Landed, Queued}}, Requests.{judged_of, reaped, went_on, asked_of as asked_in, cursor_of as cursor_in}, Tests.{is_gated, is_resolved, is_staged}}
+use Rattle.exec_machine.specs.{declared.state.{Request.Request, RequestPhase.TheVariants.Landed}, Requests.{judged_of, reaped, went_on, asked_of as asked_in, cursor_of as cursor_in}, Tests.is_staged}
 use Rattle.exec_moves.specs.declared.place.Place.{Place}
-use Rattle.exec_steps.specs.{declared.parts.{mail.Reply.Reply, names.Names.Names, record.Record.Record, shared.Shared.Shared, worker.Worker.Worker}, Carried.{IsCarried, those_of}, Due.{IsWheelAt, may_be_due, wheel_moment}, Flown.{AreLanded, HasFlown, HasLanded, IsPlain, IsUpTo, longest, operations, passes_permit}, Records.number_in, Serving.{changed_at, is_one_of, cancels_in, AreTagged}, Sound.{SoundAt, IsAlike, IsSubmitted, served_in}, View.{driver_of, number_told}, Ordered.{IsOrdered, went_round}}
-use Rattle.exec_steps.proofs.{Changing.{OneGoesOn, all_go_one, changes_one, keeps_one, apart_number}, Conveying.{carried_judged, carried_ring}, Flown.FliesOn, Going.GoesOn, Judging.{bytes_fit, cancel_decides, first_still, given_is, moved_is, stays_first, switched_is, total_fits}, Marking.{mark_if, marked, was_marked}, Serving.{Follows, KeepsBy}, Staging.known_then, Starting.simple, Trailing.RingAfter, Whole.whole_kept, Orders.{Eases, IsPartOf, TurnsAlike, alike_self, eased, eases_written, part_self}}
+use Rattle.exec_steps.{specs.{declared.parts.{mail.Reply.Reply, names.Names.Names, record.Record.Record, shared.Shared.Shared, worker.Worker.Worker}, Carried.{IsCarried, those_of}, Due.{IsWheelAt, may_be_due, wheel_moment}, Flown.{AreLanded, HasFlown, HasLanded, IsPlain, IsUpTo, longest, passes_permit}, Records.number_in, Serving.{changed_at, is_one_of, cancels_in, AreTagged}, Sound.{SoundAt, IsAlike, IsSubmitted, served_in}, View.{driver_of, number_told}, Ordered.{IsOrdered, went_round}}, proofs.{Changing.{OneGoesOn, all_go_one, changes_one, keeps_one, apart_number}, Conveying.{carried_judged, carried_ring}, Flown.FliesOn, Judging.{bytes_fit, cancel_decides, first_still, given_is, moved_is, stays_first, switched_is, total_fits}, Marking.{mark_if, marked, was_marked}, Serving.{Follows, KeepsBy}, Staging.known_then, Starting.simple, Trailing.RingAfter, Whole.whole_kept, Orders.{Eases, IsPartOf, TurnsAlike, alike_self, eased, eases_written, part_self}}}
 
 -- THE OTHERS THAT HAVE LANDED have other numbers
 
@@ -102,8 +95,8 @@ first_window : (r : Request) (given : OpResult) → r.operation.switched ≡ fal
 first_window r given first lawful = rw first at lawful
 
 first_whole : (k : Kind) (l skip n : ℕ) → IsUpTo (longest k) n → first_length k l skip ≡ l
-first_whole kind.Poll l skip n h = refl
-first_whole kind.Send l skip n h = refl
+first_whole Kind.Poll l skip n h = refl
+first_whole Kind.Send l skip n h = refl
 first_whole _ l skip n h = absurd h
 
 moved_next : (r : Request) (given : OpResult) → r.operation.switched ≡ false → moves_on (asked_in r.operation) (cursor_in r.operation) (judged_of r given) ≡ false
@@ -113,7 +106,7 @@ moved_next r given first stays =
     ∙ ap (λ b. r.operation.moved + counted_for (if b then second_part (asked_in r.operation) else first_part (asked_in r.operation)) given) first
 
 -- what a send has moved then
-moved_sent : (r : Request) (given : OpResult) → IsPlain r → r.operation.kind ≡ kind.Send → (went_on r given).moved ≡ r.operation.moved + bytes_of given
+moved_sent : (r : Request) (given : OpResult) → IsPlain r → r.operation.kind ≡ Kind.Send → (went_on r given).moved ≡ r.operation.moved + bytes_of given
 moved_sent r given p send =
     let o = r.operation in
     moved_next r given p.first_part (stays_first (asked_in o) (cursor_in o) (judged_of r given) o.length p.bounded)

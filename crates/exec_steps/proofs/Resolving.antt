@@ -1,23 +1,13 @@
 -- A request is over: its driver lets go of it, and what its end leaves is told.
-use Rattle.std.proofs.Common.{◌≡◌, ◌≢◌, ◌⊎◌, ℕ, zero, suc, ◌+◌, ◌*◌, ◌^◌, ◌<◌, ◌≤◌, ◌==◌, ◌&&◌, ◌||◌, Bool, true, false, not, List, [], ◌∷◌, ◌++◌, length, filter, Option, Some, None, IsSome, refl, sym, ap, subst, ◌∙◌, arith, inl, inr}
-use Rattle.std.proofs.lemmas.Bool.{false≢true, eq-eqb}
-use Rattle.std.proofs.lemmas.Bool.Decides.{nat_tests}
-use Rattle.std.proofs.lemmas.List.{append-nil, length-append, length-set}
-use Rattle.std.proofs.lemmas.Option.{slice_get_within}
-use Rattle.std.specs.Prelude.{slice_get, is_some, nat_lt, if◌then◌else◌}
-use Rattle.std.specs.Vec.{vec_capacity}
-use Rattle.exec_base.specs.{Slab.{Slab, IsPast, value_at, written, removed, freed, is_live, live_count}, declared.{slab.{Slot.TheVariants.{Live, Vacant, Retired}, Id.Id}, task_no.TaskNo.TaskNo}}
-use Rattle.exec_base.proofs.Slots.{Changed-set, id_cases, IsLiveAt-from_value, Updates-free, Updates-write, count-set, live_within, was_live}
+use Rattle.std.proofs.{Common.{◌≡◌, ◌≢◌, ℕ, ◌+◌, ◌^◌, ◌<◌, ◌≤◌, ◌||◌, Bool, true, false, List, [], ◌∷◌, ◌++◌, length, Option, Some, None, IsSome, refl, sym, ap, ◌∙◌, arith, inl, inr, is_some, nat_lt, if◌then◌else◌}, lemmas.{Bool.false≢true, List.{length-append, length-set}}}
+use Rattle.exec_base.{specs.{Slab.{Slab, IsPast, value_at, written, removed, freed, is_live, live_count}, declared.{slab.{Slot.TheVariants.{Live, Vacant, Retired}, Id.Id}, task_no.TaskNo.TaskNo}}, proofs.Slots.{Changed-set, IsLiveAt-from_value, Updates-free, Updates-write, count-set, live_within, was_live}}
 use Rattle.exec_outcomes.specs.Accounts.{Account}
 use Rattle.exec_request.specs.{Requests.output_of, States.Ended, declared.output.RequestOutput.RequestOutput}
-use Rattle.exec_time.specs.{Wheel.{Wheel, removed as unticked}, declared.timers.Sleeper.Sleeper as Sleeping}
-use Rattle.exec_waiters.proofs.Changes.{entry_of, one_if}
-use Rattle.exec_waiters.specs.{Events.{finished, finished_for, output_told, told_by_finish}, States.{waiter_at, pending_count, tick_in}, Told.{HasPlaces, Told, Tells, tasks_of}, declared.{deferred.{Deferred.Deferred, Retired.Retired as Let}, observer.Observer.{Observer, TheVariants.{Local, Forwarded, DetachedSync, Orphaned}}, waiter.{Entry.{Entry, TheVariants.{Pending, Ready}}, Waiter.Waiter}, waiter_id.WaiterId.WaiterId}}
-use Rattle.exec_driver.specs.{Driving.Driving, Lists.{Lists, is_among, is_same, without}, Steps.{ended, unscheduled}}
-use Rattle.exec_driver.proofs.{Counting.{OneChanged, pending_is}, Endings.one_finished, Names.same_tells}
+use Rattle.exec_time.specs.Wheel.{Wheel, removed as unticked}
+use Rattle.exec_waiters.{proofs.Changes.entry_of, specs.{Events.{finished, finished_for, output_told, told_by_finish}, States.{waiter_at, pending_count}, Told.{Told, Tells, tasks_of}, declared.{deferred.{Deferred.Deferred, Retired.Retired as Let}, observer.Observer.{Observer, TheVariants.{Local, Orphaned}}, waiter.{Entry.{Entry, TheVariants.Ready}, Waiter.Waiter}, waiter_id.WaiterId.WaiterId}}}
+use Rattle.exec_driver.{specs.{Lists.{is_among, is_same, without}, Steps.{ended, unscheduled}}, proofs.{Counting.pending_is, Endings.one_finished, Names.same_tells}}
 use Rattle.exec_machine.specs.declared.config.Configuration.{Configuration}
-use Rattle.exec_steps.specs.{declared.parts.mail.Reply.Reply, Due.IsWheelAt, Rooted.IsNear, Sound.{IsTold, tellers}}
-use Rattle.exec_steps.proofs.Orders.{past_removed, past_written}
+use Rattle.exec_steps.{specs.{declared.parts.mail.Reply.Reply, Due.IsWheelAt, Rooted.IsNear, Sound.IsTold}, proofs.Orders.{past_removed, past_written}}
 
 -- THE LISTS
 

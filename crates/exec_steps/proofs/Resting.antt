@@ -1,16 +1,10 @@
 -- What the steps of the clock and of peers keep: they change how workers rest, and nothing else that a worker rests on.
-use Rattle.std.proofs.Common.{◌≡◌, ℕ, zero, suc, ◌<◌, ◌≤◌, ◌^◌, List, [], ◌∷◌, ◌+◌, length, map, get_or, set, take, drop, ◌++◌, add-one, append_assoc, drop-cons, Option, None, Some, refl, sym, ap, subst, ◌∙◌, arith}
-use Rattle.std.proofs.Math.Seq.{take-suc-set}
-use Rattle.std.proofs.lemmas.List.{length-map, length-set, drop-set-lt}
-use Rattle.std.proofs.lemmas.Option.{slice_get-map, slice_get-get_or}
-use Rattle.std.specs.Prelude.{slice_get, slice_set, option_map, IfSome}
+use Rattle.std.proofs.{Common.{◌≡◌, ℕ, zero, suc, ◌<◌, ◌≤◌, ◌^◌, List, [], ◌∷◌, ◌+◌, length, map, get_or, set, take, drop, ◌++◌, add-one, append_assoc, drop-cons, Option, None, Some, refl, sym, ap, subst, ◌∙◌, arith, slice_get, slice_set, option_map, IfSome}, Math.Seq.take-suc-set, lemmas.{List.{length-map, length-set, drop-set-lt}, Option.{slice_get-map, slice_get-get_or}}}
 use Rattle.exec_base.specs.declared.limits.TheConstants.{LAST_MOMENT}
 use Rattle.exec_words.specs.Queue.{room_of}
 use Rattle.exec_machine.specs.declared.state.Rest.{Rest}
-use Rattle.exec_machine.specs.declared.state.Rest.TheVariants as rest
 use Rattle.exec_moves.specs.declared.place.Place.{Place}
-use Rattle.exec_steps.specs.{declared.parts.{seat.Seat.Seat as Chair, shared.Shared.Shared, worker.Worker.Worker}, Phased.{IsPhased, TurnsChair, stage_of, closes_at, closing_in}, Records.{rest_at, reached, roused}, Sound.{Sound, SoundAt, HasShare}, View.queue_seen}
-use Rattle.exec_steps.proofs.Phased.{same_thing}
+use Rattle.exec_steps.{specs.{declared.parts.{seat.Seat.Seat as Chair, shared.Shared.Shared, worker.Worker.Worker}, Phased.{IsPhased, TurnsChair, stage_of, closes_at, closing_in}, Records.{rest_at, reached, roused}, Sound.{Sound, SoundAt, HasShare}, View.queue_seen}, proofs.Phased.same_thing}
 
 abbrev pub rested : Rest → Chair → Chair
 rested x chair = record chair { rest = x }
@@ -116,7 +110,7 @@ module _ {B : Type 0} where
       subst (λ x. Sound w x) (sym kept) (rested_at w.place w s (record s { seats = s'.seats }) sound (omega arith) sound.time.bounded
       (let c = get_or s.seats.items i sound.alone.seat in
       let there = slice_get-get_or s.seats.items i sound.alone.seat within in
-      one_rested rest.Awake i s.seats.items s'.seats.items c there (turns c there)))
+      one_rested Rest.Awake i s.seats.items s'.seats.items c there (turns c there)))
 
   pub peer_kept : (w : Worker) (s s' : Shared B) → s' ≡ record s { listeners = s'.listeners } → Sound w s → Sound w s'
   peer_kept w s s' kept sound =

@@ -1,35 +1,26 @@
 -- An operation that has landed, whose request goes on: a step.
-use Rattle.std.proofs.Common.{◌≡◌, ℕ, suc, ◌+◌, ◌-◌, ◌≤◌, ◌==◌, Bool, true, false, List, [], ◌∷◌, ◌++◌, length, map, Option, Some, None, refl, sym, ap, subst, ◌∙◌, arith}
-use Rattle.std.proofs.lemmas.Bool.{false≢true}
-use Rattle.std.proofs.lemmas.List.{append-nil}
-use Rattle.std.specs.Prelude.{slice_set}
-use Rattle.exec_outcomes.specs.declared.outcome.Outcome.{Outcome}
+use Rattle.std.proofs.{Common.{◌≡◌, ℕ, ◌+◌, ◌-◌, true, false, List, [], ◌∷◌, ◌++◌, length, map, Option, None, refl, sym, ap, subst, ◌∙◌, arith}, lemmas.List.append-nil}
 use Rattle.exec_ring.specs.{Completions.result_in, Rings.completions, declared.completion.Completion.Completion}
 use Rattle.exec_task.specs.declared.body.Said.{Said}
-use Rattle.exec_waiters.proofs.Changes.{one_if}
-use Rattle.exec_waiters.specs.{States.flying_count, Told.{Tells, nothing_told}, declared.waiter_id.WaiterId.WaiterId}
+use Rattle.exec_waiters.{proofs.Changes.one_if, specs.{States.flying_count, Told.{Tells, nothing_told}, declared.waiter_id.WaiterId.WaiterId}}
 use Rattle.exec_driver.specs.{Driving.Driving, Punctual.IsPunctual}
-use Rattle.exec_machine.specs.{declared.event.Event.{Event, TheVariants.Reap}, Progress.Plan, Requests.outcome_given}
-use Rattle.exec_moves.specs.{Move.aside, Seen.serves_at, Serve.{after_permit, back_from_reap, others_after_reap}, State.Desk, declared.place.{Place.Place, Reaping.Reaping, Service.Service}}
-use Rattle.exec_moves.specs.declared.place.InService.TheVariants as step
-use Rattle.exec_moves.specs.declared.place.Place.TheVariants as at
-use Rattle.exec_moves.specs.declared.place.Reaping.TheVariants as reaping
-use Rattle.exec_steps.specs.{declared.parts.{mail.Reply.Reply, record.Record.Record, shared.Shared.Shared, worker.Worker.Worker}, Due.may_be_due, Flown.operations, Phased.closes_at, Records.number_in, Serving.changed_at, Sound.{SoundAt, served_in, is_armed_at}, Spots.Spot, View.{Visible, visible, own_of, desk_of, driver_of, common_of, things_of, number_told, numbers_of, trailing}, Works.{Suits, Steps}}
-use Rattle.exec_steps.proofs.{Changing.flying_after, Judging.given_is, Requeued.{GoesBack, back_alike, back_waiter, goes_back, keeps_back}, Seeing.{desk_with, makes, own_with, served, shows}, Serving.{Follows, Keeps, KeepsBy, Serves, is_calm}, Sweeping.follows_reap, Timed.keeps_untold, Trailing.others_left, Viewed.{common_seen, may_seen, moves_seen, reap_as}}
+use Rattle.exec_machine.specs.{declared.event.Event.{Event, TheVariants.Reap}, Requests.outcome_given}
+use Rattle.exec_moves.specs.{Move.aside, Seen.serves_at, Serve.{after_permit, back_from_reap, others_after_reap}, State.Desk, declared.place.{Place.Place, Reaping.Reaping, Service.Service, InService.InService}}
+use Rattle.exec_steps.{specs.{declared.parts.{mail.Reply.Reply, shared.Shared.Shared, worker.Worker.Worker}, Due.may_be_due, Flown.operations, Phased.closes_at, Records.number_in, Serving.changed_at, Sound.{SoundAt, served_in, is_armed_at}, Spots.Spot, View.{visible, own_of, desk_of, driver_of, things_of, number_told, numbers_of, trailing}, Works.Steps}, proofs.{Changing.flying_after, Judging.given_is, Requeued.{GoesBack, back_alike, goes_back, keeps_back}, Seeing.{desk_with, makes, own_with, served, shows}, Serving.{Follows, Keeps, KeepsBy, Serves, is_calm}, Sweeping.follows_reap, Timed.keeps_untold, Trailing.others_left, Viewed.{common_seen, may_seen, moves_seen}}}
 
 -- WHERE IT LEADS
 
-pub follows_back : (rp : Reaping) (v : Service) (later : List ℕ) → Follows (at.Service (step.Reap rp) v) (at.Service (after_permit (back_from_reap rp later)) v)
+pub follows_back : (rp : Reaping) (v : Service) (later : List ℕ) → Follows (Place.Service (InService.Reap rp) v) (Place.Service (after_permit (back_from_reap rp later)) v)
 follows_back rp v [] = follows_reap rp v
 follows_back rp v (k ∷ later) = record { from = refl; to = refl; serves = refl; armed = refl; closes = refl; wakes = refl; permits = refl; moment = λ m. refl }
 
-pub not_due : (rp : Reaping) (v : Service) → may_be_due (served_in (at.Service (step.Reap rp) v)) ≡ false
-not_due reaping.First v = refl
-not_due reaping.Last v = refl
+pub not_due : (rp : Reaping) (v : Service) → may_be_due (served_in (Place.Service (InService.Reap rp) v)) ≡ false
+not_due Reaping.First v = refl
+not_due Reaping.Last v = refl
 
-pub served_back : (rp : Reaping) (v : Service) (later : List ℕ) → serves_at (at.Service (after_permit (back_from_reap rp later)) v) ≡ true
-served_back reaping.First v [] = refl
-served_back reaping.Last v [] = refl
+pub served_back : (rp : Reaping) (v : Service) (later : List ℕ) → serves_at (Place.Service (after_permit (back_from_reap rp later)) v) ≡ true
+served_back Reaping.First v [] = refl
+served_back Reaping.Last v [] = refl
 served_back rp v (k ∷ later) = refl
 
 pub desk_left : (numbers : List ℕ) (cs : List Completion) (d : Desk) (q : Place) → record d { place = q; others = others_left cs d.others } ≡ record (others_after_reap (map (number_told numbers) cs) d) { place = q }
@@ -43,9 +34,9 @@ numbers_push numbers (x ∷ ids) id = ap (λ ns. number_in numbers x.0 ∷ ns) (
 pub one_fewer : (a b m n : ℕ) → a + m ≡ b + n → m ≡ 1 → n ≡ 0 → a ≡ b - 1
 one_fewer a b m n is one none = omega (arith, is, one, none)
 
-module _ {B L : Type 0} (left : B → L) (spot : L → Option Said → Spot) (rp : Reaping) (v : Service) (w : Worker) (s : Shared B) (sound : SoundAt (at.Service (step.Reap rp) v) w s) (c : Completion) (cs : List Completion) (is : operations (driver_of w).ring ≡ c ∷ cs) where
+module _ {B L : Type 0} (left : B → L) (spot : L → Option Said → Spot) (rp : Reaping) (v : Service) (w : Worker) (s : Shared B) (sound : SoundAt (Place.Service (InService.Reap rp) v) w s) (c : Completion) (cs : List Completion) (is : operations (driver_of w).ring ≡ c ∷ cs) where
   abbrev pub place_back : Place
-  place_back = at.Service (after_permit (back_from_reap rp (map (number_told w.names.requests.items) cs))) v
+  place_back = Place.Service (after_permit (back_from_reap rp (map (number_told w.names.requests.items) cs))) v
 
   own_back : (d' : Driving Reply Reply) (back : GoesBack w s d' c cs) →
       let n = w.names.requests.items in
@@ -66,7 +57,7 @@ module _ {B L : Type 0} (left : B → L) (spot : L → Option Said → Spot) (rp
       → s'.requests.items ≡ changed_at s.requests.items (number_in w.names.requests.items back.h.id) (goes_back (result_in c.result)) → s' ≡ record s { requests = s'.requests } → Tells w.home.deferred w'.home.deferred nothing_told
       → w' ≡ record w { place = place_back; home = record w.home { driver = w'.home.driver; deferred = w'.home.deferred } } → Steps left spot w s e w' s'
   reaped_back w' s' e back punctual event records shared tells same =
-      let q : Place = at.Service (step.Reap rp) v in
+      let q : Place = Place.Service (InService.Reap rp) v in
       let q' : Place = place_back in
       let d = driver_of w in
       let d' = driver_of w' in

@@ -1,12 +1,6 @@
 -- What an enter does to the ring of a worker whose kernel ends nothing by itself and keeps no wake.
-use Rattle.std.proofs.Common.{◌≡◌, ℕ, zero, suc, ◌+◌, ◌==◌, Bool, true, false, not, cond, List, [], ◌∷◌, ◌++◌, length, filter, refl, sym, ap, ◌∙◌, arith}
-use Rattle.std.proofs.lemmas.Grind.{flat_map-append}
-use Rattle.std.proofs.lemmas.List.{append_assoc, append-nil}
-use Rattle.std.proofs.lemmas.List.Elements.{filter-append}
-use Rattle.std.specs.Prelude.{replicate, if◌then◌else◌}
-use Rattle.std.specs.List.{fold, flat_map}
+use Rattle.std.{proofs.{Common.{◌≡◌, ℕ, suc, ◌+◌, true, false, not, List, [], ◌∷◌, ◌++◌, filter, refl, sym, ap, ◌∙◌, arith, replicate, if◌then◌else◌}, lemmas.{Grind.flat_map-append, List.{append_assoc, append-nil, Elements.filter-append}}}, specs.List.{fold, flat_map}}
 use Rattle.exec_request.specs.declared.window.Opcode.{Opcode}
-use Rattle.exec_request.specs.declared.window.Opcode.TheVariants as opcode
 use Rattle.exec_ring.specs.{Completions.{wake_completion, acknowledged}, Kernels.{with_completion, taken_as, taken_in, all_taken}, Rings.{RingState, completions, spelled}, declared.completion.{Completion.Completion, Submission.Submission, Posted.Posted}}
 use Rattle.exec_driver.specs.Steps.{is_control}
 use Rattle.exec_steps.specs.{Flown.AreAcks, Serving.{is_cancel, cancels_in, AreTagged}, View.trailing}
@@ -44,7 +38,7 @@ acks_after [] p tag a = ((λ h. tag), tt)
 acks_after (q ∷ ps) p tag a = (a.0, acks_after ps p tag a.1)
 
 one_taken : (k : Opcode) (s : RingState) (e : Submission) → s.raised ≡ false → (is_cancel k ≡ true → e.user_data ≡ 4294967295) → Acknowledges s (taken_as k s e) (if is_cancel k then 1 else 0)
-one_taken opcode.Cancel s e quiet tag =
+one_taken Opcode.Cancel s e quiet tag =
     let control = control_by e.user_data (tag refl) in
     record {
       size = refl;
@@ -57,7 +51,7 @@ one_taken opcode.Cancel s e quiet tag =
           rw (completion_added s (acknowledged e.user_data), filter-append (λ c. not (is_control c)) (completions s) (acknowledged e.user_data ∷ []), control)
           (append-nil (filter (λ c. not (is_control c)) (completions s)));
     }
-one_taken opcode.Wake s e quiet tag = rw quiet (record { size = refl; staged = refl; busy = refl; raised = refl; acks = λ a. a; others = omega arith; landed = refl })
+one_taken Opcode.Wake s e quiet tag = rw quiet (record { size = refl; staged = refl; busy = refl; raised = refl; acks = λ a. a; others = omega arith; landed = refl })
 one_taken _ s e quiet tag = record { size = refl; staged = refl; busy = refl; raised = quiet; acks = λ a. a; others = omega arith; landed = refl }
 
 fold_taken : (es : List Submission) (s : RingState) → s.raised ≡ false → AreTagged es → Acknowledges s (fold taken_in s es) (cancels_in es)

@@ -1,20 +1,13 @@
 -- What the root holds and waits for, as records, the driver, sleepers and the root's slot change.
-use Rattle.std.proofs.Common.{◌≡◌, ◌⊎◌, ⊎_elim, ℕ, suc, ◌+◌, ◌-◌, ◌==◌, ◌&&◌, Bool, true, false, not, cond, List, [], ◌∷◌, length, Option, Some, IsSome, refl, sym, ap, subst, ◌∙◌, arith}
-use Rattle.std.proofs.lemmas.Bool.{false≢true, eq-eqb}
-use Rattle.std.proofs.lemmas.Bool.Decides.{nat_tests}
-use Rattle.std.proofs.lemmas.List.Recursion.{is_count_by}
-use Rattle.std.proofs.lemmas.Option.{get_or_from_slice_get}
-use Rattle.std.specs.Prelude.{slice_get, slice_set, count_by}
+use Rattle.std.proofs.{Common.{◌≡◌, ◌⊎◌, ⊎_elim, ℕ, suc, ◌+◌, ◌-◌, ◌==◌, ◌&&◌, Bool, true, false, not, cond, List, [], ◌∷◌, length, Option, Some, IsSome, refl, sym, ap, subst, ◌∙◌, arith, slice_get, slice_set, count_by}, lemmas.{Bool.{false≢true, eq-eqb, Decides.nat_tests}, List.Recursion.is_count_by, Option.get_or_from_slice_get}}
 use Rattle.exec_base.specs.{Slab.{Slab, value_at, live_count, is_live}, declared.slab.{Id.Id, Slot.{Slot, TheVariants.{Live, Vacant, Retired}}}}
 use Rattle.exec_request.specs.declared.output.RequestOutput.{RequestOutput}
 use Rattle.exec_time.specs.declared.timers.Sleeper.{Sleeper as Sleeping}
 use Rattle.exec_waiters.specs.declared.waiter.Entry.TheVariants.{Ready}
 use Rattle.exec_driver.specs.Driving.{Driving}
 use Rattle.exec_machine.specs.{declared.state.Waiting.Waiting, Tests.is_resolved}
-use Rattle.exec_machine.specs.declared.state.Waiting.TheVariants as waiting
 use Rattle.exec_moves.specs.declared.place.InPoll.{InPoll}
-use Rattle.exec_steps.specs.{declared.parts.{mail.Reply.Reply, names.Names.Names, record.Record.Record, sleeping.SleeperRecord.SleeperRecord, task_slot.TaskSlot.TaskSlot}, Calls.sleeper_paying, Phased.{is_complete, HoldsNothing}, Records.number_in, Rooted.{IsRooted, Holds, IsHeld, IsKept, Awaits, AwaitsTimer, ends_poll}, Serving.{changed_at, is_one_of}}
-use Rattle.exec_steps.proofs.{Marking.{mark_if, marked, was_marked, slept_before}, Turning.set_there}
+use Rattle.exec_steps.{specs.{declared.parts.{mail.Reply.Reply, names.Names.Names, record.Record.Record, sleeping.SleeperRecord.SleeperRecord, task_slot.TaskSlot.TaskSlot}, Calls.sleeper_paying, Phased.{is_complete, HoldsNothing}, Records.number_in, Rooted.{IsRooted, Holds, IsHeld, IsKept, Awaits, AwaitsTimer, ends_poll}, Serving.{changed_at, is_one_of}}, proofs.{Marking.{mark_if, marked, was_marked, slept_before}, Turning.set_there}}
 
 same_number : (a b : ℕ) → (a == b) ≡ true → a ≡ b
 same_number a b h = grind (arith, nat_tests)
@@ -75,10 +68,10 @@ module _ {B : Type 0} where
       let none = h.over over in
       record {
         held = h.counted ∙ ap (λ xs. length xs) none.0;
-        timers = none_live (Sleeping Reply) zs (λ id it live. let never : waiting.Nothing ≡ waiting.Timer (number_in n.timers.items id) = sym none.1 ∙ (h.sleeping id it live).1 in absurd (cc));
+        timers = none_live (Sleeping Reply) zs (λ id it live. let never : Waiting.Nothing ≡ Waiting.Timer (number_in n.timers.items id) = sym none.1 ∙ (h.sleeping id it live).1 in absurd (cc));
         unobserved = λ k r found mine. not_seen r.shown.observed (λ seen. false≢true (subst (λ xs. is_one_of k xs ≡ true) none.0 (h.all k r found mine seen)));
         awake = λ k z found. none_asleep (z.shown.worker == i) z.shown.fired z.shown.removed (λ mine fired removed.
-            let never : waiting.Nothing ≡ waiting.Timer k = sym none.1 ∙ h.asleep k z found (same_number z.shown.worker i mine) fired removed in absurd (cc));
+            let never : Waiting.Nothing ≡ Waiting.Timer k = sym none.1 ∙ h.asleep k z found (same_number z.shown.worker i mine) fired removed in absurd (cc));
       }
 
 -- A RECORD CHANGES, and what the driver has
@@ -129,7 +122,7 @@ module _ (f : Record → Record) (q : ℕ) (n n' : Names) (d d' : Driving Reply 
       (mark_if f (q == k) r, marked f rs q k r old.1, subst (IsHeld i k n' d') (sym is) (assumption (named, live, unpaid, old.2)))
 
   awaits_still : (ends : Bool) (i t : ℕ) (held : List ℕ) (ss : List SleeperRecord) (what : Waiting) → ends ≡ false → Awaits ends i t held what rs ss → Awaits ends i t held what (changed_at rs q f) ss
-  awaits_still ends i t held ss (waiting.Request k) quiet old =
+  awaits_still ends i t held ss (Waiting.Request k) quiet old =
       let r = old.0 in
       let is = was k r old.1 (q == k) refl in
       let x = mark_if f (q == k) r in (
@@ -142,11 +135,11 @@ module _ (f : Record → Record) (q : ℕ) (n n' : Names) (d d' : Driving Reply 
           open_still = λ h. absurd (false≢true (sym quiet ∙ h));
         },
       )
-  awaits_still ends i t held ss (waiting.Timer k) quiet old = old
-  awaits_still ends i t held ss waiting.Nothing quiet old = tt
-  awaits_still ends i t held ss waiting.Wake quiet old = tt
-  awaits_still ends i t held ss waiting.Woken quiet old = tt
-  awaits_still ends i t held ss waiting.Yielded quiet old = tt
+  awaits_still ends i t held ss (Waiting.Timer k) quiet old = old
+  awaits_still ends i t held ss Waiting.Nothing quiet old = tt
+  awaits_still ends i t held ss Waiting.Wake quiet old = tt
+  awaits_still ends i t held ss Waiting.Woken quiet old = tt
+  awaits_still ends i t held ss Waiting.Yielded quiet old = tt
 
   kept_still : (i t : ℕ) (id : Id) (told : RequestOutput) (y : Record) → ((id : Id) (told : RequestOutput) (r : Record) → value_at d.requests id ≡ Some (Ready told) → slice_get rs (number_in n.requests.items id) ≡ Some r → IsKept told r)
       → value_at d'.requests id ≡ Some (Ready told) → slice_get (changed_at rs q f) (number_in n'.requests.items id) ≡ Some y → IsKept told y
@@ -183,7 +176,7 @@ module _ (f : Record → Record) (q : ℕ) (n n' : Names) (d d' : Driving Reply 
             (sym (ap (λ x. x.shown.observed) is) ∙ seen) (sym (ap (λ x. x.shown.waiter) is) ∙ waiter);
         kept = λ id told y at there. kept_still i t id told y old.kept at there;
         waits = awaits_still ends i t held ss what quiet old.waits;
-        sleeping = λ id it live. let h = old.sleeping id it live in (h.0, h.1 ∙ ap (λ xs. waiting.Timer (number_in xs id)) (sym by.timers));
+        sleeping = λ id it live. let h = old.sleeping id it live in (h.0, h.1 ∙ ap (λ xs. Waiting.Timer (number_in xs id)) (sym by.timers));
         asleep = old.asleep;
         over = old.over;
       }
@@ -197,13 +190,13 @@ module _ (f : Record → Record) (q : ℕ) (n n' : Names) (d d' : Driving Reply 
 module _ (ss : List SleeperRecord) (n : ℕ) (z : SleeperRecord) (there : slice_get ss n ≡ Some z) where
   -- where the root waits for it, and it has fired
   pub holds_paid : (i t : ℕ) (held : List ℕ) (over : Bool) (m : Names) (d : Driving Reply Reply) (zs : Slab (Sleeping Reply)) (rs : List Record)
-      → z.shown.fired ≡ true → Holds false i t held (waiting.Timer n) over m d zs rs ss → Holds false i t held (waiting.Timer n) over m d zs rs (slice_set ss n (sleeper_paying z))
+      → z.shown.fired ≡ true → Holds false i t held (Waiting.Timer n) over m d zs rs ss → Holds false i t held (Waiting.Timer n) over m d zs rs (slice_set ss n (sleeper_paying z))
   holds_paid i t held over m d zs rs fired old =
       let same : old.waits.0 ≡ z = same_thing old.waits.0 z (sym old.waits.1 ∙ there) in
       let at = subst (AwaitsTimer false i t) same old.waits.2 in
-      let waits : Awaits false i t held (waiting.Timer n) rs (slice_set ss n (sleeper_paying z)) =
+      let waits : Awaits false i t held (Waiting.Timer n) rs (slice_set ss n (sleeper_paying z)) =
       (sleeper_paying z, set_there ss n (sleeper_paying z) z there, record { worker = at.worker; task = at.task; unsent = at.unsent; kept = at.kept; unpaid = λ h. absurd (false≢true (sym h ∙ fired)); asleep = λ h. absurd (false≢true h) }) in
-      let asleep : (k : ℕ) (y : SleeperRecord) → slice_get (slice_set ss n (sleeper_paying z)) k ≡ Some y → y.shown.worker ≡ i → y.shown.fired ≡ false → y.shown.removed ≡ false → waiting.Timer n ≡ waiting.Timer k = λ k y found mine unfired kept.
+      let asleep : (k : ℕ) (y : SleeperRecord) → slice_get (slice_set ss n (sleeper_paying z)) k ≡ Some y → y.shown.worker ≡ i → y.shown.fired ≡ false → y.shown.removed ≡ false → Waiting.Timer n ≡ Waiting.Timer k = λ k y found mine unfired kept.
       let v = slept_before ss n z there k y found in
       old.asleep k v.0 v.1 (sym (ap (λ u. u.shown.worker) v.2) ∙ mine) (sym (ap (λ u. u.shown.fired) v.2) ∙ unfired) (sym (ap (λ u. u.shown.removed) v.2) ∙ kept) in
       assumption (waits, asleep, old)

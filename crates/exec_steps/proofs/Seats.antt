@@ -1,8 +1,5 @@
 -- What the machine sees of seats.
-use Rattle.std.proofs.Common.{◌≡◌, ℕ, zero, suc, Bool, true, List, [], ◌∷◌, Some, Option, refl, ap}
-use Rattle.std.proofs.lemmas.Option.{get_or_from_slice_get}
-use Rattle.std.specs.Prelude.{slice_get, slice_set}
-use Rattle.std.specs.List.{list_all}
+use Rattle.std.{proofs.{Common.{◌≡◌, ℕ, zero, suc, Bool, true, List, [], ◌∷◌, Some, Option, refl, ap, slice_get, slice_set}, lemmas.Option.get_or_from_slice_get}, specs.List.list_all}
 use Rattle.exec_task.specs.declared.body.Said.{Said}
 use Rattle.exec_machine.specs.{Progress.Plan, World.{Seat, seat_of, no_seat}}
 use Rattle.exec_steps.specs.{declared.parts.{seat.Seat.Seat as Chair, shared.Shared.Shared, worker.Worker.Worker}, Spots.Spot, View.{Visible, visible, common_of, seats_seen, seat_seen}, Works.Suits}

@@ -1,43 +1,31 @@
 -- Steps of a service: what they keep.
-use Rattle.std.proofs.Common.{◌≡◌, ℕ, zero, suc, ◌<◌, ◌≤◌, ◌+◌, Bool, true, false, List, [], ◌∷◌, length, Option, Some, None, refl, sym, ap, subst, ◌∙◌, arith}
-use Rattle.std.proofs.lemmas.Bool.{false≢true}
-use Rattle.std.proofs.lemmas.Option.{slice_get_within, slice_get-get_or, get_or_from_slice_get}
-use Rattle.std.proofs.lemmas.List.{get_or-set_same, length-set}
-use Rattle.std.specs.Prelude.{slice_get, slice_set, slice_index_or}
-use Rattle.exec_base.specs.Slab.{Slab, live_count}
+use Rattle.std.proofs.{Common.{◌≡◌, ℕ, zero, suc, Bool, true, false, List, [], ◌∷◌, length, Option, Some, None, refl, sym, ap, subst, ◌∙◌, arith, slice_get, slice_set}, lemmas.{Bool.false≢true, Option.{slice_get_within, slice_get-get_or, get_or_from_slice_get}, List.{get_or-set_same, length-set}}}
+use Rattle.exec_base.specs.Slab.{Slab}
 use Rattle.exec_waiters.specs.{States.pending_count, declared.deferred.Deferred.Deferred}
 use Rattle.exec_time.specs.declared.timers.Sleeper.{Sleeper as Sleeping}
 use Rattle.exec_driver.specs.Driving.{Driving, seen}
-use Rattle.exec_words.specs.{Queue.room_of, declared.word.PureWord.PureWord}
-use Rattle.exec_words.specs.declared.word.WaitTarget.TheVariants as target
+use Rattle.exec_words.specs.{Queue.room_of, declared.word.{PureWord.PureWord, WaitTarget.WaitTarget}}
 use Rattle.exec_task.specs.declared.{body.Said.Said, runnable.Runnable.Runnable}
-use Rattle.exec_machine.specs.{declared.event.Event.{Event, TheVariants.Serve}, Choice.Choice.Plain, Progress.Plan, Ranges.ring_size, World.{seat_of, Seat, no_seat}}
-use Rattle.exec_machine.specs.declared.state.Next.TheVariants as next
-use Rattle.exec_moves.specs.declared.place.InCallbacks.TheVariants as callback
-use Rattle.exec_moves.specs.declared.place.InMail.TheVariants as mail
-use Rattle.exec_moves.specs.{declared.place.{InService.InService, Service.Service, Place.Place}, Move.move, Seen.{polls_at, next_at, serves_at, serves_in}, Serve.{sample, unlatched}}
-use Rattle.exec_moves.specs.declared.place.InService.TheVariants as step
-use Rattle.exec_moves.specs.declared.place.Reaping.TheVariants as reaping
-use Rattle.exec_moves.specs.declared.place.Place.TheVariants as at
-use Rattle.exec_steps.specs.{declared.parts.{mail.Reply.Reply, names.Names.Names, record.Record.Record, sleeping.SleeperRecord.SleeperRecord, seat.Seat.Seat as Chair, shared.Shared.Shared, task_slot.TaskSlot.TaskSlot, worker.{Worker.Worker, Moments.Moments}}, Carried.IsCarried, Due.{IsDue, wheel_moment}, Flown.{HasFlown, passes_permit}, Phased.{IsPhased, closes_at, closing_in, stage_of}, Rooted.IsRooted, Sound.{tellers, SoundAt, IsAlone, IsInTime, IsTold, IsNamed, AreOver, AreOwed, Stands, InHand, HasShare, HasLeft, has_wakes_at, served_in, polled_in, is_armed_at}, Spots.Spot, View.{Visible, visible, own_of, desk_of, driver_of, common_of, things_of, seats_seen, seat_seen, queue_at, queue_seen, word_at}, Works.{Makes, TurnsWord, Works, Suits, Steps}}
-use Rattle.exec_steps.proofs.{Hearing.unheard, Turning.set_found, Orders.unordered}
+use Rattle.exec_machine.specs.{declared.{event.Event.{Event, TheVariants.Serve}, state.Next.Next}, Choice.Choice.Plain, Progress.Plan, Ranges.ring_size, World.{seat_of, no_seat}}
+use Rattle.exec_moves.specs.{declared.place.{InService.InService, Service.Service, Place.Place, InCallbacks.InCallbacks, InMail.InMail, Reaping.Reaping}, Seen.{polls_at, next_at, serves_at}, Serve.{sample, unlatched}}
+use Rattle.exec_steps.{specs.{declared.parts.{mail.Reply.Reply, record.Record.Record, sleeping.SleeperRecord.SleeperRecord, seat.Seat.Seat as Chair, shared.Shared.Shared, task_slot.TaskSlot.TaskSlot, worker.{Worker.Worker, Moments.Moments}}, Carried.IsCarried, Due.{IsDue, wheel_moment}, Flown.{HasFlown, passes_permit}, Phased.{IsPhased, closes_at, closing_in, stage_of}, Rooted.IsRooted, Sound.{tellers, SoundAt, IsAlone, IsTold, IsNamed, AreOver, AreOwed, Stands, InHand, HasShare, HasLeft, has_wakes_at, served_in, polled_in, is_armed_at}, Spots.Spot, View.{Visible, visible, desk_of, driver_of, common_of, things_of, seats_seen, seat_seen, queue_seen}, Works.{Makes, TurnsWord, Works, Suits, Steps}}, proofs.{Hearing.unheard, Turning.set_found, Orders.unordered}}
 
 -- PLACES
 
 -- a service that passes no permit, what follows it, and a wait on the ring
 abbrev pub is_calm : Place → Bool
-is_calm (at.Service (step.PassPermit file b) v) = false
-is_calm (at.Service (step.Signal worker b) v) = false
-is_calm (at.Service x v) = true
-is_calm (at.Mail mail.LoadMailWord) = true
-is_calm (at.Callbacks callback.TakeBatch n) = true
-is_calm (at.RingWait x y) = true
+is_calm (Place.Service (InService.PassPermit file b) v) = false
+is_calm (Place.Service (InService.Signal worker b) v) = false
+is_calm (Place.Service x v) = true
+is_calm (Place.Mail InMail.LoadMailWord) = true
+is_calm (Place.Callbacks InCallbacks.TakeBatch n) = true
+is_calm (Place.RingWait x y) = true
 is_calm _ = false
 
 -- nothing is polled or owed there, no share is about to be taken, and the hand is empty
 pub record IsCalm (q : Place) : Type 0 where
   pub polls : polls_at q ≡ None
-  pub free : next_at q ≡ next.Free
+  pub free : next_at q ≡ Next.Free
   pub share : (n : ℕ) → HasShare q n
   pub hands : (root : ℕ) (hand : Option Runnable) → hand ≡ None → InHand q root hand
   pub empty : (root : ℕ) (hand : Option Runnable) → InHand q root hand → hand ≡ None
@@ -46,12 +34,12 @@ pub record IsCalm (q : Place) : Type 0 where
   pub closing : closing_in q ≡ None
 
 pub calm : (q : Place) → is_calm q ≡ true → IsCalm q
-calm (at.Service (step.PassPermit file b) v) h = absurd (false≢true h)
-calm (at.Service (step.Signal worker b) v) h = absurd (false≢true h)
-calm (at.Service x v) h = record { polls = refl; free = refl; share = λ n. tt; hands = λ root hand e. e; empty = λ root hand e. e; left = λ d. tt; stands = refl; closing = refl }
-calm (at.Mail mail.LoadMailWord) h = record { polls = refl; free = refl; share = λ n. tt; hands = λ root hand e. e; empty = λ root hand e. e; left = λ d. tt; stands = refl; closing = refl }
-calm (at.Callbacks callback.TakeBatch n) h = record { polls = refl; free = refl; share = λ n. tt; hands = λ root hand e. e; empty = λ root hand e. e; left = λ d. tt; stands = refl; closing = refl }
-calm (at.RingWait x y) h = record { polls = refl; free = refl; share = λ n. tt; hands = λ root hand e. e; empty = λ root hand e. e; left = λ d. tt; stands = refl; closing = refl }
+calm (Place.Service (InService.PassPermit file b) v) h = absurd (false≢true h)
+calm (Place.Service (InService.Signal worker b) v) h = absurd (false≢true h)
+calm (Place.Service x v) h = record { polls = refl; free = refl; share = λ n. tt; hands = λ root hand e. e; empty = λ root hand e. e; left = λ d. tt; stands = refl; closing = refl }
+calm (Place.Mail InMail.LoadMailWord) h = record { polls = refl; free = refl; share = λ n. tt; hands = λ root hand e. e; empty = λ root hand e. e; left = λ d. tt; stands = refl; closing = refl }
+calm (Place.Callbacks InCallbacks.TakeBatch n) h = record { polls = refl; free = refl; share = λ n. tt; hands = λ root hand e. e; empty = λ root hand e. e; left = λ d. tt; stands = refl; closing = refl }
+calm (Place.RingWait x y) h = record { polls = refl; free = refl; share = λ n. tt; hands = λ root hand e. e; empty = λ root hand e. e; left = λ d. tt; stands = refl; closing = refl }
 calm _ h = absurd (false≢true h)
 
 -- SEATS
@@ -219,7 +207,7 @@ module _ {B : Type 0} where
 
   -- another wake word, which has no wait bit where the place has none
   pub alone_again : (i : ℕ) (armed b : Bool) (s s' : Shared B) (x : PureWord) → (alone : IsAlone i armed s.seats.items s.global.values) → TurnsWord i s s' x
-      → (b ≡ false → x.target ≡ target.None) → IsAlone i b s'.seats.items s.global.values
+      → (b ≡ false → x.target ≡ WaitTarget.None) → IsAlone i b s'.seats.items s.global.values
   alone_again i armed b s s' x alone turns unarmed =
       let seat = alone.seat in
       record {
@@ -243,9 +231,9 @@ module _ {B : Type 0} where
 -- THE SAMPLE
 
 module _ {B L : Type 0} (left : B → L) (spot : L → Option Said → Spot) where
-  sample_works : (v : Service) (w : Worker) (s s' : Shared B) → SoundAt (at.Service step.Sample v) w s → TurnsWord w.index s s' (unlatched (things_of w.index s).word)
+  sample_works : (v : Service) (w : Worker) (s s' : Shared B) → SoundAt (Place.Service InService.Sample v) w s → TurnsWord w.index s s' (unlatched (things_of w.index s).word)
       → (p : Plan) (vs : List Visible) → Suits p vs w s
-      → Works left spot p vs w s Serve (record w { place = at.Service (step.Reap reaping.First) v; moments = record w.moments { before = w.moments.sampled; sampled = s.clock } }) (record s { seats = s'.seats })
+      → Works left spot p vs w s Serve (record w { place = Place.Service (InService.Reap Reaping.First) v; moments = record w.moments { before = w.moments.sampled; sampled = s.clock } }) (record s { seats = s'.seats })
   sample_works v w s s' sound turns p vs suits =
       let seat = sound.alone.seat in
       let things : things_of w.index (record s { seats = s'.seats }) ≡ record (things_of w.index s) { word = unlatched (things_of w.index s).word } =
@@ -260,8 +248,8 @@ module _ {B L : Type 0} (left : B → L) (spot : L → Option Said → Spot) whe
             (ap (λ seen. record (common_of left spot p vs s) { seats = seen }) (ap (seats_seen vs) (turns.seats seat sound.alone.there) ∙ word_unseen vs s.seats.items w.index seat (unlatched (things_of w.index s).word) sound.alone.there));
       }
 
-  sound_sampled : (v : Service) (w : Worker) (s s' : Shared B) → SoundAt (at.Service step.Sample v) w s → TurnsWord w.index s s' (unlatched (things_of w.index s).word)
-      → SoundAt (at.Service (step.Reap reaping.First) v) (record w { place = at.Service (step.Reap reaping.First) v; moments = record w.moments { before = w.moments.sampled; sampled = s.clock } }) (record s { seats = s'.seats })
+  sound_sampled : (v : Service) (w : Worker) (s s' : Shared B) → SoundAt (Place.Service InService.Sample v) w s → TurnsWord w.index s s' (unlatched (things_of w.index s).word)
+      → SoundAt (Place.Service (InService.Reap Reaping.First) v) (record w { place = Place.Service (InService.Reap Reaping.First) v; moments = record w.moments { before = w.moments.sampled; sampled = s.clock } }) (record s { seats = s'.seats })
   sound_sampled v w s s' sound turns =
       let seat = sound.alone.seat in
       let word = unlatched (things_of w.index s).word in
@@ -293,16 +281,16 @@ module _ {B L : Type 0} (left : B → L) (spot : L → Option Said → Spot) whe
         rooted = sound.rooted;
         phased = λ chair found.
             let same : now ≡ chair = cc (there, found) in
-            subst (λ c. IsPhased (closes_at (at.Service step.Sample v)) None w.home.closing w.root w.names.unreleased (stage_of c s) s.tasks.items) same (sound.phased seat sound.alone.there);
+            subst (λ c. IsPhased (closes_at (Place.Service InService.Sample v)) None w.home.closing w.root w.names.unreleased (stage_of c s) s.tasks.items) same (sound.phased seat sound.alone.there);
         tied = record { stands = sound.tied.stands; owed = sound.tied.owed };
       }
 
-  pub sampled : (v : Service) (w w' : Worker) (s s' : Shared B) (e : Event) → SoundAt (at.Service step.Sample v) w s
+  pub sampled : (v : Service) (w w' : Worker) (s s' : Shared B) (e : Event) → SoundAt (Place.Service InService.Sample v) w s
       → Makes (sample v (desk_of w) (things_of w.index s).word) e w'
       → w' ≡ record w { place = w'.place; moments = record w.moments { before = w.moments.sampled; sampled = s.clock } }
       → TurnsWord w.index s s' (unlatched (things_of w.index s).word) → Steps left spot w s e w' s'
   sampled v w w' s s' e sound makes same turns =
-      let q : Place = at.Service (step.Reap reaping.First) v in
+      let q : Place = Place.Service (InService.Reap Reaping.First) v in
       let there : w'.place ≡ q = ap (λ d. d.place) makes.desk in
       let m : Moments = record w.moments { before = w.moments.sampled; sampled = s.clock } in
       let w1 : Worker = record w { place = q; moments = m } in

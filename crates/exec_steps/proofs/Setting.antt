@@ -1,12 +1,10 @@
 -- A ring that was set busy, or to end its wake poll.
-use Rattle.std.proofs.Common.{◌≡◌, ℕ, ◌+◌, Bool, true, false, refl, sym, ap, subst, ◌∙◌}
-use Rattle.exec_base.specs.Slab.{live_count}
+use Rattle.std.proofs.Common.{◌≡◌, ℕ, Bool, refl, sym, ap, subst}
 use Rattle.exec_waiters.specs.States.{pending_count}
 use Rattle.exec_driver.specs.Driving.{Driving}
 use Rattle.exec_machine.specs.Ranges.{ring_size}
 use Rattle.exec_moves.specs.declared.place.Place.{Place}
-use Rattle.exec_steps.specs.{declared.parts.{mail.Reply.Reply, shared.Shared.Shared, worker.Worker.Worker}, Carried.IsCarried, Due.IsDue, Flown.{HasFlown, operations}, Rooted.IsRooted, Sound.{tellers, SoundAt, Sound, IsTold, IsNamed, IsSubmitted, AreOver, served_in, polled_in}, View.driver_of}
-use Rattle.exec_steps.proofs.{Conveying.carried_ring, Flown.landed_as, Going.{all_still, rooted_on}}
+use Rattle.exec_steps.{specs.{declared.parts.{mail.Reply.Reply, shared.Shared.Shared, worker.Worker.Worker}, Carried.IsCarried, Due.IsDue, Flown.{HasFlown, operations}, Rooted.IsRooted, Sound.{tellers, SoundAt, Sound, IsTold, IsNamed, IsSubmitted, AreOver, served_in, polled_in}, View.driver_of}, proofs.{Conveying.carried_ring, Flown.landed_as, Going.{all_still, rooted_on}}}
 
 module _ {B : Type 0} where
   pub sound_set : (q : Place) (w w' : Worker) (s : Shared B) (busy last : Bool) → SoundAt q w s → driver_of w' ≡ record (driver_of w) { ring = record (driver_of w).ring { busy = busy; last = last } }

@@ -1,25 +1,11 @@
 -- What a closing keeps, and what the machine sees of it.
-use Rattle.std.proofs.Common.{◌≡◌, ℕ, suc, ◌<◌, ◌-◌, ◌==◌, ◌&&◌, ◌||◌, Bool, true, false, not, List, [], ◌∷◌, length, map, Option, Some, None, refl, sym, ap, subst, ◌∙◌, arith}
-use Rattle.std.proofs.lemmas.Bool.{false≢true}
-use Rattle.std.proofs.lemmas.Bool.Decides.{nat_tests}
-use Rattle.std.proofs.lemmas.List.{length-set}
-use Rattle.std.proofs.lemmas.Option.{slice_get-map, slice_get-get_or, get_or_from_slice_get}
-use Rattle.std.specs.Prelude.{slice_get, slice_set, slice_index_or, option_map, if◌then◌else◌}
-use Rattle.std.specs.List.{list_all}
+use Rattle.std.{proofs.{Common.{◌≡◌, ℕ, suc, ◌<◌, ◌-◌, ◌==◌, ◌&&◌, ◌||◌, Bool, true, false, not, List, [], ◌∷◌, length, map, Option, Some, None, refl, sym, ap, subst, ◌∙◌, arith, slice_get, slice_set, slice_index_or, option_map, if◌then◌else◌}, lemmas.{Bool.{false≢true, Decides.nat_tests}, List.length-set, Option.{slice_get-map, slice_get-get_or, get_or_from_slice_get}}}, specs.List.list_all}
 use Rattle.exec_task.specs.{TaskSet.{Set, shard_at}, declared.{drain.Drain.Drain, body.Said.Said, runnable.Runnable.Runnable, task.Phase.Phase}}
-use Rattle.exec_task.specs.declared.task.Phase.TheVariants as cell
 use Rattle.exec_waiters.specs.declared.deferred.Deferred.{Deferred}
 use Rattle.exec_words.specs.{Global.Global, Inbox.shut, Queue.room_of, Reserved.Reserved, declared.inbox.Message.Message}
-use Rattle.exec_machine.specs.{declared.{event.Event.Event, state.{Request.Request, Sleeper.Sleeper, WorkerPhase.WorkerPhase}}, Closing.gone_with, Progress.Plan, Tasks.removed, Tests.{is_open, is_closing, has_ended, is_done, is_asleep}, World.{task_of, no_task}}
-use Rattle.exec_machine.specs.declared.state.Next.TheVariants as next
-use Rattle.exec_machine.specs.declared.state.WorkerPhase.TheVariants as worker
-use Rattle.exec_moves.specs.declared.place.AfterCallbacks.TheVariants as after
-use Rattle.exec_moves.specs.declared.place.InCallbacks.TheVariants as callback
-use Rattle.exec_moves.specs.{declared.place.{InClosing.InClosing, Place.Place}, Close.{after_visit, is_held_here}, Seen.next_in_closing, Serve.first_numbered}
-use Rattle.exec_moves.specs.declared.place.InClosing.TheVariants as closing
-use Rattle.exec_moves.specs.declared.place.Place.TheVariants as at
-use Rattle.exec_steps.specs.{declared.parts.{mail.{Reply.Reply, Subject.Subject}, seat.Seat.Seat as Chair, shared.Shared.Shared, task_slot.TaskSlot.TaskSlot, worker.Worker.Worker}, Phased.{IsPhased, IsPrepared, IsGoing, HoldsNothing, Stage, stage_of, closes_at, closing_in, root_over, has_stopped, has_left, has_shut, is_complete}, Sound.{SoundAt, IsAlone, InHand, HasShare, HasLeft, has_wakes_at, is_armed_at, polled_in, served_in}, Spots.Spot, View.{Visible, visible, driver_of, common_of, queue_seen, task_seen, phase_seen, seats_seen, seat_seen}, Works.{Suits, Steps}}
-use Rattle.exec_steps.proofs.{Phased.{set_there, same_thing}, Rooted.holds_nothing, Turning.set_found, Seats.chair_set}
+use Rattle.exec_machine.specs.{declared.{event.Event.Event, state.{Request.Request, Sleeper.Sleeper, WorkerPhase.WorkerPhase, Next.Next}}, Closing.gone_with, Progress.Plan, Tasks.removed, Tests.{is_open, is_closing, has_ended, is_done, is_asleep}, World.{task_of, no_task}}
+use Rattle.exec_moves.specs.{declared.place.{InClosing.InClosing, Place.Place, AfterCallbacks.AfterCallbacks, InCallbacks.InCallbacks}, Close.{after_visit, is_held_here}, Seen.next_in_closing, Serve.first_numbered}
+use Rattle.exec_steps.{specs.{declared.parts.{mail.{Reply.Reply, Subject.Subject}, seat.Seat.Seat as Chair, shared.Shared.Shared, task_slot.TaskSlot.TaskSlot, worker.Worker.Worker}, Phased.{IsPhased, IsPrepared, IsGoing, HoldsNothing, Stage, stage_of, closes_at, closing_in, root_over, has_stopped, has_left, has_shut, is_complete}, Sound.{SoundAt, IsAlone, InHand, HasShare, HasLeft, has_wakes_at, is_armed_at, polled_in, served_in}, Spots.Spot, View.{Visible, visible, driver_of, common_of, queue_seen, task_seen, phase_seen, seats_seen, seat_seen}, Works.{Suits, Steps}}, proofs.{Phased.{set_there, same_thing}, Rooted.holds_nothing, Turning.set_found, Seats.chair_set}}
 
 -- LISTS
 
@@ -41,16 +27,16 @@ first_alone n i k one within also = omega arith
 -- PHASES
 
 pub now_closing : (p : WorkerPhase) → is_open p ≡ false → has_ended p ≡ false → is_closing p ≡ true
-now_closing worker.Open h k = absurd (false≢true (sym h))
-now_closing worker.Closing h k = refl
-now_closing worker.Ended h k = absurd (false≢true (sym k))
+now_closing WorkerPhase.Open h k = absurd (false≢true (sym h))
+now_closing WorkerPhase.Closing h k = refl
+now_closing WorkerPhase.Ended h k = absurd (false≢true (sym k))
 
 pub now_done : {B : Type 0} (p : Phase B) (i : ℕ) → is_done (phase_seen p i) ≡ is_complete p
-now_done (cell.Idle b) i = refl
-now_done (cell.Queued b) i = refl
-now_done cell.Running i = refl
-now_done cell.Notified i = refl
-now_done cell.Complete i = refl
+now_done (Phase.Idle b) i = refl
+now_done (Phase.Queued b) i = refl
+now_done Phase.Running i = refl
+now_done Phase.Notified i = refl
+now_done Phase.Complete i = refl
 
 -- A sleeper that isn't asleep is as it is once its worker is gone.
 pub gone_before : (i : ℕ) (z : Sleeper) → is_asleep i z ≡ false → gone_with i z ≡ z
@@ -64,7 +50,7 @@ gone_before i z h =
     ] h
 
 over_closing : (x : Option InClosing) → root_over true x ≡ true
-over_closing (Some closing.Close) = refl
+over_closing (Some InClosing.Close) = refl
 over_closing _ = refl
 
 over_both : (x : InClosing) (y : Option InClosing) → root_over true (Some x) ≡ root_over true y
@@ -82,8 +68,8 @@ unheld i r h =
 pub positive : (n : ℕ) → (n == 0) ≡ false → 0 < n
 positive n h = grind (arith, nat_tests)
 
-pub visit_free : (x : Drain) → next_in_closing (after_visit x) ≡ next.Free
-visit_free x = elim (x.left == 0) as (λ b. next_in_closing (if b then closing.LeaveBarrier else closing.Visit x) ≡ next.Free) [ true ↦ refl | false ↦ refl ]
+pub visit_free : (x : Drain) → next_in_closing (after_visit x) ≡ Next.Free
+visit_free x = elim (x.left == 0) as (λ b. next_in_closing (if b then InClosing.LeaveBarrier else InClosing.Visit x) ≡ Next.Free) [ true ↦ refl | false ↦ refl ]
 
 -- a shard of a set in which nothing is
 pub shard_empty : (set : Set (Unit {0})) (k : ℕ) → ((j : ℕ) (shard : List (ℕ × Unit {0})) → slice_get set.shards j ≡ Some shard → shard ≡ []) → k < length set.shards → shard_at set k ≡ []
@@ -93,8 +79,8 @@ shard_empty set k empty within = empty k (slice_index_or set.shards k []) (slice
 
 -- a step of a closing leads to one, or to the callbacks after it
 abbrev pub leads_to : Place → Bool
-leads_to (at.Closing x) = true
-leads_to (at.Callbacks callback.TakeBatch after.Drain) = true
+leads_to (Place.Closing x) = true
+leads_to (Place.Callbacks InCallbacks.TakeBatch AfterCallbacks.Drain) = true
 leads_to _ = false
 
 -- of the chair how far its worker has come may change, whether it has passed the barrier, and whether its mailbox is closed
@@ -114,8 +100,8 @@ pub record IsThere (q : Place) : Type 0 where
   pub wakes : has_wakes_at q ≡ true
 
 there_by : (q : Place) → leads_to q ≡ true → IsThere q
-there_by (at.Closing x) h = record { armed = refl; share = λ n. tt; hand = λ root hand e. e; left = λ d. tt; served = refl; polled = refl; wakes = refl }
-there_by (at.Callbacks callback.TakeBatch after.Drain) h = record { armed = refl; share = λ n. tt; hand = λ root hand e. e; left = λ d. tt; served = refl; polled = refl; wakes = refl }
+there_by (Place.Closing x) h = record { armed = refl; share = λ n. tt; hand = λ root hand e. e; left = λ d. tt; served = refl; polled = refl; wakes = refl }
+there_by (Place.Callbacks InCallbacks.TakeBatch AfterCallbacks.Drain) h = record { armed = refl; share = λ n. tt; hand = λ root hand e. e; left = λ d. tt; served = refl; polled = refl; wakes = refl }
 there_by _ h = absurd (false≢true h)
 
 pub alone_on : (i : ℕ) (seats seats' : List Chair) (global : List Runnable) (chair' : Chair) → (alone : IsAlone i false seats global) → IsLike alone.seat chair' → seats' ≡ slice_set seats i chair' → IsAlone i false seats' global
@@ -132,7 +118,7 @@ alone_on i seats seats' global chair' alone like items =
     }
 
 module _ {B : Type 0} where
-  pub sound_on : (x : InClosing) (q : Place) (w : Worker) (batch : Reserved (Message Subject Subject)) (told : Bool) (s t : Shared B) → SoundAt (at.Closing x) w s → leads_to q ≡ true → batch.values ≡ []
+  pub sound_on : (x : InClosing) (q : Place) (w : Worker) (batch : Reserved (Message Subject Subject)) (told : Bool) (s t : Shared B) → SoundAt (Place.Closing x) w s → leads_to q ≡ true → batch.values ≡ []
       → IsAlone w.index false t.seats.items t.global.values
       → ((chair : Chair) → slice_get t.seats.items w.index ≡ Some chair → IsPhased (closes_at q) (closing_in q) told w.root w.names.unreleased (stage_of chair t) s.tasks.items)
       → SoundAt q (record w { place = q; batch = batch; home = record w.home { closing = told } }) (record s { seats = t.seats; set = t.set; global = t.global; barrier_open = t.barrier_open; stopped = t.stopped })
@@ -170,11 +156,11 @@ module _ {B : Type 0} where
   phased_on closes x told t n i s chair' tasks found phased chair there =
       subst (λ c. IsPhased closes x told t n (stage_of c s) tasks) (same_thing chair' chair (sym found ∙ there)) phased
 
-  pub stage_there : (x : InClosing) (w : Worker) (s : Shared B) → (sound : SoundAt (at.Closing x) w s) → IsPhased (closes_at (at.Closing x)) (Some x) w.home.closing w.root w.names.unreleased (stage_of sound.alone.seat s) s.tasks.items
+  pub stage_there : (x : InClosing) (w : Worker) (s : Shared B) → (sound : SoundAt (Place.Closing x) w s) → IsPhased (closes_at (Place.Closing x)) (Some x) w.home.closing w.root w.names.unreleased (stage_of sound.alone.seat s) s.tasks.items
   stage_there x w s sound = sound.phased sound.alone.seat sound.alone.there
 
   -- The root is over, so it holds nothing.
-  pub held_nothing : (x : InClosing) (w : Worker) (s : Shared B) → SoundAt (at.Closing x) w s → root_over (closes_at (at.Closing x)) (Some x) ≡ true → HoldsNothing w.index w.names w.home.timers s.requests.items s.sleepers.items
+  pub held_nothing : (x : InClosing) (w : Worker) (s : Shared B) → SoundAt (Place.Closing x) w s → root_over (closes_at (Place.Closing x)) (Some x) ≡ true → HoldsNothing w.index w.names w.home.timers s.requests.items s.sleepers.items
   held_nothing x w s sound over =
       let slot = sound.runnable.root in
       let there = sound.runnable.there in
@@ -200,13 +186,13 @@ module _ {B : Type 0} where
       }
 
   -- Nothing of the worker's chair changes.
-  pub stays : (x y : InClosing) (w : Worker) (s : Shared B) (global : Global Runnable) (barrier stops : Bool) → SoundAt (at.Closing x) w s → closes_at (at.Closing x) ≡ true → closes_at (at.Closing y) ≡ true → IsGoing w.index s.seats.items
+  pub stays : (x y : InClosing) (w : Worker) (s : Shared B) (global : Global Runnable) (barrier stops : Bool) → SoundAt (Place.Closing x) w s → closes_at (Place.Closing x) ≡ true → closes_at (Place.Closing y) ≡ true → IsGoing w.index s.seats.items
       → global.values ≡ [] → stops ≡ has_stopped true (Some y) → has_left true (Some x) ≡ has_left true (Some y) → has_shut true (Some x) ≡ has_shut true (Some y) → IsPrepared (Some y) w.names.unreleased s.set
-      → SoundAt (at.Closing y) (record w { place = at.Closing y }) (record s { global = global; barrier_open = barrier; stopped = stops })
+      → SoundAt (Place.Closing y) (record w { place = Place.Closing y }) (record s { global = global; barrier_open = barrier; stopped = stops })
   stays x y w s global barrier stops sound from to going none stopped left shut prepared =
       let s1 : Shared B = record s { global = global; barrier_open = barrier; stopped = stops } in
       let alone = sound.alone in
-      sound_on x (at.Closing y) w w.batch w.home.closing s s1 sound refl sound.batch
+      sound_on x (Place.Closing y) w w.batch w.home.closing s s1 sound refl sound.batch
       (record { only = alone.only; seat = alone.seat; there = alone.there; run_queue = alone.run_queue; whole = alone.whole; inbox = alone.inbox; unarmed = alone.unarmed; elsewhere = none })
       (λ chair there.
       let phased : IsPhased true (Some x) w.home.closing w.root w.names.unreleased (stage_of chair s) s.tasks.items = subst (λ b. IsPhased b (Some x) w.home.closing w.root w.names.unreleased (stage_of chair s) s.tasks.items) from (sound.phased chair there) in

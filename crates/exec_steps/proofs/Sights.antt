@@ -1,6 +1,5 @@
 -- What a body sees of the opens.
-use Rattle.std.proofs.Common.{◌≡◌, ℕ, zero, suc, List, [], ◌∷◌, map, Some, refl}
-use Rattle.std.specs.Prelude.{slice_index_or}
+use Rattle.std.proofs.Common.{◌≡◌, ℕ, zero, suc, List, [], ◌∷◌, map, Some, refl, slice_index_or}
 use Rattle.exec_outcomes.specs.Accounts.{fresh_account}
 use Rattle.exec_driver.specs.Opens.{OpenState, account_in}
 use Rattle.exec_steps.specs.View.{account_seen}

@@ -1,22 +1,12 @@
 -- What a sleep is to the machine: until the next moment at which something is due, or a turn where that has come.
-use Rattle.std.proofs.Common.{◌≡◌, ℕ, zero, suc, ◌≤◌, ◌<◌, ◌==◌, ◌&&◌, ◌||◌, Bool, true, false, not, List, [], ◌∷◌, ◌++◌, length, map, filter, get_or, Option, Some, None, refl, sym, ap, subst, ◌∙◌, arith}
-use Rattle.std.proofs.lemmas.Bool.{false≢true, eq-eqb, not-false}
-use Rattle.std.proofs.lemmas.Bool.Decides.{nat_tests}
-use Rattle.std.proofs.lemmas.List.{append_assoc}
-use Rattle.std.specs.List.{flat_map}
-use Rattle.std.specs.Prelude.{slice_get, slice_set, IfSome, nat_lt, nat_le, replicate, if◌then◌else◌}
+use Rattle.std.{proofs.{Common.{◌≡◌, ℕ, zero, suc, ◌≤◌, ◌==◌, ◌&&◌, ◌||◌, Bool, true, false, not, List, [], ◌∷◌, ◌++◌, map, filter, Option, Some, None, refl, sym, ap, subst, ◌∙◌, arith, slice_get, slice_set, IfSome, nat_lt, replicate, if◌then◌else◌}, lemmas.{Bool.{false≢true, eq-eqb, Decides.nat_tests}, List.append_assoc}}, specs.List.flat_map}
 use Rattle.exec_ring.specs.{Completions.wake_completion, Kernels.{has_none, is_quiet as is_ring_quiet}, Rings.{RingState, completions, spelled}, declared.completion.{Completion.Completion, Posted.Posted}}
 use Rattle.exec_driver.specs.Steps.{is_control}
-use Rattle.exec_words.specs.{Word.is_idle_at, declared.word.PureWord.PureWord}
+use Rattle.exec_words.specs.Word.{is_idle_at}
 use Rattle.exec_task.specs.declared.body.Said.{Said}
 use Rattle.exec_machine.specs.{declared.event.Event.{Event, TheVariants.{Turn, Sleep}}, Choice.Choice.Plain, Deadlines.{next_due, rest_until, is_after}, Progress.Plan, Same.same_number, Tests.is_empty, World.{Seat, seat_of}}
-use Rattle.exec_moves.specs.declared.place.AfterWait.TheVariants as next
-use Rattle.exec_moves.specs.declared.place.InRingWait.TheVariants as ring
-use Rattle.exec_moves.specs.declared.place.InWordWait.TheVariants as word
-use Rattle.exec_moves.specs.{declared.place.{Stay.Stay, Place.Place}, Load.has_come, Move.{aside, move_at, with_word}, State.{Desk, Things, Moved, does}, Wait.{has_completion, noting_sleep, sleep_on_word, sleep_on_ring}}
-use Rattle.exec_moves.specs.declared.place.Place.TheVariants as at
-use Rattle.exec_steps.specs.{declared.parts.{seat.Seat.Seat as Chair, shared.Shared.Shared, worker.Worker.Worker}, Sound.{SoundAt, is_armed_at}, Phased.closes_at, Spots.Spot, Tests.{IsNextIn, IsNextMoment, slept_after}, View.{Visible, visible, driver_of, own_of, desk_of, common_of, things_of, seats_seen, seat_seen, queue_at, word_at, trailing, number_told, landed_in}, Waits.Sleeps, Works.{HasChair, Suits, Steps}}
-use Rattle.exec_steps.proofs.{Hearing.unheard, NextDue.moment_seen, Seats.{chair_set, own_seat}, Turning.{IsPlain, Reaches, between, plain_between, quiet, is_quiet, reaches, reaches_with, set_found, set_there, sound_on, turned}}
+use Rattle.exec_moves.specs.{declared.place.{Stay.Stay, Place.Place, AfterWait.AfterWait, InRingWait.InRingWait, InWordWait.InWordWait}, Load.has_come, Move.{aside, move_at, with_word}, State.{Desk, Things, Moved, does}, Wait.{has_completion, noting_sleep}}
+use Rattle.exec_steps.{specs.{declared.parts.{seat.Seat.Seat as Chair, shared.Shared.Shared, worker.Worker.Worker}, Sound.{SoundAt, is_armed_at}, Phased.closes_at, Spots.Spot, Tests.{IsNextIn, IsNextMoment, slept_after}, View.{Visible, visible, driver_of, own_of, desk_of, common_of, things_of, seats_seen, queue_at, word_at, trailing, number_told}, Waits.Sleeps, Works.{HasChair, Suits, Steps}}, proofs.{Hearing.unheard, NextDue.moment_seen, Seats.{chair_set, own_seat}, Turning.{IsPlain, Reaches, between, plain_between, quiet, is_quiet, reaches, reaches_with, set_found, set_there, sound_on, turned}}}
 
 same_itself : (o : Option ℕ) → same_number o o ≡ true
 same_itself None = refl
@@ -178,20 +168,20 @@ module _ {B L : Type 0} (left : B → L) (spot : L → Option Said → Spot) whe
 
   -- ON THE WAKE WORD
 
-  pub word_slept : (w w' : Worker) (s s' : Shared B) (e : Event) → SoundAt (at.WordWait word.SleepOnWord) w s → is_idle_at (things_of w.index s).word w.processed ≡ true
-      → Sleeps (record w { place = at.WordWait word.DisarmWord }) s e s' → w' ≡ record w { place = at.WordWait word.DisarmWord; slept = slept_after e s'.clock w.slept } → Steps left spot w s e w' s'
+  pub word_slept : (w w' : Worker) (s s' : Shared B) (e : Event) → SoundAt (Place.WordWait InWordWait.SleepOnWord) w s → is_idle_at (things_of w.index s).word w.processed ≡ true
+      → Sleeps (record w { place = Place.WordWait InWordWait.DisarmWord }) s e s' → w' ≡ record w { place = Place.WordWait InWordWait.DisarmWord; slept = slept_after e s'.clock w.slept } → Steps left spot w s e w' s'
   word_slept w w' s s' e sound idle it same =
-      slept_by (at.WordWait word.SleepOnWord) (at.WordWait word.DisarmWord) w w' s s' e (λ x. slept_after x s.clock w.slept) sound refl (record { plain = refl; armed_there = refl; closes_there = refl }) refl begun it
-      (same ∙ ap (λ (t : Shared B). record w { place = at.WordWait word.DisarmWord; slept = slept_after e t.clock w.slept }) it.kept)
-      (λ p vs suits. rw idle (noted_as (has_come s.clock (next_due (common_of left spot p vs s) w.index)) s.clock (next_due (common_of left spot p vs s) w.index) (record (desk_of w) { place = at.WordWait word.DisarmWord }) (things_of w.index s)))
+      slept_by (Place.WordWait InWordWait.SleepOnWord) (Place.WordWait InWordWait.DisarmWord) w w' s s' e (λ x. slept_after x s.clock w.slept) sound refl (record { plain = refl; armed_there = refl; closes_there = refl }) refl begun it
+      (same ∙ ap (λ (t : Shared B). record w { place = Place.WordWait InWordWait.DisarmWord; slept = slept_after e t.clock w.slept }) it.kept)
+      (λ p vs suits. rw idle (noted_as (has_come s.clock (next_due (common_of left spot p vs s) w.index)) s.clock (next_due (common_of left spot p vs s) w.index) (record (desk_of w) { place = Place.WordWait InWordWait.DisarmWord }) (things_of w.index s)))
     where
       begun : (x : Event) → IfSome (slept_after x s.clock w.slept) (λ moment. moment ≤ s.clock)
       begun (Sleep until) = omega arith
       begun _ = sound.time.asleep
 
-  pub word_unslept : (w : Worker) (s : Shared B) → SoundAt (at.WordWait word.SleepOnWord) w s → is_idle_at (things_of w.index s).word w.processed ≡ false → Steps left spot w s Turn (record w { place = at.WordWait word.DisarmWord }) s
+  pub word_unslept : (w : Worker) (s : Shared B) → SoundAt (Place.WordWait InWordWait.SleepOnWord) w s → is_idle_at (things_of w.index s).word w.processed ≡ false → Steps left spot w s Turn (record w { place = Place.WordWait InWordWait.DisarmWord }) s
   word_unslept w s sound idle =
-      awake (at.WordWait word.SleepOnWord) (at.WordWait word.DisarmWord) w w.slept s s sound refl (record { plain = refl; armed_there = refl; closes_there = refl }) sound.time.asleep refl refl (λ p vs suits. rw idle refl)
+      awake (Place.WordWait InWordWait.SleepOnWord) (Place.WordWait InWordWait.DisarmWord) w w.slept s s sound refl (record { plain = refl; armed_there = refl; closes_there = refl }) sound.time.asleep refl refl (λ p vs suits. rw idle refl)
 
   -- ON THE RING
 
@@ -199,13 +189,13 @@ module _ {B L : Type 0} (left : B → L) (spot : L → Option Said → Spot) whe
   completion_seen p vs q w s suits sound =
       rw (own_seat left spot p vs w s sound.alone.seat suits sound.alone.there) (some_in_ring (number_told w.names.requests.items) (driver_of w).ring)
 
-  pub ring_slept : (y : Stay) (w w' : Worker) (s s' : Shared B) (e : Event) → SoundAt (at.RingWait ring.SleepOnRing y) w s → is_ring_quiet (driver_of w).ring ≡ true
-      → Sleeps (record w { place = at.RingWait (ring.DisarmRing next.Begin) y }) s e s' → w' ≡ record w { place = at.RingWait (ring.DisarmRing next.Begin) y } → Steps left spot w s e w' s'
+  pub ring_slept : (y : Stay) (w w' : Worker) (s s' : Shared B) (e : Event) → SoundAt (Place.RingWait InRingWait.SleepOnRing y) w s → is_ring_quiet (driver_of w).ring ≡ true
+      → Sleeps (record w { place = Place.RingWait (InRingWait.DisarmRing AfterWait.Begin) y }) s e s' → w' ≡ record w { place = Place.RingWait (InRingWait.DisarmRing AfterWait.Begin) y } → Steps left spot w s e w' s'
   ring_slept y w w' s s' e sound none it same =
-      slept_by (at.RingWait ring.SleepOnRing y) (at.RingWait (ring.DisarmRing next.Begin) y) w w' s s' e (λ x. w.slept) sound refl (record { plain = refl; armed_there = refl; closes_there = refl }) refl (λ x. sound.time.asleep) it same
-      (λ p vs suits. rw (completion_seen p vs (at.RingWait ring.SleepOnRing y) w s suits sound, none) (slept_as (has_come s.clock (next_due (common_of left spot p vs s) w.index)) (next_due (common_of left spot p vs s) w.index) (record (desk_of w) { place = at.RingWait (ring.DisarmRing next.Begin) y }) (seat_of (common_of left spot p vs s) w.index).landed (things_of w.index s)))
+      slept_by (Place.RingWait InRingWait.SleepOnRing y) (Place.RingWait (InRingWait.DisarmRing AfterWait.Begin) y) w w' s s' e (λ x. w.slept) sound refl (record { plain = refl; armed_there = refl; closes_there = refl }) refl (λ x. sound.time.asleep) it same
+      (λ p vs suits. rw (completion_seen p vs (Place.RingWait InRingWait.SleepOnRing y) w s suits sound, none) (slept_as (has_come s.clock (next_due (common_of left spot p vs s) w.index)) (next_due (common_of left spot p vs s) w.index) (record (desk_of w) { place = Place.RingWait (InRingWait.DisarmRing AfterWait.Begin) y }) (seat_of (common_of left spot p vs s) w.index).landed (things_of w.index s)))
 
-  pub ring_unslept : (y : Stay) (w : Worker) (s : Shared B) → SoundAt (at.RingWait ring.SleepOnRing y) w s → is_ring_quiet (driver_of w).ring ≡ false → Steps left spot w s Turn (record w { place = at.RingWait (ring.DisarmRing next.Begin) y }) s
+  pub ring_unslept : (y : Stay) (w : Worker) (s : Shared B) → SoundAt (Place.RingWait InRingWait.SleepOnRing y) w s → is_ring_quiet (driver_of w).ring ≡ false → Steps left spot w s Turn (record w { place = Place.RingWait (InRingWait.DisarmRing AfterWait.Begin) y }) s
   ring_unslept y w s sound some =
-      awake (at.RingWait ring.SleepOnRing y) (at.RingWait (ring.DisarmRing next.Begin) y) w w.slept s s sound refl (record { plain = refl; armed_there = refl; closes_there = refl }) sound.time.asleep refl refl
-      (λ p vs suits. rw (completion_seen p vs (at.RingWait ring.SleepOnRing y) w s suits sound, some) refl)
+      awake (Place.RingWait InRingWait.SleepOnRing y) (Place.RingWait (InRingWait.DisarmRing AfterWait.Begin) y) w w.slept s s sound refl (record { plain = refl; armed_there = refl; closes_there = refl }) sound.time.asleep refl refl
+      (λ p vs suits. rw (completion_seen p vs (Place.RingWait InRingWait.SleepOnRing y) w s suits sound, some) refl)

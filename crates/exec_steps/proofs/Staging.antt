@@ -1,26 +1,15 @@
 -- What the stagings of a service are to the machine.
-use Rattle.std.proofs.Common.{◌≡◌, ◌⊎◌, ℕ, zero, suc, ◌+◌, ◌<◌, ◌≤◌, ◌==◌, ◌&&◌, ◌||◌, Bool, true, false, not, List, [], ◌∷◌, ◌++◌, length, map, Option, Some, None, IsSome, refl, sym, ap, subst, ◌∙◌, arith, inl, inr}
-use Rattle.std.proofs.lemmas.Bool.{false≢true, eq-eqb}
-use Rattle.std.proofs.lemmas.Bool.Decides.{nat_tests}
-use Rattle.std.proofs.lemmas.List.{length-append}
-use Rattle.std.specs.Prelude.{slice_get, slice_set, nat_lt, drop, if◌then◌else◌}
-use Rattle.std.specs.Vec.{vec_capacity}
+use Rattle.std.{proofs.{Common.{◌≡◌, ◌⊎◌, ℕ, ◌+◌, ◌<◌, ◌≤◌, ◌==◌, ◌&&◌, ◌||◌, Bool, true, false, not, List, [], ◌∷◌, ◌++◌, length, map, Option, Some, None, IsSome, refl, sym, ap, subst, ◌∙◌, arith, inl, inr, slice_get, slice_set, nat_lt}, lemmas.{Bool.{false≢true, eq-eqb, Decides.nat_tests}, List.length-append, Option.slice_get_within}}, specs.Vec.vec_capacity}
 use Rattle.exec_base.specs.Slab.{Slab, value_at}
 use Rattle.exec_time.specs.declared.timers.Sleeper.{Sleeper as Sleeping}
-use Rattle.std.proofs.lemmas.Option.{slice_get_within}
 use Rattle.exec_ring.specs.declared.completion.Submission.{Submission}
-use Rattle.exec_waiters.proofs.Changes.{entry_of}
-use Rattle.exec_waiters.specs.{States.{waiter_at, flying_count}, declared.{waiter.{Entry.TheVariants.Pending, Waiter.Waiter}, waiter_id.WaiterId.WaiterId}}
+use Rattle.exec_waiters.{proofs.Changes.entry_of, specs.{States.{waiter_at, flying_count}, declared.{waiter.{Entry.TheVariants.Pending, Waiter.Waiter}, waiter_id.WaiterId.WaiterId}}}
 use Rattle.exec_task.specs.declared.body.Said.{Said}
 use Rattle.exec_request.specs.States.{asks_cancel}
-use Rattle.exec_driver.specs.{Driving.{Driving, request_at, is_cancelled, is_queued, is_full as is_ring_full, may_stage_one}, Lists.{has_first, first_of, rest_of, is_among}, Placed.ListsRequests, Punctual.IsPunctual, Steps.{cancel_entry, cancel_staged}}
-use Rattle.exec_driver.proofs.Counting.{same_written}
-use Rattle.exec_machine.specs.{declared.{config.Configuration.Configuration, event.Event.{Event, TheVariants.{Cancel, Stage}}}, Progress.Plan, Ranges.ring_size, Same.is_number, Tests.{is_empty, is_in_flight, is_staged}, World.{Own, Common, seat_of, request_of}}
-use Rattle.exec_moves.specs.{Callback.is_full, Load.may_stage, Move.move_submit, State.{Desk, Things}, Submit.{Due, due_next, staging_due, first_due, Due.Cancels}, declared.place.{Service.Service, Place.Place}}
-use Rattle.exec_moves.specs.declared.place.InService.TheVariants as step
-use Rattle.exec_moves.specs.declared.place.Place.TheVariants as at
-use Rattle.exec_steps.specs.{declared.parts.{mail.Reply.Reply, names.Names.Names, record.Record.Record, sleeping.SleeperRecord.SleeperRecord, shared.Shared.Shared, worker.Worker.Worker}, Flown.{HasFlown, IsPlain, operations}, Phased.closes_at, Records.number_in, Serving.{AreKnown, AreTagged, cancels_in, is_cancel, changed_at, is_one_of}, Sound.{SoundAt, IsAlike, IsNamed, IsSubmitted, served_in, is_armed_at}, Spots.Spot, Submitting.{AreNamed, IsIdle, StagesCancel, must_flush}, View.{Visible, visible, own_of, desk_of, driver_of, common_of, things_of, numbers_of}, Works.{Suits, Steps}}
-use Rattle.exec_steps.proofs.{Calling.request_seen, Carries.carried_marked, Changing.{OneGoesOn, keeps_one, others_there, all_go_one}, Conveying.carried_beside, Flown.landed_on, Going.{GoesOn, same_worker}, Idling.{comes_to_staging, none_due, none_gated}, Marking.{mark_if, marked, was_marked, marked_length}, Seeing.{makes, shows, served, common_changed}, Serving.{is_calm, Follows, Serves, Keeps, KeepsBy, keeps_all}, Turning.set_found}
+use Rattle.exec_driver.{specs.{Driving.{Driving, request_at, is_cancelled, is_queued, is_full as is_ring_full, may_stage_one}, Lists.{has_first, first_of, rest_of, is_among}, Punctual.IsPunctual, Steps.{cancel_entry, cancel_staged}}, proofs.Counting.same_written}
+use Rattle.exec_machine.specs.{declared.{config.Configuration.Configuration, event.Event.{Event, TheVariants.Cancel}}, Progress.Plan, Ranges.ring_size, Same.is_number, Tests.{is_empty, is_in_flight, is_staged}, World.request_of}
+use Rattle.exec_moves.specs.{Callback.is_full, Load.may_stage, Move.move_submit, Submit.{due_next, staging_due, first_due, Due.Cancels}, declared.place.{Service.Service, Place.Place, InService.InService}}
+use Rattle.exec_steps.{specs.{declared.parts.{mail.Reply.Reply, names.Names.Names, record.Record.Record, sleeping.SleeperRecord.SleeperRecord, shared.Shared.Shared, worker.Worker.Worker}, Flown.{HasFlown, IsPlain, operations}, Phased.closes_at, Records.number_in, Serving.{AreKnown, AreTagged, cancels_in, changed_at}, Sound.{SoundAt, IsAlike, IsNamed, IsSubmitted, served_in, is_armed_at}, Spots.Spot, Submitting.{AreNamed, IsIdle, StagesCancel, must_flush}, View.{Visible, visible, own_of, desk_of, driver_of, common_of, things_of, numbers_of}, Works.{Suits, Steps}}, proofs.{Calling.request_seen, Carries.carried_marked, Changing.{OneGoesOn, keeps_one, others_there, all_go_one}, Conveying.carried_beside, Flown.landed_on, Going.{GoesOn, same_worker}, Idling.{comes_to_staging, none_due, none_gated}, Marking.{mark_if, marked, was_marked, marked_length}, Seeing.{makes, shows, served, common_changed}, Serving.{is_calm, Follows, Serves, Keeps, KeepsBy, keeps_all}, Turning.set_found}}
 
 -- WHAT IS SEEN
 
@@ -37,15 +26,15 @@ flush_seen c w sized =
     rw (some_numbered n d.lists.cancels, some_numbered n d.lists.queued, sized) refl
 
 -- the same at the place as it is
-abbrev pub idle_at : {B : Type 0} (v : Service) (w : Worker) (s : Shared B) → (idle : IsIdle v w s) → IsIdle v (record w { place = at.Service (step.Submit idle.gate) v }) s
+abbrev pub idle_at : {B : Type 0} (v : Service) (w : Worker) (s : Shared B) → (idle : IsIdle v w s) → IsIdle v (record w { place = Place.Service (InService.Submit idle.gate) v }) s
 idle_at v w s idle =
-    let q : Place = at.Service (step.Submit idle.gate) v in
+    let q : Place = Place.Service (InService.Submit idle.gate) v in
     record { gate = idle.gate; sound = subst (λ x. SoundAt q x s) (ap (λ y. record w { place = y }) idle.sound.here) idle.sound; lists = idle.lists; due = idle.due; enrolments = idle.enrolments }
 
 pub suits_at : {B : Type 0} (q : Place) (p : Plan) (vs : List Visible) (w : Worker) (s : Shared B) → Suits p vs w s → Suits p vs (record w { place = q }) s
 suits_at q p vs w s suits = record { config = suits.config; seen = suits.seen; workers = suits.workers }
 
-pub stages_again : (gate : ℕ) (v : Service) → Follows (at.Service (step.Submit gate) v) (at.Service (step.Submit gate) v)
+pub stages_again : (gate : ℕ) (v : Service) → Follows (Place.Service (InService.Submit gate) v) (Place.Service (InService.Submit gate) v)
 stages_again gate v = record { from = refl; to = refl; serves = refl; armed = refl; closes = refl; wakes = refl; permits = refl; moment = λ m. refl }
 
 module _ {B L : Type 0} (left : B → L) (spot : L → Option Said → Spot) where
@@ -228,7 +217,7 @@ module _ {B L : Type 0} (left : B → L) (spot : L → Option Said → Spot) whe
   pub cancel_stages : (v : Service) (w w' : Worker) (s s' : Shared B) (e : Event) (id : WaiterId) → (idle : IsIdle v w s) → (first : first_of (driver_of w).lists.cancels ≡ Some id) → must_flush (driver_of w) ≡ false
       → IsPunctual (driver_of w') → vec_capacity w'.names.untold ≡ vec_capacity w.names.untold → StagesCancel w s e w' s' id → Steps left spot w s e w' s'
   cancel_stages v w w' s s' e id idle first unflushed punctual room it =
-      let q : Place = at.Service (step.Submit idle.gate) v in
+      let q : Place = Place.Service (InService.Submit idle.gate) v in
       let sound = idle.sound in
       let d = driver_of w in
       let rs = s.requests.items in

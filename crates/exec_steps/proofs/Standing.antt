@@ -1,19 +1,12 @@
 -- What the records and the driver of a worker say alike: which requests stand, and what may go into the submission queue.
-use Rattle.std.proofs.Common.{◌≡◌, ℕ, zero, suc, ◌+◌, ◌<◌, ◌==◌, ◌&&◌, ◌||◌, Bool, true, false, not, cond, List, [], ◌∷◌, length, map, get_or, eqb, Option, Some, None, refl, sym, ap, subst, ◌∙◌, arith}
-use Rattle.std.proofs.lemmas.Bool.Decides.{nat_tests}
-use Rattle.std.proofs.lemmas.List.Folds.{list_any_at}
-use Rattle.std.proofs.lemmas.List.Recursion.{is_count_by}
-use Rattle.std.proofs.lemmas.Option.{slice_get_within, get_or_from_slice_get}
-use Rattle.std.proofs.lemmas.Bool.{false≢true, eq-eqb}
-use Rattle.std.specs.Prelude.{slice_get, count_by, IsSome, nat_eq, nat_lt, if◌then◌else◌}
-use Rattle.std.specs.List.{list_any}
+use Rattle.std.{proofs.{Common.{◌≡◌, ℕ, zero, suc, ◌+◌, ◌==◌, ◌&&◌, ◌||◌, Bool, true, false, not, cond, List, [], ◌∷◌, map, get_or, eqb, Option, Some, None, refl, sym, ap, ◌∙◌, arith, slice_get, count_by, if◌then◌else◌}, lemmas.{Bool.{Decides.nat_tests, false≢true, eq-eqb}, List.{Folds.list_any_at, Recursion.is_count_by}, Option.{slice_get_within, get_or_from_slice_get}}}, specs.List.list_any}
 use Rattle.exec_base.specs.{Slab.{Slab, value_at, value_in, slot_at}, declared.slab.{Id.Id, Slot.{Slot, TheVariants.{Live, Vacant, Retired}}}}
 use Rattle.exec_time.specs.declared.timers.Sleeper.{Sleeper as Sleeping}
 use Rattle.exec_waiters.specs.{States.{waiter_at, waiter_of, counts_pending, pending_count}, declared.{waiter.{Waiter.Waiter, Entry.{Entry, TheVariants.{Pending, Ready}}}, waiter_id.WaiterId.WaiterId}}
 use Rattle.exec_driver.specs.{Driving.{Driving, has_pending}, Lists.has_first}
 use Rattle.exec_machine.specs.{declared.{config.Configuration.Configuration, state.Request.Request}, Ranges.ring_size, Tests.{is_empty, is_resolved}}
 use Rattle.exec_moves.specs.Load.{has_submissions}
-use Rattle.exec_steps.specs.{declared.parts.{mail.Reply.Reply, names.Names.Names, record.Record.Record, sleeping.SleeperRecord.SleeperRecord, worker.Worker.Worker}, Records.number_in, Sound.{IsNamed, IsAlike}, View.{own_of, driver_of}}
+use Rattle.exec_steps.specs.{declared.parts.{mail.Reply.Reply, names.Names.Names, record.Record.Record, sleeping.SleeperRecord.SleeperRecord, worker.Worker.Worker}, Records.number_in, Sound.IsNamed, View.{own_of, driver_of}}
 
 -- TESTS OVER LISTS
 

@@ -1,28 +1,14 @@
 -- The staging of a request's operation is a step.
-use Rattle.std.proofs.Common.{◌≡◌, ◌≢◌, ◌⊎◌, ℕ, zero, suc, ◌+◌, ◌-◌, ◌<◌, ◌≤◌, ◌==◌, ◌&&◌, ◌||◌, Bool, true, false, not, List, [], ◌∷◌, ◌++◌, length, map, Option, Some, None, IsSome, refl, sym, ap, subst, ◌∙◌, arith, inl, inr}
-use Rattle.std.proofs.lemmas.Bool.{false≢true, eq-eqb}
-use Rattle.std.proofs.lemmas.Bool.Decides.{nat_tests}
-use Rattle.std.proofs.lemmas.List.{length-append}
-use Rattle.std.proofs.lemmas.List.Folds.{list_any-append}
-use Rattle.std.proofs.lemmas.Option.{slice_get_within}
-use Rattle.std.specs.Prelude.{slice_get, slice_set, nat_lt, is_some, if◌then◌else◌}
-use Rattle.std.specs.Vec.{vec_capacity}
-use Rattle.exec_base.specs.{Slab.{value_at, written}, declared.slab.Id.Id}
-use Rattle.exec_base.proofs.Slots.{id_cases}
-use Rattle.exec_outcomes.specs.declared.outcome.OpResult.{OpResult}
+use Rattle.std.{proofs.{Common.{◌≡◌, ◌≢◌, ℕ, ◌+◌, ◌-◌, ◌<◌, ◌==◌, ◌&&◌, ◌||◌, Bool, true, false, not, List, [], ◌∷◌, ◌++◌, length, map, Option, Some, refl, sym, ap, subst, ◌∙◌, arith, inl, inr, slice_get, slice_set, nat_lt, is_some}, lemmas.{Bool.{false≢true, eq-eqb, Decides.nat_tests}, List.{length-append, Folds.list_any-append}, Option.slice_get_within}}, specs.Vec.vec_capacity}
+use Rattle.exec_base.{specs.{Slab.{value_at, written}, declared.slab.Id.Id}, proofs.Slots.id_cases}
 use Rattle.exec_request.specs.Requests.{deadline_of}
 use Rattle.exec_ring.specs.{Kernels.with_entry, Rings.RingState}
-use Rattle.exec_waiters.proofs.Changes.{entry_of, one_if}
-use Rattle.exec_waiters.specs.{States.{waiter_at, takes_tick, flying_count, file_of}, declared.{waiter.{Entry.TheVariants.Pending, Waiter.Waiter}, waiter_id.WaiterId.WaiterId}}
+use Rattle.exec_waiters.{proofs.Changes.{entry_of, one_if}, specs.{States.{waiter_at, takes_tick, flying_count, file_of}, declared.{waiter.{Entry.TheVariants.Pending, Waiter.Waiter}, waiter_id.WaiterId.WaiterId}}}
 use Rattle.exec_task.specs.declared.body.Said.{Said}
 use Rattle.exec_driver.specs.{Driving.{Driving, may_stage_one}, Lists.{has_first, first_of, rest_of, is_among, after_queued}, Opens.account_in, Punctual.IsPunctual, Steps.{StagesOne, with_staged}}
-use Rattle.exec_machine.specs.{declared.{event.Event.{Event, TheVariants.Stage}, state.Request.Request}, Progress.Plan, Ranges.ring_size, Requests.{asks_hint, is_enrolled, staged}, Same.is_number, Tests.{is_queued as is_phase_queued, is_resolved, is_staged}, World.request_of}
-use Rattle.exec_machine.specs.declared.state.RequestPhase.TheVariants as phase
-use Rattle.exec_moves.specs.{Move.move_submit, Submit.{Due, staging_due, Due.Stages}, declared.place.{Service.Service, Place.Place}}
-use Rattle.exec_moves.specs.declared.place.InService.TheVariants as step
-use Rattle.exec_moves.specs.declared.place.Place.TheVariants as at
-use Rattle.exec_steps.specs.{declared.parts.{mail.Reply.Reply, names.Names.Names, record.Record.Record, shared.Shared.Shared, worker.Worker.Worker}, Carried.IsCarried, Flown.{HasFlown, IsPlain, IsUpTo, longest, operations}, Phased.closes_at, Records.number_in, Serving.{changed_at, is_cancel, is_one_of}, Sound.{SoundAt, IsSubmitted, served_in, is_armed_at}, Spots.Spot, Submitting.{IsIdle, StagesRequest, must_flush}, View.{Visible, visible, own_of, desk_of, driver_of, common_of, things_of, numbers_of}, Works.{Suits, Steps}, Ordered.{IsOrdered, went_round}}
-use Rattle.exec_steps.proofs.{Calling.request_seen, Changing.{OneGoesOn, changes_one, flying_after, keeps_one, apart_number, others_there, all_go_one, now_there}, Conveying.carried_staged, Flown.landed_on, Marking.{mark_if, marked, was_marked, marked_length}, Seeing.{makes, shows, served, common_changed}, Serving.{is_calm, Follows, Serves, Keeps, KeepsBy, keeps_all}, Staging.{flush_seen, idle_at, known_then, split_first, staging_next, stages_again, suits_at}, Starting.{Starts, starts_first, starts, starts_on, starts_alike, starts_if_worker, starts_if_cancel, starts_if_plain, simple, came_on, known_and, no_hint, tagged_by, cancels_by}, Turning.set_found, Whole.whole_kept, Orders.{alike_self, eased, eases_written, part_self}}
+use Rattle.exec_machine.specs.{declared.{event.Event.{Event, TheVariants.Stage}, state.{Request.Request, RequestPhase.RequestPhase}}, Ranges.ring_size, Requests.{asks_hint, is_enrolled, staged}, Same.is_number, Tests.{is_queued as is_phase_queued, is_resolved, is_staged}, World.request_of}
+use Rattle.exec_moves.specs.{Move.move_submit, Submit.{staging_due, Due.Stages}, declared.place.{Service.Service, Place.Place, InService.InService}}
+use Rattle.exec_steps.{specs.{declared.parts.{mail.Reply.Reply, names.Names.Names, record.Record.Record, shared.Shared.Shared, worker.Worker.Worker}, Carried.IsCarried, Flown.{HasFlown, IsPlain, IsUpTo, longest, operations}, Phased.closes_at, Records.number_in, Serving.{changed_at, is_cancel, is_one_of}, Sound.{IsSubmitted, served_in, is_armed_at}, Spots.Spot, Submitting.{IsIdle, StagesRequest, must_flush}, View.{visible, own_of, desk_of, driver_of, common_of, things_of, numbers_of}, Works.Steps, Ordered.{IsOrdered, went_round}}, proofs.{Calling.request_seen, Changing.{OneGoesOn, changes_one, flying_after, keeps_one, apart_number, all_go_one}, Conveying.carried_staged, Flown.landed_on, Marking.{mark_if, marked, was_marked, marked_length}, Seeing.{makes, shows, served, common_changed}, Serving.{is_calm, Serves, Keeps, KeepsBy, keeps_all}, Staging.{flush_seen, idle_at, known_then, split_first, staging_next, stages_again, suits_at}, Starting.{starts_first, starts, starts_on, starts_alike, starts_if_worker, starts_if_cancel, starts_if_plain, simple, came_on, known_and, no_hint, tagged_by, cancels_by}, Turning.set_found, Whole.whole_kept, Orders.{alike_self, eased, eases_written, part_self}}}
 
 same_number : (a b : ℕ) → (a == b) ≡ true → a ≡ b
 same_number a b h = grind (arith, nat_tests)
@@ -67,7 +53,7 @@ module _ {B L : Type 0} (left : B → L) (spot : L → Option Said → Spot) whe
       → must_flush (driver_of w) ≡ false → (driver_of w).lists.cancels ≡ [] → may_stage_one (driver_of w) ≡ true
       → IsPunctual (driver_of w') → vec_capacity w'.names.staged ≡ vec_capacity w.names.staged → StagesRequest w s e w' s' id → Steps left spot w s e w' s'
   request_stages v w w' s s' e id idle first unflushed none may punctual room by =
-      let q : Place = at.Service (step.Submit idle.gate) v in
+      let q : Place = Place.Service (InService.Submit idle.gate) v in
       let sound = idle.sound in
       let d = driver_of w in
       let rs = s.requests.items in
@@ -204,6 +190,6 @@ module _ {B L : Type 0} (left : B → L) (spot : L → Option Said → Spot) whe
         common =
             ap (λ us. common_of left spot p us s') (ap (λ x. slice_set vs w.index x) show.seen ∙ set_found vs w.index (visible w) suits.seen)
             ∙ common_changed left spot p vs s s' k who.r starts by.shared by.records who.there (λ x. refl)
-            ∙ ap (λ b. record all { requests = slice_set (map (λ y. y.shown) rs) k (record who.r.shown { operation = record who.r.shown.operation { hinted = b }; phase = phase.Staged }) }) (sym (hint_none who.r.shown (no_hint who.r.shown plain) _))
+            ∙ ap (λ b. record all { requests = slice_set (map (λ y. y.shown) rs) k (record who.r.shown { operation = record who.r.shown.operation { hinted = b }; phase = RequestPhase.Staged }) }) (sym (hint_none who.r.shown (no_hint who.r.shown plain) _))
             ∙ ap (λ x. record all { requests = slice_set (map (λ y. y.shown) rs) k (staged all x) }) (sym request);
       }))

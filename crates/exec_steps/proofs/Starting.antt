@@ -1,30 +1,14 @@
 -- What the staging of a request's operation is to the machine.
-use Rattle.std.proofs.Common.{◌≡◌, ◌≢◌, ℕ, zero, suc, ◌+◌, ◌-◌, ◌*◌, ◌<◌, ◌≤◌, ◌==◌, ◌&&◌, ◌||◌, Bool, true, false, not, List, [], ◌∷◌, ◌++◌, length, map, Option, Some, None, IsSome, refl, sym, ap, subst, ◌∙◌, arith, inl, inr}
-use Rattle.std.proofs.lemmas.Bool.{false≢true, eq-eqb}
-use Rattle.std.proofs.lemmas.Bool.Decides.{nat_tests}
-use Rattle.std.proofs.lemmas.List.{length-append}
-use Rattle.std.proofs.lemmas.List.Folds.{list_any-append}
-use Rattle.std.proofs.lemmas.Option.{slice_get_within}
-use Rattle.std.specs.Prelude.{slice_get, slice_set, nat_lt, drop, is_some, if◌then◌else◌}
-use Rattle.std.specs.Option.{option_map}
-use Rattle.std.specs.Vec.{vec_capacity}
-use Rattle.exec_base.specs.{Slab.{Slab, value_at, written}, declared.slab.Id.Id}
-use Rattle.exec_base.proofs.Slots.{id_cases}
-use Rattle.exec_outcomes.specs.{declared.outcome.{Judged.Judged, Kind.Kind, OpResult.OpResult}, Outcomes.{Asked, HasCome, stop_of, present, moved_by}}
-use Rattle.exec_outcomes.specs.declared.outcome.Kind.TheVariants as kind
+use Rattle.std.{proofs.{Common.{◌≡◌, ◌≢◌, ℕ, ◌+◌, ◌*◌, ◌<◌, ◌==◌, ◌&&◌, ◌||◌, Bool, true, false, not, List, [], ◌∷◌, ◌++◌, length, Option, Some, None, refl, sym, ap, ◌∙◌, arith, slice_get, is_some, if◌then◌else◌}, lemmas.Bool.{false≢true, Decides.nat_tests}}, specs.Option.option_map}
+use Rattle.exec_base.specs.Slab.{value_at}
+use Rattle.exec_outcomes.specs.{declared.outcome.{Judged.Judged, Kind.Kind}, Outcomes.{HasCome, stop_of, present, moved_by}}
 use Rattle.exec_request.specs.{Kept.kept_of, Requests.{asked_of, cursor_of, hinted_of, deadline_of, window_by}, States.asks_cancel, Syncing.write_kind, Ways.asked_by, declared.{request.Request.Request as Asking, results.WaiterState.{WaiterState, TheVariants.{Active, CancelRequested}}, way.Way.Way, write_at.WriteAtState.WriteAtState}}
-use Rattle.exec_request.specs.declared.request.Request.TheVariants as asks
-use Rattle.exec_request.specs.declared.way.Way.TheVariants as way
-use Rattle.exec_request.specs.declared.write_at.WriteAtState.TheVariants as writes
 use Rattle.exec_ring.specs.declared.completion.Submission.{Submission}
-use Rattle.exec_waiters.proofs.Changes.{entry_of}
-use Rattle.exec_waiters.specs.{States.{waiter_at, takes_tick, tick_in, flying_count, needs_permit}, declared.{waiter.Waiter.Waiter, waiter_id.WaiterId.WaiterId}}
-use Rattle.exec_driver.specs.{Driving.{Driving, request_at, is_queued}, Lists.{first_of, rest_of, is_among}}
-use Rattle.exec_machine.specs.{declared.state.{Operation.Operation, Request.Request, RequestPhase.RequestPhase}, Requests.{asks_hint, is_enrolled}, Same.{is_none, is_number, same_kind}, Tests.{is_gated, is_in_flight, is_queued as is_phase_queued, is_resolved, is_staged}}
-use Rattle.exec_machine.specs.declared.state.RequestPhase.TheVariants as phase
-use Rattle.exec_steps.specs.{declared.parts.{mail.Reply.Reply, record.Record.Record, shared.Shared.Shared, worker.Worker.Worker}, Flown.{IsPlain, IsUpTo, longest}, Records.number_in, Serving.{AreKnown, AreTagged, cancels_in, is_cancel}, Sound.IsAlike, Submitting.IsIdle, View.driver_of}
+use Rattle.exec_waiters.{proofs.Changes.entry_of, specs.{States.{waiter_at, takes_tick, tick_in, needs_permit}, declared.{waiter.Waiter.Waiter, waiter_id.WaiterId.WaiterId}}}
+use Rattle.exec_driver.specs.{Driving.{request_at, is_queued}, Lists.{first_of, is_among}}
+use Rattle.exec_machine.specs.{declared.state.{Request.Request, RequestPhase.RequestPhase}, Requests.{asks_hint, is_enrolled}, Same.{is_none, same_kind}, Tests.{is_gated, is_in_flight, is_resolved}}
+use Rattle.exec_steps.{specs.{declared.parts.{mail.Reply.Reply, record.Record.Record, shared.Shared.Shared, worker.Worker.Worker}, Flown.{IsPlain, IsUpTo, longest}, Records.number_in, Serving.{AreKnown, AreTagged, cancels_in, is_cancel}, Sound.IsAlike, Submitting.IsIdle, View.driver_of}, proofs.{Going.GoesOn, Marking.mark_if, Staging.among_first}}
 use Rattle.exec_moves.specs.declared.place.Service.{Service}
-use Rattle.exec_steps.proofs.{Going.GoesOn, Marking.mark_if, Staging.among_first}
 
 -- A REQUEST OF THE FIRST KINDS
 
@@ -33,47 +17,47 @@ pub record IsSimple (q : Asking) : Type 0 where
   pub unhinted : hinted_of q ≡ false
   pub operates : (h : Bool) → is_cancel (window_by h q).kind ≡ false
 
-pub fills : (b : Bool) (n : ℕ) → IsUpTo (longest (if b then kind.Fill else kind.Recv)) n → ⊥
+pub fills : (b : Bool) (n : ℕ) → IsUpTo (longest (if b then Kind.Fill else Kind.Recv)) n → ⊥
 fills true n h = h
 fills false n h = h
 
 pub reads : (w : Way) (m n : ℕ) → IsUpTo (longest (asked_by w m).kind) n → ⊥
-reads way.Buffered m n h = h
-reads way.Hinted m n h = h
-reads (way.Direct skip len) m n h = h
-reads (way.Switched skip len) m n h = h
+reads Way.Buffered m n h = h
+reads Way.Hinted m n h = h
+reads (Way.Direct skip len) m n h = h
+reads (Way.Switched skip len) m n h = h
 
 pub writes_bytes : (w : WriteAtState) (n : ℕ) → IsUpTo (longest (write_kind w)) n → ⊥
-writes_bytes writes.Writing n h = h
-writes_bytes writes.WritingSync n h = h
-writes_bytes writes.WritingBeforeSync n h = h
-writes_bytes writes.Syncing n h = h
+writes_bytes WriteAtState.Writing n h = h
+writes_bytes WriteAtState.WritingSync n h = h
+writes_bytes WriteAtState.WritingBeforeSync n h = h
+writes_bytes WriteAtState.Syncing n h = h
 
 pub simple : (q : Asking) (n : ℕ) → IsUpTo (longest (asked_of q).kind) n → IsSimple q
-simple (asks.Send s) n h = record { unhinted = refl; operates = λ b. refl }
-simple (asks.Poll p) n h = record { unhinted = refl; operates = λ b. refl }
-simple (asks.Recv r) n h = absurd (fills r.exact n h)
-simple (asks.ReadAt r) n h = absurd (reads r.way (length r.buf.bytes) n h)
-simple (asks.WriteAt w) n h = absurd (writes_bytes w.state n h)
-simple (asks.Sync s) n h = absurd h
-simple (asks.Connect c) n h = absurd h
+simple (Asking.Send s) n h = record { unhinted = refl; operates = λ b. refl }
+simple (Asking.Poll p) n h = record { unhinted = refl; operates = λ b. refl }
+simple (Asking.Recv r) n h = absurd (fills r.exact n h)
+simple (Asking.ReadAt r) n h = absurd (reads r.way (length r.buf.bytes) n h)
+simple (Asking.WriteAt w) n h = absurd (writes_bytes w.state n h)
+simple (Asking.Sync s) n h = absurd h
+simple (Asking.Connect c) n h = absurd h
 
-hint_of : (k : Kind) (b : Bool) (n : ℕ) → IsUpTo (longest k) n → (same_kind k kind.Hint || (same_kind k kind.Direct && b)) ≡ false
-hint_of kind.Poll b n h = refl
-hint_of kind.Send b n h = refl
+hint_of : (k : Kind) (b : Bool) (n : ℕ) → IsUpTo (longest k) n → (same_kind k Kind.Hint || (same_kind k Kind.Direct && b)) ≡ false
+hint_of Kind.Poll b n h = refl
+hint_of Kind.Send b n h = refl
 hint_of _ b n h = absurd h
 
 pub no_hint : (r : Request) → IsPlain r → asks_hint r.operation ≡ false
 no_hint r p = hint_of r.operation.kind r.operation.switched r.operation.length p.bounded
 
 -- it waits to be staged
-pub queued_phase : (p : RequestPhase) → is_in_flight p ≡ false → is_resolved p ≡ false → is_gated p ≡ false → p ≡ phase.Queued
-queued_phase phase.Queued a b c = refl
-queued_phase phase.Gated a b c = absurd (false≢true (sym c))
-queued_phase phase.Staged a b c = absurd (false≢true (sym a))
-queued_phase phase.Flying a b c = absurd (false≢true (sym a))
-queued_phase (phase.Landed n) a b c = absurd (false≢true (sym a))
-queued_phase (phase.Resolved outcome) a b c = absurd (false≢true (sym b))
+pub queued_phase : (p : RequestPhase) → is_in_flight p ≡ false → is_resolved p ≡ false → is_gated p ≡ false → p ≡ RequestPhase.Queued
+queued_phase RequestPhase.Queued a b c = refl
+queued_phase RequestPhase.Gated a b c = absurd (false≢true (sym c))
+queued_phase RequestPhase.Staged a b c = absurd (false≢true (sym a))
+queued_phase RequestPhase.Flying a b c = absurd (false≢true (sym a))
+queued_phase (RequestPhase.Landed n) a b c = absurd (false≢true (sym a))
+queued_phase (RequestPhase.Resolved outcome) a b c = absurd (false≢true (sym b))
 
 -- with a deadline, and without a tick that is set, it is yet to be enrolled
 pub takes_by : (s : WaiterState) → asks_cancel s ≡ false → tick_in s ≡ None → takes_tick s ≡ true
@@ -114,7 +98,7 @@ cancels_by (x ∷ es) e none = rw (cancels_by es e none) refl
 -- THE RECORD
 
 abbrev pub starts : Record → Record
-starts r = record r { shown = record r.shown { operation = record r.shown.operation { hinted = false }; phase = phase.Staged } }
+starts r = record r { shown = record r.shown { operation = record r.shown.operation { hinted = false }; phase = RequestPhase.Staged } }
 
 pub starts_on : (r : Record) → is_resolved r.shown.phase ≡ false → GoesOn r (starts r)
 starts_on r unresolved = record { same = refl; over = sym unresolved; ended = λ h. absurd (false≢true (sym unresolved ∙ h)) }
@@ -178,7 +162,7 @@ pub record Starts {B : Type 0} (w : Worker) (s : Shared B) (id : WaiterId) : Typ
   pub alike : IsAlike (driver_of w).wheel.start (driver_of w).wheel.tick it r.shown
   pub idle : it.in_flight ≡ false
   pub unasked : asks_cancel it.state ≡ false
-  pub queued : r.shown.phase ≡ phase.Queued
+  pub queued : r.shown.phase ≡ RequestPhase.Queued
   pub enrolled : is_enrolled r.shown ≡ true
 
 module _ {B : Type 0} (v : Service) (w : Worker) (s : Shared B) (idle : IsIdle v w s) (id : WaiterId) (first : first_of (driver_of w).lists.queued ≡ Some id) where

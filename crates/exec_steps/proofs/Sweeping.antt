@@ -1,17 +1,11 @@
 -- A reaping that finds no operation which has landed.
-use Rattle.std.proofs.Common.{◌≡◌, ℕ, ◌+◌, ◌≤◌, Bool, true, false, List, [], ◌∷◌, length, map, Option, Some, None, refl, sym, ap, subst, ◌∙◌, arith}
-use Rattle.std.specs.Prelude.{slice_get, slice_set}
-use Rattle.exec_ring.specs.Rings.{RingState, completions}
+use Rattle.std.proofs.Common.{◌≡◌, ℕ, true, false, [], length, map, Option, refl, sym, ap, subst, ◌∙◌, arith}
+use Rattle.exec_ring.specs.Rings.{completions}
 use Rattle.exec_task.specs.declared.body.Said.{Said}
 use Rattle.exec_driver.specs.{Driving.Driving, Steps.swept}
-use Rattle.exec_machine.specs.{declared.event.Event.{Event, TheVariants.Serve}, Progress.Plan, World.{Common, seat_of}}
-use Rattle.exec_moves.specs.{Move.move_at, Seen.{serves_at, polls_at, next_at}, Serve.{after_permit, reap}, State.{Desk, Things}, declared.place.{Reaping.Reaping, Service.Service, Place.Place}}
-use Rattle.exec_moves.specs.declared.place.AfterPermit.TheVariants as permit
-use Rattle.exec_moves.specs.declared.place.InService.TheVariants as step
-use Rattle.exec_moves.specs.declared.place.Reaping.TheVariants as reaping
-use Rattle.exec_moves.specs.declared.place.Place.TheVariants as at
-use Rattle.exec_steps.specs.{declared.parts.{mail.Reply.Reply, shared.Shared.Shared, worker.Worker.Worker}, Carried.those_of, Flown.{AreAcks, operations}, Due.may_be_due, Phased.closes_at, Serving.{AreTagged, cancels_in}, Sound.{SoundAt, served_in, is_armed_at}, Spots.Spot, View.{Visible, visible, own_of, desk_of, driver_of, common_of, things_of, number_told, trailing}, Works.{Suits, Steps}}
-use Rattle.exec_steps.proofs.{Ceasing.{SameButRing, keeps_ring}, Seeing.{makes, own_with, desk_with, visible_with, served, common_same}, Serving.{is_calm, Follows, Serves, Keeps, KeepsBy, own_seat}, Swept.{SweepsTo, sweeps, operations_posted, told_in, trails_none}}
+use Rattle.exec_machine.specs.{declared.event.Event.{Event, TheVariants.Serve}, World.seat_of}
+use Rattle.exec_moves.specs.{Seen.serves_at, Serve.after_permit, declared.place.{Reaping.Reaping, Service.Service, Place.Place, AfterPermit.AfterPermit, InService.InService}}
+use Rattle.exec_steps.{specs.{declared.parts.{mail.Reply.Reply, shared.Shared.Shared, worker.Worker.Worker}, Carried.those_of, Flown.operations, Due.may_be_due, Phased.closes_at, Serving.{AreTagged, cancels_in}, Sound.{SoundAt, served_in, is_armed_at}, Spots.Spot, View.{visible, own_of, desk_of, driver_of, common_of, things_of, number_told, trailing}, Works.Steps}, proofs.{Ceasing.{SameButRing, keeps_ring}, Seeing.{makes, own_with, desk_with, visible_with, served, common_same}, Serving.{is_calm, Follows, Serves, Keeps, KeepsBy, own_seat}, Swept.{SweepsTo, sweeps, operations_posted, told_in, trails_none}}}
 
 pub sweeps_alike : (d d' : Driving Reply Reply) → SweepsTo d.ring.posted d d' → SameButRing d d'
 sweeps_alike d d' to =
@@ -30,16 +24,16 @@ sweeps_alike d d' to =
       stages = λ v small. ap (λ x. those_of v x.ring.staged) to.shape;
     }
 
-pub follows_reap : (r : Reaping) (v : Service) → Follows (at.Service (step.Reap r) v) (at.Service (after_permit (permit.Reaped r)) v)
-follows_reap reaping.First v = record { from = refl; to = refl; serves = refl; armed = refl; closes = refl; wakes = refl; permits = refl; moment = λ m. refl }
-follows_reap reaping.Last v = record { from = refl; to = refl; serves = refl; armed = refl; closes = refl; wakes = refl; permits = refl; moment = λ m. refl }
+pub follows_reap : (r : Reaping) (v : Service) → Follows (Place.Service (InService.Reap r) v) (Place.Service (after_permit (AfterPermit.Reaped r)) v)
+follows_reap Reaping.First v = record { from = refl; to = refl; serves = refl; armed = refl; closes = refl; wakes = refl; permits = refl; moment = λ m. refl }
+follows_reap Reaping.Last v = record { from = refl; to = refl; serves = refl; armed = refl; closes = refl; wakes = refl; permits = refl; moment = λ m. refl }
 
 module _ {B L : Type 0} (left : B → L) (spot : L → Option Said → Spot) where
-  pub none_reaped : (r : Reaping) (v : Service) (w w' : Worker) (s : Shared B) (e : Event) → SoundAt (at.Service (step.Reap r) v) w s → operations (driver_of w).ring ≡ [] → e ≡ Serve
-      → driver_of w' ≡ record (swept (driver_of w)) { landings = (driver_of w').landings } → w' ≡ record w { place = at.Service (after_permit (permit.Reaped r)) v; home = record w.home { driver = w'.home.driver } } → Steps left spot w s e w' s
+  pub none_reaped : (r : Reaping) (v : Service) (w w' : Worker) (s : Shared B) (e : Event) → SoundAt (Place.Service (InService.Reap r) v) w s → operations (driver_of w).ring ≡ [] → e ≡ Serve
+      → driver_of w' ≡ record (swept (driver_of w)) { landings = (driver_of w').landings } → w' ≡ record w { place = Place.Service (after_permit (AfterPermit.Reaped r)) v; home = record w.home { driver = w'.home.driver } } → Steps left spot w s e w' s
   none_reaped r v w w' s e sound none event driver same =
-      let q : Place = at.Service (step.Reap r) v in
-      let q' : Place = at.Service (after_permit (permit.Reaped r)) v in
+      let q : Place = Place.Service (InService.Reap r) v in
+      let q' : Place = Place.Service (after_permit (AfterPermit.Reaped r)) v in
       let d = driver_of w in
       let d' : Driving Reply Reply = record (swept d) { landings = (driver_of w').landings } in
       let to = sweeps d in
@@ -92,13 +86,13 @@ module _ {B L : Type 0} (left : B → L) (spot : L → Option Said → Spot) whe
         common = common_same left spot p vs w w' s suits seen;
       }))
     where
-      not_due : (r : Reaping) → may_be_due (served_in (at.Service (step.Reap r) v)) ≡ false
-      not_due reaping.First = refl
-      not_due reaping.Last = refl
+      not_due : (r : Reaping) → may_be_due (served_in (Place.Service (InService.Reap r) v)) ≡ false
+      not_due Reaping.First = refl
+      not_due Reaping.Last = refl
 
-      served_by : (r : Reaping) → serves_at (at.Service (after_permit (permit.Reaped r)) v) ≡ true
-      served_by reaping.First = refl
-      served_by reaping.Last = refl
+      served_by : (r : Reaping) → serves_at (Place.Service (after_permit (AfterPermit.Reaped r)) v) ≡ true
+      served_by Reaping.First = refl
+      served_by Reaping.Last = refl
 
       own_as : (u : Worker) (y : Place) (x : Driving Reply Reply) → SameButRing (driver_of u) x → own_with u y u.names.ended.items u.names.untold.items x ≡ own_with u y u.names.ended.items u.names.untold.items (driver_of u)
       own_as u y x like = rw (like.lists, like.requests) refl

@@ -1,14 +1,8 @@
 -- What a reap takes out of a ring: the completions of no operation before the next one of an operation, that, and those
 -- behind it.
-use Rattle.std.proofs.Common.{◌≡◌, ℕ, zero, suc, ◌+◌, ◌==◌, ◌&&◌, ◌||◌, Bool, true, false, not, List, [], ◌∷◌, ◌++◌, length, map, filter, Option, Some, None, refl, sym, ap, subst, ◌∙◌, arith}
-use Rattle.std.proofs.lemmas.Bool.{false≢true}
-use Rattle.std.proofs.lemmas.Grind.{flat_map-append}
-use Rattle.std.proofs.lemmas.List.{append-nil, append_assoc}
-use Rattle.std.proofs.lemmas.List.Elements.{filter-append}
-use Rattle.std.specs.Prelude.{replicate, nat_lt, if◌then◌else◌}
-use Rattle.std.specs.List.{flat_map, list_any}
-use Rattle.exec_ring.specs.{Completions.wake_completion, Kernels.{next_completion, reaped, is_quiet}, Rings.{RingState, completions, spelled}, declared.completion.{Completion.Completion, Posted.Posted}}
-use Rattle.exec_driver.specs.{Driving.Driving, Steps.{is_control, noted, swept_from, swept, taken_out, under_way_after, armed_after}}
+use Rattle.std.{proofs.{Common.{◌≡◌, ℕ, zero, suc, ◌+◌, ◌==◌, ◌&&◌, Bool, true, false, not, List, [], ◌∷◌, ◌++◌, map, filter, Some, None, refl, sym, ap, subst, ◌∙◌, replicate, if◌then◌else◌}, lemmas.{Bool.false≢true, List.{append-nil, Elements.filter-append}}}, specs.List.{flat_map, list_any}}
+use Rattle.exec_ring.specs.{Completions.wake_completion, Kernels.{next_completion, is_quiet}, Rings.{RingState, completions, spelled}, declared.completion.{Completion.Completion, Posted.Posted}}
+use Rattle.exec_driver.specs.{Driving.Driving, Steps.{is_control, noted, swept_from, swept, taken_out}}
 use Rattle.exec_steps.specs.{declared.parts.mail.Reply.Reply, Flown.{AreAcks, operations}, View.trailing}
 
 abbrev pub is_op : Completion → Bool

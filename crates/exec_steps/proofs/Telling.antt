@@ -1,28 +1,12 @@
 -- A sleeper that is told at the end of a service is the one that the machine tells.
-use Rattle.std.proofs.Common.{◌≡◌, ◌≢◌, ℕ, zero, suc, ◌+◌, ◌^◌, ◌<◌, ◌≤◌, ◌==◌, ◌&&◌, ◌||◌, Bool, true, false, not, List, [], ◌∷◌, ◌++◌, length, map, Option, Some, None, IsSome, refl, sym, ap, subst, ◌∙◌, arith, inl, inr}
-use Rattle.std.proofs.lemmas.Bool.{false≢true, eq-eqb}
-use Rattle.std.proofs.lemmas.Bool.Decides.{nat_tests}
-use Rattle.std.specs.Prelude.{slice_get, slice_set, nat_le, nat_lt, is_some, Ok, if◌then◌else◌}
-use Rattle.std.proofs.lemmas.List.{map-set, length-set}
-use Rattle.std.proofs.lemmas.Option.{slice_get-map, slice_get_within, get_or_from_slice_get}
-use Rattle.std.specs.Option.{option_map}
-use Rattle.exec_base.proofs.Slots.{IsLiveAt-from_value, count-set, live_within}
-use Rattle.exec_base.specs.{Slab.{Slab, value_at, live_count, removed, freed, is_live}, declared.{slab.{Slot.TheVariants.{Vacant, Retired}, Id.Id}, task_no.TaskNo.TaskNo}}
+use Rattle.std.{proofs.{Common.{◌≡◌, ◌≢◌, ℕ, ◌+◌, ◌^◌, ◌<◌, ◌≤◌, ◌==◌, ◌&&◌, ◌||◌, Bool, true, false, not, List, [], ◌∷◌, ◌++◌, length, map, Option, Some, None, IsSome, refl, sym, ap, subst, ◌∙◌, arith, slice_get, slice_set, nat_le, nat_lt, is_some, Ok, if◌then◌else◌}, lemmas.{Bool.{false≢true, eq-eqb}, List.{map-set, length-set}, Option.{slice_get-map, slice_get_within, get_or_from_slice_get}}}, specs.Option.option_map}
+use Rattle.exec_base.{proofs.Slots.{IsLiveAt-from_value, count-set, live_within}, specs.{Slab.{Slab, value_at, live_count, removed, freed, is_live}, declared.{slab.{Slot.TheVariants.{Vacant, Retired}, Id.Id}, task_no.TaskNo.TaskNo}}}
 use Rattle.exec_time.specs.{Notes.{Adds, HasRoom}, declared.{notes.Notes.Notes, timers.Sleeper.Sleeper as Sleeping}, Sleepers.{Ends, IsFirst, completions_of, deadline_at, wakes_of}}
 use Rattle.exec_driver.specs.Driving.{Driving}
 use Rattle.exec_task.specs.declared.body.Said.{Said}
-use Rattle.exec_machine.specs.{declared.{event.Event.{Event, TheVariants.Fire}, state.{Sleeper.Sleeper, Waiting.Waiting}}, Deadlines.is_none_earlier, Progress.Plan, Tests.{is_asleep, is_open}, World.{Own, Common, seat_of, sleeper_of, no_sleeper}}
-use Rattle.exec_machine.specs.declared.state.Next.TheVariants as next
-use Rattle.exec_machine.specs.declared.state.Waiting.TheVariants as waiting
-use Rattle.exec_moves.specs.{Seen.{polls_at, next_at, serves_at}, State.Desk, Serve.{after_service, first_numbered, first_to_fire}, declared.place.{AfterService.AfterService, Service.Service, Place.Place}}
-use Rattle.exec_moves.specs.declared.place.AfterService.TheVariants as back
-use Rattle.exec_moves.specs.declared.place.AfterCallbacks.TheVariants as after
-use Rattle.exec_moves.specs.declared.place.InCallbacks.TheVariants as callback
-use Rattle.exec_moves.specs.declared.place.InMail.TheVariants as mail
-use Rattle.exec_moves.specs.declared.place.InService.TheVariants as step
-use Rattle.exec_moves.specs.declared.place.Place.TheVariants as at
-use Rattle.exec_steps.specs.{declared.parts.{mail.Reply.Reply, names.Names.Names, shared.Shared.Shared, record.Record.Record, sleeping.SleeperRecord.SleeperRecord, task_slot.TaskSlot.TaskSlot, worker.Worker.Worker}, Due.IsDue, Flown.HasFlown, Phased.{closes_at, is_complete}, Records.number_in, Sound.{SoundAt, IsNamed, IsTold, AreOwed, OwesWake, tellers, has_wakes_at, served_in, is_armed_at}, Rooted.{Awaits, AwaitsTimer, Holds, ends_poll}, Spots.Spot, View.{Visible, visible, own_of, desk_of, driver_of, common_of, things_of, message_of}, Works.{Suits, Steps}}
-use Rattle.exec_steps.proofs.{Fired.{fires, first_found, all_by, le_self, le_is, same_number, same_timer, fired_there, other_there, told_fired, asleep_still, holds_fired}, Firing.slept_there, Seeing.{makes, served}, Serving.{is_calm, Serves, Keeps, KeepsBy, own_seat}, Turning.set_found}
+use Rattle.exec_machine.specs.{declared.{event.Event.{Event, TheVariants.Fire}, state.{Sleeper.Sleeper, Waiting.Waiting}}, Deadlines.is_none_earlier, Tests.{is_asleep, is_open}, World.{seat_of, sleeper_of, no_sleeper}}
+use Rattle.exec_moves.specs.{Serve.first_to_fire, declared.place.{Service.Service, Place.Place, InService.InService}}
+use Rattle.exec_steps.{specs.{declared.parts.{mail.Reply.Reply, names.Names.Names, shared.Shared.Shared, record.Record.Record, sleeping.SleeperRecord.SleeperRecord, task_slot.TaskSlot.TaskSlot, worker.Worker.Worker}, Due.IsDue, Flown.HasFlown, Phased.{closes_at, is_complete}, Records.number_in, Sound.{SoundAt, IsNamed, IsTold, AreOwed, OwesWake, tellers, has_wakes_at, served_in, is_armed_at}, Rooted.{Awaits, AwaitsTimer, Holds, ends_poll}, Spots.Spot, View.{visible, own_of, desk_of, driver_of, common_of, things_of}, Works.Steps}, proofs.{Fired.{fires, first_found, all_by, le_self, le_is, same_number, same_timer, fired_there, other_there, told_fired, asleep_still, holds_fired}, Firing.slept_there, Seeing.{makes, served}, Serving.{is_calm, Serves, Keeps, KeepsBy, own_seat}, Turning.set_found}}
 
 -- A SLEEPER IS TOLD
 
@@ -65,7 +49,7 @@ awake_other i z true is h = absurd (by (z.worker == i) z.fired z.removed refl re
     by false f r w q p is = false≢true is
 
 -- no wake is left while what the root waits for sleeps
-none_owed : {B : Type 0} (i t : ℕ) (ws : List TaskNo) (tasks : List (TaskSlot B)) (rs : List Record) (ss : List SleeperRecord) (slot : TaskSlot B) (k : ℕ) (z : SleeperRecord) → slice_get tasks t ≡ Some slot → slot.waiting ≡ waiting.Timer k → slice_get ss k ≡ Some z → is_asleep i z.shown ≡ true → AreOwed i t ws tasks rs ss → ws ≡ []
+none_owed : {B : Type 0} (i t : ℕ) (ws : List TaskNo) (tasks : List (TaskSlot B)) (rs : List Record) (ss : List SleeperRecord) (slot : TaskSlot B) (k : ℕ) (z : SleeperRecord) → slice_get tasks t ≡ Some slot → slot.waiting ≡ Waiting.Timer k → slice_get ss k ≡ Some z → is_asleep i z.shown ≡ true → AreOwed i t ws tasks rs ss → ws ≡ []
 none_owed i t [] tasks rs ss slot k z there what found asleep owed = refl
 none_owed i t (n ∷ []) tasks rs ss slot k z there what found asleep owed =
     let wake = subst (λ o. OwesWake i t o rs ss) what (owed.1 slot there) in
@@ -80,7 +64,7 @@ none_owed i t (n ∷ []) tasks rs ss slot k z there what found asleep owed =
     by false f r h o = false≢true h
 none_owed i t (n ∷ (m ∷ ns)) tasks rs ss slot k z there what found asleep owed = absurd owed
 
-awaited_timer : (ends : Bool) (i t : ℕ) (held : List ℕ) (what : Waiting) (rs : List Record) (ss : List SleeperRecord) (k : ℕ) (z : SleeperRecord) → what ≡ waiting.Timer k → slice_get ss k ≡ Some z → Awaits ends i t held what rs ss → AwaitsTimer ends i t z
+awaited_timer : (ends : Bool) (i t : ℕ) (held : List ℕ) (what : Waiting) (rs : List Record) (ss : List SleeperRecord) (k : ℕ) (z : SleeperRecord) → what ≡ Waiting.Timer k → slice_get ss k ≡ Some z → Awaits ends i t held what rs ss → AwaitsTimer ends i t z
 awaited_timer ends i t held what rs ss k z is there waits =
     let a = subst (λ x. Awaits ends i t held x rs ss) is waits in
     let same : a.0 ≡ z = cc (a.1, there) in
@@ -95,10 +79,10 @@ not_closing : (b : Bool) → (b ≡ true → ⊥) → b ≡ false
 not_closing true h = absurd (h refl)
 not_closing false h = refl
 
-never_nothing : (what : Waiting) (k : ℕ) → what ≡ waiting.Timer k → what ≡ waiting.Nothing → ⊥
+never_nothing : (what : Waiting) (k : ℕ) → what ≡ Waiting.Timer k → what ≡ Waiting.Nothing → ⊥
 never_nothing what k a b = by (sym a ∙ b)
   where
-    by : waiting.Timer k ≡ waiting.Nothing → ⊥
+    by : Waiting.Timer k ≡ Waiting.Nothing → ⊥
     by h = absurd (cc)
 
 first_deadline : (zs : Slab (Sleeping Reply)) (deadline : ℕ) (id : Id) (it : Sleeping Reply) → deadline_at zs id ≡ Some deadline → value_at zs id ≡ Some it → deadline ≡ it.deadline
@@ -140,9 +124,9 @@ zero_plus : (k : ℕ) → 0 + k ≡ k
 zero_plus k = omega arith
 
 module _ {B L : Type 0} (left : B → L) (spot : L → Option Said → Spot) where
-  pub sleeper_fired : (v : Service) (w w' : Worker) (s s' : Shared B) (e : Event) (id : Id) → SoundAt (at.Service step.EndService v) w s → e ≡ Fire (number_in w.names.timers.items id) → HasFired w w' s s' id → Steps left spot w s e w' s'
+  pub sleeper_fired : (v : Service) (w w' : Worker) (s s' : Shared B) (e : Event) (id : Id) → SoundAt (Place.Service InService.EndService v) w s → e ≡ Fire (number_in w.names.timers.items id) → HasFired w w' s s' id → Steps left spot w s e w' s'
   sleeper_fired v w w' s s' e id sound event it =
-      let q : Place = at.Service step.EndService v in
+      let q : Place = Place.Service InService.EndService v in
       let i = w.index in
       let d = driver_of w in
       let k = number_in w.names.timers.items id in
@@ -158,7 +142,7 @@ module _ {B L : Type 0} (left : B → L) (spot : L → Option Said → Spot) whe
       let slot = sound.runnable.root in
       let holds = sound.rooted.root slot sound.runnable.there in
       let sleeping = holds.sleeping id ends.sleeper ends.was in
-      let what : slot.waiting ≡ waiting.Timer k = sleeping.1 in
+      let what : slot.waiting ≡ Waiting.Timer k = sleeping.1 in
       let root : TaskNo = record { 0 = w.root } in
       let adds : Adds w.home.deferred.notes w'.home.deferred.notes (root ∷ []) [] =
       subst (λ o. Adds w.home.deferred.notes w'.home.deferred.notes (wakes_of o) (completions_of (Ok tt) o)) sleeping.0 ends.notes in

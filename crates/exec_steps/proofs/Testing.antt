@@ -1,7 +1,5 @@
 -- What the test before a wait on the ring is to the machine: the worker serves, or goes on with its wake poll.
-use Rattle.std.proofs.Common.{◌≡◌, ◌⊎◌, ℕ, ◌+◌, ◌<◌, ◌≤◌, ◌&&◌, ◌||◌, Bool, true, false, not, List, [], ◌∷◌, ◌++◌, length, Option, Some, None, refl, sym, ap, subst, ◌∙◌, inl, inr, arith}
-use Rattle.std.proofs.lemmas.List.{length-append}
-use Rattle.std.specs.Prelude.{slice_get, slice_set, nat_lt, if◌then◌else◌}
+use Rattle.std.proofs.{Common.{◌≡◌, ◌⊎◌, ℕ, ◌+◌, ◌<◌, ◌≤◌, ◌&&◌, ◌||◌, Bool, true, false, not, List, [], ◌∷◌, ◌++◌, length, Option, refl, sym, ap, subst, ◌∙◌, inl, inr, arith, slice_set, nat_lt, if◌then◌else◌}, lemmas.List.length-append}
 use Rattle.exec_base.specs.Slab.{Slab}
 use Rattle.exec_ring.specs.{Kernels.Landing, Rings.{RingState, completions}, declared.completion.Submission.Submission}
 use Rattle.exec_time.specs.declared.timers.Sleeper.{Sleeper as Sleeping}
@@ -9,13 +7,8 @@ use Rattle.exec_waiters.specs.{Ids.index_in, States.{flying_count, pending_count
 use Rattle.exec_driver.specs.{Driving.{Driving, Parts, seen, has_pending, is_full}, Punctual.IsPunctual, Steps.{poll_staged, wake_entry}}
 use Rattle.exec_task.specs.declared.body.Said.{Said}
 use Rattle.exec_machine.specs.{declared.event.Event.{Event, TheVariants.Turn}, Choice.Choice.Plain, Progress.Plan, Ranges.ring_size, World.Own as Books}
-use Rattle.exec_moves.specs.declared.place.AfterWait.TheVariants as next
-use Rattle.exec_moves.specs.{declared.place.{InPoll.InPoll, Stay.Stay, Place.Place}, Move.{aside, move_at}, State.{Desk, Moved, Things, does, turns}, Load.has_submissions, Seen.{polls_at, next_at, serves_at}, Submit.one_more, Wait.after_wait}
-use Rattle.exec_moves.specs.declared.place.InRingWait.TheVariants as ring
-use Rattle.exec_moves.specs.declared.place.Stay.TheVariants as stay
-use Rattle.exec_moves.specs.declared.place.Place.TheVariants as at
-use Rattle.exec_steps.specs.{declared.parts.{mail.Reply.Reply, names.Names.Names, record.Record.Record, shared.Shared.Shared, sleeping.SleeperRecord.SleeperRecord, task_slot.TaskSlot.TaskSlot, worker.Worker.Worker}, Carried.{IsCarried, those_of}, Due.{IsDue, IsWheelAt, wheel_moment}, Flown.{HasFlown, operations}, Phased.closes_at, Rooted.IsRooted, Serving.{AreTagged, cancels_in, is_cancel}, Sound.{tellers, SoundAt, IsNamed, IsSubmitted, IsTold, AreOver, is_armed_at, served_in, polled_in}, Spots.Spot, Tests.{TestsRing, is_unready, polled_by}, View.{Visible, visible, driver_of, own_of, desk_of, common_of, things_of, numbers_of, landed_in, trailing}, Works.{Suits, Steps, Works}, Ordered.{IsOrdered, went_round}}
-use Rattle.exec_steps.proofs.{Conveying.{carried_ring, control_entry}, Hearing.unheard, Entering.named_beside, Flown.landed_as, Standing.submissions_seen, Turning.{IsPlain, between, plain_between, quiet, reaches, is_quiet, set_found, sound_on}}
+use Rattle.exec_moves.specs.{declared.place.{InPoll.InPoll, Stay.Stay, Place.Place, AfterWait.AfterWait, InRingWait.InRingWait}, Move.{aside, move_at}, State.{Desk, Moved, Things, does, turns}, Load.has_submissions, Seen.{polls_at, next_at, serves_at}, Submit.one_more, Wait.after_wait}
+use Rattle.exec_steps.{specs.{declared.parts.{mail.Reply.Reply, names.Names.Names, record.Record.Record, shared.Shared.Shared, sleeping.SleeperRecord.SleeperRecord, task_slot.TaskSlot.TaskSlot, worker.Worker.Worker}, Carried.{IsCarried, those_of}, Due.{IsWheelAt, wheel_moment}, Flown.{HasFlown, operations}, Phased.closes_at, Rooted.IsRooted, Serving.{AreTagged, cancels_in, is_cancel}, Sound.{tellers, SoundAt, IsNamed, IsSubmitted, IsTold, AreOver, served_in, polled_in}, Spots.Spot, Tests.{TestsRing, is_unready}, View.{Visible, visible, driver_of, own_of, desk_of, common_of, things_of, numbers_of, landed_in, trailing}, Works.{Suits, Steps, Works}, Ordered.{IsOrdered, went_round}}, proofs.{Conveying.{carried_ring, control_entry}, Hearing.unheard, Entering.named_beside, Flown.landed_as, Standing.submissions_seen, Turning.{IsPlain, between, plain_between, quiet, reaches, set_found, sound_on}}}
 
 -- BY THE THREE TESTS: something is to be submitted, the wake poll is there, and the submission queue is full
 
@@ -26,8 +19,8 @@ abbrev with_wake : {A : Type 0} → Bool → Bool → Bool → A → A → A
 with_wake some polled full d e = if some then d else if polled then d else if full then d else e
 
 moved_by : (some polled full : Bool) (x : Stay) (d e : Desk)
-    → (if unready some polled full then turns (after_wait x next.Serve) d (tt {0}) else turns (at.RingWait ring.ArmRing x) (if polled || full then d else e) (tt {0}))
-    ≡ turns (if unready some polled full then after_wait x next.Serve else at.RingWait ring.ArmRing x) (with_wake some polled full d e) (tt {0})
+    → (if unready some polled full then turns (after_wait x AfterWait.Serve) d (tt {0}) else turns (Place.RingWait InRingWait.ArmRing x) (if polled || full then d else e) (tt {0}))
+    ≡ turns (if unready some polled full then after_wait x AfterWait.Serve else Place.RingWait InRingWait.ArmRing x) (with_wake some polled full d e) (tt {0})
 moved_by true polled full x d e = refl
 moved_by false true full x d e = refl
 moved_by false false true x d e = refl
@@ -182,25 +175,25 @@ seen_with w d = record { busy = d.ring.busy; landed = landed_in w.names.requests
 -- the move, by what is to be submitted and whether the queue is full
 abbrev tested : Worker → Stay → Things → Bool → Bool → Moved Things
 tested w y x some full =
-    aside x (if some || (not (desk_of w).polled && full) then turns (after_wait y next.Serve) (desk_of w) (tt {0})
-    else turns (at.RingWait ring.ArmRing y) (if (desk_of w).polled || full then desk_of w else (record (one_more (desk_of w)) { polled = true })) (tt {0}))
+    aside x (if some || (not (desk_of w).polled && full) then turns (after_wait y AfterWait.Serve) (desk_of w) (tt {0})
+    else turns (Place.RingWait InRingWait.ArmRing y) (if (desk_of w).polled || full then desk_of w else (record (one_more (desk_of w)) { polled = true })) (tt {0}))
 
 one_polled : (w : Worker) (q : Place) (d : Driving Reply Reply) → desk_with w q (poll_staged d) ≡ record (one_more (desk_with w q d)) { polled = true }
 one_polled w q d = ap (λ n. record (desk_with w q d) { entries = n; polled = true }) (length-append d.ring.staged (wake_entry ∷ []))
 
 module _ {B L : Type 0} (left : B → L) (spot : L → Option Said → Spot) where
-  pub ring_tested : (y : Stay) (w w' : Worker) (s : Shared B) (e : Event) → SoundAt (at.RingWait ring.TestRing y) w s → e ≡ Turn → TestsRing y w w' → Steps left spot w s e w' s
+  pub ring_tested : (y : Stay) (w w' : Worker) (s : Shared B) (e : Event) → SoundAt (Place.RingWait InRingWait.TestRing y) w s → e ≡ Turn → TestsRing y w w' → Steps left spot w s e w' s
   ring_tested y w w' s e sound turn it =
       subst (λ x. Steps left spot w s x w' s) (sym turn) (subst (λ v. Steps left spot w s Turn v s) (sym it.worker) (works, holds, unheard refl refl refl))
     where
       q : Place
-      q = at.RingWait ring.TestRing y
+      q = Place.RingWait InRingWait.TestRing y
 
       d : Driving Reply Reply
       d = driver_of w
 
       q' : Place
-      q' = if is_unready d then after_wait y next.Serve else at.RingWait ring.ArmRing y
+      q' = if is_unready d then after_wait y AfterWait.Serve else Place.RingWait InRingWait.ArmRing y
 
       w1 : Worker
       w1 = record w { place = q'; home = record w.home { driver = w'.home.driver } }
@@ -217,9 +210,9 @@ module _ {B L : Type 0} (left : B → L) (spot : L → Option Said → Spot) whe
       plain : IsPlain false (closes_at q) q'
       plain = by (is_unready d) y
         where
-          by : (b : Bool) (z : Stay) → IsPlain false (closes_at (at.RingWait ring.TestRing z)) (if b then after_wait z next.Serve else at.RingWait ring.ArmRing z)
-          by true stay.Turn = record { plain = refl; armed_there = refl; closes_there = refl }
-          by true stay.Closing = record { plain = refl; armed_there = refl; closes_there = refl }
+          by : (b : Bool) (z : Stay) → IsPlain false (closes_at (Place.RingWait InRingWait.TestRing z)) (if b then after_wait z AfterWait.Serve else Place.RingWait InRingWait.ArmRing z)
+          by true Stay.Turn = record { plain = refl; armed_there = refl; closes_there = refl }
+          by true Stay.Closing = record { plain = refl; armed_there = refl; closes_there = refl }
           by false z = record { plain = refl; armed_there = refl; closes_there = refl }
 
       holds : SoundAt q' w1 s

@@ -1,6 +1,5 @@
 -- The first tick at a deadline or after it is within what 64 bits can say.
-use Rattle.std.proofs.Common.{◌≡◌, ℕ, ◌+◌, ◌-◌, ◌*◌, ◌/◌, ◌^◌, ◌<◌, ◌≤◌, arith}
-use Rattle.std.proofs.Math.Nat.{div-mul-le_self}
+use Rattle.std.proofs.{Common.{◌≡◌, ℕ, ◌+◌, ◌-◌, ◌*◌, ◌/◌, ◌^◌, ◌<◌, ◌≤◌, arith}, Math.Nat.div-mul-le_self}
 
 pub ticks_within : (start tick deadline : ℕ) → 0 < tick → start ≤ deadline → deadline + tick < 2 ^ 64
     → (((deadline - start + (tick - 1)) / tick) * tick < 2 ^ 64) × (start + ((deadline - start + (tick - 1)) / tick) * tick < 2 ^ 64)

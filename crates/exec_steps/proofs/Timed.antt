@@ -1,27 +1,14 @@
 -- What holds again once a deadline is on the wheel.
-use Rattle.std.proofs.Common.{◌≡◌, ◌≢◌, ℕ, zero, suc, ◌+◌, ◌-◌, ◌*◌, ◌^◌, ◌<◌, ◌≤◌, ◌==◌, ◌&&◌, Bool, true, false, not, List, [], ◌∷◌, ◌++◌, length, map, Option, Some, None, IsSome, IfSome, refl, sym, ap, subst, ◌∙◌, arith, inl, inr}
-use Rattle.std.proofs.lemmas.Bool.{false≢true, eq-eqb}
-use Rattle.std.proofs.lemmas.Bool.Decides.{nat_tests}
-use Rattle.std.proofs.lemmas.List.{append-nil}
-use Rattle.std.specs.Prelude.{slice_get, slice_set, drop, is_some, unwrap_or, if◌then◌else◌, Ok}
-use Rattle.std.specs.Option.{option_map}
-use Rattle.exec_base.specs.{Slab.{Slab, value_at, written}, declared.{error.Error.Error, slab.Id.Id}}
-use Rattle.exec_base.proofs.Slots.{id_cases}
+use Rattle.std.{proofs.{Common.{◌≡◌, ◌≢◌, ℕ, ◌+◌, ◌-◌, ◌^◌, ◌<◌, ◌≤◌, ◌==◌, Bool, true, false, List, [], length, Option, Some, None, IfSome, refl, sym, ap, subst, ◌∙◌, arith, inl, inr, slice_get, Ok}, lemmas.{Bool.{false≢true, Decides.nat_tests}, List.append-nil}}, specs.Prelude.unwrap_or}
+use Rattle.exec_base.{specs.{Slab.{Slab, written}, declared.{error.Error.Error, slab.Id.Id}}, proofs.Slots.id_cases}
 use Rattle.exec_outcomes.specs.declared.outcome.Outcome.{Outcome}
-use Rattle.exec_request.specs.{Requests.deadline_of, States.asks_cancel, declared.results.WaiterState.{WaiterState, TheVariants.{Active, CancelRequested}}}
-use Rattle.exec_task.specs.declared.body.Said.{Said}
+use Rattle.exec_request.specs.{States.asks_cancel, declared.results.WaiterState.{WaiterState, TheVariants.{Active, CancelRequested}}}
 use Rattle.exec_time.specs.{Wheel.{Wheel, scheduled}, declared.timers.Sleeper.Sleeper as Sleeping}
-use Rattle.exec_waiters.proofs.Changes.{entry_of, one_if}
-use Rattle.exec_waiters.specs.{Events.with_tick, States.{waiter_at, takes_tick, tick_in, flying_count}, Told.{Tells, nothing_told}, declared.{deferred.Deferred.Deferred, waiter.{Entry.TheVariants.Pending, Waiter.Waiter}, waiter_id.WaiterId.WaiterId}}
-use Rattle.exec_driver.specs.{Driving.Driving, Lists.{first_of, rest_of, is_among, is_same, after_enrolment}, Punctual.IsPunctual, Steps.{enrolled_by, told_by_enrolment, tick_for, ended_by}}
-use Rattle.exec_driver.proofs.{Names.same_tells, Expiring.tick_tells}
-use Rattle.exec_machine.specs.{declared.{config.Configuration.Configuration, event.Event.{Event, TheVariants.Enrol}, state.Request.Request}, Deadlines.{fires_at, outcome_at_enrol}, Progress.Plan, Same.{is_none, is_number, same_end}, Tests.{is_queued as is_phase_queued, is_resolved, is_staged}, World.{Own, Common, request_of}}
-use Rattle.exec_machine.specs.declared.state.RequestPhase.TheVariants as phase
-use Rattle.exec_moves.specs.{Move.move_submit, Callback.told_if_ended, State.{Desk, Moved, Things}, Submit.{due_next, first_due, submits, Due.Enrols}, declared.place.{Service.Service, Place.Place}}
-use Rattle.exec_moves.specs.declared.place.InService.TheVariants as step
-use Rattle.exec_moves.specs.declared.place.Place.TheVariants as at
-use Rattle.exec_steps.specs.{declared.parts.{mail.Reply.Reply, names.Names.Names, record.Record.Record, shared.Shared.Shared, sleeping.SleeperRecord.SleeperRecord, worker.Worker.Worker}, Due.IsWheelAt, Flown.{HasFlown, IsPlain, operations}, Phased.closes_at, Records.number_in, Serving.{changed_at, first_tick, is_one_of, outcome_of_error}, Sound.{SoundAt, AreOwed, IsAlike, IsSubmitted, IsTold, served_in, is_armed_at, has_wakes_at}, Spots.Spot, Submitting.IsNewIn, View.{Visible, visible, own_of, desk_of, driver_of, common_of, things_of, numbers_of}, Works.{Suits, Steps}, Ordered.{IsOrdered, went_round}}
-use Rattle.exec_steps.proofs.{Calling.request_seen, Carries.carried_still, Changing.{OneGoesOn, changes_one, flying_after, keeps_one, apart_number, all_go_one}, Enrolled.{HasEnrolled, NewAt, new_first}, Enrolling.{enrol_same, enrolled_at, ended_not}, Flown.landed_on, Going.GoesOn, Idling.none_due, Marking.{mark_if, marked, was_marked}, Seeing.{makes, shows, served, common_changed}, Serving.{is_calm, Follows, Serves, Keeps, KeepsBy}, Staging.{known_then, split_first, stages_again, suits_at}, Turning.set_found, Orders.ticks_so}
+use Rattle.exec_waiters.specs.{Events.with_tick, States.{takes_tick, tick_in}, Told.{Tells, nothing_told}, declared.{deferred.Deferred.Deferred, waiter.{Entry.TheVariants.Pending, Waiter.Waiter}, waiter_id.WaiterId.WaiterId}}
+use Rattle.exec_driver.{specs.{Driving.Driving, Lists.{first_of, rest_of, is_among, after_enrolment}, Punctual.IsPunctual, Steps.tick_for}, proofs.{Names.same_tells, Expiring.tick_tells}}
+use Rattle.exec_machine.specs.{declared.{config.Configuration.Configuration, event.Event.TheVariants.Enrol}, Tests.{is_resolved, is_staged}, World.{Own, Common, request_of}}
+use Rattle.exec_moves.specs.{Callback.told_if_ended, State.{Desk, Moved, Things}, Submit.{due_next, first_due, submits, Due.Enrols}, declared.place.{Service.Service, Place.Place, InService.InService}}
+use Rattle.exec_steps.{specs.{declared.parts.{mail.Reply.Reply, record.Record.Record, shared.Shared.Shared, sleeping.SleeperRecord.SleeperRecord, worker.Worker.Worker}, Due.IsWheelAt, Flown.{HasFlown, IsPlain, operations}, Records.number_in, Serving.{changed_at, first_tick, outcome_of_error}, Sound.{AreOwed, IsSubmitted, IsTold, served_in}, Submitting.IsNewIn, View.{own_of, driver_of}, Ordered.{IsOrdered, went_round}}, proofs.{Carries.carried_still, Changing.{OneGoesOn, changes_one, keeps_one}, Enrolled.new_first, Enrolling.enrolled_at, Flown.landed_on, Going.GoesOn, Marking.{mark_if, marked, was_marked}, Seeing.makes, Serving.KeepsBy, Staging.{known_then, split_first, stages_again}, Orders.ticks_so}}
 
 -- WHERE NOTHING IS TOLD
 
@@ -173,7 +160,7 @@ module _ {B : Type 0} (w : Worker) (s : Shared B) (new : IsNewIn w s) (id : Wait
         unraised = sub.unraised;
       }
 
-  flown_timed : (t : ℕ) → HasFlown (served_in (at.Service (step.Submit new.submits.gate) new.submits.service)) w.index w.names (timed_driver t) timed_records
+  flown_timed : (t : ℕ) → HasFlown (served_in (Place.Service (InService.Submit new.submits.gate) new.submits.service)) w.index w.names (timed_driver t) timed_records
   flown_timed t =
       let d = driver_of w in
       let rs = s.requests.items in
@@ -227,11 +214,11 @@ module _ {B : Type 0} (w : Worker) (s : Shared B) (new : IsNewIn w s) (id : Wait
       }
 
   pub keeps_timed : (t : ℕ) → id.0.generation < 2 ^ 64 → tick_for (driver_of w).wheel (new_first w s new id first).deadline w.moments.sampled ≡ Ok t → IsPunctual (timed_driver t)
-      → KeepsBy (record w { place = at.Service (step.Submit new.submits.gate) new.submits.service }) (timed_driver t) w.home.timers timed_records s.sleepers.items s
+      → KeepsBy (record w { place = Place.Service (InService.Submit new.submits.gate) new.submits.service }) (timed_driver t) w.home.timers timed_records s.sleepers.items s
   keeps_timed t fits okay punctual =
       let v = new.submits.service in
       let gate = new.submits.gate in
-      let q : Place = at.Service (step.Submit gate) v in
+      let q : Place = Place.Service (InService.Submit gate) v in
       let sound = new.submits.sound in
       let d = driver_of w in
       let who = new_first w s new id first in

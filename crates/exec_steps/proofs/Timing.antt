@@ -1,34 +1,18 @@
 -- A deadline that goes on the wheel is a step.
-use Rattle.std.proofs.Common.{◌≡◌, ◌≢◌, ℕ, zero, suc, ◌+◌, ◌-◌, ◌*◌, ◌^◌, ◌<◌, ◌≤◌, ◌==◌, ◌&&◌, Bool, true, false, not, List, [], ◌∷◌, ◌++◌, length, map, Option, Some, None, IsSome, IfSome, refl, sym, ap, subst, ◌∙◌, arith, inl, inr}
-use Rattle.std.proofs.lemmas.Bool.{false≢true, eq-eqb}
-use Rattle.std.proofs.lemmas.Bool.Decides.{nat_tests}
-use Rattle.std.proofs.lemmas.List.{append-nil}
-use Rattle.std.specs.Prelude.{slice_get, slice_set, drop, is_some, unwrap_or, if◌then◌else◌, Ok}
-use Rattle.std.specs.Option.{option_map}
-use Rattle.exec_base.specs.{Slab.{Slab, value_at, written}, declared.{error.Error.Error, slab.Id.Id}}
-use Rattle.exec_base.proofs.Slots.{id_cases}
-use Rattle.exec_outcomes.specs.declared.outcome.Outcome.{Outcome}
-use Rattle.exec_request.specs.{Requests.deadline_of, States.asks_cancel, declared.results.WaiterState.{WaiterState, TheVariants.{Active, CancelRequested}}}
+use Rattle.std.{proofs.{Common.{◌≡◌, ℕ, ◌+◌, ◌-◌, ◌*◌, ◌^◌, ◌<◌, ◌≤◌, ◌==◌, not, ◌∷◌, map, Option, Some, None, IfSome, refl, sym, ap, subst, ◌∙◌, arith, slice_get, slice_set}, lemmas.{Bool.eq-eqb, List.append-nil}}, specs.{Prelude.unwrap_or, Option.option_map}}
 use Rattle.exec_task.specs.declared.body.Said.{Said}
-use Rattle.exec_time.specs.{Wheel.{Wheel, scheduled}, declared.timers.Sleeper.Sleeper as Sleeping}
-use Rattle.exec_waiters.proofs.Changes.{entry_of, one_if}
-use Rattle.exec_waiters.specs.{Events.with_tick, States.{waiter_at, takes_tick, tick_in, flying_count}, Told.{Tells, nothing_told}, declared.{deferred.Deferred.Deferred, waiter.{Entry.TheVariants.Pending, Waiter.Waiter}, waiter_id.WaiterId.WaiterId}}
-use Rattle.exec_driver.specs.{Driving.Driving, Lists.{first_of, rest_of, is_among, is_same, after_enrolment}, Punctual.IsPunctual, Steps.{enrolled_by, told_by_enrolment, tick_for, ended_by}}
-use Rattle.exec_driver.proofs.Names.{same_tells}
-use Rattle.exec_machine.specs.{declared.{config.Configuration.Configuration, event.Event.{Event, TheVariants.Enrol}, state.Request.Request}, Deadlines.{fires_at, outcome_at_enrol}, Progress.Plan, Same.{is_none, is_number, same_end}, Tests.{is_queued as is_phase_queued, is_resolved, is_staged}, World.{Own, Common, request_of}}
-use Rattle.exec_machine.specs.declared.state.RequestPhase.TheVariants as phase
-use Rattle.exec_moves.specs.{Move.move_submit, Callback.told_if_ended, State.{Desk, Moved, Things}, Submit.{due_next, first_due, submits, Due.Enrols}, declared.place.{Service.Service, Place.Place}}
-use Rattle.exec_moves.specs.declared.place.InService.TheVariants as step
-use Rattle.exec_moves.specs.declared.place.Place.TheVariants as at
-use Rattle.exec_steps.specs.{declared.parts.{mail.Reply.Reply, names.Names.Names, record.Record.Record, shared.Shared.Shared, sleeping.SleeperRecord.SleeperRecord, worker.Worker.Worker}, Due.IsWheelAt, Flown.{HasFlown, IsPlain, operations}, Phased.closes_at, Records.number_in, Serving.{changed_at, first_tick, is_one_of, outcome_of_error}, Sound.{SoundAt, AreOwed, IsAlike, IsSubmitted, IsTold, served_in, is_armed_at, has_wakes_at}, Spots.Spot, Submitting.IsNewIn, View.{Visible, visible, own_of, desk_of, driver_of, common_of, things_of, numbers_of}, Works.{Suits, Steps}}
-use Rattle.exec_steps.proofs.{Calling.request_seen, Changing.{OneGoesOn, changes_one, flying_after, keeps_one, apart_number, all_go_one}, Enrolled.{HasEnrolled, NewAt, new_first}, Enrolling.{enrol_same, enrolled_at, ended_not}, Flown.landed_on, Going.GoesOn, Idling.none_due, Marking.{mark_if, marked, was_marked}, Seeing.{makes, shows, served, common_changed}, Serving.{is_calm, Follows, Serves, Keeps, KeepsBy}, Staging.{known_then, split_first, stages_again, suits_at}, Turning.set_found, Timed.{comes_to_new, keeps_timed, keeps_untold, move_enrol, timed_driver, timed_records, timed_waiter, times, unset}}
+use Rattle.exec_waiters.specs.{States.flying_count, Told.{Tells, nothing_told}, declared.waiter_id.WaiterId.WaiterId}
+use Rattle.exec_driver.specs.{Lists.{first_of, rest_of, after_enrolment}, Punctual.IsPunctual, Steps.{enrolled_by, told_by_enrolment, tick_for, ended_by}}
+use Rattle.exec_machine.specs.{declared.event.Event.{Event, TheVariants.Enrol}, Deadlines.{fires_at, outcome_at_enrol}, Same.{is_none, is_number, same_end}, Tests.is_queued as is_phase_queued, World.request_of}
+use Rattle.exec_moves.specs.{Move.move_submit, Submit.{due_next, first_due, submits, Due.Enrols}, declared.place.{Service.Service, Place.Place, InService.InService}}
+use Rattle.exec_steps.{specs.{declared.parts.{names.Names.Names, shared.Shared.Shared, worker.Worker.Worker}, Due.IsWheelAt, Phased.closes_at, Records.number_in, Serving.outcome_of_error, Sound.is_armed_at, Spots.Spot, Submitting.IsNewIn, View.{visible, own_of, desk_of, driver_of, common_of, things_of, numbers_of}, Works.Steps}, proofs.{Calling.request_seen, Changing.flying_after, Enrolled.{HasEnrolled, new_first}, Enrolling.{enrol_same, ended_not}, Idling.none_due, Seeing.{makes, shows, served, common_changed}, Serving.{is_calm, Serves, Keeps, KeepsBy}, Staging.split_first, Turning.set_found, Timed.{comes_to_new, keeps_timed, keeps_untold, move_enrol, timed_driver, timed_records, timed_waiter, times, unset}}}
 
 module _ {B L : Type 0} (left : B → L) (spot : L → Option Said → Spot) where
   pub enrol_stays : (w w' : Worker) (s s' : Shared B) (e : Event) (id : WaiterId) → (new : IsNewIn w s) → first_of (driver_of w).lists.enrolments ≡ Some id → HasEnrolled w w' s s' e id None → w'.names ≡ w.names → Steps left spot w s e w' s'
   enrol_stays w w' s s' e id new first by names =
       let v = new.submits.service in
       let gate = new.submits.gate in
-      let q : Place = at.Service (step.Submit gate) v in
+      let q : Place = Place.Service (InService.Submit gate) v in
       let sound = new.submits.sound in
       let d = driver_of w in
       let rs = s.requests.items in

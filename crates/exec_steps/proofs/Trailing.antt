@@ -1,14 +1,8 @@
 -- The ring once the first operation that has landed was taken out.
-use Rattle.std.proofs.Common.{◌≡◌, ℕ, zero, suc, ◌+◌, ◌==◌, ◌&&◌, ◌||◌, Bool, true, false, not, List, [], ◌∷◌, ◌++◌, length, map, filter, Option, Some, None, refl, sym, ap, subst, ◌∙◌, arith}
-use Rattle.std.proofs.lemmas.Bool.{false≢true}
-use Rattle.std.proofs.lemmas.List.{append_assoc}
-use Rattle.std.proofs.lemmas.List.Folds.{list_any-append}
-use Rattle.std.specs.Prelude.{replicate, if◌then◌else◌}
-use Rattle.std.specs.List.{flat_map, list_any}
+use Rattle.std.{proofs.{Common.{◌≡◌, ℕ, suc, ◌+◌, Bool, true, false, List, [], ◌∷◌, ◌++◌, filter, refl, sym, ap, subst, ◌∙◌, replicate, if◌then◌else◌}, lemmas.List.append_assoc}, specs.List.{flat_map, list_any}}
 use Rattle.exec_ring.specs.{Completions.wake_completion, Kernels.{posted_left, reaped, wakes_left}, Rings.{RingState, completions, spelled}, declared.completion.{Completion.Completion, Posted.Posted}}
 use Rattle.exec_driver.specs.{Driving.Driving, Steps.{is_control, noted, swept, swept_from, with_landings}}
-use Rattle.exec_steps.specs.{declared.parts.mail.Reply.Reply, Flown.{AreAcks, operations}, View.trailing}
-use Rattle.exec_steps.proofs.Swept.{IsSwept, SweepsTo, any_trails, is_op, keeps, operations_posted, skips, sweeps, told_in, trails_none}
+use Rattle.exec_steps.{specs.{declared.parts.mail.Reply.Reply, Flown.{AreAcks, operations}, View.trailing}, proofs.Swept.{IsSwept, any_trails, is_op, keeps, operations_posted, skips, sweeps, told_in, trails_none}}
 
 -- WHAT STANDS BEHIND THE LAST doesn't hang on what stands before it
 

@@ -1,29 +1,24 @@
 -- What the driver did with an operation that has landed: its request goes on, or is over.
-use Rattle.std.proofs.Common.{◌≡◌, ℕ, ◌≤◌, ◌==◌, ◌&&◌, Bool, true, false, not, List, [], ◌∷◌, length, map, Option, Some, None, refl, sym, ap, subst, ◌∙◌}
-use Rattle.std.proofs.lemmas.Bool.{false≢true}
-use Rattle.std.specs.Prelude.{if◌then◌else◌}
+use Rattle.std.proofs.Common.{◌≡◌, ℕ, Bool, true, false, not, List, [], ◌∷◌, length, map, Option, Some, None, refl, sym, ap, subst, ◌∙◌}
 use Rattle.exec_outcomes.specs.{Accounts.Account, declared.outcome.OpResult.OpResult}
 use Rattle.exec_request.specs.{Judging.{Judges, judged_as}, Requests.{asked_of, cursor_of, hinted_of, gate_of, record_after}, States.{Ended, as_answer}, declared.request.Request.Request as Asking}
-use Rattle.exec_request.specs.declared.request.Request.TheVariants as asks
 use Rattle.exec_ring.specs.{Completions.result_in, Kernels.{is_quiet, reaped as ring_reaped}, declared.completion.Completion.Completion}
 use Rattle.exec_waiters.specs.{States.{file_of, tick_in}, Told.Tells, declared.{deferred.Deferred.Deferred, waiter.{Waiter.Waiter, Entry.TheVariants.Pending}, waiter_id.WaiterId.WaiterId}, Events.{finished, told_by_finish}}
 use Rattle.exec_driver.specs.{Driving.Driving, Opens.{OpenState, account_in, with_account}, Steps.{judged_as_over, landed_at, open_after, opens_after_end, permit_after, swept, taken_out, told_as, told_by_end, with_landings, unscheduled}, declared.driver.reaping.Reaped.Reaped, Lists.{with_queued, withdrawn}}
 use Rattle.exec_base.specs.Slab.{written}
 use Rattle.exec_moves.specs.{Serve.back_from_reap, declared.place.{AfterPermit.AfterPermit, Reaping.Reaping, Place.Place}}
-use Rattle.exec_moves.specs.declared.place.AfterPermit.TheVariants as permit
-use Rattle.exec_steps.specs.{declared.parts.{mail.Reply.Reply, record.Record.Record, shared.Shared.Shared, worker.Worker.Worker}, Flown.{IsPlain, IsUpTo, longest, operations}, Records.number_in, Sound.{SoundAt, IsAlike}, View.driver_of}
-use Rattle.exec_steps.proofs.{Finished.GoesOver, Reaped.TellsOf, Requeued.GoesBack, Starting.{fills, reads, simple, writes_bytes}, Swept.{some_quiet, none_next, sweeps, told_in, operations_posted}, Trailing.{RingAfter, ring_after}}
+use Rattle.exec_steps.{specs.{declared.parts.{mail.Reply.Reply, shared.Shared.Shared, worker.Worker.Worker}, Flown.{IsPlain, IsUpTo, longest, operations}, Records.number_in, Sound.{SoundAt, IsAlike}, View.driver_of}, proofs.{Finished.GoesOver, Reaped.TellsOf, Requeued.GoesBack, Starting.{fills, reads, simple, writes_bytes}, Swept.{some_quiet, none_next, sweeps, told_in, operations_posted}, Trailing.{RingAfter, ring_after}}}
 
 -- A REQUEST OF THE FIRST KINDS is of no open
 
 fileless : (q : Asking) (n : ℕ) → IsUpTo (longest (asked_of q).kind) n → (file_of q ≡ None) × (gate_of q ≡ None)
-fileless (asks.Send x) n h = (refl, refl)
-fileless (asks.Poll x) n h = (refl, refl)
-fileless (asks.Recv r) n h = absurd (fills r.exact n h)
-fileless (asks.ReadAt r) n h = absurd (reads r.way (length r.buf.bytes) n h)
-fileless (asks.WriteAt x) n h = absurd (writes_bytes x.state n h)
-fileless (asks.Sync x) n h = absurd h
-fileless (asks.Connect x) n h = absurd h
+fileless (Asking.Send x) n h = (refl, refl)
+fileless (Asking.Poll x) n h = (refl, refl)
+fileless (Asking.Recv r) n h = absurd (fills r.exact n h)
+fileless (Asking.ReadAt r) n h = absurd (reads r.way (length r.buf.bytes) n h)
+fileless (Asking.WriteAt x) n h = absurd (writes_bytes x.state n h)
+fileless (Asking.Sync x) n h = absurd h
+fileless (Asking.Connect x) n h = absurd h
 
 openless : (it : Waiter Reply Reply) (given : OpResult) (opens : List OpenState) → file_of it.request ≡ None → hinted_of it.request ≡ false → open_after it given (account_in opens (file_of it.request)) ≡ None
 openless it given opens file plain = ap (λ f. open_after it given (account_in opens f)) file ∙ rw plain refl
@@ -151,7 +146,7 @@ module _ {B : Type 0} (q : Place) (w : Worker) (s : Shared B) (sound : SoundAt q
   unfolding turned_over
   over_tells how is = tells_turned (Some how) is
 
-  quiet_by : (cs : List Completion) → operations d'.ring ≡ cs → (b : AfterPermit) (rp : Reaping) (has : Bool) (numbers : Completion → ℕ) → has ≡ not (is_quiet d'.ring) → (has ≡ true → b ≡ permit.Reap rp) → (has ≡ false → b ≡ permit.Reaped rp) → b ≡ back_from_reap rp (map numbers cs)
+  quiet_by : (cs : List Completion) → operations d'.ring ≡ cs → (b : AfterPermit) (rp : Reaping) (has : Bool) (numbers : Completion → ℕ) → has ≡ not (is_quiet d'.ring) → (has ≡ true → b ≡ AfterPermit.Reap rp) → (has ≡ false → b ≡ AfterPermit.Reaped rp) → b ≡ back_from_reap rp (map numbers cs)
   quiet_by [] is b rp has numbers tells more none =
       let second = t.reaped.from.second in
       let like2 = t.reaped.from.swept_last in
@@ -160,5 +155,5 @@ module _ {B : Type 0} (q : Place) (w : Worker) (s : Shared B) (sound : SoundAt q
       none (tells ∙ ap not quiet)
   quiet_by (c ∷ cs) is b rp has numbers tells more none = more (tells ∙ ap not (some_quiet d'.ring.posted d' c cs refl (sym (operations_posted d'.ring) ∙ is)))
 
-  pub back_turned : (ring : RingAfter (driver_of w) d' t.cs) (b : AfterPermit) (rp : Reaping) (has : Bool) (numbers : Completion → ℕ) → has ≡ not (is_quiet d'.ring) → (has ≡ true → b ≡ permit.Reap rp) → (has ≡ false → b ≡ permit.Reaped rp) → b ≡ back_from_reap rp (map numbers t.cs)
+  pub back_turned : (ring : RingAfter (driver_of w) d' t.cs) (b : AfterPermit) (rp : Reaping) (has : Bool) (numbers : Completion → ℕ) → has ≡ not (is_quiet d'.ring) → (has ≡ true → b ≡ AfterPermit.Reap rp) → (has ≡ false → b ≡ AfterPermit.Reaped rp) → b ≡ back_from_reap rp (map numbers t.cs)
   back_turned ring b rp has numbers = quiet_by t.cs ring.landed b rp has numbers

@@ -1,45 +1,32 @@
 -- Steps that are a plain turn to the machine: the worker goes on, and only what stands beside the machine changes.
-use Rattle.std.proofs.Common.{◌≡◌, ℕ, ◌<◌, ◌≤◌, Bool, true, false, not, List, length, Option, Some, None, refl, sym, ap, subst, ◌∙◌}
-use Rattle.std.proofs.lemmas.Bool.{false≢true}
-use Rattle.std.proofs.lemmas.List.{set-get_or, get_or-set_same, length-set}
-use Rattle.std.proofs.lemmas.Option.{get_or_from_slice_get, slice_get_within, slice_get-get_or}
-use Rattle.std.specs.Prelude.{slice_get, slice_set, IfSome, if◌then◌else◌}
+use Rattle.std.proofs.{Common.{◌≡◌, ℕ, ◌≤◌, Bool, true, false, not, List, length, Option, Some, None, refl, sym, ap, subst, ◌∙◌, slice_get, slice_set, IfSome, if◌then◌else◌}, lemmas.{Bool.false≢true, List.{set-get_or, get_or-set_same, length-set}, Option.{get_or_from_slice_get, slice_get_within, slice_get-get_or}}}
 use Rattle.exec_base.specs.{Slab.Slab, Spinner.Spinner}
 use Rattle.exec_time.specs.declared.timers.Sleeper.{Sleeper as Sleeping}
 use Rattle.exec_driver.specs.Driving.{Driving}
-use Rattle.exec_words.specs.{Queue.room_of, declared.word.PureWord.PureWord}
-use Rattle.exec_words.specs.declared.word.WaitTarget.TheVariants as target
+use Rattle.exec_words.specs.{Queue.room_of, declared.word.{PureWord.PureWord, WaitTarget.WaitTarget}}
 use Rattle.exec_task.specs.declared.{body.Said.Said, runnable.Runnable.Runnable}
-use Rattle.exec_machine.specs.{declared.{config.Configuration.Configuration, event.Event.{Event, TheVariants.Turn}, state.Rest.Rest}, Choice.Choice.Plain, World.{Own, Common}, Progress.Plan}
-use Rattle.exec_machine.specs.declared.state.Next.TheVariants as next
-use Rattle.exec_moves.specs.{declared.place.{Place.Place, InService.InService, Service.Service}, State.Moved, Move.move_at, Seen.{polls_at, next_at, serves_at}}
-use Rattle.exec_moves.specs.declared.place.Place.TheVariants as at
-use Rattle.exec_moves.specs.declared.place.InPick.TheVariants as pick
-use Rattle.exec_moves.specs.declared.place.InCallbacks.TheVariants as callback
-use Rattle.exec_moves.specs.declared.place.InMail.TheVariants as mail
-use Rattle.exec_moves.specs.declared.place.InService.TheVariants as step
-use Rattle.exec_moves.specs.declared.place.Reaping.TheVariants as reaping
+use Rattle.exec_machine.specs.{declared.{config.Configuration.Configuration, event.Event.{Event, TheVariants.Turn}, state.{Rest.Rest, Next.Next}}, Choice.Choice.Plain, Progress.Plan}
+use Rattle.exec_moves.specs.{declared.place.{Place.Place, InService.InService, Service.Service, InPick.InPick, InCallbacks.InCallbacks, InMail.InMail, Reaping.Reaping}, State.Moved, Move.move_at, Seen.{polls_at, next_at, serves_at}}
 use Rattle.exec_waiters.specs.declared.deferred.Deferred.{Deferred}
-use Rattle.exec_steps.specs.{declared.parts.{mail.Reply.Reply, names.Names.Names, record.Record.Record, seat.Seat.Seat as Chair, sleeping.SleeperRecord.SleeperRecord, shared.Shared.Shared, worker.{Worker.Worker, Moments.Moments}}, Due.{IsDue, IsWheelAt, wheel_moment}, Flown.HasFlown, Phased.{IsPhased, closes_at, closing_in, stage_of}, Rooted.IsRooted, Sound.{Sound, SoundAt, IsAlone, IsInTime, IsTied, InHand, HasShare, HasLeft, has_wakes_at, polled_in, served_in, is_armed_at}, Spots.Spot, View.{Visible, visible, driver_of, own_of, desk_of, common_of, queue_seen, queue_at, word_at, things_of, seats_seen}, Works.{Makes, Goes, SameShared, Works, Suits, Steps}}
-use Rattle.exec_steps.proofs.Hearing.{unheard}
+use Rattle.exec_steps.{specs.{declared.parts.{mail.Reply.Reply, names.Names.Names, record.Record.Record, seat.Seat.Seat as Chair, sleeping.SleeperRecord.SleeperRecord, shared.Shared.Shared, worker.{Worker.Worker, Moments.Moments}}, Due.{IsDue, IsWheelAt, wheel_moment}, Flown.HasFlown, Phased.{IsPhased, closes_at, closing_in, stage_of}, Rooted.IsRooted, Sound.{Sound, SoundAt, IsAlone, IsInTime, IsTied, InHand, HasShare, HasLeft, has_wakes_at, polled_in, served_in, is_armed_at}, Spots.Spot, View.{Visible, visible, driver_of, own_of, desk_of, common_of, queue_seen, queue_at, word_at, things_of, seats_seen}, Works.{Makes, Goes, SameShared, Suits, Steps}}, proofs.Hearing.unheard}
 
 -- nothing is polled or served there, and nothing is owed
 abbrev pub is_between : Place → Bool
-is_between (at.Poll t x) = false
-is_between (at.Closing x) = false
-is_between (at.Callbacks callback.CallBack n) = false
-is_between (at.Mail (mail.Apply applied taken)) = false
+is_between (Place.Poll t x) = false
+is_between (Place.Closing x) = false
+is_between (Place.Callbacks InCallbacks.CallBack n) = false
+is_between (Place.Mail (InMail.Apply applied taken)) = false
 is_between q = not (serves_at q)
 
 -- beside that no wake is left there
 abbrev pub is_quiet : Place → Bool
-is_quiet (at.Poll t x) = false
-is_quiet (at.Closing x) = false
+is_quiet (Place.Poll t x) = false
+is_quiet (Place.Closing x) = false
 is_quiet q = not (has_wakes_at q)
 
 -- and no share is about to be taken
 abbrev pub is_plain : Place → Bool
-is_plain (at.Pick (pick.TakeShare first room held)) = false
+is_plain (Place.Pick (InPick.TakeShare first room held)) = false
 is_plain q = is_between q
 
 by_not : (b : Bool) → not b ≡ true → b ≡ false
@@ -48,7 +35,7 @@ by_not false h = refl
 
 pub record IsBetween (q : Place) : Type 0 where
   pub polls : polls_at q ≡ None
-  pub free : next_at q ≡ next.Free
+  pub free : next_at q ≡ Next.Free
   pub unserved : serves_at q ≡ false
   pub hands : (root : ℕ) (hand : Option Runnable) → hand ≡ None → InHand q root hand
   pub empty : (root : ℕ) (hand : Option Runnable) → InHand q root hand → hand ≡ None
@@ -57,17 +44,17 @@ pub record IsBetween (q : Place) : Type 0 where
   pub served : served_in q ≡ None
   pub closing : closing_in q ≡ None
 
-before_service : (v : Service) → IsBetween (at.Service step.Sample v)
+before_service : (v : Service) → IsBetween (Place.Service InService.Sample v)
 before_service v =
     record { polls = refl; free = refl; unserved = refl; hands = λ root hand e. e; empty = λ root hand e. e; stands = refl; left = λ d. tt; served = refl; closing = refl }
 
 pub between : (q : Place) → is_between q ≡ true → IsBetween q
-between (at.Poll t x) h = absurd (false≢true h)
-between (at.Closing x) h = absurd (false≢true h)
-between (at.Callbacks callback.CallBack n) h = absurd (false≢true h)
-between (at.Mail (mail.Apply applied taken)) h = absurd (false≢true h)
-between (at.Service step.Sample v) h = before_service v
-between (at.Service x v) h = absurd (false≢true h)
+between (Place.Poll t x) h = absurd (false≢true h)
+between (Place.Closing x) h = absurd (false≢true h)
+between (Place.Callbacks InCallbacks.CallBack n) h = absurd (false≢true h)
+between (Place.Mail (InMail.Apply applied taken)) h = absurd (false≢true h)
+between (Place.Service InService.Sample v) h = before_service v
+between (Place.Service x v) h = absurd (false≢true h)
 between q h =
     record {
       polls = refl;
@@ -83,11 +70,11 @@ between q h =
 
 -- what is quiet is between, and has no wakes
 pub quiet : (q : Place) → is_quiet q ≡ true → (is_between q ≡ true) × (has_wakes_at q ≡ false)
-quiet (at.Poll t x) h = absurd (false≢true h)
-quiet (at.Closing x) h = absurd (false≢true h)
-quiet (at.Service x v) h = absurd (false≢true h)
-quiet (at.Mail x) h = absurd (false≢true h)
-quiet (at.Callbacks x n) h = absurd (false≢true h)
+quiet (Place.Poll t x) h = absurd (false≢true h)
+quiet (Place.Closing x) h = absurd (false≢true h)
+quiet (Place.Service x v) h = absurd (false≢true h)
+quiet (Place.Mail x) h = absurd (false≢true h)
+quiet (Place.Callbacks x n) h = absurd (false≢true h)
 quiet q h = (refl, refl)
 
 -- A place is plain, and there the wake word is armed, and the worker closes, or not.
@@ -119,8 +106,8 @@ with_read r m = record m { read = r }
 
 -- the clock is read
 moment_read : (x : Option InService) (m : Moments) (r : ℕ) → wheel_moment x (with_read r m) ≡ wheel_moment x m
-moment_read (Some (step.Reap reaping.First)) m r = refl
-moment_read (Some step.AdvanceWheel) m r = refl
+moment_read (Some (InService.Reap Reaping.First)) m r = refl
+moment_read (Some InService.AdvanceWheel) m r = refl
 moment_read _ m r = refl
 
 due_read : (r : ℕ) (x : Option InService) (i : ℕ) (m : Moments) (c : Configuration) (n : Names) (d : Driving Reply Reply) (zs : Slab (Sleeping Reply)) (records : List Record) (sleepers : List SleeperRecord)
@@ -153,11 +140,11 @@ set_there xs i x y there =
 
 -- there is room for its share there
 pub has_space : (q : Place) (i : ℕ) (seats : List Chair) → is_plain q ≡ true → (chair : Chair) → slice_get seats i ≡ Some chair → HasShare q (room_of (queue_seen chair.queue))
-has_space (at.Pick (pick.TakeShare first room held)) i seats h = absurd (false≢true h)
+has_space (Place.Pick (InPick.TakeShare first room held)) i seats h = absurd (false≢true h)
 has_space q i seats h = λ chair there. tt
 
 pub plain_between : (q : Place) → is_plain q ≡ true → is_between q ≡ true
-plain_between (at.Pick (pick.TakeShare first room held)) h = refl
+plain_between (Place.Pick (InPick.TakeShare first room held)) h = refl
 plain_between q h = h
 
 module _ {B : Type 0} where
@@ -194,7 +181,7 @@ module _ {B : Type 0} where
 
   -- the same where of the worker's seat the wake word and the rest become others
   pub reaches_with : (q q' : Place) (w : Worker) (s : Shared B) (seats : List Chair) (x : PureWord) (rest : Rest) → (sound : SoundAt q w s) → is_quiet q ≡ true → IsPlain (is_armed_at q') (closes_at q) q'
-      → seats ≡ slice_set s.seats.items w.index (record sound.alone.seat { mailbox = record sound.alone.seat.mailbox { waker = x }; rest = rest }) → (is_armed_at q' ≡ false → x.target ≡ target.None) → Reaches q' w s seats
+      → seats ≡ slice_set s.seats.items w.index (record sound.alone.seat { mailbox = record sound.alone.seat.mailbox { waker = x }; rest = rest }) → (is_armed_at q' ≡ false → x.target ≡ WaitTarget.None) → Reaches q' w s seats
   reaches_with q q' w s seats x rest sound from to items unarmed =
       let there = between q' (plain_between q' to.plain) in
       let here = between q (quiet q from).0 in

@@ -1,19 +1,11 @@
 -- What the machine sees of an operation that was reaped, whether its request goes on or ends.
-use Rattle.std.proofs.Common.{◌≡◌, ℕ, suc, ◌+◌, ◌-◌, ◌≤◌, ◌==◌, ◌&&◌, Bool, true, false, not, List, [], ◌∷◌, ◌++◌, length, map, Option, Some, None, refl, sym, ap, subst, ◌∙◌}
-use Rattle.std.proofs.lemmas.Bool.{false≢true, eq-eqb}
-use Rattle.std.specs.Prelude.{slice_get, slice_set, drop, if◌then◌else◌}
-use Rattle.exec_base.specs.declared.slab.Id.{Id}
+use Rattle.std.proofs.{Common.{◌≡◌, ℕ, ◌-◌, ◌==◌, ◌&&◌, Bool, true, false, List, ◌∷◌, length, map, Option, Some, None, refl, sym, ap, ◌∙◌, slice_get, slice_set, drop, if◌then◌else◌}, lemmas.Bool.eq-eqb}
 use Rattle.exec_outcomes.specs.{Accounts.{Account, is_durable}, Outcomes.refuses_hint, declared.outcome.{Kind.Kind, OpResult.{OpResult, TheVariants.{Count, Errno}}, Outcome.{Outcome, TheVariants.{Failure, Success}}}}
-use Rattle.exec_outcomes.specs.declared.outcome.Kind.TheVariants as kind
 use Rattle.exec_ring.specs.{Completions.result_in, declared.completion.Completion.Completion}
 use Rattle.exec_task.specs.declared.body.Said.{Said}
-use Rattle.exec_driver.specs.Driving.{Driving}
-use Rattle.exec_machine.specs.{declared.{event.Event.TheVariants.Reap, state.{Request.Request, RequestPhase.{RequestPhase, TheVariants.Landed}}}, Progress.Plan, Requests.{account_of_open, after_reap as common_reaped, common_after_refusal, judged_of, may_reap, opens_after_end, outcome_given, outcome_shown, reaped}, Same.{is_number, same_end, same_result}, Tests.{is_at_large, is_landed_with, is_of_file, set_open, AllTrue}, World.{Common, Open, Own, Seat, open_of, request_of, seat_of}}
-use Rattle.exec_moves.specs.{Callback.told_if_ended, Serve.{after_permit, after_reap, back_from_reap, others_after_reap, reap, result_in as result_of}, State.{Desk, Moved, does}, declared.place.{AfterPermit.AfterPermit, Place.Place, Reaping.Reaping, Service.Service}}
-use Rattle.exec_moves.specs.declared.place.InService.TheVariants as step
-use Rattle.exec_moves.specs.declared.place.Place.TheVariants as at
-use Rattle.exec_steps.specs.{declared.parts.{mail.Reply.Reply, record.Record.Record, shared.Shared.Shared, worker.Worker.Worker}, Flown.{HasLanded, IsPlain, IsUpTo, longest, operations}, Records.number_in, Serving.changed_at, Sound.SoundAt, Spots.Spot, View.{Visible, visible, own_of, desk_of, driver_of, common_of, number_told, seat_seen, seats_seen}, Works.Suits}
-use Rattle.exec_steps.proofs.{Calling.request_seen, Idling.plain_kind, Keys.name_in, Late.same_error_self, Requeued.number_landed, Seeing.common_changed, Serving.{own_seat, seats_set}}
+use Rattle.exec_machine.specs.{declared.{event.Event.TheVariants.Reap, state.Request.Request}, Progress.Plan, Requests.{account_of_open, after_reap as common_reaped, common_after_refusal, judged_of, may_reap, opens_after_end, outcome_given, outcome_shown, reaped}, Same.{is_number, same_end, same_result}, Tests.{is_at_large, is_landed_with, is_of_file, set_open, AllTrue}, World.{Common, Open, Own, Seat, open_of, request_of, seat_of}}
+use Rattle.exec_moves.specs.{Callback.told_if_ended, Serve.{after_permit, after_reap, back_from_reap, others_after_reap, reap, result_in as result_of}, State.{Desk, Moved, does}, declared.place.{AfterPermit.AfterPermit, Place.Place, Reaping.Reaping, Service.Service, InService.InService}}
+use Rattle.exec_steps.{specs.{declared.parts.{record.Record.Record, shared.Shared.Shared, worker.Worker.Worker}, Flown.{HasLanded, IsPlain, IsUpTo, longest, operations}, Records.number_in, Serving.changed_at, Sound.SoundAt, Spots.Spot, View.{Visible, visible, driver_of, common_of, number_told, seat_seen, seats_seen}, Works.Suits}, proofs.{Calling.request_seen, Idling.plain_kind, Keys.name_in, Late.same_error_self, Requeued.number_landed, Seeing.common_changed, Serving.{own_seat, seats_set}}}
 
 same_result_self : (x : OpResult) → same_result x x ≡ true
 same_result_self (Count n) = eq-eqb n n refl
@@ -34,8 +26,8 @@ leads_plain r None b h = refl
 leads_plain r (Some o) b h = rw h refl
 
 no_file : (k : Kind) (n : ℕ) → IsUpTo (longest k) n → is_of_file k ≡ false
-no_file kind.Poll n h = refl
-no_file kind.Send n h = refl
+no_file Kind.Poll n h = refl
+no_file Kind.Send n h = refl
 no_file _ n h = absurd h
 
 opens_plain : (r : Request) (g : Option Outcome) (s : Common) → is_of_file r.operation.kind ≡ false → opens_after_end r.operation g s ≡ s.opens
@@ -49,7 +41,7 @@ name_kept : (n : OpResult) (g : Option Outcome) (r : Record) → name_in (record
 name_kept n None r = refl
 name_kept n (Some o) r = refl
 
-module _ {B L : Type 0} (left : B → L) (spot : L → Option Said → Spot) (rp : Reaping) (v : Service) (w : Worker) (s : Shared B) (sound : SoundAt (at.Service (step.Reap rp) v) w s) (c : Completion) (cs : List Completion) (is : operations (driver_of w).ring ≡ c ∷ cs) (h : HasLanded w.names (driver_of w) s.requests.items c)
+module _ {B L : Type 0} (left : B → L) (spot : L → Option Said → Spot) (rp : Reaping) (v : Service) (w : Worker) (s : Shared B) (sound : SoundAt (Place.Service (InService.Reap rp) v) w s) (c : Completion) (cs : List Completion) (is : operations (driver_of w).ring ≡ c ∷ cs) (h : HasLanded w.names (driver_of w) s.requests.items c)
     (p : Plan) (vs : List Visible) (suits : Suits p vs w s) where
   abbrev pub seen_all : Common
   seen_all = common_of left spot p vs s
@@ -79,13 +71,13 @@ module _ {B L : Type 0} (left : B → L) (spot : L → Option Said → Spot) (rp
   abbrev reap_at : Desk → Request → OpResult → Moved (List ℕ)
   reap_at d it n =
       does (Reap seen_number n (outcome_shown (account_of_open seen_all it) it.operation.kind (outcome_given it n)))
-      (record (told_if_ended (outcome_given it n) it (others_after_reap seen_later d)) { place = at.Service (after_reap it (outcome_given it n) (back_from_reap rp seen_later)) v })
+      (record (told_if_ended (outcome_given it n) it (others_after_reap seen_later d)) { place = Place.Service (after_reap it (outcome_given it n) (back_from_reap rp seen_later)) v })
       seen_later
 
   abbrev pub reap_as : Desk → Option Outcome → Moved (List ℕ)
   reap_as d g =
       does (Reap seen_number (result_in c.result) g)
-      (record (told_if_ended g h.r.shown (others_after_reap seen_later d)) { place = at.Service (after_permit (back_from_reap rp seen_later)) v })
+      (record (told_if_ended g h.r.shown (others_after_reap seen_later d)) { place = Place.Service (after_permit (back_from_reap rp seen_later)) v })
       seen_later
 
   pub moves_seen : (d : Desk) (g : Option Outcome) → outcome_given h.r.shown (result_in c.result) ≡ g → reap w.index v rp seen_all d (seat_of seen_all w.index).landed ≡ reap_as d g
@@ -97,9 +89,9 @@ module _ {B L : Type 0} (left : B → L) (spot : L → Option Said → Spot) (rp
       ap (reap w.index v rp seen_all d) landed_seen
       ∙ ap (λ x. reap_at d x (result_of x.phase)) request_is
       ∙ ap (λ x. reap_at d it (result_of x)) h.landed
-      ∙ ap (λ o. does (Reap seen_number n (outcome_shown (account_of_open seen_all it) it.operation.kind o)) (record (told_if_ended o it (others_after_reap seen_later d)) { place = at.Service (after_reap it o b) v }) seen_later) given
-      ∙ ap (λ o. does (Reap seen_number n o) (record (told_if_ended g it (others_after_reap seen_later d)) { place = at.Service (after_reap it g b) v }) seen_later) (shown_plain (account_of_open seen_all it) it.operation.kind g plain)
-      ∙ ap (λ x. does (Reap seen_number n g) (record (told_if_ended g it (others_after_reap seen_later d)) { place = at.Service x v }) seen_later) (leads_plain it g b plain)
+      ∙ ap (λ o. does (Reap seen_number n (outcome_shown (account_of_open seen_all it) it.operation.kind o)) (record (told_if_ended o it (others_after_reap seen_later d)) { place = Place.Service (after_reap it o b) v }) seen_later) given
+      ∙ ap (λ o. does (Reap seen_number n o) (record (told_if_ended g it (others_after_reap seen_later d)) { place = Place.Service (after_reap it g b) v }) seen_later) (shown_plain (account_of_open seen_all it) it.operation.kind g plain)
+      ∙ ap (λ x. does (Reap seen_number n g) (record (told_if_ended g it (others_after_reap seen_later d)) { place = Place.Service x v }) seen_later) (leads_plain it g b plain)
 
   -- WHAT IS ALLOWED
   pub may_seen : (me : Own) (g : Option Outcome) → is_at_large me ≡ true → outcome_given h.r.shown (result_in c.result) ≡ g → AllTrue (may_reap me seen_all w.index seen_number (result_in c.result) g)

@@ -1,21 +1,10 @@
 -- What the steps of the waits that touch the wake word are to the machine.
-use Rattle.std.proofs.Common.{◌≡◌, ℕ, zero, suc, ◌<◌, ◌≤◌, Bool, true, false, List, [], ◌∷◌, length, get_or, Option, Some, None, refl, sym, ap, subst, ◌∙◌, arith}
-use Rattle.std.proofs.lemmas.Bool.{false≢true}
-use Rattle.std.proofs.lemmas.Option.{slice_get_within, slice_get-get_or, get_or_from_slice_get}
-use Rattle.std.proofs.lemmas.List.{get_or-set_same, length-set}
-use Rattle.std.specs.Prelude.{slice_get, slice_set, IfSome, nat_lt, if◌then◌else◌}
-use Rattle.exec_words.specs.{Word.is_idle_at, declared.word.PureWord.PureWord}
-use Rattle.exec_words.specs.declared.word.WaitTarget.TheVariants as target
+use Rattle.std.proofs.{Common.{◌≡◌, ℕ, zero, suc, Bool, true, false, List, [], ◌∷◌, get_or, Option, Some, None, refl, sym, ap, subst, ◌∙◌, slice_get, slice_set, nat_lt, if◌then◌else◌}, lemmas.{Bool.false≢true, Option.get_or_from_slice_get}}
+use Rattle.exec_words.specs.{Word.is_idle_at, declared.word.{PureWord.PureWord, WaitTarget.WaitTarget}}
 use Rattle.exec_task.specs.declared.body.Said.{Said}
 use Rattle.exec_machine.specs.{declared.event.Event.{Event, TheVariants.Turn}, Choice.Choice.Plain, Progress.Plan}
-use Rattle.exec_moves.specs.{declared.place.{AfterWait.AfterWait, InRingWait.InRingWait, InWordWait.InWordWait, Stay.Stay, Place.Place}, Load.has_mail, Move.move_at, State.{Desk, Moved, does, turns}, Wait.{after_wait, arm_ring, disarm_ring, disarmed, spin_on_batch, spin_on_latch, hit, missed, take_latch, arm_word, after_sleep}}
-use Rattle.exec_moves.specs.declared.place.AfterWait.TheVariants as next
-use Rattle.exec_moves.specs.declared.place.InRingWait.TheVariants as ring
-use Rattle.exec_moves.specs.declared.place.InWordWait.TheVariants as word
-use Rattle.exec_moves.specs.declared.place.Stay.TheVariants as stay
-use Rattle.exec_moves.specs.declared.place.Place.TheVariants as at
-use Rattle.exec_steps.specs.{declared.parts.{seat.Seat.Seat as Chair, shared.Shared.Shared, worker.Worker.Worker}, Sound.{SoundAt, IsAlone, is_armed_at, is_armed_on_word, is_armed_on_ring}, Phased.closes_at, Spots.Spot, View.{Visible, own_of, desk_of, common_of, word_at, things_of, seats_seen, seat_seen}, Works.{Makes, Goes, TurnsWord, Suits, Steps}}
-use Rattle.exec_steps.proofs.Turning.{GoesOn, IsPlain, Reaches, reaches_with, set_there, is_quiet, is_plain, by_place, by_spinner, same_shared, turned_by, turned_here}
+use Rattle.exec_moves.specs.{declared.place.{AfterWait.AfterWait, InRingWait.InRingWait, InWordWait.InWordWait, Stay.Stay, Place.Place}, Load.has_mail, Move.move_at, State.{Desk, Moved, turns}, Wait.{after_wait, arm_ring, disarm_ring, disarmed, spin_on_batch, spin_on_latch, hit, missed, take_latch, arm_word, after_sleep}}
+use Rattle.exec_steps.{specs.{declared.parts.{seat.Seat.Seat as Chair, shared.Shared.Shared, worker.Worker.Worker}, Sound.{SoundAt, is_armed_at, is_armed_on_word, is_armed_on_ring}, Phased.closes_at, Spots.Spot, View.{Visible, own_of, desk_of, common_of, word_at, things_of, seats_seen, seat_seen}, Works.{Makes, Goes, TurnsWord, Suits, Steps}}, proofs.Turning.{GoesOn, IsPlain, Reaches, reaches_with, set_there, is_quiet, by_place, by_spinner, same_shared, turned_by, turned_here}}
 
 -- the chair with another wake word
 abbrev with_word : PureWord → Chair → Chair
@@ -36,17 +25,17 @@ either_desk : (armed closes b : Bool) (x y : Desk) → IsPlain armed closes x.pl
 either_desk armed closes true x y h k = h
 either_desk armed closes false x y h k = k
 
-armed_by : (b : Bool) → is_armed_on_word (if b then word.SleepOnWord else word.DisarmWord) ≡ true
+armed_by : (b : Bool) → is_armed_on_word (if b then InWordWait.SleepOnWord else InWordWait.DisarmWord) ≡ true
 armed_by true = refl
 armed_by false = refl
 
-armed_on_ring_by : (b : Bool) → is_armed_on_ring (if b then ring.EnterRing else ring.DisarmRing next.Serve) ≡ true
+armed_on_ring_by : (b : Bool) → is_armed_on_ring (if b then InRingWait.EnterRing else InRingWait.DisarmRing AfterWait.Serve) ≡ true
 armed_on_ring_by true = refl
 armed_on_ring_by false = refl
 
-after_wait_is : (x : Stay) (n : AfterWait) (y : InRingWait) → IsPlain (is_armed_at (after_wait x n)) (closes_at (at.RingWait y x)) (after_wait x n)
-after_wait_is stay.Turn n y = record { plain = refl; armed_there = refl; closes_there = refl }
-after_wait_is stay.Closing n y = record { plain = refl; armed_there = refl; closes_there = refl }
+after_wait_is : (x : Stay) (n : AfterWait) (y : InRingWait) → IsPlain (is_armed_at (after_wait x n)) (closes_at (Place.RingWait y x)) (after_wait x n)
+after_wait_is Stay.Turn n y = record { plain = refl; armed_there = refl; closes_there = refl }
+after_wait_is Stay.Closing n y = record { plain = refl; armed_there = refl; closes_there = refl }
 
 module _ {B : Type 0} where
   -- the wake word of a chair that was read off the list is what is seen
@@ -58,7 +47,7 @@ module _ {B L : Type 0} (left : B → L) (spot : L → Option Said → Spot) whe
   -- The wake word becomes what the move makes of it. Without a wait bit none stands there.
   pub word_turned : (q : Place) (w w' : Worker) (s s' : Shared B) (e : Event) (m : Moved PureWord) →
       SoundAt q w s → is_quiet q ≡ true → GoesOn w w' s.clock → TurnsWord w.index s s' m.thing
-      → Makes m e w' → m.event ≡ Turn → m.choice ≡ Plain → IsPlain (is_armed_at m.desk.place) (closes_at q) m.desk.place → (is_armed_at m.desk.place ≡ false → m.thing.target ≡ target.None)
+      → Makes m e w' → m.event ≡ Turn → m.choice ≡ Plain → IsPlain (is_armed_at m.desk.place) (closes_at q) m.desk.place → (is_armed_at m.desk.place ≡ false → m.thing.target ≡ WaitTarget.None)
       → ((p : Plan) (vs : List Visible) → Suits p vs w s → move_at p.config w.index (own_of w) (common_of left spot p vs s) (desk_of w) (things_of w.index s) q ≡ record { event = m.event; choice = m.choice; desk = m.desk; thing = record (things_of w.index s) { word = m.thing } })
       → Steps left spot w s e w' s'
   word_turned q w w' s s' e m sound from on turns_word makes event choice to unarmed moves =
@@ -76,52 +65,52 @@ module _ {B L : Type 0} (left : B → L) (spot : L → Option Said → Spot) whe
       (λ vs. ap (seats_seen vs) items ∙ word_unseen vs s.seats.items w.index seat m.thing sound.alone.there)
       (λ p vs suits. moves p vs suits ∙ rw things refl)
 
-  pub ring_armed : (y : Stay) (w w' : Worker) (s s' : Shared B) (e : Event) → SoundAt (at.RingWait ring.ArmRing y) w s → Makes (arm_ring y (desk_of w) (things_of w.index s).word) e w' → Goes w w'
+  pub ring_armed : (y : Stay) (w w' : Worker) (s s' : Shared B) (e : Event) → SoundAt (Place.RingWait InRingWait.ArmRing y) w s → Makes (arm_ring y (desk_of w) (things_of w.index s).word) e w' → Goes w w'
       → TurnsWord w.index s s' (arm_ring y (desk_of w) (things_of w.index s).word).thing → Steps left spot w s e w' s'
   ring_armed y w w' s s' e sound makes goes turned =
-      word_turned (at.RingWait ring.ArmRing y) w w' s s' e (arm_ring y (desk_of w) (things_of w.index s).word) sound refl (by_place w w' s.clock sound.time goes) turned makes refl refl (record { plain = refl; armed_there = refl; closes_there = refl })
+      word_turned (Place.RingWait InRingWait.ArmRing y) w w' s s' e (arm_ring y (desk_of w) (things_of w.index s).word) sound refl (by_place w w' s.clock sound.time goes) turned makes refl refl (record { plain = refl; armed_there = refl; closes_there = refl })
       (λ h. absurd (false≢true (sym h ∙ armed_on_ring_by (is_idle_at (things_of w.index s).word w.processed)))) (λ p vs suits. refl)
 
-  pub ring_disarmed : (y : Stay) (n : AfterWait) (w w' : Worker) (s s' : Shared B) (e : Event) → SoundAt (at.RingWait (ring.DisarmRing n) y) w s → Makes (disarm_ring y n (desk_of w) (things_of w.index s).word) e w' → Goes w w'
+  pub ring_disarmed : (y : Stay) (n : AfterWait) (w w' : Worker) (s s' : Shared B) (e : Event) → SoundAt (Place.RingWait (InRingWait.DisarmRing n) y) w s → Makes (disarm_ring y n (desk_of w) (things_of w.index s).word) e w' → Goes w w'
       → TurnsWord w.index s s' (disarm_ring y n (desk_of w) (things_of w.index s).word).thing → Steps left spot w s e w' s'
   ring_disarmed y n w w' s s' e sound makes goes turned =
-      word_turned (at.RingWait (ring.DisarmRing n) y) w w' s s' e (disarm_ring y n (desk_of w) (things_of w.index s).word) sound refl (by_place w w' s.clock sound.time goes) turned makes refl refl (after_wait_is y n (ring.DisarmRing n))
+      word_turned (Place.RingWait (InRingWait.DisarmRing n) y) w w' s s' e (disarm_ring y n (desk_of w) (things_of w.index s).word) sound refl (by_place w w' s.clock sound.time goes) turned makes refl refl (after_wait_is y n (InRingWait.DisarmRing n))
       (λ h. refl) (λ p vs suits. refl)
 
-  pub latch_taken : (w w' : Worker) (s s' : Shared B) (e : Event) → SoundAt (at.WordWait word.TakeLatch) w s → Makes (take_latch (desk_of w) (things_of w.index s).word) e w' → Goes w w'
+  pub latch_taken : (w w' : Worker) (s s' : Shared B) (e : Event) → SoundAt (Place.WordWait InWordWait.TakeLatch) w s → Makes (take_latch (desk_of w) (things_of w.index s).word) e w' → Goes w w'
       → TurnsWord w.index s s' (take_latch (desk_of w) (things_of w.index s).word).thing → Steps left spot w s e w' s'
   latch_taken w w' s s' e sound makes goes turned =
-      word_turned (at.WordWait word.TakeLatch) w w' s s' e (take_latch (desk_of w) (things_of w.index s).word) sound refl (by_place w w' s.clock sound.time goes) turned makes refl refl (record { plain = refl; armed_there = refl; closes_there = refl })
+      word_turned (Place.WordWait InWordWait.TakeLatch) w w' s s' e (take_latch (desk_of w) (things_of w.index s).word) sound refl (by_place w w' s.clock sound.time goes) turned makes refl refl (record { plain = refl; armed_there = refl; closes_there = refl })
       (λ h. rw sound.alone.there (sound.alone.unarmed refl)) (λ p vs suits. refl)
 
-  pub word_armed : (w w' : Worker) (s s' : Shared B) (e : Event) → SoundAt (at.WordWait word.ArmWord) w s → Makes (arm_word (desk_of w) (things_of w.index s).word) e w' → w' ≡ record w { place = w'.place; slept = None }
+  pub word_armed : (w w' : Worker) (s s' : Shared B) (e : Event) → SoundAt (Place.WordWait InWordWait.ArmWord) w s → Makes (arm_word (desk_of w) (things_of w.index s).word) e w' → w' ≡ record w { place = w'.place; slept = None }
       → TurnsWord w.index s s' (arm_word (desk_of w) (things_of w.index s).word).thing → Steps left spot w s e w' s'
   word_armed w w' s s' e sound makes goes turned =
       let on : GoesOn w w' s.clock = subst (λ v. GoesOn w v s.clock) (sym goes) (record { same = refl; read = sound.time.read; asleep = tt }) in
-      word_turned (at.WordWait word.ArmWord) w w' s s' e (arm_word (desk_of w) (things_of w.index s).word) sound refl on turned makes refl refl (record { plain = refl; armed_there = refl; closes_there = refl })
+      word_turned (Place.WordWait InWordWait.ArmWord) w w' s s' e (arm_word (desk_of w) (things_of w.index s).word) sound refl on turned makes refl refl (record { plain = refl; armed_there = refl; closes_there = refl })
       (λ h. absurd (false≢true (sym h ∙ armed_by (is_idle_at (things_of w.index s).word w.processed)))) (λ p vs suits. refl)
 
-  pub word_disarmed : (w w' : Worker) (s s' : Shared B) (e : Event) → SoundAt (at.WordWait word.DisarmWord) w s → e ≡ Turn
-      → desk_of w' ≡ record (after_sleep s.clock (things_of w.index s).word.latch w.slept (desk_of w)) { place = at.Withdraw next.Begin } → w' ≡ record w { place = w'.place; spinner = w'.spinner; slept = None }
+  pub word_disarmed : (w w' : Worker) (s s' : Shared B) (e : Event) → SoundAt (Place.WordWait InWordWait.DisarmWord) w s → e ≡ Turn
+      → desk_of w' ≡ record (after_sleep s.clock (things_of w.index s).word.latch w.slept (desk_of w)) { place = Place.Withdraw AfterWait.Begin } → w' ≡ record w { place = w'.place; spinner = w'.spinner; slept = None }
       → TurnsWord w.index s s' (disarmed (things_of w.index s).word) → Steps left spot w s e w' s'
   word_disarmed w w' s s' e sound turn desk goes turned =
       let on : GoesOn w w' s.clock = subst (λ v. GoesOn w v s.clock) (sym goes) (record { same = refl; read = sound.time.read; asleep = tt }) in
-      word_turned (at.WordWait word.DisarmWord) w w' s s' e (turns (at.Withdraw next.Begin) (after_sleep s.clock (things_of w.index s).word.latch w.slept (desk_of w)) (disarmed (things_of w.index s).word)) sound refl on turned
+      word_turned (Place.WordWait InWordWait.DisarmWord) w w' s s' e (turns (Place.Withdraw AfterWait.Begin) (after_sleep s.clock (things_of w.index s).word.latch w.slept (desk_of w)) (disarmed (things_of w.index s).word)) sound refl on turned
       (record { event = turn; desk = desk }) refl refl (record { plain = refl; armed_there = refl; closes_there = refl }) (λ h. refl) (λ p vs suits. refl)
 
-  pub batch_sought : (n : ℕ) (w w' : Worker) (s : Shared B) (e : Event) (chair : Chair) → SoundAt (at.WordWait (word.SpinOnBatch n)) w s → Makes (spin_on_batch n (desk_of w) chair.mailbox.waker) e w'
+  pub batch_sought : (n : ℕ) (w w' : Worker) (s : Shared B) (e : Event) (chair : Chair) → SoundAt (Place.WordWait (InWordWait.SpinOnBatch n)) w s → Makes (spin_on_batch n (desk_of w) chair.mailbox.waker) e w'
       → w' ≡ record w { place = w'.place; spinner = w'.spinner } → chair ≡ get_or s.seats.items w.index chair → Steps left spot w s e w' s
   batch_sought n w w' s e chair sound makes same is =
       let it = (things_of w.index s).word in
-      let to = either_desk false false (has_mail (desk_of w) it) (hit (desk_of w)) (record (desk_of w) { place = at.WordWait (word.SpinOnLatch n) }) (record { plain = refl; armed_there = refl; closes_there = refl }) (record { plain = refl; armed_there = refl; closes_there = refl }) in
-      turned_here left spot (at.WordWait (word.SpinOnBatch n)) w w' s s e (spin_on_batch n (desk_of w) it) sound refl (by_spinner w w' s.clock sound.time same) (same_shared s) (subst (λ x. Makes (spin_on_batch n (desk_of w) x) e w') (word_read (at.WordWait (word.SpinOnBatch n)) w s chair sound is) makes)
+      let to = either_desk false false (has_mail (desk_of w) it) (hit (desk_of w)) (record (desk_of w) { place = Place.WordWait (InWordWait.SpinOnLatch n) }) (record { plain = refl; armed_there = refl; closes_there = refl }) (record { plain = refl; armed_there = refl; closes_there = refl }) in
+      turned_here left spot (Place.WordWait (InWordWait.SpinOnBatch n)) w w' s s e (spin_on_batch n (desk_of w) it) sound refl (by_spinner w w' s.clock sound.time same) (same_shared s) (subst (λ x. Makes (spin_on_batch n (desk_of w) x) e w') (word_read (Place.WordWait (InWordWait.SpinOnBatch n)) w s chair sound is) makes)
       (record { event = refl; choice = refl; to = to }) (λ p vs suits. refl)
 
-  pub latch_sought : (n : ℕ) (w w' : Worker) (s : Shared B) (e : Event) (chair : Chair) → SoundAt (at.WordWait (word.SpinOnLatch n)) w s → Makes (spin_on_latch n (desk_of w) chair.mailbox.waker) e w'
+  pub latch_sought : (n : ℕ) (w w' : Worker) (s : Shared B) (e : Event) (chair : Chair) → SoundAt (Place.WordWait (InWordWait.SpinOnLatch n)) w s → Makes (spin_on_latch n (desk_of w) chair.mailbox.waker) e w'
       → w' ≡ record w { place = w'.place; spinner = w'.spinner } → chair ≡ get_or s.seats.items w.index chair → Steps left spot w s e w' s
   latch_sought n w w' s e chair sound makes same is =
       let it = (things_of w.index s).word in
       let no = either_desk false false (nat_lt 1 n) _ _ (record { plain = refl; armed_there = refl; closes_there = refl }) (record { plain = refl; armed_there = refl; closes_there = refl }) in
       let to = either_desk false false it.latch (hit (desk_of w)) (missed n (desk_of w)) (record { plain = refl; armed_there = refl; closes_there = refl }) no in
-      turned_here left spot (at.WordWait (word.SpinOnLatch n)) w w' s s e (spin_on_latch n (desk_of w) it) sound refl (by_spinner w w' s.clock sound.time same) (same_shared s) (subst (λ x. Makes (spin_on_latch n (desk_of w) x) e w') (word_read (at.WordWait (word.SpinOnLatch n)) w s chair sound is) makes)
+      turned_here left spot (Place.WordWait (InWordWait.SpinOnLatch n)) w w' s s e (spin_on_latch n (desk_of w) it) sound refl (by_spinner w w' s.clock sound.time same) (same_shared s) (subst (λ x. Makes (spin_on_latch n (desk_of w) x) e w') (word_read (Place.WordWait (InWordWait.SpinOnLatch n)) w s chair sound is) makes)
       (record { event = refl; choice = refl; to = to }) (λ p vs suits. refl)

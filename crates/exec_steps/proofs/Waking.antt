@@ -1,20 +1,11 @@
 -- What the callback of a wake is to the machine.
-use Rattle.std.proofs.Common.{◌≡◌, ℕ, ◌+◌, ◌||◌, Bool, true, false, List, [], ◌∷◌, map, Option, Some, None, refl, sym, ap, subst, ◌∙◌, arith}
-use Rattle.std.proofs.lemmas.List.{map-set}
-use Rattle.std.proofs.lemmas.Option.{get_or_from_slice_get, slice_get-map}
-use Rattle.std.specs.Prelude.{slice_get, slice_set, slice_index_or, is_some, if◌then◌else◌}
-use Rattle.std.specs.Option.{option_map}
+use Rattle.std.{proofs.{Common.{◌≡◌, ℕ, ◌||◌, Bool, true, false, List, [], ◌∷◌, map, Option, Some, None, refl, sym, ap, subst, ◌∙◌, arith, slice_get, slice_set, slice_index_or, is_some, if◌then◌else◌}, lemmas.{List.map-set, Option.{get_or_from_slice_get, slice_get-map}}}, specs.Option.option_map}
 use Rattle.exec_base.specs.declared.task_no.TaskNo.{TaskNo}
 use Rattle.exec_waiters.specs.States.{pending_count}
 use Rattle.exec_task.specs.{Phases.{is_polled, woken as cell_woken, runnable_of, is_idle as is_cell_idle}, declared.{body.Said.Said, runnable.Runnable.Runnable, task.Phase.Phase}}
-use Rattle.exec_task.specs.declared.task.Phase.TheVariants as cell
 use Rattle.exec_machine.specs.{declared.{event.Event.{Event, TheVariants.Wake}, state.{TaskPhase.TaskPhase, Waiting.Waiting}}, After.common_after, Progress.Plan, Ranges.ring_size, Tasks.{may_wake, woken, woken_phase}, Tests.{AllTrue, is_idle}, World.{Task, Common, task_of, no_task, Own as Books}}
-use Rattle.exec_machine.specs.declared.state.Waiting.TheVariants as waiting
-use Rattle.exec_moves.specs.{declared.place.{AfterCallbacks.AfterCallbacks, Place.Place}, Callback.{call_back, goes_on, flagged_by, payer_of}, Move.{move_at, first_woken}, State.Desk}
-use Rattle.exec_moves.specs.declared.place.InCallbacks.TheVariants as callback
-use Rattle.exec_moves.specs.declared.place.Place.TheVariants as at
-use Rattle.exec_steps.specs.{declared.parts.{record.Record.Record, shared.Shared.Shared, sleeping.SleeperRecord.SleeperRecord, task_slot.TaskSlot.TaskSlot, worker.Worker.Worker}, Calls.{KeepsRoom, IsUnpaid, awake, records_paid, sleepers_paid}, Carried.IsCarried, Due.IsDue, Flown.HasFlown, Phased.{IsPhased, is_complete, closes_at, stage_of}, Rooted.{IsRooted, Holds}, Sound.{tellers, SoundAt, IsNamed, IsRunnable, IsTold, AreOver, AreOwed, OwesWake, Stands, one_of, is_told}, Spots.Spot, Tests.next_callback_of, View.{Visible, visible, own_of, desk_of, driver_of, common_of, things_of, body_in, spot_by, phase_seen, task_seen}, Works.{Suits, Steps}}
-use Rattle.exec_steps.proofs.{Hearing.hears_so, Calling.{settled, from_batch, own_led}, Leading.{placed, leads, Follows, follows, unchanged}, Phased.phased_task, Rooted.rooted_set, Turning.{set_found, set_there}}
+use Rattle.exec_moves.specs.{declared.place.{AfterCallbacks.AfterCallbacks, Place.Place, InCallbacks.InCallbacks}, Callback.{call_back, goes_on, flagged_by, payer_of}, Move.{move_at, first_woken}, State.Desk}
+use Rattle.exec_steps.{specs.{declared.parts.{record.Record.Record, shared.Shared.Shared, sleeping.SleeperRecord.SleeperRecord, task_slot.TaskSlot.TaskSlot, worker.Worker.Worker}, Calls.{KeepsRoom, IsUnpaid, awake, records_paid, sleepers_paid}, Carried.IsCarried, Due.IsDue, Flown.HasFlown, Phased.{IsPhased, is_complete, closes_at, stage_of}, Rooted.{IsRooted, Holds}, Sound.{tellers, SoundAt, IsNamed, IsRunnable, IsTold, AreOver, AreOwed, OwesWake, Stands, one_of, is_told}, Spots.Spot, Tests.next_callback_of, View.{Visible, visible, own_of, desk_of, driver_of, common_of, things_of, body_in, spot_by, phase_seen, task_seen}, Works.{Suits, Steps}}, proofs.{Hearing.hears_so, Calling.{settled, from_batch, own_led}, Leading.{placed, leads, Follows, follows, unchanged}, Phased.phased_task, Rooted.rooted_set, Turning.{set_found, set_there}}}
 
 module _ {B : Type 0} where
   -- The root is woken, and what it waited for has paid for that; no other wake is left.
@@ -50,12 +41,12 @@ module _ {B : Type 0} where
 
 -- what is owed wasn't paid
 pub owed_unpaid : (i t : ℕ) (u : Waiting) (rs : List Record) (zs : List SleeperRecord) → OwesWake i t u rs zs → IsUnpaid u rs zs
-owed_unpaid i t (waiting.Request n) rs zs owes = (owes.0, owes.1, owes.2.unpaid)
-owed_unpaid i t (waiting.Timer n) rs zs owes = (owes.0, owes.1, owes.2.unpaid)
-owed_unpaid i t waiting.Nothing rs zs owes = absurd owes
-owed_unpaid i t waiting.Wake rs zs owes = absurd owes
-owed_unpaid i t waiting.Woken rs zs owes = absurd owes
-owed_unpaid i t waiting.Yielded rs zs owes = absurd owes
+owed_unpaid i t (Waiting.Request n) rs zs owes = (owes.0, owes.1, owes.2.unpaid)
+owed_unpaid i t (Waiting.Timer n) rs zs owes = (owes.0, owes.1, owes.2.unpaid)
+owed_unpaid i t Waiting.Nothing rs zs owes = absurd owes
+owed_unpaid i t Waiting.Wake rs zs owes = absurd owes
+owed_unpaid i t Waiting.Woken rs zs owes = absurd owes
+owed_unpaid i t Waiting.Yielded rs zs owes = absurd owes
 
 flag_set : (b : Bool) (r : Runnable) (f : Option Runnable) → is_some (if b then Some r else f) ≡ (is_some f || b)
 flag_set true r None = refl
@@ -67,52 +58,52 @@ flag_set false r (Some q) = refl
 
 module _ {B : Type 0} where
   pub body_woken : (p : Phase B) (b : Option B) → body_in (cell_woken p) b ≡ body_in p b
-  body_woken (cell.Idle x) b = refl
-  body_woken (cell.Queued x) b = refl
-  body_woken cell.Running b = refl
-  body_woken cell.Notified b = refl
-  body_woken cell.Complete b = refl
+  body_woken (Phase.Idle x) b = refl
+  body_woken (Phase.Queued x) b = refl
+  body_woken Phase.Running b = refl
+  body_woken Phase.Notified b = refl
+  body_woken Phase.Complete b = refl
 
   pub phase_woken : (p : Phase B) (i : ℕ) → phase_seen (cell_woken p) i ≡ woken_phase (phase_seen p i)
-  phase_woken (cell.Idle x) i = refl
-  phase_woken (cell.Queued x) i = refl
-  phase_woken cell.Running i = refl
-  phase_woken cell.Notified i = refl
-  phase_woken cell.Complete i = refl
+  phase_woken (Phase.Idle x) i = refl
+  phase_woken (Phase.Queued x) i = refl
+  phase_woken Phase.Running i = refl
+  phase_woken Phase.Notified i = refl
+  phase_woken Phase.Complete i = refl
 
   idle_seen : (p : Phase B) (i : ℕ) → is_idle (phase_seen p i) ≡ is_cell_idle p
-  idle_seen (cell.Idle x) i = refl
-  idle_seen (cell.Queued x) i = refl
-  idle_seen cell.Running i = refl
-  idle_seen cell.Notified i = refl
-  idle_seen cell.Complete i = refl
+  idle_seen (Phase.Idle x) i = refl
+  idle_seen (Phase.Queued x) i = refl
+  idle_seen Phase.Running i = refl
+  idle_seen Phase.Notified i = refl
+  idle_seen Phase.Complete i = refl
 
   polled_woken : (p : Phase B) → is_polled (cell_woken p) ≡ is_polled p
-  polled_woken (cell.Idle x) = refl
-  polled_woken (cell.Queued x) = refl
-  polled_woken cell.Running = refl
-  polled_woken cell.Notified = refl
-  polled_woken cell.Complete = refl
+  polled_woken (Phase.Idle x) = refl
+  polled_woken (Phase.Queued x) = refl
+  polled_woken Phase.Running = refl
+  polled_woken Phase.Notified = refl
+  polled_woken Phase.Complete = refl
 
   complete_woken : (p : Phase B) → is_complete (cell_woken p) ≡ is_complete p
-  complete_woken (cell.Idle x) = refl
-  complete_woken (cell.Queued x) = refl
-  complete_woken cell.Running = refl
-  complete_woken cell.Notified = refl
-  complete_woken cell.Complete = refl
+  complete_woken (Phase.Idle x) = refl
+  complete_woken (Phase.Queued x) = refl
+  complete_woken Phase.Running = refl
+  complete_woken Phase.Notified = refl
+  complete_woken Phase.Complete = refl
 
   -- its runnable is in the flag then, if it wasn't before
   flag_woken : (slot : TaskSlot B) (flag : Option Runnable) (p : Phase B) → slot.cell.phase ≡ p → IsRunnable flag slot
       → IsRunnable (if is_cell_idle p then Some (runnable_of slot.cell) else flag) (record slot { fresh = false; cell = record slot.cell { phase = cell_woken p } })
-  flag_woken slot flag (cell.Idle b) is h = (refl, (b, refl))
-  flag_woken slot None (cell.Queued b) is h = absurd (h b is)
-  flag_woken slot (Some r) (cell.Queued b) is h = (h.0, (b, refl))
-  flag_woken slot None cell.Running is h = λ b h. absurd (cc)
-  flag_woken slot (Some r) cell.Running is h = absurd (cc (is, h.1.1))
-  flag_woken slot None cell.Notified is h = λ b h. absurd (cc)
-  flag_woken slot (Some r) cell.Notified is h = absurd (cc (is, h.1.1))
-  flag_woken slot None cell.Complete is h = λ b h. absurd (cc)
-  flag_woken slot (Some r) cell.Complete is h = absurd (cc (is, h.1.1))
+  flag_woken slot flag (Phase.Idle b) is h = (refl, (b, refl))
+  flag_woken slot None (Phase.Queued b) is h = absurd (h b is)
+  flag_woken slot (Some r) (Phase.Queued b) is h = (h.0, (b, refl))
+  flag_woken slot None Phase.Running is h = λ b h. absurd (cc)
+  flag_woken slot (Some r) Phase.Running is h = absurd (cc (is, h.1.1))
+  flag_woken slot None Phase.Notified is h = λ b h. absurd (cc)
+  flag_woken slot (Some r) Phase.Notified is h = absurd (cc (is, h.1.1))
+  flag_woken slot None Phase.Complete is h = λ b h. absurd (cc)
+  flag_woken slot (Some r) Phase.Complete is h = absurd (cc (is, h.1.1))
 
   pub alone_in_flag : (flag : Option Runnable) (hand : Option Runnable) (slot : TaskSlot B) → hand ≡ None → IsRunnable (one_of flag hand) slot → IsRunnable flag slot
   alone_in_flag None hand slot none h = subst (λ o. IsRunnable o slot) none h
@@ -162,7 +153,7 @@ module _ {B L : Type 0} (left : B → L) (spot : L → Option Said → Spot) whe
       map-set (task_seen left spot) tasks t (awake slot)
       ∙ ap (λ it. slice_set (map (task_seen left spot) tasks) t it) (awake_seen slot ∙ ap woken (sym (task_there tasks t slot there)))
 
-  pub woken_with : (x : AfterCallbacks) (w w' : Worker) (s s' : Shared B) (e : Event) → SoundAt (at.Callbacks callback.CallBack x) w s → e ≡ Wake w.root → w'.place ≡ next_callback_of x w'
+  pub woken_with : (x : AfterCallbacks) (w w' : Worker) (s s' : Shared B) (e : Event) → SoundAt (Place.Callbacks InCallbacks.CallBack x) w s → e ≡ Wake w.root → w'.place ≡ next_callback_of x w'
       → w.home.deferred.notes.wakes.items ≡ record { 0 = w.root } ∷ [] → (it : HasWoken w w' s s')
       → IsNamed w.index w.names (driver_of w) w.home.timers s'.requests.items s'.sleepers.items
       → AreOver w.index w.names.ended.items w.names.unreleased (pending_count (driver_of w).requests) s'.requests.items
@@ -170,19 +161,19 @@ module _ {B L : Type 0} (left : B → L) (spot : L → Option Said → Spot) whe
       → HasFlown None w.index w.names (driver_of w) s'.requests.items
       → IsCarried w.names.requests.items (driver_of w).requests (driver_of w).ring s'.requests.items s.store
       → Holds false w.index w.root it.slot.held.items it.slot.waiting (is_complete it.slot.cell.phase) w.names (driver_of w) w.home.timers s'.requests.items s'.sleepers.items
-      → ((p : Plan) (vs : List Visible) → Suits p vs w s → AllTrue (may_wake (own_of (record w { place = at.Callbacks callback.CallBack x })) (common_of left spot p vs s) w.index w.root (payer_of it.slot.waiting)))
-      → ((p : Plan) (vs : List Visible) → Suits p vs w s → common_of left spot p vs (record s { tasks = s'.tasks; requests = s'.requests; sleepers = s'.sleepers }) ≡ common_after p.config (own_of (record w { place = at.Callbacks callback.CallBack x })) (common_of left spot p vs s) w.index (Wake w.root) (payer_of it.slot.waiting))
+      → ((p : Plan) (vs : List Visible) → Suits p vs w s → AllTrue (may_wake (own_of (record w { place = Place.Callbacks InCallbacks.CallBack x })) (common_of left spot p vs s) w.index w.root (payer_of it.slot.waiting)))
+      → ((p : Plan) (vs : List Visible) → Suits p vs w s → common_of left spot p vs (record s { tasks = s'.tasks; requests = s'.requests; sleepers = s'.sleepers }) ≡ common_after p.config (own_of (record w { place = Place.Callbacks InCallbacks.CallBack x })) (common_of left spot p vs s) w.index (Wake w.root) (payer_of it.slot.waiting))
       → Steps left spot w s e w' s'
   woken_with x w w' s s' e sound event place only it named over due flown carried holds may common =
-      let q : Place = at.Callbacks callback.CallBack x in
+      let q : Place = Place.Callbacks InCallbacks.CallBack x in
       let w0 : Worker = record w { root_ready = w'.root_ready; home = record w.home { deferred = record w.home.deferred { notes = record w.home.deferred.notes { wakes = w'.home.deferred.notes.wakes } } } } in
       let w1 : Worker = record w0 { place = next_callback_of x w0 } in
       let s1 : Shared B = record s { tasks = s'.tasks; requests = s'.requests; sleepers = s'.sleepers } in
       let is : w' ≡ w1 = settled x w0 w' it.worker place in
-      let from = from_batch callback.CallBack x in
+      let from = from_batch InCallbacks.CallBack x in
       let live = tellers (driver_of w).requests w.home.timers in
       let told : IsTold w.names.ended.items w0.home.deferred live = subst (λ d. IsTold w.names.ended.items d live) (ap (λ v. v.home.deferred) is) (it.told w.names.ended.items live sound.told) in
-      let to = leads callback.CallBack x w0 (omega (arith, told.resources, sound.over.counted)) in
+      let to = leads InCallbacks.CallBack x w0 (omega (arith, told.resources, sound.over.counted)) in
       let as_before = unchanged q w s sound from in
       let here : w ≡ record w { place = q } = ap (λ y. record w { place = y }) sound.here in
       let same : it.slot ≡ sound.runnable.root = cc (it.there, sound.runnable.there) in

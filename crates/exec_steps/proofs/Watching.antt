@@ -1,20 +1,13 @@
 -- Who waits for a request changes, or nobody does any more, by which it may be cancelled: what that leaves as it was.
-use Rattle.std.proofs.Common.{◌≡◌, ◌≢◌, ◌⊎◌, ⊎_elim, ℕ, ◌+◌, ◌<◌, ◌≤◌, ◌==◌, Bool, true, false, List, [], ◌∷◌, length, Option, Some, None, IsSome, refl, sym, ap, subst, ◌∙◌, arith, inl, inr}
-use Rattle.std.proofs.lemmas.Bool.{false≢true, eq-eqb}
-use Rattle.std.proofs.lemmas.Bool.Decides.{nat_tests}
-use Rattle.std.proofs.lemmas.List.{length-set}
-use Rattle.std.specs.Prelude.{slice_get, is_some}
-use Rattle.exec_base.specs.{Slab.{Slab, value_at, written}, declared.slab.{Id.Id, Slot.TheVariants.Live}}
-use Rattle.exec_base.proofs.Slots.{id_cases, Updates-write}
+use Rattle.std.proofs.{Common.{◌≡◌, ◌≢◌, ◌⊎◌, ⊎_elim, ℕ, ◌==◌, Bool, true, false, List, [], length, Option, Some, None, IsSome, refl, sym, ap, subst, ◌∙◌, arith, inl, inr, slice_get, is_some}, lemmas.{Bool.{false≢true, eq-eqb, Decides.nat_tests}, List.length-set}}
+use Rattle.exec_base.{specs.{Slab.{Slab, value_at, written}, declared.slab.{Id.Id, Slot.TheVariants.Live}}, proofs.Slots.{id_cases, Updates-write}}
 use Rattle.exec_request.specs.{declared.output.RequestOutput.RequestOutput, Requests.deadline_of}
 use Rattle.exec_time.specs.declared.timers.Sleeper.{Sleeper as Sleeping}
-use Rattle.exec_waiters.proofs.Changes.{entry_of}
-use Rattle.exec_waiters.specs.{States.{waiter_at, waiter_of, takes_tick, tick_in}, declared.{waiter.{Waiter.Waiter, Entry.{Entry, TheVariants.{Pending, Ready}}}, waiter_id.WaiterId.WaiterId}}
+use Rattle.exec_waiters.{proofs.Changes.entry_of, specs.{States.{waiter_at, waiter_of, takes_tick, tick_in}, declared.{waiter.{Waiter.Waiter, Entry.{Entry, TheVariants.{Pending, Ready}}}, waiter_id.WaiterId.WaiterId}}}
 use Rattle.exec_driver.specs.{Driving.Driving, Lists.is_among, Punctual.IsPunctual}
 use Rattle.exec_machine.specs.{declared.config.Configuration.Configuration, Tests.{is_resolved, is_staged}}
 use Rattle.exec_moves.specs.declared.place.InService.{InService}
-use Rattle.exec_steps.specs.{declared.parts.{mail.Reply.Reply, names.Names.Names, record.Record.Record, sleeping.SleeperRecord.SleeperRecord, worker.Moments.Moments}, Due.{IsDue, IsWheelAt, AreTimed}, Flown.{AreLanded, IsPlain, HasFlown, operations}, Records.number_in, Serving.{AreKnown, changed_at}, Sound.{IsNamed, IsAlike, IsSubmitted, AreOver}, Carried.IsCarried}
-use Rattle.exec_steps.proofs.{Flown.{FliesOn, landed_on}, Marking.{mark_if, marked, was_marked}, Staging.known_then, Orders.{Eases, eases_written, IsPartOf, TurnsAlike, eased, part_none, part_self}, Carries.{carried_marked, carried_slab, carried_waiter}, Changing.changes_one}
+use Rattle.exec_steps.{specs.{declared.parts.{mail.Reply.Reply, names.Names.Names, record.Record.Record, sleeping.SleeperRecord.SleeperRecord, worker.Moments.Moments}, Due.{IsDue, IsWheelAt, AreTimed}, Flown.{AreLanded, IsPlain, HasFlown, operations}, Records.number_in, Serving.{AreKnown, changed_at}, Sound.{IsNamed, IsAlike, IsSubmitted, AreOver}, Carried.IsCarried}, proofs.{Flown.{FliesOn, landed_on}, Marking.{mark_if, marked, was_marked}, Staging.known_then, Orders.{Eases, eases_written, IsPartOf, TurnsAlike, eased, part_none, part_self}, Carries.{carried_marked, carried_slab, carried_waiter}, Changing.changes_one}}
 use Rattle.exec_ring.specs.declared.store.Store.{Store}
 
 same_number : (a b : ℕ) → (a == b) ≡ true → a ≡ b

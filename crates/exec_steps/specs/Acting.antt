@@ -2,9 +2,8 @@
 use Rattle.std.specs.Prelude.{◌≡◌, ℕ, false, List, Option, Some, None, if◌then◌else◌}
 use Rattle.exec_task.specs.{Sight.Sight, declared.body.{Act.Act, Said.Said}}
 use Rattle.exec_machine.specs.{declared.event.Event.Event, Progress.Plan, Words.{next_word, moved_on}, World.Common}
-use Rattle.exec_moves.specs.declared.place.InPoll.TheVariants as poll
-use Rattle.exec_moves.specs.declared.place.Place.TheVariants as at
 use Rattle.exec_steps.specs.{declared.parts.{shared.Shared.Shared, task_slot.TaskSlot.TaskSlot, worker.Worker.Worker}, Hearing.{CanHear, held_once_come}, Polls.{MadeAct, OfSlot}, Scripts.{Asks, GoesOn, is_last}, Sound.{Sound, SoundAt}, Spots.{Spot, spot_of}, View.{Visible, common_of, task_seen, body_in}, Works.{Suits, Works}}
+use Rattle.exec_moves.specs.declared.place.{InPoll.InPoll, Place.Place}
 
 module _ {B L : Type 0} (left : B → L) (runs : L → Plan → Type 0) (holds : L → Option Said → List ℕ) where
   -- The body of a task that can still be told something runs the plan, and then knows what its task holds.
@@ -38,7 +37,7 @@ module _ {B L : Type 0} (left : B → L) (runs : L → Plan → Type 0) (holds :
 
   -- The body of the worker's root made this act, which each plan asks for that the root performs.
   pub record HasActed (w : Worker) (s s1 : Shared B) (a : Act B) : Type 0 where
-    pub sound : SoundAt (at.Poll w.root poll.Act) w s
+    pub sound : SoundAt (Place.Poll w.root InPoll.Act) w s
     pub made : MadeAct left gives w.root w.moments.sampled s s1 a
     pub asks : (p : Plan) (vs : List Visible) → Performs left runs holds p made.slot → ActsAs (common_of left spot p vs s) p w.moments.sampled made.slot made.acts.body' a
     pub one : (p : Plan) × (s.config ≡ p.config) × Performs left runs holds p made.slot

@@ -1,21 +1,16 @@
 -- What an act makes that needs memory: a request or a sleeper; and what is left where there is none.
-use Rattle.std.specs.Prelude.{◌≡◌, ◌≢◌, ℕ, ◌+◌, ◌*◌, ◌^◌, ◌<◌, ◌≤◌, false, true, Bool, List, [], ◌∷◌, ◌++◌, length, min, Option, Some, None, is_some, slice_get, slice_set, if◌then◌else◌}
-use Rattle.std.specs.Vec.{vec_capacity}
-use Rattle.std.specs.VecDeque.{deque_capacity}
-use Rattle.exec_base.specs.{Slab.{Slab, live_count, next_id, inserted, IsPast, TakesId, Updates}, declared.{error.Error.TheVariants.NoMemory, limits.TheConstants.LONGEST_TIMEOUT, task_no.TaskNo.TaskNo}}
-use Rattle.exec_request.specs.{Requests.{asked_of, deadline_of, target_of}, declared.request.Request.Request as Asking}
-use Rattle.exec_ring.specs.{Stores.{Reserves, Same as SameStore}, declared.store.Store.Store}
-use Rattle.exec_time.specs.declared.timers.Observer.TheVariants as sleep
-use Rattle.exec_time.specs.declared.timers.{Sleeper.Sleeper as Sleeping, TimerId.TimerId}
-use Rattle.exec_waiters.specs.{Told.{HasPlaces, Tells, nothing_told}, declared.{deferred.Deferred.Deferred, observer.Observer.{Observer, TheVariants.Local}, waiter_id.WaiterId.WaiterId}}
-use Rattle.exec_driver.specs.{Admission.{Admits, with_rooms}, Driving.Driving, Placed.ListsRequests, Punctual.IsPunctual, Steps.{footprint_of, newcomer, told_at_admission}}
+use Rattle.std.specs.{Prelude.{◌≡◌, ◌≢◌, ℕ, ◌+◌, ◌*◌, ◌^◌, ◌<◌, ◌≤◌, false, Bool, List, [], ◌∷◌, ◌++◌, length, Option, Some, None, is_some, slice_get, slice_set, if◌then◌else◌}, Vec.vec_capacity, VecDeque.deque_capacity}
+use Rattle.exec_base.specs.{Slab.{live_count, next_id, inserted, IsPast, TakesId}, declared.{error.Error.TheVariants.NoMemory, task_no.TaskNo.TaskNo}}
+use Rattle.exec_request.specs.{Requests.{asked_of, deadline_of}, declared.request.Request.Request as Asking}
+use Rattle.exec_ring.specs.Stores.{Reserves}
+use Rattle.exec_time.specs.declared.timers.TimerId.{TimerId}
+use Rattle.exec_waiters.specs.{Told.{HasPlaces, Tells, nothing_told}, declared.{observer.Observer.TheVariants.Local, waiter_id.WaiterId.WaiterId}}
+use Rattle.exec_driver.specs.{Admission.{Admits, with_rooms}, Placed.ListsRequests, Punctual.IsPunctual, Steps.{footprint_of, newcomer, told_at_admission}}
 use Rattle.exec_task.specs.declared.body.Said.{Said}
-use Rattle.exec_task.specs.declared.body.Said.TheVariants as hears
-use Rattle.exec_machine.specs.{declared.{event.Event.{Event, TheVariants.{Admit, Timer}}, state.Operation.Operation}, Deadlines.new_sleeper, Requests.{new_request, outcome_if_late, resolved_if}, World.no_operation}
-use Rattle.exec_machine.specs.declared.state.Waiting.TheVariants as waiting
-use Rattle.exec_moves.specs.declared.place.InPoll.TheVariants as poll
-use Rattle.exec_moves.specs.declared.place.Place.TheVariants as at
-use Rattle.exec_steps.specs.{declared.parts.{mail.Reply.Reply, names.Names.Names, record.Record.Record, shared.Shared.Shared, sleeping.SleeperRecord.SleeperRecord, task_slot.TaskSlot.TaskSlot, worker.Worker.Worker}, Records.{HasRequestRoom, HasTimerRoom, SameNames, plain_operation}, View.driver_of}
+use Rattle.exec_machine.specs.{declared.{event.Event.{Event, TheVariants.{Admit, Timer}}, state.Waiting.Waiting}, Deadlines.new_sleeper, Requests.{new_request, outcome_if_late, resolved_if}}
+use Rattle.exec_steps.specs.{declared.parts.{names.Names.Names, record.Record.Record, shared.Shared.Shared, sleeping.SleeperRecord.SleeperRecord, task_slot.TaskSlot.TaskSlot, worker.Worker.Worker}, Records.{HasRequestRoom, HasTimerRoom, SameNames, plain_operation}, View.driver_of}
+use Rattle.exec_moves.specs.declared.place.{InPoll.InPoll, Place.Place}
+use Rattle.exec_time.specs.declared.timers.Observer.TheVariants as sleep
 
 -- What its worker needs: each slot that once had something has a number, and what is over isn't released.
 pub record MayMake (w : Worker) : Type 0 where
@@ -46,7 +41,7 @@ module _ {B : Type 0} where
 
   -- its body is told that there was no memory
   abbrev pub Refuses : ℕ → Worker → Worker → Shared B → Shared B → Type 0
-  Refuses t w w' s s' = MakesRoom t (λ slot. Some (hears.Refused NoMemory)) w w' s s'
+  Refuses t w w' s s' = MakesRoom t (λ slot. Some (Said.Refused NoMemory)) w w' s s'
 
   -- room for one more request, but at its driver
   pub record HasRoomFor (t : ℕ) (w : Worker) (s : Shared B) : Type 0 where
@@ -102,10 +97,10 @@ module _ {B : Type 0} where
     pub named : made.id ≡ id
     pub shown : made.shown ≡ resolved_if (outcome_if_late w.moments.sampled (deadline_of request)) (new_request w.index (plain_operation request))
     pub names : NamesOne id (length s.requests.items) (is_some (outcome_if_late w.moments.sampled (deadline_of request))) mid.names w'.names
-    pub worker : w' ≡ record mid { place = at.Poll t poll.Act; names = w'.names }
+    pub worker : w' ≡ record mid { place = Place.Poll t InPoll.Act; names = w'.names }
     pub requests : s'.requests.items ≡ s.requests.items ++ made ∷ []
     pub slot' : TaskSlot B
-    pub took : slot' ≡ record takes.rooms.slot { held = slot'.held; told = Some (hears.Admitted (length s.requests.items)) }
+    pub took : slot' ≡ record takes.rooms.slot { held = slot'.held; told = Some (Said.Admitted (length s.requests.items)) }
     pub held : slot'.held.items ≡ takes.rooms.slot.held.items ++ length s.requests.items ∷ []
     pub tasks : s'.tasks.items ≡ slice_set s.tasks.items t slot'
     pub shared : s' ≡ record all { tasks = s'.tasks; requests = s'.requests }
@@ -148,10 +143,10 @@ module _ {B : Type 0} where
     pub others : (k : ℕ) → k ≢ made.id.0.index → slice_get w'.names.timers.items k ≡ slice_get mid.names.timers.items k
     pub longer : length mid.names.timers.items ≤ length w'.names.timers.items
     pub names : w'.names ≡ record mid.names { timers = w'.names.timers }
-    pub worker : w' ≡ record mid { place = at.Poll t poll.Pend; names = w'.names; home = record mid.home { timers = w'.home.timers } }
+    pub worker : w' ≡ record mid { place = Place.Poll t InPoll.Pend; names = w'.names; home = record mid.home { timers = w'.home.timers } }
     pub sleepers : s'.sleepers.items ≡ s.sleepers.items ++ made ∷ []
     pub slot' : TaskSlot B
-    pub waits : slot' ≡ record rooms.slot { held = slot'.held; waiting = waiting.Timer (length s.sleepers.items) }
+    pub waits : slot' ≡ record rooms.slot { held = slot'.held; waiting = Waiting.Timer (length s.sleepers.items) }
     pub held : slot'.held.items ≡ rooms.slot.held.items
     pub tasks : s'.tasks.items ≡ slice_set s.tasks.items t slot'
     pub shared : s' ≡ record all { tasks = s'.tasks; sleepers = s'.sleepers }

@@ -1,15 +1,12 @@
 -- What a task does with the newest request that it holds: it awaits it, or lets go of it.
-use Rattle.std.specs.Prelude.{◌≡◌, ℕ, ◌-◌, ◌++◌, ◌<◌, true, false, List, length, slice_get, slice_set, option_to_list, Option, Some, None, IsSome}
-use Rattle.std.specs.VecDeque.{deque_capacity}
-use Rattle.exec_base.specs.{Slab.value_at, declared.task_no.TaskNo.TaskNo}
-use Rattle.exec_task.specs.declared.body.Said.TheVariants as hears
+use Rattle.std.specs.{Prelude.{◌≡◌, ℕ, ◌-◌, ◌++◌, ◌<◌, true, false, List, length, slice_get, slice_set, option_to_list, Option, Some, None, IsSome}, VecDeque.deque_capacity}
+use Rattle.exec_base.specs.Slab.{value_at}
 use Rattle.exec_waiters.specs.{Events.{changed, with_waker, told_by_orphan}, States.is_observed_here, Told.{HasPlaces, Tells}}
 use Rattle.exec_driver.specs.{Driving.request_at, Placed.ListsRequests, Punctual.IsPunctual, Steps.{let_go, told_by_let_go}}
-use Rattle.exec_machine.specs.{declared.event.Event.{Event, TheVariants.{Wait, Drop}}, Requests.{dropped, ends_by_drop, joined_if}, Tests.is_resolved}
-use Rattle.exec_machine.specs.declared.state.Waiting.TheVariants as waiting
-use Rattle.exec_moves.specs.declared.place.InPoll.TheVariants as poll
-use Rattle.exec_moves.specs.declared.place.Place.TheVariants as at
+use Rattle.exec_machine.specs.{declared.{event.Event.{Event, TheVariants.{Wait, Drop}}, state.Waiting.Waiting}, Requests.{dropped, ends_by_drop, joined_if}, Tests.is_resolved}
 use Rattle.exec_steps.specs.{declared.parts.{record.Record.Record, shared.Shared.Shared, task_slot.TaskSlot.TaskSlot, worker.Worker.Worker}, Polls.{IsReady, OfSlot, TookOutput}, View.driver_of, Works.TurnsSlot}
+use Rattle.exec_task.specs.declared.body.Said.{Said}
+use Rattle.exec_moves.specs.declared.place.{InPoll.InPoll, Place.Place}
 
 -- task t waits for it; nobody holds it any more
 abbrev pub awaited_by : ℕ → Record → Record
@@ -63,11 +60,11 @@ module _ {B : Type 0} where
     pub r : Record
     pub request : slice_get s.requests.items k ≡ Some r
     pub event : e ≡ Wait (Some k)
-    pub worker : w' ≡ record w { place = at.Poll t poll.Pend; home = record w.home { driver = w'.home.driver } }
+    pub worker : w' ≡ record w { place = Place.Poll t InPoll.Pend; home = record w.home { driver = w'.home.driver } }
     pub driver : driver_of w' ≡ record (driver_of w) { requests = changed (driver_of w).requests r.id.0 (with_waker (record { 0 = t })) }
     pub punctual : IsPunctual (driver_of w) → IsPunctual (driver_of w')
     pub records : s'.requests.items ≡ slice_set s.requests.items k (awaited_by t r)
-    pub tasks : s'.tasks.items ≡ slice_set s.tasks.items t (record slot { waiting = waiting.Request k })
+    pub tasks : s'.tasks.items ≡ slice_set s.tasks.items t (record slot { waiting = Waiting.Request k })
     pub kept : s' ≡ record s { tasks = s'.tasks; requests = s'.requests }
 
   -- it takes the output of a request that is over, and waits for any other
@@ -79,7 +76,7 @@ module _ {B : Type 0} where
   abbrev pub AwaitsNewest : ℕ → Option ℕ → Worker → Worker → Shared B → Shared B → Event → Type 0
   AwaitsNewest t (Some k) w w' s s' e = AwaitsRequest t k w w' s s' e
   AwaitsNewest t None w w' s s' e =
-      (e ≡ Wait None) × (w' ≡ record w { place = at.Poll t poll.Pend }) × TurnsSlot t s s' (λ slot. record slot { waiting = waiting.Wake })
+      (e ≡ Wait None) × (w' ≡ record w { place = Place.Poll t InPoll.Pend }) × TurnsSlot t s s' (λ slot. record slot { waiting = Waiting.Wake })
 
   -- task t lets go of request k, the newest that it holds
   pub record DropsRequest (t k : ℕ) (w w' : Worker) (s s' : Shared B) (e : Event) : Type 0 where
@@ -88,10 +85,10 @@ module _ {B : Type 0} where
     pub there : slice_get s.tasks.items t ≡ Some slot
     pub event : e ≡ Drop k
     pub lets : LetsGo k s.requests.items s'.requests.items w (record w' { place = w.place })
-    pub place : w'.place ≡ at.Poll t poll.Act
+    pub place : w'.place ≡ Place.Poll t InPoll.Act
     pub tasks : s'.tasks.items ≡ slice_set s.tasks.items t slot'
     pub kept : s' ≡ record s { tasks = s'.tasks; requests = s'.requests }
-    pub took : slot' ≡ record slot { held = slot'.held; told = Some hears.Pass }
+    pub took : slot' ≡ record slot { held = slot'.held; told = Some Said.Pass }
     pub newest : Option ℕ
     pub some : IsSome newest
     pub held : slot.held.items ≡ slot'.held.items ++ option_to_list newest

@@ -1,11 +1,9 @@
 -- WHAT THE KERNEL HAS: the operations in a ring are those of the requests that are Staged or fly, and what they may still
 -- move has room.
-use Rattle.std.specs.Prelude.{◌≡◌, ℕ, ◌-◌, ◌^◌, ◌<◌, ◌≤◌, ◌==◌, ◌&&◌, Bool, true, List, [], ◌∷◌, length, filter, sum_by, slice_get, Option, Some, None, if◌then◌else◌}
+use Rattle.std.specs.Prelude.{◌≡◌, ℕ, ◌-◌, ◌^◌, ◌<◌, ◌≤◌, ◌==◌, ◌&&◌, Bool, true, List, [], ◌∷◌, length, filter, sum_by, slice_get, Some, if◌then◌else◌}
 use Rattle.exec_base.specs.{Slab.Slab, declared.slab.Id.Id}
-use Rattle.exec_outcomes.specs.{Lawful.{is_lawful, window_of}, Outcomes.bytes_of, declared.outcome.OpResult.OpResult}
-use Rattle.exec_outcomes.specs.declared.outcome.Kind.TheVariants as kind
+use Rattle.exec_outcomes.specs.{Lawful.{is_lawful, window_of}, Outcomes.bytes_of, declared.outcome.{OpResult.OpResult, Kind.Kind}}
 use Rattle.exec_request.specs.{Requests.{target_of, window_by}, declared.{buffers.WriteBuffers.{WriteBuffers, TheVariants.{Single, Vectored}}, request.Request.Request as Asking}}
-use Rattle.exec_request.specs.declared.request.Request.TheVariants as asks
 use Rattle.exec_ring.specs.{Kernels.is_of, Rings.RingState, Stores.socket_of, declared.{completion.Submission.Submission, store.Store.Store}}
 use Rattle.exec_waiters.specs.{Ids.{user_data_of, index_in}, States.waiter_at, declared.waiter.{Entry.Entry, Waiter.Waiter}}
 use Rattle.exec_machine.specs.{declared.state.{Operation.Operation, RequestPhase.{RequestPhase, TheVariants.{Staged, Flying, Landed, Resolved}}}, Requests.{asked_of, cursor_of}, Same.same_kind}
@@ -18,8 +16,8 @@ IsOneBuffer (Single buf offset) = length buf < 2 ^ 32
 IsOneBuffer (Vectored bufs chunk offset remaining) = ⊥
 
 abbrev pub IsWhole : Asking → Type 0
-IsWhole (asks.Send s) = IsOneBuffer s.write
-IsWhole (asks.Poll p) = Unit {0}
+IsWhole (Asking.Send s) = IsOneBuffer s.write
+IsWhole (Asking.Poll p) = Unit {0}
 IsWhole _ = ⊥
 
 -- the operations of this user data
@@ -45,7 +43,7 @@ unlanded (Landed given) o = (o.length - o.moved) - bytes_of given
 unlanded _ o = o.length - o.moved
 
 abbrev pub sends_to : ℕ → Operation → Bool
-sends_to socket o = same_kind o.kind kind.Send && (o.target == socket)
+sends_to socket o = same_kind o.kind Kind.Send && (o.target == socket)
 
 abbrev pub may_send : ℕ → Record → ℕ
 may_send socket r = if sends_to socket r.shown.operation then unlanded r.shown.phase r.shown.operation else 0

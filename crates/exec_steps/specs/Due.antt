@@ -4,20 +4,18 @@ use Rattle.exec_base.specs.{Slab.{Slab, value_at}, declared.slab.Id.Id}
 use Rattle.exec_time.specs.{Wheel.Wheel, declared.timers.Sleeper.Sleeper as Sleeping}
 use Rattle.exec_driver.specs.{Driving.Driving, Punctual.IsPunctual}
 use Rattle.exec_machine.specs.{declared.{config.Configuration.Configuration, state.Sleeper.Sleeper}, Ranges.{horizon, wheel_slots}, Tests.{is_asleep, is_resolved}}
-use Rattle.exec_moves.specs.declared.place.InService.{InService}
-use Rattle.exec_moves.specs.declared.place.InService.TheVariants as step
-use Rattle.exec_moves.specs.declared.place.Reaping.TheVariants as reaping
+use Rattle.exec_moves.specs.declared.place.{InService.InService, Reaping.Reaping}
 use Rattle.exec_steps.specs.{declared.parts.{mail.Reply.Reply, names.Names.Names, record.Record.Record, sleeping.SleeperRecord.SleeperRecord, worker.Moments.Moments}, Ordered.{IsOrdered, went_round}, Records.number_in}
 
 -- from the advance of the wheel to the end of the submissions deadlines may be due and not told
 abbrev pub may_be_due : Option InService → Bool
-may_be_due (Some (step.Submit gate)) = true
+may_be_due (Some (InService.Submit gate)) = true
 may_be_due _ = false
 
 -- the wheel stands at what was sampled last; from the sampling to its advance at what was sampled before
 abbrev pub wheel_moment : Option InService → Moments → ℕ
-wheel_moment (Some (step.Reap reaping.First)) m = m.before
-wheel_moment (Some step.AdvanceWheel) m = m.before
+wheel_moment (Some (InService.Reap Reaping.First)) m = m.before
+wheel_moment (Some InService.AdvanceWheel) m = m.before
 wheel_moment _ m = m.sampled
 
 -- the wheel is that of a worker with this start, and stands at this moment

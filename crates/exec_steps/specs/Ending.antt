@@ -1,9 +1,8 @@
 -- A task ends: it lets go of all that it holds, the oldest first.
 use Rattle.std.specs.Prelude.{◌≡◌, ℕ, ◌<◌, List, [], ◌∷◌, length, slice_get, slice_set, Some, IsTrue}
 use Rattle.exec_task.specs.Phases.{is_polled, over}
-use Rattle.exec_moves.specs.declared.place.InClosing.TheVariants as closing
-use Rattle.exec_moves.specs.declared.place.Place.TheVariants as at
 use Rattle.exec_steps.specs.{declared.parts.{record.Record.Record, shared.Shared.Shared, task_slot.TaskSlot.TaskSlot, worker.Worker.Worker}, Awaits.{LetsGo, MayLetGo}, Polls.OfSlot}
+use Rattle.exec_moves.specs.declared.place.{InClosing.InClosing, Place.Place}
 
 -- each of these can be let go of, one after another
 abbrev pub MayLetGoAll : List ℕ → List Record → Worker → Type 0
@@ -29,7 +28,7 @@ module _ {B : Type 0} where
     pub there : slice_get s.tasks.items t ≡ Some slot
     pub v : Worker
     pub lets : LetsGoAll slot.held.items s.requests.items s'.requests.items w v
-    pub worker : w' ≡ record v { place = at.Closing closing.Close }
+    pub worker : w' ≡ record v { place = Place.Closing InClosing.Close }
     pub none : slot'.held.items ≡ []
     pub became : slot' ≡ record slot { held = slot'.held; cell = over slot.cell }
     pub tasks : s'.tasks.items ≡ slice_set s.tasks.items t slot'

@@ -1,29 +1,25 @@
 -- WHAT HAS LANDED: the completions in a worker's ring, what its requests may be yet, and room for what ends.
-use Rattle.std.specs.Prelude.{◌≡◌, ℕ, ◌+◌, ◌%◌, ◌^◌, ◌<◌, ◌≤◌, Bool, true, false, not, List, [], ◌∷◌, length, map, filter, slice_get, Option, Some, None, is_some, IfSome}
-use Rattle.std.specs.Vec.{vec_capacity}
-use Rattle.std.specs.VecDeque.{deque_capacity}
+use Rattle.std.specs.{Prelude.{◌≡◌, ℕ, ◌+◌, ◌%◌, ◌^◌, ◌<◌, ◌≤◌, Bool, true, false, not, List, [], ◌∷◌, length, map, filter, slice_get, Option, Some, None, is_some, IfSome}, Vec.vec_capacity, VecDeque.deque_capacity}
 use Rattle.exec_base.specs.declared.slab.Id.{Id}
 use Rattle.exec_outcomes.specs.declared.outcome.Kind.{Kind}
-use Rattle.exec_outcomes.specs.declared.outcome.Kind.TheVariants as kind
 use Rattle.exec_ring.specs.{Completions.result_in, Rings.{RingState, completions}, declared.completion.{Completion.Completion, Posted.Posted}}
 use Rattle.exec_request.specs.Requests.{deadline_of}
 use Rattle.exec_waiters.specs.{Ids.{index_in, generation_in}, Events.is_lawful_for, States.{waiter_at, takes_tick}, declared.{waiter.Waiter.Waiter, waiter_id.WaiterId.WaiterId}}
 use Rattle.exec_driver.specs.{Driving.Driving, Lists.is_among, Steps.is_control}
 use Rattle.exec_machine.specs.{declared.state.{Request.Request, RequestPhase.TheVariants.Landed}, Tests.{is_gated, is_resolved}}
 use Rattle.exec_moves.specs.declared.place.InService.{InService}
-use Rattle.exec_moves.specs.declared.place.InService.TheVariants as step
 use Rattle.exec_steps.specs.{declared.parts.{mail.Reply.Reply, names.Names.Names, record.Record.Record}, Records.number_in, Serving.is_one_of, View.number_told}
 
 -- no durable request is there, so no permit is given up
 abbrev pub passes_permit : Option InService → Bool
-passes_permit (Some (step.PassPermit file back)) = true
-passes_permit (Some (step.Signal worker back)) = true
+passes_permit (Some (InService.PassPermit file back)) = true
+passes_permit (Some (InService.Signal worker back)) = true
 passes_permit _ = false
 
 -- So long a request of this kind is at most; no other kind is there yet.
 abbrev pub longest : Kind → Option ℕ
-longest kind.Poll = Some 1
-longest kind.Send = Some 18446744073709551615
+longest Kind.Poll = Some 1
+longest Kind.Send = Some 18446744073709551615
 longest _ = None
 
 abbrev pub IsUpTo : Option ℕ → ℕ → Type 0

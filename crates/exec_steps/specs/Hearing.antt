@@ -1,23 +1,21 @@
 -- What a task can be told next, and what it holds then.
 use Rattle.std.specs.Prelude.{◌≡◌, ℕ, List, Option, Some, None, slice_get}
 use Rattle.exec_task.specs.declared.body.Said.{Said}
-use Rattle.exec_task.specs.declared.body.Said.TheVariants as said
 use Rattle.exec_machine.specs.{declared.state.Waiting.Waiting, Tasks.without_newest}
-use Rattle.exec_machine.specs.declared.state.Waiting.TheVariants as waiting
 use Rattle.exec_steps.specs.{declared.parts.{shared.Shared.Shared, task_slot.TaskSlot.TaskSlot, worker.Worker.Worker}, View.body_in}
 
 -- what a task is told that waits for this; where it is known already, that
 abbrev pub CanHear : Option Said → Waiting → Said → Type 0
 CanHear (Some told) u answer = answer ≡ told
-CanHear None (waiting.Request r) (said.Output output) = Unit {0}
-CanHear None (waiting.Timer z) said.Slept = Unit {0}
-CanHear None waiting.Wake said.Pass = Unit {0}
-CanHear None waiting.Woken said.Pass = Unit {0}
+CanHear None (Waiting.Request r) (Said.Output output) = Unit {0}
+CanHear None (Waiting.Timer z) Said.Slept = Unit {0}
+CanHear None Waiting.Wake Said.Pass = Unit {0}
+CanHear None Waiting.Woken Said.Pass = Unit {0}
 CanHear None u answer = ⊥
 
 -- what it holds once what it waits for has come
 abbrev pub held_once_come : Waiting → List ℕ → List ℕ
-held_once_come (waiting.Request r) held = without_newest held
+held_once_come (Waiting.Request r) held = without_newest held
 held_once_come _ held = held
 
 module _ {B : Type 0} where

@@ -1,6 +1,5 @@
 -- THE ORDER in which the deadlines of a worker are told.
-use Rattle.std.specs.Prelude.{◌≡◌, ℕ, ◌+◌, ◌-◌, ◌/◌, ◌%◌, ◌^◌, ◌<◌, ◌≤◌, ◌⊎◌, Bool, false, List, [], ◌∷◌, Option, Some, nat_le, if◌then◌else◌}
-use Rattle.std.specs.List.{AllByRecursion}
+use Rattle.std.specs.{Prelude.{◌≡◌, ℕ, ◌+◌, ◌-◌, ◌/◌, ◌%◌, ◌^◌, ◌<◌, ◌≤◌, ◌⊎◌, Bool, false, List, [], ◌∷◌, Option, Some, nat_le, if◌then◌else◌}, List.AllByRecursion}
 use Rattle.exec_base.specs.{Slab.{Slab, IsPast}, declared.slab.Id.Id}
 use Rattle.exec_time.specs.Wheel.{Wheel}
 use Rattle.exec_waiters.specs.{States.{awaits_tick, tick_of, waiter_at}, declared.{waiter.Entry.Entry, waiter_id.WaiterId.WaiterId}}

@@ -3,60 +3,54 @@ use Rattle.std.specs.Prelude.{◌≡◌, ℕ, ◌<◌, Bool, true, false, not, L
 use Rattle.exec_base.specs.Slab.{Slab, live_count}
 use Rattle.exec_time.specs.declared.timers.Sleeper.{Sleeper as Sleeping}
 use Rattle.exec_task.specs.{TaskSet.{Set, IsFor}, declared.task.Phase.Phase}
-use Rattle.exec_task.specs.declared.task.Phase.TheVariants as cell
 use Rattle.exec_machine.specs.{declared.state.WorkerPhase.WorkerPhase, Tests.{is_open, has_ended, is_asleep}}
-use Rattle.exec_moves.specs.declared.place.AfterCallbacks.TheVariants as after
-use Rattle.exec_moves.specs.declared.place.{AfterService.AfterService, InClosing.InClosing, Place.Place}
-use Rattle.exec_moves.specs.declared.place.AfterService.TheVariants as back
-use Rattle.exec_moves.specs.declared.place.InClosing.TheVariants as closing
-use Rattle.exec_moves.specs.declared.place.Place.TheVariants as at
-use Rattle.exec_moves.specs.declared.place.Stay.TheVariants as stay
+use Rattle.exec_moves.specs.declared.place.{AfterService.AfterService, InClosing.InClosing, Place.Place, AfterCallbacks.AfterCallbacks, Stay.Stay}
 use Rattle.exec_steps.specs.declared.parts.{mail.Reply.Reply, names.Names.Names, record.Record.Record, seat.Seat.Seat as Chair, shared.Shared.Shared, sleeping.SleeperRecord.SleeperRecord, task_slot.TaskSlot.TaskSlot}
 
 abbrev pub closes_after : AfterService → Bool
-closes_after back.Finish = true
+closes_after AfterService.Finish = true
 closes_after _ = false
 
 -- the worker is closing there
 abbrev pub closes_at : Place → Bool
-closes_at (at.Closing closing.Close) = false
-closes_at (at.Closing x) = true
-closes_at (at.Service x v) = closes_after v.back
-closes_at (at.RingWait x stay.Closing) = true
-closes_at (at.Callbacks x after.Drain) = true
-closes_at (at.Callbacks x after.Finish) = true
+closes_at (Place.Closing InClosing.Close) = false
+closes_at (Place.Closing x) = true
+closes_at (Place.Service x v) = closes_after v.back
+closes_at (Place.RingWait x Stay.Closing) = true
+closes_at (Place.Callbacks x AfterCallbacks.Drain) = true
+closes_at (Place.Callbacks x AfterCallbacks.Finish) = true
 closes_at _ = false
 
 -- where the closing is
 abbrev pub closing_in : Place → Option InClosing
-closing_in (at.Closing x) = Some x
+closing_in (Place.Closing x) = Some x
 closing_in _ = None
 
 -- the root is over where the worker is about to close, and then
 abbrev pub root_over : Bool → Option InClosing → Bool
-root_over closes (Some closing.Close) = true
+root_over closes (Some InClosing.Close) = true
 root_over closes _ = closes
 
 -- the pool is stopped, the worker has passed the barrier, its mailbox is closed: one after another
 abbrev pub has_stopped : Bool → Option InClosing → Bool
-has_stopped closes (Some closing.Close) = false
-has_stopped closes (Some closing.CloseQueue) = false
-has_stopped closes (Some closing.OpenBarrier) = false
-has_stopped closes (Some closing.Stop) = false
+has_stopped closes (Some InClosing.Close) = false
+has_stopped closes (Some InClosing.CloseQueue) = false
+has_stopped closes (Some InClosing.OpenBarrier) = false
+has_stopped closes (Some InClosing.Stop) = false
 has_stopped closes _ = closes
 
 abbrev pub has_left : Bool → Option InClosing → Bool
-has_left closes (Some closing.Discard) = false
-has_left closes (Some (closing.Visit drain)) = false
-has_left closes (Some closing.LeaveBarrier) = false
+has_left closes (Some InClosing.Discard) = false
+has_left closes (Some (InClosing.Visit drain)) = false
+has_left closes (Some InClosing.LeaveBarrier) = false
 has_left closes x = has_stopped closes x
 
 abbrev pub has_shut : Bool → Option InClosing → Bool
-has_shut closes (Some closing.CloseMailbox) = false
+has_shut closes (Some InClosing.CloseMailbox) = false
 has_shut closes x = has_left closes x
 
 abbrev pub is_complete : {B : Type 0} → Phase B → Bool
-is_complete cell.Complete = true
+is_complete Phase.Complete = true
 is_complete _ = false
 
 -- what a closing changes of the worker's seat, and of what all share
@@ -75,10 +69,10 @@ stage_of chair s =
 -- What a step of the closing needs beside: a drain is one of the set, and not over; at the end all requests are released;
 -- and since its root let go of all that it held, nothing is left to be let go of.
 abbrev pub IsPrepared : Option InClosing → ℕ → Set (Unit {0}) → Type 0
-IsPrepared (Some (closing.Visit drain)) unreleased set = IsFor drain set × (0 < drain.left)
-IsPrepared (Some closing.Orphan) unreleased set = ⊥
-IsPrepared (Some closing.CloseSleeper) unreleased set = ⊥
-IsPrepared (Some closing.End) unreleased set = unreleased ≡ 0
+IsPrepared (Some (InClosing.Visit drain)) unreleased set = IsFor drain set × (0 < drain.left)
+IsPrepared (Some InClosing.Orphan) unreleased set = ⊥
+IsPrepared (Some InClosing.CloseSleeper) unreleased set = ⊥
+IsPrepared (Some InClosing.End) unreleased set = unreleased ≡ 0
 IsPrepared _ unreleased set = Unit {0}
 
 module _ {B : Type 0} where
@@ -86,7 +80,7 @@ module _ {B : Type 0} where
   pub record IsPhased (closes : Bool) (x : Option InClosing) (home_closes : Bool) (t unreleased : ℕ) (at : Stage) (tasks : List (TaskSlot B)) : Type 0 where
     pub told : home_closes ≡ closes
     pub opened : is_open at.phase ≡ not closes
-    pub ended : has_ended at.phase ≡ true → x ≡ Some closing.End
+    pub ended : has_ended at.phase ≡ true → x ≡ Some InClosing.End
     pub root : (slot : TaskSlot B) → slice_get tasks t ≡ Some slot → is_complete slot.cell.phase ≡ root_over closes x
     pub lone : (k : ℕ) (slot : TaskSlot B) → slice_get tasks k ≡ Some slot → k ≡ t
     pub pool : at.pool ≡ true

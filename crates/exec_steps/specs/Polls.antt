@@ -6,17 +6,13 @@ use Rattle.exec_outcomes.specs.declared.outcome.Outcome.{Outcome}
 use Rattle.exec_request.specs.declared.output.RequestOutput.{RequestOutput}
 use Rattle.exec_waiters.specs.{Events.taken, declared.waiter.Entry.TheVariants.Ready}
 use Rattle.exec_driver.specs.{Driving.Driving, Opens.OpenState, Punctual.IsPunctual}
-use Rattle.exec_task.specs.declared.body.Said.TheVariants as hears
-use Rattle.exec_task.specs.declared.runnable.AfterPoll.TheVariants as done
-use Rattle.exec_machine.specs.{declared.{event.Event.{Event, TheVariants.Got}, state.RequestPhase.TheVariants.Resolved}, Tasks.begun_waiting}
-use Rattle.exec_machine.specs.declared.state.Waiting.TheVariants as waiting
-use Rattle.exec_moves.specs.declared.place.InPoll.TheVariants as poll
-use Rattle.exec_moves.specs.declared.place.Place.TheVariants as at
+use Rattle.exec_machine.specs.{declared.{event.Event.{Event, TheVariants.Got}, state.{RequestPhase.TheVariants.Resolved, Waiting.Waiting}}, Tasks.begun_waiting}
 use Rattle.exec_steps.specs.{declared.parts.{mail.Reply.Reply, record.Record.Record, shared.Shared.Shared, task_slot.TaskSlot.TaskSlot, worker.Worker.Worker}, View.{account_seen, driver_of}}
+use Rattle.exec_moves.specs.declared.place.{InPoll.InPoll, Place.Place}
 
 -- a runnable that comes back goes into the flag
 abbrev pub flag_after : AfterPoll → Option Runnable → Option Runnable
-flag_after (done.Requeue r) flag = Some r
+flag_after (AfterPoll.Requeue r) flag = Some r
 flag_after _ flag = flag
 
 module _ {B : Type 0} where
@@ -45,18 +41,18 @@ module _ {B : Type 0} where
 
   -- the wake that it waited for has come
   abbrev pub passed_slot : TaskSlot B → TaskSlot B
-  passed_slot slot = record slot { waiting = waiting.Nothing; told = Some hears.Pass }
+  passed_slot slot = record slot { waiting = Waiting.Nothing; told = Some Said.Pass }
 
   -- it has slept
   abbrev pub slept_slot : TaskSlot B → TaskSlot B
-  slept_slot slot = record slot { waiting = waiting.Nothing; told = Some hears.Slept }
+  slept_slot slot = record slot { waiting = Waiting.Nothing; told = Some Said.Slept }
 
   -- it lets others go first
   abbrev pub yielded_slot : TaskSlot B → TaskSlot B
   yielded_slot slot =
       record slot {
-        waiting = waiting.Yielded;
-        told = Some hears.Pass;
+        waiting = Waiting.Yielded;
+        told = Some Said.Pass;
         fresh = false;
         cell = record slot.cell { phase = woken slot.cell.phase };
       }
@@ -107,14 +103,14 @@ module _ {B : Type 0} where
     pub outcome : Outcome
     pub is : r.shown.phase ≡ Resolved outcome
     pub event : e ≡ Got k outcome
-    pub worker : w' ≡ record w { place = at.Poll t poll.Act; names = record w.names { held = w.names.held - 1 }; home = record w.home { driver = w'.home.driver } }
+    pub worker : w' ≡ record w { place = Place.Poll t InPoll.Act; names = record w.names { held = w.names.held - 1 }; home = record w.home { driver = w'.home.driver } }
     pub driver : driver_of w' ≡ record (driver_of w) { requests = taken (driver_of w).requests r.id.0 }
     pub punctual : IsPunctual (driver_of w) → IsPunctual (driver_of w')
     pub requests : s'.requests.items ≡ slice_set s.requests.items k (unobserved r)
     pub tasks : s'.tasks.items ≡ slice_set s.tasks.items t slot'
     pub kept : s' ≡ record s { tasks = s'.tasks; requests = s'.requests }
     pub output : RequestOutput
-    pub took : slot' ≡ record slot { held = slot'.held; waiting = waiting.Nothing; told = Some (hears.Output output) }
+    pub took : slot' ≡ record slot { held = slot'.held; waiting = Waiting.Nothing; told = Some (Said.Output output) }
     pub newest : Option ℕ
     pub some : IsSome newest
     pub held : slot.held.items ≡ slot'.held.items ++ option_to_list newest

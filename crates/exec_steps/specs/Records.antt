@@ -1,17 +1,10 @@
 -- Words for the records of requests and for the numbers of a worker.
-use Rattle.std.specs.Prelude.{◌≡◌, ℕ, ◌+◌, ◌<◌, ◌≤◌, ◌^◌, Bool, true, false, List, [], length, nat_le, slice_index_or, Option, Some, None, if◌then◌else◌}
-use Rattle.std.specs.Vec.{vec_capacity}
-use Rattle.std.specs.VecDeque.{deque_capacity}
+use Rattle.std.specs.{Prelude.{◌≡◌, ℕ, ◌+◌, ◌<◌, ◌≤◌, ◌^◌, Bool, true, false, List, [], length, nat_le, slice_index_or, Option, Some, None, if◌then◌else◌}, Vec.vec_capacity, VecDeque.deque_capacity}
 use Rattle.exec_base.specs.declared.slab.Id.{Id}
 use Rattle.exec_outcomes.specs.declared.outcome.{Kind.{Kind, TheVariants.{Direct, Many}}, Outcome.Outcome}
 use Rattle.exec_request.specs.{Requests.{asked_of, deadline_of, target_of}, declared.{request.Request.Request as Asking, way.Way.Way}}
-use Rattle.exec_request.specs.declared.request.Request.TheVariants as asking
-use Rattle.exec_request.specs.declared.way.Way.TheVariants as way
-use Rattle.exec_machine.specs.{World.no_operation, declared.state.{Operation.Operation, RequestPhase.{RequestPhase, TheVariants.Resolved}, Rest.Rest}}
-use Rattle.exec_machine.specs.declared.state.Rest.TheVariants as rest
-use Rattle.exec_machine.specs.declared.state.WorkerPhase.TheVariants as worker
-use Rattle.exec_words.specs.Inbox.{without_mail}
-use Rattle.exec_words.specs.declared.word.WaitTarget.TheVariants as target
+use Rattle.exec_machine.specs.{World.no_operation, declared.state.{Operation.Operation, RequestPhase.{RequestPhase, TheVariants.Resolved}, Rest.Rest, WorkerPhase.WorkerPhase}}
+use Rattle.exec_words.specs.{Inbox.without_mail, declared.word.WaitTarget.WaitTarget}
 use Rattle.exec_steps.specs.declared.parts.{names.Names.Names, seat.Seat.Seat}
 
 -- how it ended, where it is over
@@ -27,13 +20,13 @@ has_one_part _ = true
 
 -- so many bytes lie before the range of a direct read in its whole pages
 abbrev pub skip_in : Way → ℕ
-skip_in (way.Direct skip len) = skip
-skip_in (way.Switched skip len) = skip
+skip_in (Way.Direct skip len) = skip
+skip_in (Way.Switched skip len) = skip
 skip_in _ = 0
 
 -- the range of a read begins below the end of the numbers
 abbrev pub IsInRange : Asking → Type 0
-IsInRange (asking.ReadAt r) = r.offset + skip_in r.way < 2 ^ 64
+IsInRange (Asking.ReadAt r) = r.offset + skip_in r.way < 2 ^ 64
 IsInRange _ = Unit {0}
 
 -- what a request asks for that moves bytes of no file
@@ -86,7 +79,7 @@ HasTimerRoom n = length n.timers.items < vec_capacity n.timers
 
 -- how a worker rests once the clock has come to this moment
 abbrev pub rest_at : ℕ → Rest → Rest
-rest_at clock (rest.Until moment) = if nat_le moment clock then rest.Awake else rest.Until moment
+rest_at clock (Rest.Until moment) = if nat_le moment clock then Rest.Awake else Rest.Until moment
 rest_at clock other = other
 
 -- the seat then, and that of a worker who is awake
@@ -94,14 +87,14 @@ abbrev pub reached : ℕ → Seat → Seat
 reached clock seat = record seat { rest = rest_at clock seat.rest }
 
 abbrev pub roused : Seat → Seat
-roused seat = record seat { rest = rest.Awake }
+roused seat = record seat { rest = Rest.Awake }
 
 -- the seat of a worker that begins
 pub record IsFreshSeat (pool : Bool) (seat : Seat) : Type 0 where
-  pub phase : seat.phase ≡ worker.Open
+  pub phase : seat.phase ≡ WorkerPhase.Open
   pub pool_is : seat.pool ≡ pool
   pub left : seat.left ≡ false
-  pub rest : seat.rest ≡ rest.Awake
+  pub rest : seat.rest ≡ Rest.Awake
   pub queue : seat.queue ≡ record { real = 0; gap = 0; values = []; held = [] }
   pub inbox : seat.mailbox.inbox ≡ without_mail 1
-  pub waker : seat.mailbox.waker ≡ record { target = target.None; latch = false; batch = 0 }
+  pub waker : seat.mailbox.waker ≡ record { target = WaitTarget.None; latch = false; batch = 0 }

@@ -3,16 +3,13 @@ use Rattle.std.specs.Prelude.{◌≡◌, ℕ, ◌-◌, Bool, true, false, List, 
 use Rattle.exec_base.specs.{Slab.{Slab, value_at}, declared.{error.Error.Error, slab.Id.Id}}
 use Rattle.exec_outcomes.specs.declared.outcome.Outcome.{Outcome, TheVariants.{Success, Failure}}
 use Rattle.exec_request.specs.{States.as_outcome, declared.output.RequestOutput.RequestOutput}
-use Rattle.exec_request.specs.declared.output.RequestOutput.TheVariants as output
-use Rattle.exec_time.specs.declared.timers.Observer.TheVariants as sleep
 use Rattle.exec_time.specs.declared.timers.Sleeper.{Sleeper as Sleeping}
 use Rattle.exec_waiters.specs.declared.{observer.Observer.{Observer, TheVariants.{Local, Orphaned}}, waiter.Entry.TheVariants.Ready}
 use Rattle.exec_driver.specs.Driving.{Driving}
 use Rattle.exec_machine.specs.{declared.state.{Forwarding.TheVariants.Unsent, RequestPhase.TheVariants.Resolved, Waiting.Waiting}, Tests.is_resolved}
-use Rattle.exec_machine.specs.declared.state.Waiting.TheVariants as waiting
 use Rattle.exec_moves.specs.declared.place.InPoll.{InPoll}
-use Rattle.exec_moves.specs.declared.place.InPoll.TheVariants as poll
 use Rattle.exec_steps.specs.{declared.parts.{mail.Reply.Reply, names.Names.Names, record.Record.Record, sleeping.SleeperRecord.SleeperRecord, task_slot.TaskSlot.TaskSlot}, Phased.is_complete, Records.number_in, Serving.is_one_of}
+use Rattle.exec_time.specs.declared.timers.Observer.TheVariants as sleep
 
 -- the observer of a request is a task of its worker, or nobody
 abbrev pub IsNear : Observer Reply Reply → Type 0
@@ -26,13 +23,13 @@ outcome_by (Ok filled) = Success
 outcome_by (Err back) = Failure back.1
 
 abbrev pub outcome_told : RequestOutput → Outcome
-outcome_told (output.Send ended) = as_outcome ended
-outcome_told (output.Recv received) = outcome_by received
-outcome_told (output.ReadAt read) = outcome_by read
-outcome_told (output.WriteAt ended) = as_outcome ended
-outcome_told (output.Sync ended) = as_outcome ended
-outcome_told (output.Connect ended) = as_outcome ended
-outcome_told (output.Poll ended) = as_outcome ended
+outcome_told (RequestOutput.Send ended) = as_outcome ended
+outcome_told (RequestOutput.Recv received) = outcome_by received
+outcome_told (RequestOutput.ReadAt read) = outcome_by read
+outcome_told (RequestOutput.WriteAt ended) = as_outcome ended
+outcome_told (RequestOutput.Sync ended) = as_outcome ended
+outcome_told (RequestOutput.Connect ended) = as_outcome ended
+outcome_told (RequestOutput.Poll ended) = as_outcome ended
 
 -- the request of an output that is kept is over so, and held
 pub record IsKept (told : RequestOutput) (r : Record) : Type 0 where
@@ -64,8 +61,8 @@ pub record AwaitsTimer (ends : Bool) (i t : ℕ) (z : SleeperRecord) : Type 0 wh
   pub asleep : ends ≡ true → z.shown.fired ≡ false
 
 abbrev pub Awaits : Bool → ℕ → ℕ → List ℕ → Waiting → List Record → List SleeperRecord → Type 0
-Awaits ends i t held (waiting.Request k) records sleepers = (r : Record) × (slice_get records k ≡ Some r) × AwaitsRequest ends t k held r
-Awaits ends i t held (waiting.Timer k) records sleepers = (z : SleeperRecord) × (slice_get sleepers k ≡ Some z) × AwaitsTimer ends i t z
+Awaits ends i t held (Waiting.Request k) records sleepers = (r : Record) × (slice_get records k ≡ Some r) × AwaitsRequest ends t k held r
+Awaits ends i t held (Waiting.Timer k) records sleepers = (z : SleeperRecord) × (slice_get sleepers k ≡ Some z) × AwaitsTimer ends i t z
 Awaits ends i t held _ records sleepers = Unit {0}
 
 -- A task that holds these requests and waits for this has all that is observed of worker i, each once; nobody else is
@@ -75,16 +72,16 @@ pub record Holds (ends : Bool) (i t : ℕ) (holding : List ℕ) (what : Waiting)
   pub held : (j k : ℕ) → slice_get holding j ≡ Some k → (r : Record) × (slice_get records k ≡ Some r) × IsHeld i k n d r
   pub once : (j l k : ℕ) → slice_get holding j ≡ Some k → slice_get holding l ≡ Some k → j ≡ l
   pub all : (k : ℕ) (r : Record) → slice_get records k ≡ Some r → r.shown.worker ≡ i → r.shown.observed ≡ true → is_one_of k holding ≡ true
-  pub awaited : (k : ℕ) (r : Record) (u : ℕ) → slice_get records k ≡ Some r → r.shown.worker ≡ i → is_resolved r.shown.phase ≡ false → r.shown.observed ≡ true → r.shown.waiter ≡ Some u → (u ≡ t) × (what ≡ waiting.Request k)
+  pub awaited : (k : ℕ) (r : Record) (u : ℕ) → slice_get records k ≡ Some r → r.shown.worker ≡ i → is_resolved r.shown.phase ≡ false → r.shown.observed ≡ true → r.shown.waiter ≡ Some u → (u ≡ t) × (what ≡ Waiting.Request k)
   pub kept : (id : Id) (told : RequestOutput) (r : Record) → value_at d.requests id ≡ Some (Ready told) → slice_get records (number_in n.requests.items id) ≡ Some r → IsKept told r
   pub waits : Awaits ends i t holding what records sleepers
-  pub sleeping : (id : Id) (it : Sleeping Reply) → value_at zs id ≡ Some it → (it.observer ≡ sleep.Local (record { 0 = t })) × (what ≡ waiting.Timer (number_in n.timers.items id))
-  pub asleep : (k : ℕ) (z : SleeperRecord) → slice_get sleepers k ≡ Some z → z.shown.worker ≡ i → z.shown.fired ≡ false → z.shown.removed ≡ false → what ≡ waiting.Timer k
-  pub over : ended ≡ true → (holding ≡ []) × (what ≡ waiting.Nothing)
+  pub sleeping : (id : Id) (it : Sleeping Reply) → value_at zs id ≡ Some it → (it.observer ≡ sleep.Local (record { 0 = t })) × (what ≡ Waiting.Timer (number_in n.timers.items id))
+  pub asleep : (k : ℕ) (z : SleeperRecord) → slice_get sleepers k ≡ Some z → z.shown.worker ≡ i → z.shown.fired ≡ false → z.shown.removed ≡ false → what ≡ Waiting.Timer k
+  pub over : ended ≡ true → (holding ≡ []) × (what ≡ Waiting.Nothing)
 
 -- the poll is about to end
 abbrev pub ends_poll : Option InPoll → Bool
-ends_poll (Some poll.Pend) = true
+ends_poll (Some InPoll.Pend) = true
 ends_poll _ = false
 
 module _ {B : Type 0} where

@@ -2,12 +2,8 @@
 use Rattle.std.specs.Prelude.{◌≡◌, ℕ, ◌-◌, ◌^◌, ◌<◌, ◌≤◌, Bool, true, false, List, [], ◌∷◌, ◌++◌, length, slice_get, Option, Some, None, if◌then◌else◌}
 use Rattle.exec_base.specs.declared.{error.Error.TheVariants.NoMemory, limits.TheConstants.LAST_MOMENT}
 use Rattle.exec_request.specs.declared.{buffers.WriteBuffers.{WriteBuffers, TheVariants.Single}, request.Request.Request}
-use Rattle.exec_request.specs.declared.request.Request.TheVariants as request
 use Rattle.exec_task.specs.{Sight.Sight, declared.body.{Act.Act, Said.Said}}
-use Rattle.exec_task.specs.declared.body.Act.TheVariants as act
-use Rattle.exec_task.specs.declared.body.Said.TheVariants as said
 use Rattle.exec_machine.specs.{declared.{config.{Configuration.Configuration, ScriptWord.ScriptWord}, state.Operation.Operation}, Progress.Plan, Requests.operation_asked, Tasks.without_newest, World.{Task, Common}, Words.{next_word, moved_on}}
-use Rattle.exec_machine.specs.declared.config.ScriptWord.TheVariants as word
 use Rattle.exec_steps.specs.Spots.{Spot, IsAskedFor, spot_of}
 
 -- WHAT A BODY MAY DO YET: it makes polls, and sends of one part, waits for them, lets go of them, sleeps, and ends. It spawns
@@ -19,57 +15,57 @@ IsOnePart (Single bytes offset) = (offset ≡ 0) × (length bytes < 2 ^ 32)
 IsOnePart _ = ⊥
 
 abbrev pub IsPlainRequest : Request → Type 0
-IsPlainRequest (request.Poll r) = Unit {0}
-IsPlainRequest (request.Send r) = IsOnePart r.write
+IsPlainRequest (Request.Poll r) = Unit {0}
+IsPlainRequest (Request.Send r) = IsOnePart r.write
 IsPlainRequest _ = ⊥
 
 module _ {B : Type 0} where
   -- The act is that of the word, by the worker's moment, for a task that holds these requests.
   abbrev pub Asks : Configuration → ℕ → List ℕ → ScriptWord → Act B → Type 0
-  Asks c moment held w (act.Register r) = IsPlainRequest r × (o : Operation) × (operation_asked c moment w ≡ Some o) × IsAskedFor o r
-  Asks c moment held w (act.Await r) = (w ≡ word.Await) × (r ≡ slice_get held (length held - 1))
-  Asks c moment held w (act.Drop r) = (w ≡ word.Drop) × (slice_get held (length held - 1) ≡ Some r)
-  Asks c moment held w (act.Sleep time) = w ≡ word.Sleep time
-  Asks c moment held w act.Yield = w ≡ word.Yield
-  Asks c moment held w (act.Done n) = w ≡ word.End
-  Asks c moment held w (act.Fault n) = w ≡ word.Fault n
-  Asks c moment held w (act.Spawn b) = ⊥
-  Asks c moment held w (act.Dedicated b) = ⊥
-  Asks c moment held w (act.Wake t) = ⊥
+  Asks c moment held w (Act.Register r) = IsPlainRequest r × (o : Operation) × (operation_asked c moment w ≡ Some o) × IsAskedFor o r
+  Asks c moment held w (Act.Await r) = (w ≡ ScriptWord.Await) × (r ≡ slice_get held (length held - 1))
+  Asks c moment held w (Act.Drop r) = (w ≡ ScriptWord.Drop) × (slice_get held (length held - 1) ≡ Some r)
+  Asks c moment held w (Act.Sleep time) = w ≡ ScriptWord.Sleep time
+  Asks c moment held w Act.Yield = w ≡ ScriptWord.Yield
+  Asks c moment held w (Act.Done n) = w ≡ ScriptWord.End
+  Asks c moment held w (Act.Fault n) = w ≡ ScriptWord.Fault n
+  Asks c moment held w (Act.Spawn b) = ⊥
+  Asks c moment held w (Act.Dedicated b) = ⊥
+  Asks c moment held w (Act.Wake t) = ⊥
 
   -- the body is through by this act
   abbrev pub is_last : Act B → Bool
-  is_last (act.Done n) = true
-  is_last (act.Fault n) = true
+  is_last (Act.Done n) = true
+  is_last (Act.Fault n) = true
   is_last _ = false
 
   -- it can be told so of this act, where that was carried out
   abbrev pub IsAnswer : Act B → Said → Type 0
-  IsAnswer (act.Register r) (said.Admitted n) = Unit {0}
-  IsAnswer (act.Await (Some r)) (said.Output output) = Unit {0}
-  IsAnswer (act.Sleep time) said.Slept = Unit {0}
-  IsAnswer a said.Pass = Unit {0}
+  IsAnswer (Act.Register r) (Said.Admitted n) = Unit {0}
+  IsAnswer (Act.Await (Some r)) (Said.Output output) = Unit {0}
+  IsAnswer (Act.Sleep time) Said.Slept = Unit {0}
+  IsAnswer a Said.Pass = Unit {0}
   IsAnswer a told = ⊥
 
   -- what the answer to an act leaves of what the task holds: a request that was made is the newest, one that is over or let
   -- go was the newest
   abbrev pub held_after : Act B → Said → List ℕ → List ℕ
-  held_after (act.Register r) (said.Admitted n) held = held ++ n ∷ []
-  held_after (act.Await (Some r)) (said.Output output) held = without_newest held
-  held_after (act.Drop r) said.Pass held = without_newest held
+  held_after (Act.Register r) (Said.Admitted n) held = held ++ n ∷ []
+  held_after (Act.Await (Some r)) (Said.Output output) held = without_newest held
+  held_after (Act.Drop r) Said.Pass held = without_newest held
   held_after a told held = held
 
 -- It stands somewhere else only where it is told that there was no memory for its last act: then it stands where it stood.
 abbrev pub IsAnswered : {L : Type 0} → (L → Option Said → Spot) → Type 0
-IsAnswered {L} spot = (l : L) (answer : Said) → (answer ≡ said.Refused NoMemory → ⊥) → spot l (Some answer) ≡ spot l None
+IsAnswered {L} spot = (l : L) (answer : Said) → (answer ≡ Said.Refused NoMemory → ⊥) → spot l (Some answer) ≡ spot l None
 
 module _ {B L : Type 0} (runs : L → Plan → Type 0) (holds : L → Option Said → List ℕ) (spot : L → Option Said → Spot) (gives : L → Option Sight → Said → Act B → L → Option Sight → Type 0) where
   -- What a body that isn't through is left to do, for a task that held these requests.
   pub record GoesOn (p : Plan) (t : Task) (a : Act B) (l' : L) : Type 0 where
     pub runs_on : runs l' p
     pub holding : (answer : Said) → IsAnswer a answer → holds l' (Some answer) ≡ held_after a answer t.held
-    pub refused : spot l' (Some (said.Refused NoMemory)) ≡ spot_of t
-    pub refused_holding : holds l' (Some (said.Refused NoMemory)) ≡ t.held
+    pub refused : spot l' (Some (Said.Refused NoMemory)) ≡ spot_of t
+    pub refused_holding : holds l' (Some (Said.Refused NoMemory)) ≡ t.held
 
   -- One step of a body that is told this, for a task of the machine that stands where the body does and holds what it holds:
   -- it makes the act of the task's next word. Then it stands past that word, unless it is through.

@@ -1,18 +1,12 @@
 -- What an enter does to a worker and to the records of its requests.
-use Rattle.std.specs.Prelude.{◌≡◌, ℕ, ◌+◌, ◌-◌, ◌*◌, ◌/◌, ◌^◌, ◌<◌, ◌≤◌, ◌==◌, ◌&&◌, ◌||◌, Bool, true, false, not, List, [], ◌∷◌, length, slice_get, slice_set, Option, Some, None, if◌then◌else◌}
-use Rattle.std.specs.List.{list_any}
-use Rattle.std.specs.Vec.{vec_capacity}
+use Rattle.std.specs.{Prelude.{◌≡◌, ℕ, ◌+◌, ◌-◌, ◌*◌, ◌/◌, ◌^◌, ◌<◌, ◌≤◌, ◌==◌, ◌&&◌, ◌||◌, Bool, true, false, not, List, [], ◌∷◌, length, slice_get, slice_set, Option, Some, None, if◌then◌else◌}, List.list_any, Vec.vec_capacity}
 use Rattle.exec_machine.specs.{declared.event.Event.{Event, TheVariants.{Enter, Busy}}, Requests.flown}
 use Rattle.exec_request.specs.declared.window.Opcode.{Opcode}
-use Rattle.exec_request.specs.declared.window.Opcode.TheVariants as opcode
 use Rattle.exec_ring.specs.{Kernels.entered, declared.completion.Submission.Submission}
 use Rattle.exec_steps.specs.{declared.parts.{record.Record.Record, shared.Shared.Shared, worker.Worker.Worker}, Tests.{has_open_requests, is_anything_told}, View.driver_of}
 use Rattle.exec_base.specs.declared.error.Error.{Error}
 use Rattle.exec_outcomes.specs.declared.outcome.Outcome.{Outcome, TheVariants.Failure}
-use Rattle.exec_moves.specs.declared.place.InService.TheVariants as step
-use Rattle.exec_moves.specs.declared.place.Reaping.TheVariants as reaping
-use Rattle.exec_moves.specs.declared.place.Service.{Service}
-use Rattle.exec_moves.specs.declared.place.Place.TheVariants as at
+use Rattle.exec_moves.specs.declared.place.{Service.Service, InService.InService, Reaping.Reaping, Place.Place}
 use Rattle.exec_driver.specs.Driving.{has_pending}
 
 -- each number is of a record
@@ -43,7 +37,7 @@ is_one_of k ks = list_any (λ q. q == k) ks
 
 -- the entry of a cancel
 abbrev pub is_cancel : Opcode → Bool
-is_cancel opcode.Cancel = true
+is_cancel Opcode.Cancel = true
 is_cancel _ = false
 
 -- how many cancels stand there
@@ -94,6 +88,6 @@ enters_after v w = has_open_requests w && (not v.defer || is_anything_told w || 
 abbrev pub with_staging_ended : Service → Worker → Worker
 with_staging_ended v w =
     record w {
-      place = at.Service (if enters_after v w then step.EnterLast else step.Reap reaping.Last) v;
+      place = Place.Service (if enters_after v w then InService.EnterLast else InService.Reap Reaping.Last) v;
       put_off = record { defer = v.defer; «enter» = has_open_requests w && not (enters_after v w) };
     }

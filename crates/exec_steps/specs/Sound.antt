@@ -1,8 +1,7 @@
 -- What holds of a worker and of what it shares, between two steps.
 --
 -- Each fact is over the parts that it speaks of, so what changes another part keeps it.
-use Rattle.std.specs.Prelude.{◌≡◌, ◌≢◌, ℕ, Bool, true, false, not, ◌+◌, ◌-◌, ◌*◌, ◌^◌, ◌<◌, ◌≤◌, ◌||◌, List, [], ◌∷◌, length, count_by, map, slice_get, slice_index, Option, Some, None, is_some, IsSome, IfSome}
-use Rattle.std.specs.Option.{option_map}
+use Rattle.std.specs.{Prelude.{◌≡◌, ◌≢◌, ℕ, Bool, true, false, not, ◌+◌, ◌*◌, ◌^◌, ◌<◌, ◌≤◌, ◌||◌, List, [], ◌∷◌, length, slice_get, Option, Some, None, is_some, IsSome, IfSome}, Option.option_map}
 use Rattle.exec_base.specs.{Slab.{Slab, value_at, live_count}, declared.{slab.Id.Id, task_no.TaskNo.TaskNo}}
 use Rattle.exec_outcomes.specs.{Outcomes.HasCome, declared.outcome.Judged.Judged}
 use Rattle.exec_request.specs.{Requests.{asked_of, cursor_of, hinted_of, deadline_of}, States.asks_cancel}
@@ -10,21 +9,10 @@ use Rattle.exec_ring.specs.Rings.{RingState}
 use Rattle.exec_time.specs.declared.timers.Sleeper.{Sleeper as Sleeping}
 use Rattle.exec_waiters.specs.{Events.waker_in, States.{waiter_at, is_held_by, tick_in, pending_count}, Told.{HasPlaces, is_untold}, declared.{deferred.Deferred.Deferred, waiter.{Entry.Entry, Waiter.Waiter}}}
 use Rattle.exec_driver.specs.{Driving.Driving, Opens.OpenState}
-use Rattle.exec_task.specs.{Phases.{runnable_of, is_polled}, declared.runnable.Runnable.Runnable}
-use Rattle.exec_task.specs.declared.task.Phase.TheVariants as cell
-use Rattle.exec_words.specs.Queue.{room_of}
-use Rattle.exec_words.specs.declared.word.WaitTarget.TheVariants as target
+use Rattle.exec_task.specs.{Phases.{runnable_of, is_polled}, declared.{runnable.Runnable.Runnable, task.Phase.Phase}}
+use Rattle.exec_words.specs.{Queue.room_of, declared.word.WaitTarget.WaitTarget}
 use Rattle.exec_machine.specs.{declared.{config.Configuration.Configuration, state.{Request.Request, Waiting.Waiting}}, Ranges.ring_size, Requests.asked_of as asked_in, Tests.{is_gated, is_staged, is_in_flight, is_resolved}}
-use Rattle.exec_machine.specs.declared.state.Waiting.TheVariants as waiting
-use Rattle.exec_moves.specs.declared.place.{Place.Place, InPoll.InPoll, InService.InService, InRingWait.InRingWait, InWordWait.InWordWait}
-use Rattle.exec_moves.specs.declared.place.Place.TheVariants as at
-use Rattle.exec_moves.specs.declared.place.InPick.TheVariants as pick
-use Rattle.exec_moves.specs.declared.place.InCallbacks.TheVariants as callback
-use Rattle.exec_moves.specs.declared.place.InMail.TheVariants as mail
-use Rattle.exec_moves.specs.declared.place.InService.TheVariants as service
-use Rattle.exec_moves.specs.declared.place.InPoll.TheVariants as poll
-use Rattle.exec_moves.specs.declared.place.InRingWait.TheVariants as ring
-use Rattle.exec_moves.specs.declared.place.InWordWait.TheVariants as word
+use Rattle.exec_moves.specs.declared.place.{Place.Place, InPoll.InPoll, InService.InService, InRingWait.InRingWait, InWordWait.InWordWait, InPick.InPick, InCallbacks.InCallbacks, InMail.InMail}
 use Rattle.exec_steps.specs.{declared.parts.{mail.Reply.Reply, names.Names.Names, record.Record.Record, seat.Seat.Seat as Chair, shared.Shared.Shared, sleeping.SleeperRecord.SleeperRecord, task_slot.TaskSlot.TaskSlot, worker.{Worker.Worker, Moments.Moments}}, Carried.Carried, View.{driver_of, queue_seen}, Records.number_in, Serving.{AreKnown, AreTagged, cancels_in, is_one_of}, Due.IsDue, Flown.HasFlown, Phased.{IsPhased, closes_at, closing_in, is_complete, stage_of}, Rooted.{IsNear, IsRooted}}
 
 -- the ranges of a configuration that sums rest on
@@ -110,8 +98,8 @@ one_of (Some r) other = Some r
 
 module _ {B : Type 0} where
   abbrev pub IsRunnable : Option Runnable → TaskSlot B → Type 0
-  IsRunnable None t = (b : B) → t.cell.phase ≢ cell.Queued b
-  IsRunnable (Some r) t = (r ≡ runnable_of t.cell) × ((b : B) × (t.cell.phase ≡ cell.Queued b))
+  IsRunnable None t = (b : B) → t.cell.phase ≢ Phase.Queued b
+  IsRunnable (Some r) t = (r ≡ runnable_of t.cell) × ((b : B) × (t.cell.phase ≡ Phase.Queued b))
 
   pub record HasRunnable (i t : ℕ) (flag hand : Option Runnable) (tasks : List (TaskSlot B)) : Type 0 where
     pub root : TaskSlot B
@@ -125,24 +113,24 @@ module _ {B : Type 0} where
 -- within a wait, from its arming to its disarming.
 
 abbrev pub is_armed_on_ring : InRingWait → Bool
-is_armed_on_ring ring.EnterRing = true
-is_armed_on_ring ring.SleepOnRing = true
-is_armed_on_ring (ring.DisarmRing next) = true
+is_armed_on_ring InRingWait.EnterRing = true
+is_armed_on_ring InRingWait.SleepOnRing = true
+is_armed_on_ring (InRingWait.DisarmRing next) = true
 is_armed_on_ring _ = false
 
 abbrev pub is_armed_on_word : InWordWait → Bool
-is_armed_on_word word.SleepOnWord = true
-is_armed_on_word word.DisarmWord = true
+is_armed_on_word InWordWait.SleepOnWord = true
+is_armed_on_word InWordWait.DisarmWord = true
 is_armed_on_word _ = false
 
 abbrev pub is_armed_at : Place → Bool
-is_armed_at (at.RingWait x stay) = is_armed_on_ring x
-is_armed_at (at.WordWait x) = is_armed_on_word x
+is_armed_at (Place.RingWait x stay) = is_armed_on_ring x
+is_armed_at (Place.WordWait x) = is_armed_on_word x
 is_armed_at _ = false
 
 -- a share that is about to be taken has no more room than the run queue
 abbrev pub HasShare : Place → ℕ → Type 0
-HasShare (at.Pick (pick.TakeShare first room held)) free = room ≤ free
+HasShare (Place.Pick (InPick.TakeShare first room held)) free = room ≤ free
 HasShare _ free = Unit {0}
 
 pub record IsAlone (i : ℕ) (armed : Bool) (seats : List Chair) (global : List Runnable) : Type 0 where
@@ -152,22 +140,22 @@ pub record IsAlone (i : ℕ) (armed : Bool) (seats : List Chair) (global : List 
   pub run_queue : seat.queue.values ≡ []
   pub whole : seat.queue.held ≡ []
   pub inbox : seat.mailbox.inbox.messages ≡ []
-  pub unarmed : armed ≡ false → seat.mailbox.waker.target ≡ target.None
+  pub unarmed : armed ≡ false → seat.mailbox.waker.target ≡ WaitTarget.None
   pub elsewhere : global ≡ []
 
 -- WAKES are left only by a service, and paid by the callbacks after it; a message of the mailbox lies between.
 
 abbrev pub has_wakes_at : Place → Bool
-has_wakes_at (at.Service x v) = true
-has_wakes_at (at.Mail x) = true
-has_wakes_at (at.Callbacks x n) = true
-has_wakes_at (at.Closing x) = true
+has_wakes_at (Place.Service x v) = true
+has_wakes_at (Place.Mail x) = true
+has_wakes_at (Place.Callbacks x n) = true
+has_wakes_at (Place.Closing x) = true
 has_wakes_at _ = false
 
 -- where a callback is about to be made, something is left for it; and no message is ever there to be applied
 abbrev pub HasLeft : Place → Deferred Reply Reply → Type 0
-HasLeft (at.Callbacks callback.CallBack n) left = is_untold left ≡ false
-HasLeft (at.Mail (mail.Apply applied taken)) left = ⊥
+HasLeft (Place.Callbacks InCallbacks.CallBack n) left = is_untold left ≡ false
+HasLeft (Place.Mail (InMail.Apply applied taken)) left = ⊥
 HasLeft _ left = Unit {0}
 
 -- what a request or a sleeper of worker i owes task t: it is over, and has paid no wake
@@ -185,8 +173,8 @@ pub record SleeperOwes (i t : ℕ) (z : SleeperRecord) : Type 0 where
 
 -- a wake is owed by what the task waits for
 abbrev pub OwesWake : ℕ → ℕ → Waiting → List Record → List SleeperRecord → Type 0
-OwesWake i t (waiting.Request n) records sleepers = (r : Record) × (slice_get records n ≡ Some r) × RequestOwes i t r
-OwesWake i t (waiting.Timer n) records sleepers = (z : SleeperRecord) × (slice_get sleepers n ≡ Some z) × SleeperOwes i t z
+OwesWake i t (Waiting.Request n) records sleepers = (r : Record) × (slice_get records n ≡ Some r) × RequestOwes i t r
+OwesWake i t (Waiting.Timer n) records sleepers = (z : SleeperRecord) × (slice_get sleepers n ≡ Some z) × SleeperOwes i t z
 OwesWake i t _ records sleepers = ⊥
 
 -- REQUESTS OF WORKER i THAT ARE OVER and not released, each once; so many others aren't over
@@ -199,46 +187,46 @@ pub record AreOver (i : ℕ) (ended : List ℕ) (unreleased others : ℕ) (recor
 
 -- where the poll is, once it has begun
 abbrev pub polled_in : Place → Option InPoll
-polled_in (at.Poll t poll.BeginPoll) = None
-polled_in (at.Poll t x) = Some x
+polled_in (Place.Poll t InPoll.BeginPoll) = None
+polled_in (Place.Poll t x) = Some x
 polled_in _ = None
 
 -- where the service is, once it has sampled
 abbrev pub served_in : Place → Option InService
-served_in (at.Service service.Sample v) = None
-served_in (at.Service x v) = Some x
+served_in (Place.Service InService.Sample v) = None
+served_in (Place.Service x v) = Some x
 served_in _ = None
 
 -- it acts next, without a look
 abbrev pub acts_next : Waiting → Bool
-acts_next waiting.Nothing = true
-acts_next waiting.Yielded = true
+acts_next Waiting.Nothing = true
+acts_next Waiting.Yielded = true
 acts_next _ = false
 
 -- and so is told something, unless it is over
 abbrev pub is_told : Waiting → Bool → Bool
-is_told waiting.Nothing over = not over
-is_told waiting.Yielded over = not over
+is_told Waiting.Nothing over = not over
+is_told Waiting.Yielded over = not over
 is_told _ over = false
 
 abbrev pub may_resume : Waiting → Bool
-may_resume waiting.Nothing = false
-may_resume waiting.Wake = false
-may_resume waiting.Yielded = false
+may_resume Waiting.Nothing = false
+may_resume Waiting.Wake = false
+may_resume Waiting.Yielded = false
 may_resume _ = true
 
 abbrev pub may_end : Waiting → Bool
-may_end waiting.Nothing = false
-may_end waiting.Woken = false
+may_end Waiting.Nothing = false
+may_end Waiting.Woken = false
 may_end _ = true
 
 -- what the task waits for there; no durable request is made yet, so none joins a gate
 abbrev pub WaitsAt : Option InPoll → Waiting → Type 0
 WaitsAt None w = Unit {0}
-WaitsAt (Some poll.Resume) w = may_resume w ≡ true
-WaitsAt (Some poll.Pend) w = may_end w ≡ true
-WaitsAt (Some (poll.JoinGate r)) w = ⊥
-WaitsAt (Some x) w = w ≡ waiting.Nothing
+WaitsAt (Some InPoll.Resume) w = may_resume w ≡ true
+WaitsAt (Some InPoll.Pend) w = may_end w ≡ true
+WaitsAt (Some (InPoll.JoinGate r)) w = ⊥
+WaitsAt (Some x) w = w ≡ Waiting.Nothing
 
 module _ {B : Type 0} where
   pub record Stands (x : Option InPoll) (i : ℕ) (slot : TaskSlot B) : Type 0 where
@@ -264,8 +252,8 @@ module _ {B : Type 0} where
 
 -- What the place needs beside: a poll has the body in its slot, and the hand is empty unless it is about to begin.
 abbrev pub InHand : Place → ℕ → Option Runnable → Type 0
-InHand (at.Poll t poll.BeginPoll) root hand = (t ≡ root) × IsSome hand
-InHand (at.Poll t x) root hand = (t ≡ root) × (hand ≡ None)
+InHand (Place.Poll t InPoll.BeginPoll) root hand = (t ≡ root) × IsSome hand
+InHand (Place.Poll t x) root hand = (t ≡ root) × (hand ≡ None)
 InHand _ root hand = hand ≡ None
 
 -- no request is durable yet, so no gate has one

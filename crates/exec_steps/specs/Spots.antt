@@ -1,8 +1,7 @@
 -- Where the body of a task stands in its script, and what it asks for there.
-use Rattle.std.specs.Prelude.{◌≡◌, ℕ, ◌-◌, false, List, [], Option, None}
+use Rattle.std.specs.Prelude.{◌≡◌, ℕ, false, List, [], Option, None}
 use Rattle.exec_request.specs.{Requests.{asked_of, cursor_of, deadline_of, target_of}, declared.request.Request.Request}
 use Rattle.exec_machine.specs.{declared.state.{Code.Code, Operation.Operation}, World.{Task, Adapter, AdapterCall}, Requests.asked_of as asked_in}
-use Rattle.exec_machine.specs.declared.state.Code.TheVariants as code
 
 -- which script, the number of the next word, and what it keeps between words
 pub record Spot : Type 0 where
@@ -13,7 +12,7 @@ pub record Spot : Type 0 where
 
 -- where no body is
 abbrev pub no_spot : Spot
-no_spot = record { code = code.Waits; place = 0; adapters = []; call = None }
+no_spot = record { code = Code.Waits; place = 0; adapters = []; call = None }
 
 -- the task with its body there
 abbrev pub standing_at : Spot → Task → Task

@@ -1,10 +1,7 @@
 -- What the stagings of a service do to a worker and to the records of its requests, and where a request that is over leads.
 use Rattle.std.specs.Prelude.{◌≡◌, ◌≢◌, ℕ, ◌<◌, ◌&&◌, ◌||◌, Bool, true, false, not, List, [], ◌∷◌, ◌++◌, length, map, Option, Some, None, if◌then◌else◌}
-use Rattle.exec_machine.specs.{declared.event.Event.{Event, TheVariants.{Cancel, Stage}}, Deadlines.is_first_due}
-use Rattle.exec_machine.specs.declared.state.RequestPhase.TheVariants as phase
-use Rattle.exec_moves.specs.{Serve.{after_permit, first_numbered}, declared.place.{AfterPermit.AfterPermit, InService.InService, Service.Service}}
-use Rattle.exec_moves.specs.declared.place.InService.TheVariants as step
-use Rattle.exec_moves.specs.declared.place.Place.TheVariants as at
+use Rattle.exec_machine.specs.{declared.{event.Event.{Event, TheVariants.{Cancel, Stage}}, state.RequestPhase.RequestPhase}, Deadlines.is_first_due}
+use Rattle.exec_moves.specs.{Serve.{after_permit, first_numbered}, declared.place.{AfterPermit.AfterPermit, InService.InService, Service.Service, Place.Place}}
 use Rattle.exec_driver.specs.{Driving.{Driving, request_at, is_full, may_stage_one}, Lists.{first_of, has_first}, Opens.account_in, Placed.ListsRequests, Steps.{cancel_staged, poll_staged, StagesOne}}
 use Rattle.exec_waiters.specs.{States.file_of, declared.{waiter.Waiter.Waiter, waiter_id.WaiterId.WaiterId}}
 use Rattle.exec_steps.specs.{declared.parts.{mail.Reply.Reply, record.Record.Record, shared.Shared.Shared, worker.Worker.Worker}, Records.number_in, Serving.{changed_at, with_staging_ended}, Sound.SoundAt, View.{driver_of, own_of}}
@@ -12,7 +9,7 @@ use Rattle.exec_steps.specs.{declared.parts.{mail.Reply.Reply, record.Record.Rec
 -- a request that gives a permit up, and one that doesn't
 abbrev pub after_giving_up : Option ℕ → AfterPermit → InService
 after_giving_up None b = after_permit b
-after_giving_up (Some file) b = step.PassPermit file b
+after_giving_up (Some file) b = InService.PassPermit file b
 
 -- each of these has the number of a record
 abbrev pub AreNamed : List ℕ → List WaiterId → List Record → Type 0
@@ -51,14 +48,14 @@ module _ {B : Type 0} where
     pub event : e ≡ Stage (number_in w.names.requests.items id.0)
     pub driver : (it : Waiter Reply Reply) → request_at (driver_of w) id ≡ Some it → StagesOne (driver_of w) (driver_of w') id it (account_in s.opens (file_of it.request))
     pub staged : w'.names.staged.items ≡ w.names.staged.items ++ number_in w.names.requests.items id.0 ∷ []
-    pub records : s'.requests.items ≡ changed_at s.requests.items (number_in w.names.requests.items id.0) (λ r. record r { shown = record r.shown { operation = record r.shown.operation { hinted = false }; phase = phase.Staged } })
+    pub records : s'.requests.items ≡ changed_at s.requests.items (number_in w.names.requests.items id.0) (λ r. record r { shown = record r.shown { operation = record r.shown.operation { hinted = false }; phase = RequestPhase.Staged } })
     pub worker : w' ≡ record w { home = record w.home { driver = w'.home.driver }; names = record w.names { staged = w'.names.staged } }
     pub shared : s' ≡ record s { requests = s'.requests }
 
   -- No deadline has come, none is new, and no request waits at a gate.
   pub record IsIdle (v : Service) (w : Worker) (s : Shared B) : Type 0 where
     pub gate : ℕ
-    pub sound : SoundAt (at.Service (step.Submit gate) v) w s
+    pub sound : SoundAt (Place.Service (InService.Submit gate) v) w s
     pub lists : ListsRequests (driver_of w)
     pub due : (driver_of w).lists.due ≡ []
     pub enrolments : (driver_of w).lists.enrolments ≡ []
@@ -67,7 +64,7 @@ module _ {B : Type 0} where
   pub record Submits (w : Worker) (s : Shared B) : Type 0 where
     pub gate : ℕ
     pub service : Service
-    pub sound : SoundAt (at.Service (step.Submit gate) service) w s
+    pub sound : SoundAt (Place.Service (InService.Submit gate) service) w s
     pub lists : ListsRequests (driver_of w)
 
   pub record IsDueIn (w : Worker) (s : Shared B) : Type 0 where

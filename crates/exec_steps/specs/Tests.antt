@@ -4,19 +4,8 @@ use Rattle.exec_base.specs.{Slab.Slab, declared.slab.Id.Id}
 use Rattle.exec_time.specs.{Sleepers.{IsEmpty, IsFirst}, Wheel.{least_active, next_moment}, declared.timers.Sleeper.Sleeper as Sleeping}
 use Rattle.exec_waiters.specs.{States.pending_count, Told.is_untold}
 use Rattle.exec_driver.specs.{Driving.{Driving, has_pending, is_full}, Lists.has_first, Punctual.{IsFirstTick, IsPunctual}, Steps.poll_staged}
-use Rattle.exec_machine.specs.{declared.event.Event.{Event, TheVariants.{Turn, Enter, Sleep}}, Deadlines.earlier}
-use Rattle.exec_moves.specs.{Callback.serve, Wait.after_wait, declared.place.{AfterCallbacks.AfterCallbacks, AfterWait.AfterWait, Stay.Stay, Place.Place}}
-use Rattle.exec_moves.specs.declared.place.AfterCallbacks.TheVariants as after
-use Rattle.exec_moves.specs.declared.place.AfterService.TheVariants as back
-use Rattle.exec_moves.specs.declared.place.InCallbacks.TheVariants as callback
-use Rattle.exec_moves.specs.declared.place.InClosing.TheVariants as closing
-use Rattle.exec_moves.specs.declared.place.InLoads.TheVariants as load
-use Rattle.exec_moves.specs.declared.place.Round.TheVariants as round
-use Rattle.exec_moves.specs.declared.place.AfterWait.TheVariants as next
-use Rattle.exec_moves.specs.declared.place.InRingWait.TheVariants as ring
-use Rattle.exec_moves.specs.declared.place.InWordWait.TheVariants as word
-use Rattle.exec_moves.specs.declared.place.Stay.TheVariants as stay
-use Rattle.exec_moves.specs.declared.place.Place.TheVariants as at
+use Rattle.exec_machine.specs.{declared.event.Event.{Event, TheVariants.{Enter, Sleep}}, Deadlines.earlier}
+use Rattle.exec_moves.specs.{Callback.serve, Wait.after_wait, declared.place.{AfterCallbacks.AfterCallbacks, AfterWait.AfterWait, Stay.Stay, Place.Place, AfterService.AfterService, InCallbacks.InCallbacks, InClosing.InClosing, InLoads.InLoads, Round.Round, InRingWait.InRingWait, InWordWait.InWordWait}}
 use Rattle.exec_steps.specs.{declared.parts.{mail.Reply.Reply, worker.Worker.Worker}, View.driver_of}
 
 -- something waits for the callbacks
@@ -33,17 +22,17 @@ has_put_off w = (w.put_off.«enter» && has_open_requests w) || (w.put_off.defer
 
 -- the next turn, after that
 abbrev pub next_turn_of : Worker → Place
-next_turn_of w = if has_put_off w then serve back.Begin else at.BeginTurn
+next_turn_of w = if has_put_off w then serve AfterService.Begin else Place.BeginTurn
 
 -- what follows a withdrawal
 abbrev pub place_withdrawn : AfterWait → Worker → Place
-place_withdrawn next.Begin w = at.BeginTurn
-place_withdrawn next.Serve w = serve back.Begin
-place_withdrawn next.MakeUp w = next_turn_of w
+place_withdrawn AfterWait.Begin w = Place.BeginTurn
+place_withdrawn AfterWait.Serve w = serve AfterService.Begin
+place_withdrawn AfterWait.MakeUp w = next_turn_of w
 
 -- the first step of a wait on the ring
 abbrev pub ring_wait_of : Stay → Worker → Place
-ring_wait_of x w = if is_full (driver_of w) then at.RingWait ring.EnterFullRing x else at.RingWait ring.TestRing x
+ring_wait_of x w = if is_full (driver_of w) then Place.RingWait InRingWait.EnterFullRing x else Place.RingWait InRingWait.TestRing x
 
 -- WHAT IS DUE NEXT
 
@@ -55,8 +44,8 @@ is_within span from (Some moment) = nat_le (moment - from) (span * 1000)
 -- the first step of a wait on the wake word, where this moment is the next at which something is due
 abbrev pub word_wait_of : ℕ → Option ℕ → Worker → Place
 word_wait_of span moment w =
-    if nat_lt 0 w.spinner.budget && not (is_within span w.moments.read moment) then at.WordWait (word.SpinOnBatch w.spinner.budget)
-    else at.WordWait word.ArmWord
+    if nat_lt 0 w.spinner.budget && not (is_within span w.moments.read moment) then Place.WordWait (InWordWait.SpinOnBatch w.spinner.budget)
+    else Place.WordWait InWordWait.ArmWord
 
 -- this is the earliest moment of the sleepers, where there is one
 abbrev pub IsFirstSleep : Slab (Sleeping Reply) → Option ℕ → Type 0
@@ -93,22 +82,22 @@ polled_by d = if has_pending d then d else if d.armed then d else if is_full d t
 
 -- the ring is tested: the worker serves, or goes on with its wake poll
 pub record TestsRing (x : Stay) (w w' : Worker) : Type 0 where
-  pub worker : w' ≡ record w { place = (if is_unready (driver_of w) then after_wait x next.Serve else at.RingWait ring.ArmRing x); home = record w.home { driver = w'.home.driver } }
+  pub worker : w' ≡ record w { place = (if is_unready (driver_of w) then after_wait x AfterWait.Serve else Place.RingWait InRingWait.ArmRing x); home = record w.home { driver = w'.home.driver } }
   pub driver : driver_of w' ≡ record (polled_by (driver_of w)) { landings = (driver_of w').landings }
   pub punctual : IsPunctual (driver_of w) → IsPunctual (driver_of w')
 
 -- what follows the enter of a wait, after this event, where no completion is there or some are
 abbrev pub after_enter_of : Event → Bool → Stay → Place
-after_enter_of Enter true x = at.RingWait ring.SleepOnRing x
-after_enter_of _ quiet x = at.RingWait (ring.DisarmRing next.Begin) x
+after_enter_of Enter true x = Place.RingWait InRingWait.SleepOnRing x
+after_enter_of _ quiet x = Place.RingWait (InRingWait.DisarmRing AfterWait.Begin) x
 
 -- where the callbacks lead, and the next of them
 abbrev pub after_callbacks_of : AfterCallbacks → Worker → Place
-after_callbacks_of after.Look w = at.Loads load.LoadOwnHead round.First
-after_callbacks_of after.Test w = at.Loads load.LoadOwnHead round.Second
-after_callbacks_of after.Begin w = at.BeginTurn
-after_callbacks_of after.Drain w = serve back.Finish
-after_callbacks_of after.Finish w = if has_open_requests w then ring_wait_of stay.Closing w else at.Closing closing.End
+after_callbacks_of AfterCallbacks.Look w = Place.Loads InLoads.LoadOwnHead Round.First
+after_callbacks_of AfterCallbacks.Test w = Place.Loads InLoads.LoadOwnHead Round.Second
+after_callbacks_of AfterCallbacks.Begin w = Place.BeginTurn
+after_callbacks_of AfterCallbacks.Drain w = serve AfterService.Finish
+after_callbacks_of AfterCallbacks.Finish w = if has_open_requests w then ring_wait_of Stay.Closing w else Place.Closing InClosing.End
 
 abbrev pub next_callback_of : AfterCallbacks → Worker → Place
-next_callback_of x w = if is_anything_told w then at.Callbacks callback.CallBack x else after_callbacks_of x w
+next_callback_of x w = if is_anything_told w then Place.Callbacks InCallbacks.CallBack x else after_callbacks_of x w

@@ -1,28 +1,18 @@
 -- What a worker, and what all share, shows: of the abstract machine, and of what stands beside it.
-use Rattle.std.specs.Prelude.{◌≡◌, ℕ, suc, Bool, true, false, not, ◌==◌, ◌&&◌, ◌||◌, if◌then◌else◌, List, [], ◌∷◌, length, map, filter, replicate, slice_get, slice_index_or, is_some, Option, Some, None}
-use Rattle.exec_base.specs.{Slab.Slab, declared.{slab.Id.Id, task_no.TaskNo.TaskNo}}
+use Rattle.std.specs.Prelude.{◌≡◌, ℕ, suc, Bool, false, not, ◌==◌, ◌&&◌, if◌then◌else◌, List, [], ◌∷◌, length, map, filter, replicate, slice_get, slice_index_or, is_some, Option, Some, None}
 use Rattle.exec_outcomes.specs.Accounts.{Account, fresh_account}
 use Rattle.exec_ring.specs.{Rings.{RingState, completions}, declared.completion.Completion.Completion}
-use Rattle.exec_waiters.specs.{Ids.{user_data_of, index_in}, States.flying_count, declared.waiter_id.WaiterId.WaiterId}
+use Rattle.exec_waiters.specs.{Ids.index_in, States.flying_count, declared.waiter_id.WaiterId.WaiterId}
 use Rattle.exec_driver.specs.{Driving.{Driving, seen}, Opens.OpenState, Steps.is_control, declared.opens.WaiterKey.WaiterKey}
-use Rattle.exec_words.specs.{declared.{inbox.Message.Message as Letter, word.PureWord.PureWord}, Queue.Queue}
-use Rattle.exec_words.specs.declared.inbox.Message.TheVariants as letter
-use Rattle.exec_words.specs.declared.word.WaitTarget.TheVariants as target
+use Rattle.exec_words.specs.{declared.{inbox.Message.Message as Letter, word.{PureWord.PureWord, WaitTarget.WaitTarget}}, Queue.Queue}
 use Rattle.exec_task.specs.declared.{body.Said.Said, runnable.Runnable.Runnable, task.Phase.Phase}
-use Rattle.exec_task.specs.declared.task.Phase.TheVariants as cell
-use Rattle.exec_machine.specs.{declared.{config.ScriptWord.ScriptWord, state.{Code.Code, MailMessage.MailMessage, Request.Request, Sleeper.Sleeper, TaskPhase.TaskPhase}}, World.{Own, Seat, Task, Adapter, AdapterCall, Open, Common}, Progress.Plan}
-use Rattle.exec_machine.specs.declared.state.Code.TheVariants as code
-use Rattle.exec_machine.specs.declared.state.Call.TheVariants as call
-use Rattle.exec_machine.specs.declared.state.MailMessage.TheVariants as message
-use Rattle.exec_machine.specs.declared.state.TaskPhase.TheVariants as task
-use Rattle.exec_moves.specs.{State.{Desk, Things}, Seen.{polls_at, next_at, serves_at}, declared.place.Place.Place}
-use Rattle.exec_moves.specs.declared.place.Place.TheVariants as at
-use Rattle.exec_steps.specs.{declared.parts.{mail.{Subject.Subject, Reply.Reply}, record.Record.Record, seat.Seat.Seat as Chair, shared.Shared.Shared, sleeping.SleeperRecord.SleeperRecord, task_slot.TaskSlot.TaskSlot, worker.Worker.Worker}, Records.number_in, Spots.{Spot, no_spot}}
-use Rattle.exec_steps.specs.declared.parts.mail.Subject.TheVariants as subject
+use Rattle.exec_machine.specs.{declared.state.{MailMessage.MailMessage, Request.Request, TaskPhase.TaskPhase, Call.Call}, World.{Own, Seat, Task, Open, Common}, Progress.Plan}
+use Rattle.exec_moves.specs.{State.{Desk, Things}, Seen.{polls_at, next_at, serves_at}}
+use Rattle.exec_steps.specs.{declared.parts.{mail.{Subject.Subject, Reply.Reply}, record.Record.Record, seat.Seat.Seat as Chair, shared.Shared.Shared, task_slot.TaskSlot.TaskSlot, worker.Worker.Worker}, Records.number_in, Spots.{Spot, no_spot}}
 
 -- the wake word of no worker
 abbrev pub no_word : PureWord
-no_word = record { target = target.None; latch = false; batch = 0 }
+no_word = record { target = WaitTarget.None; latch = false; batch = 0 }
 
 -- NUMBERS
 
@@ -47,17 +37,17 @@ trailing n (c ∷ cs) = trailing (if is_control c then suc n else 0) cs
 -- MESSAGES
 
 abbrev pub forward_of : Subject → MailMessage
-forward_of (subject.Request r) = message.ForwardRequest r
-forward_of (subject.Timer z) = message.ForwardTimer z
+forward_of (Subject.Request r) = MailMessage.ForwardRequest r
+forward_of (Subject.Timer z) = MailMessage.ForwardTimer z
 
 abbrev pub cancel_of : Subject → MailMessage
-cancel_of (subject.Request r) = message.CancelRequest r
-cancel_of (subject.Timer z) = message.CancelTimer z
+cancel_of (Subject.Request r) = MailMessage.CancelRequest r
+cancel_of (Subject.Timer z) = MailMessage.CancelTimer z
 
 abbrev pub message_of : Letter Subject Subject → MailMessage
-message_of letter.WakeRoot = message.Root
-message_of (letter.Forward x) = forward_of x
-message_of (letter.Cancel x) = cancel_of x
+message_of Letter.WakeRoot = MailMessage.Root
+message_of (Letter.Forward x) = forward_of x
+message_of (Letter.Cancel x) = cancel_of x
 
 -- A WORKER
 
@@ -163,16 +153,16 @@ open_seen rs o =
 module _ {B : Type 0} where
   -- its body, where it is
   abbrev pub body_in : Phase B → Option B → Option B
-  body_in (cell.Idle b) other = Some b
-  body_in (cell.Queued b) other = Some b
+  body_in (Phase.Idle b) other = Some b
+  body_in (Phase.Queued b) other = Some b
   body_in _ other = other
 
   abbrev pub phase_seen : Phase B → ℕ → TaskPhase
-  phase_seen (cell.Idle b) i = task.Idle
-  phase_seen (cell.Queued b) i = task.Queued
-  phase_seen cell.Running i = task.Running i
-  phase_seen cell.Notified i = task.Noted i
-  phase_seen cell.Complete i = task.Done
+  phase_seen (Phase.Idle b) i = TaskPhase.Idle
+  phase_seen (Phase.Queued b) i = TaskPhase.Queued
+  phase_seen Phase.Running i = TaskPhase.Running i
+  phase_seen Phase.Notified i = TaskPhase.Noted i
+  phase_seen Phase.Complete i = TaskPhase.Done
 
 module _ {B L : Type 0} (left : B → L) (spot : L → Option Said → Spot) where
   abbrev pub spot_by : Option B → Option Said → Spot
@@ -209,7 +199,7 @@ module _ {B L : Type 0} (left : B → L) (spot : L → Option Said → Spot) whe
         opens = map (open_seen s.requests.items) s.opens;
         listeners = s.listeners.items;
         next_socket = s.config.sockets;
-        callers = replicate 16 call.Nothing;
+        callers = replicate 16 Call.Nothing;
         set_closed = s.set.closed;
         queue_closed = s.global.closed;
         stopped = s.stopped;

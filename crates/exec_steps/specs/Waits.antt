@@ -1,5 +1,5 @@
 -- What a sleep does: the worker's seat rests.
-use Rattle.std.specs.Prelude.{◌≡◌, ℕ, true, false, Option, Some, None, slice_get, slice_set, if◌then◌else◌}
+use Rattle.std.specs.Prelude.{◌≡◌, ℕ, Option, slice_set, if◌then◌else◌}
 use Rattle.exec_machine.specs.{declared.event.Event.{Event, TheVariants.{Turn, Sleep}}, Deadlines.rest_until}
 use Rattle.exec_moves.specs.Load.{has_come}
 use Rattle.exec_steps.specs.{declared.parts.{seat.Seat.Seat as Chair, shared.Shared.Shared, worker.Worker.Worker}, Tests.IsNextMoment, Works.HasChair}

@@ -2,12 +2,12 @@
 --
 -- A leaf says that it is its move, what else of the worker stays, and what becomes of the one thing that it names. From
 -- these follows, at the dispatcher, what a step is to the machine (`Works`).
-use Rattle.std.specs.Prelude.{◌≡◌, ℕ, Bool, true, false, not, List, [], Option, Some, None, slice_get, slice_set, slice_index_or, map, filter, length}
-use Rattle.exec_words.specs.{Idle.Idle, declared.word.PureWord.PureWord}
-use Rattle.exec_task.specs.declared.{body.Said.Said, runnable.Runnable.Runnable}
-use Rattle.exec_machine.specs.{declared.event.Event.Event, Choice.Choice, World.{Own, Common}, Tests.AllTrue, Allowed.allowed, After.{own_after, common_after}, Progress.Plan}
-use Rattle.exec_moves.specs.{State.{Desk, Things, Moved}, Move.move, declared.place.Place.Place}
-use Rattle.exec_steps.specs.{declared.parts.{seat.Seat.Seat as Chair, shared.Shared.Shared, task_slot.TaskSlot.TaskSlot, worker.Worker.Worker}, Hearing.StillHears, Spots.Spot, Sound.Sound, View.{Visible, visible, own_of, desk_of, common_of, tasks_of, things_of}}
+use Rattle.std.specs.Prelude.{◌≡◌, ℕ, List, Option, Some, slice_get, slice_set, length}
+use Rattle.exec_words.specs.declared.word.PureWord.{PureWord}
+use Rattle.exec_task.specs.declared.body.Said.{Said}
+use Rattle.exec_machine.specs.{declared.event.Event.Event, Choice.Choice, Tests.AllTrue, Allowed.allowed, After.{own_after, common_after}, Progress.Plan}
+use Rattle.exec_moves.specs.{State.Moved, Move.move}
+use Rattle.exec_steps.specs.{declared.parts.{seat.Seat.Seat as Chair, shared.Shared.Shared, task_slot.TaskSlot.TaskSlot, worker.Worker.Worker}, Hearing.StillHears, Spots.Spot, Sound.Sound, View.{Visible, visible, own_of, desk_of, common_of, things_of}}
 
 -- A step is this move: its event, and what stands on the worker's desk then.
 pub record Makes {T : Type 0} (m : Moved T) (e : Event) (w : Worker) : Type 0 where

@@ -1,8 +1,5 @@
-use Rattle.std.proofs.Common.{◌≡◌, [], refl, sym, ap, subst, ◌∙◌, arith}
-use Rattle.std.proofs.lemmas.List.{append-nil}
-use Rattle.std.specs.Prelude.{slice_set}
-use Rattle.exec_steps.specs.{declared.parts.{names.Names.Names, record.Record.Record}, Serving.{AreKnown, flown_in}}
-use Rattle.exec_steps.proofs.Flying.{known_last, one_flown}
+use Rattle.std.proofs.{Common.{◌≡◌, sym, ap, subst, ◌∙◌, arith, slice_set}, lemmas.List.append-nil}
+use Rattle.exec_steps.{specs.{declared.parts.{names.Names.Names, record.Record.Record}, Serving.{AreKnown, flown_in}}, proofs.Flying.{known_last, one_flown}}
 use Rattle.exec_steps.proofs.service.fly_staged.Goals as goal
 
 pub index_mut-requires : goal.index_mut-requires

@@ -1,5 +1,4 @@
-use Rattle.std.proofs.Common.{◌≡◌, length}
-use Rattle.std.specs.Vec.{vec_capacity}
+use Rattle.std.{proofs.Common.{◌≡◌, length}, specs.Vec.vec_capacity}
 use Rattle.exec_steps.specs.Serving.{AreKnown, flown_in}
 use Rattle.exec_steps.proofs.service.fly_staged.Given as goal
 

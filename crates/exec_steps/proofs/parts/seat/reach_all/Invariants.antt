@@ -1,5 +1,4 @@
-use Rattle.std.proofs.Common.{◌≡◌, ◌++◌, take, drop}
-use Rattle.std.specs.Prelude.{map}
+use Rattle.std.proofs.Common.{◌≡◌, ◌++◌, take, drop, map}
 use Rattle.exec_steps.specs.Records.{reached}
 use Rattle.exec_steps.proofs.parts.seat.reach_all.Given as goal
 

@@ -1,9 +1,5 @@
-use Rattle.std.proofs.Common.{◌≡◌, ◌+◌, length, refl, ap, ◌∙◌, arith}
-use Rattle.std.proofs.lemmas.List.{length-map, with_items_is}
-use Rattle.std.specs.Prelude.{map}
-use Rattle.std.specs.Vec.{with_items}
-use Rattle.exec_steps.specs.Records.{reached}
-use Rattle.exec_steps.proofs.Resting.{clock_kept}
+use Rattle.std.{proofs.{Common.{◌≡◌, ◌+◌, length, refl, ap, ◌∙◌, arith, map}, lemmas.List.{length-map, with_items_is}}, specs.Vec.with_items}
+use Rattle.exec_steps.{specs.Records.reached, proofs.Resting.clock_kept}
 use Rattle.exec_steps.proofs.parts.shared.Shared.move_clock.Goals as goal
 
 pub returns-clause-sound : goal.returns-clause-sound

@@ -1,8 +1,5 @@
-use Rattle.std.proofs.Common.{refl, ap, ◌∙◌}
-use Rattle.std.proofs.lemmas.Option.{get_or_from_slice_get}
-use Rattle.std.specs.Prelude.{slice_set}
-use Rattle.exec_steps.specs.Records.{roused}
-use Rattle.exec_steps.proofs.Resting.{stir_kept}
+use Rattle.std.proofs.{Common.{refl, ap, ◌∙◌, slice_set}, lemmas.Option.get_or_from_slice_get}
+use Rattle.exec_steps.{specs.Records.roused, proofs.Resting.stir_kept}
 use Rattle.exec_steps.proofs.parts.shared.Shared.stir.Goals as goal
 
 pub returns-clause-chair : goal.returns-clause-chair

@@ -1,5 +1,4 @@
-use Rattle.std.proofs.Common.{◌≡◌, Some, None, refl, sym, ap, subst, ◌∙◌}
-use Rattle.std.proofs.lemmas.Option.{slice_get-get_or}
+use Rattle.std.proofs.{Common.{◌≡◌, Some, None, sym, ap, subst, ◌∙◌}, lemmas.Option.slice_get-get_or}
 use Rattle.exec_steps.specs.Awaits.{AwaitsNewest, newest_of}
 use Rattle.exec_steps.proofs.parts.worker.Worker.await_newest.Goals as goal
 

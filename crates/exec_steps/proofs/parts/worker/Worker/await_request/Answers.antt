@@ -1,7 +1,4 @@
-use Rattle.std.proofs.Common.{◌≡◌, Some, refl, sym, ap, subst, ◌∙◌}
-use Rattle.std.proofs.lemmas.Bool.{false≢true}
-use Rattle.std.proofs.lemmas.Option.{slice_get-get_or}
-use Rattle.std.specs.Prelude.{slice_set}
+use Rattle.std.proofs.{Common.{◌≡◌, Some, refl, sym, ap, ◌∙◌, slice_set}, lemmas.{Bool.false≢true, Option.slice_get-get_or}}
 use Rattle.exec_waiters.specs.Events.{changed, with_waker}
 use Rattle.exec_machine.specs.Tests.{is_resolved}
 use Rattle.exec_steps.specs.{Awaits.awaited_by, View.driver_of, declared.parts.record.Record.Record}

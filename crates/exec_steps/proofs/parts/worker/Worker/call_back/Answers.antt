@@ -1,5 +1,4 @@
-use Rattle.std.proofs.Common.{◌≡◌, drop}
-use Rattle.std.proofs.lemmas.Option.{slice_get_within}
+use Rattle.std.proofs.{Common.{◌≡◌, drop}, lemmas.Option.slice_get_within}
 use Rattle.exec_steps.proofs.{Calling.{first_of, output_gone, released_as}, Paying.awoken}
 use Rattle.exec_steps.proofs.parts.worker.Worker.call_back.Goals as goal
 

@@ -1,6 +1,6 @@
 use Rattle.std.proofs.Common.{◌≡◌, ⊎_elim}
-use Rattle.exec_moves.specs.declared.place.InClosing.TheVariants as closing
 use Rattle.exec_steps.proofs.{Shutting.{stage_there, shard_empty}, Closes.{closing_began, queue_closed, barrier_opened, pool_stopped, queue_emptied, shard_visited, barrier_left, mailbox_closed, worker_ended}}
+use Rattle.exec_moves.specs.declared.place.InClosing.{InClosing}
 use Rattle.exec_steps.proofs.parts.worker.Worker.close_down.Goals as goal
 
 pub returns-in-Close : goal.returns-in-Close
@@ -40,20 +40,20 @@ returns-in-End g c =
     record { steps = worker_ended g.B.Body.left g.B.Scripted.spot c.args.self.now c.end.new.self c.args.shared.now c.end.new.shared c.end.result (rw c.in-End.is at c.requires.sound) c.requires.going c.end.ensures.event c.end.ensures.worker c.end.ensures.chair c.end.ensures.kept }
 
 pub discard-requires-clause-closed : goal.discard-requires-clause-closed
-discard-requires-clause-closed g c = (stage_there closing.Discard c.args.self.now c.args.shared.now (rw c.in-Discard.is at c.requires.sound)).set
+discard-requires-clause-closed g c = (stage_there InClosing.Discard c.args.self.now c.args.shared.now (rw c.in-Discard.is at c.requires.sound)).set
 
 pub visit-requires-clause-its : goal.visit-requires-clause-its
-visit-requires-clause-its g c = (stage_there (closing.Visit c.in-Visit.drain) c.args.self.now c.args.shared.now (rw c.in-Visit.is at c.requires.sound)).prepared.0
+visit-requires-clause-its g c = (stage_there (InClosing.Visit c.in-Visit.drain) c.args.self.now c.args.shared.now (rw c.in-Visit.is at c.requires.sound)).prepared.0
 
 pub visit-requires-clause-more : goal.visit-requires-clause-more
-visit-requires-clause-more g c = (stage_there (closing.Visit c.in-Visit.drain) c.args.self.now c.args.shared.now (rw c.in-Visit.is at c.requires.sound)).prepared.1
+visit-requires-clause-more g c = (stage_there (InClosing.Visit c.in-Visit.drain) c.args.self.now c.args.shared.now (rw c.in-Visit.is at c.requires.sound)).prepared.1
 
 pub visit-requires-clause-empty : goal.visit-requires-clause-empty
 visit-requires-clause-empty g c =
-    let stage = stage_there (closing.Visit c.in-Visit.drain) c.args.self.now c.args.shared.now (rw c.in-Visit.is at c.requires.sound) in
+    let stage = stage_there (InClosing.Visit c.in-Visit.drain) c.args.self.now c.args.shared.now (rw c.in-Visit.is at c.requires.sound) in
     shard_empty c.args.shared.now.set c.in-Visit.drain.at stage.empty stage.prepared.0.there
 
 pub unreachable-requires : goal.unreachable-requires
 unreachable-requires g c =
-    ⊎_elim (λ (h : c.args.at ≡ closing.Orphan). (stage_there closing.Orphan c.args.self.now c.args.shared.now (rw h at c.requires.sound)).prepared)
-    (λ (h : c.args.at ≡ closing.CloseSleeper). (stage_there closing.CloseSleeper c.args.self.now c.args.shared.now (rw h at c.requires.sound)).prepared) c.in-Orphan.is
+    ⊎_elim (λ (h : c.args.at ≡ InClosing.Orphan). (stage_there InClosing.Orphan c.args.self.now c.args.shared.now (rw h at c.requires.sound)).prepared)
+    (λ (h : c.args.at ≡ InClosing.CloseSleeper). (stage_there InClosing.CloseSleeper c.args.self.now c.args.shared.now (rw h at c.requires.sound)).prepared) c.in-Orphan.is

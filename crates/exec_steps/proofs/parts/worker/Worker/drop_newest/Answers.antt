@@ -1,7 +1,5 @@
-use Rattle.std.proofs.Common.{◌≡◌, Some, None, refl, sym, ap, subst, ◌∙◌}
-use Rattle.std.proofs.lemmas.Option.{slice_get-get_or}
-use Rattle.exec_steps.specs.Awaits.{DropsRequest, newest_of}
-use Rattle.exec_steps.proofs.Newest.{not_none}
+use Rattle.std.proofs.{Common.{◌≡◌, Some, sym, ap, subst, ◌∙◌}, lemmas.Option.slice_get-get_or}
+use Rattle.exec_steps.{specs.Awaits.{DropsRequest, newest_of}, proofs.Newest.not_none}
 use Rattle.exec_steps.proofs.parts.worker.Worker.drop_newest.Goals as goal
 
 pub unreachable-requires : goal.unreachable-requires

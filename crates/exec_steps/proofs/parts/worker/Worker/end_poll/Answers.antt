@@ -1,6 +1,5 @@
 use Rattle.std.proofs.Common.{◌≡◌, true, refl}
-use Rattle.exec_steps.specs.View.{driver_of}
-use Rattle.exec_steps.proofs.Setting.{set_sound}
+use Rattle.exec_steps.{specs.View.driver_of, proofs.Setting.set_sound}
 use Rattle.exec_steps.proofs.parts.worker.Worker.end_poll.Goals as goal
 
 pub returns-clause-sound : goal.returns-clause-sound

@@ -1,6 +1,5 @@
-use Rattle.std.proofs.Common.{◌≡◌, refl, sym, subst, arith}
-use Rattle.exec_steps.specs.{declared.parts.worker.Worker.Worker, Works.Steps}
-use Rattle.exec_steps.proofs.{Firing.{gone_on, gone_same, service_over}, Telling.{sleeper_fired, notes_one, timer_within}}
+use Rattle.std.proofs.Common.{◌≡◌, refl, sym, subst}
+use Rattle.exec_steps.{specs.{declared.parts.worker.Worker.Worker, Works.Steps}, proofs.{Firing.{gone_on, gone_same, service_over}, Telling.{sleeper_fired, notes_one, timer_within}}}
 use Rattle.exec_steps.proofs.parts.worker.Worker.end_service.Goals as goal
 
 pub fire-requires : goal.fire-requires

@@ -1,5 +1,4 @@
-use Rattle.std.proofs.Common.{◌≡◌, Some, refl, sym, ap, ◌∙◌}
-use Rattle.std.proofs.lemmas.Option.{slice_get-get_or}
+use Rattle.std.proofs.{Common.{◌≡◌, Some, refl, sym, ap, ◌∙◌}, lemmas.Option.slice_get-get_or}
 use Rattle.exec_task.specs.Phases.{over}
 use Rattle.exec_steps.specs.declared.parts.task_slot.TaskSlot.{TaskSlot}
 use Rattle.exec_steps.proofs.parts.worker.Worker.end_task.Goals as goal

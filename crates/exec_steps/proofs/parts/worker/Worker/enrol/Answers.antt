@@ -1,11 +1,7 @@
-use Rattle.std.proofs.Common.{◌≡◌, ◌<◌, length, refl, sym, ap, subst, ◌∙◌}
-use Rattle.std.specs.Prelude.{unwrap_or}
-use Rattle.std.specs.Vec.{with_item}
+use Rattle.std.{proofs.Common.{◌≡◌, ◌<◌, length, refl, sym, ap, subst, ◌∙◌, is_some}, specs.{Prelude.unwrap_or, Vec.with_item}}
 use Rattle.exec_driver.specs.Steps.{ended_by, tick_for}
 use Rattle.exec_machine.specs.{declared.event.Event.TheVariants.Enrol, Deadlines.enrolled, Requests.joined_if}
-use Rattle.std.specs.Prelude.{is_some}
-use Rattle.exec_steps.specs.{declared.parts.{names.Names.Names, worker.Worker.Worker}, Records.number_in, Serving.{first_tick, outcome_of_error}, View.driver_of, Works.Steps}
-use Rattle.exec_steps.proofs.{Dating.{enrol_steps, new_room, new_timed, new_within, set_changes}, Enrolled.new_first}
+use Rattle.exec_steps.{specs.{declared.parts.{names.Names.Names, worker.Worker.Worker}, Records.number_in, Serving.{first_tick, outcome_of_error}, View.driver_of, Works.Steps}, proofs.{Dating.{enrol_steps, new_room, new_timed, new_within, set_changes}, Enrolled.new_first}}
 use Rattle.exec_steps.proofs.parts.worker.Worker.enrol.Goals as goal
 
 pub index_mut-requires : goal.index_mut-requires

@@ -1,10 +1,6 @@
-use Rattle.std.proofs.Common.{◌≡◌, ◌<◌, Bool, true, false, length, refl, sym, ap, subst, ◌∙◌}
-use Rattle.std.proofs.lemmas.Option.{slice_get_within}
-use Rattle.std.specs.Prelude.{is_some}
-use Rattle.std.specs.Vec.{with_item}
+use Rattle.std.{proofs.{Common.{◌≡◌, ◌<◌, length, refl, sym, ap, subst, ◌∙◌, is_some}, lemmas.Option.slice_get_within}, specs.Vec.with_item}
 use Rattle.exec_machine.specs.{declared.event.Event.TheVariants.Expire, Deadlines.outcome_at_expiry, Requests.joined_if}
-use Rattle.exec_steps.specs.{declared.parts.{names.Names.Names, worker.Worker.Worker}, Records.number_in, Works.Steps}
-use Rattle.exec_steps.proofs.{Dating.{found_is, set_changes}, Expiring.{due_first, due_room, expires}, Cancelling.expiry_steps, Ordering.in_order}
+use Rattle.exec_steps.{specs.{declared.parts.{names.Names.Names, worker.Worker.Worker}, Records.number_in, Works.Steps}, proofs.{Dating.{found_is, set_changes}, Expiring.{due_first, due_room, expires}, Cancelling.expiry_steps, Ordering.in_order}}
 use Rattle.exec_steps.proofs.parts.worker.Worker.expire.Goals as goal
 
 pub index_mut-requires : goal.index_mut-requires

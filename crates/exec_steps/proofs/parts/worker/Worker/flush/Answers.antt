@@ -1,6 +1,5 @@
 use Rattle.std.proofs.Common.{◌≡◌}
-use Rattle.exec_steps.specs.View.{driver_of}
-use Rattle.exec_steps.proofs.Flushing.{flushed_all, flushed_none}
+use Rattle.exec_steps.{specs.View.driver_of, proofs.Flushing.{flushed_all, flushed_none}}
 use Rattle.exec_steps.proofs.parts.worker.Worker.flush.Goals as goal
 
 pub returns-in-Busy : goal.returns-in-Busy

@@ -1,12 +1,6 @@
-use Rattle.std.proofs.Common.{◌≡◌, Some, refl, sym, ap, subst, ◌∙◌, arith}
-use Rattle.std.proofs.lemmas.Option.{slice_get_within, get_or_from_slice_get}
-use Rattle.std.specs.Prelude.{slice_set}
-use Rattle.std.specs.Result.{is_err}
-use Rattle.std.specs.Vec.{with_item}
-use Rattle.exec_waiters.specs.States.{waiter_at, is_flying}
+use Rattle.std.{proofs.{Common.{◌≡◌, refl, sym, ap, ◌∙◌, slice_set}, lemmas.Option.get_or_from_slice_get}, specs.{Result.is_err, Vec.with_item}}
 use Rattle.exec_driver.specs.Driving.{seen}
-use Rattle.exec_steps.specs.{Carried.landing, Records.roused, View.driver_of}
-use Rattle.exec_steps.proofs.{Landing.{lander, after_one}, Landed.{records_set, landed_sound, landed_own, landed_desk, landed_common}, Admitted.{carried_joined, room_made}}
+use Rattle.exec_steps.{specs.{Carried.landing, Records.roused}, proofs.{Landing.{lander, after_one}, Landed.{records_set, landed_sound, landed_own, landed_desk, landed_common}}}
 use Rattle.exec_steps.proofs.parts.worker.Worker.land.Goals as goal
 
 pub land-requires : goal.land-requires

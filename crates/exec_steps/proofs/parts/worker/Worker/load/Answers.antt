@@ -1,6 +1,4 @@
 use Rattle.std.proofs.Common.{◌≡◌}
-use Rattle.exec_moves.specs.declared.place.Place.TheVariants as at
-use Rattle.exec_steps.specs.Sound.{SoundAt}
 use Rattle.exec_steps.proofs.Loading.{own_head_loaded, own_mirror_loaded, own_word_loaded}
 use Rattle.exec_steps.proofs.parts.worker.Worker.load.Goals as goal
 

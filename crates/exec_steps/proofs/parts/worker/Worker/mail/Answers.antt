@@ -1,6 +1,4 @@
 use Rattle.std.proofs.Common.{◌≡◌}
-use Rattle.exec_moves.specs.declared.place.Place.TheVariants as at
-use Rattle.exec_steps.specs.Sound.{SoundAt}
 use Rattle.exec_steps.proofs.Mailing.{word_loaded, mail_taken}
 use Rattle.exec_steps.proofs.parts.worker.Worker.mail.Goals as goal
 

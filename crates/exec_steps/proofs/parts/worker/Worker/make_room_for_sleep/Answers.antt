@@ -1,6 +1,5 @@
-use Rattle.std.proofs.Common.{◌≡◌, refl, sym, ap, subst}
-use Rattle.exec_steps.specs.{Records.SameNames, declared.parts.worker.Worker.Worker}
-use Rattle.exec_steps.proofs.Growing.{reserved_worker, rooms_kept, same_names, untold_self}
+use Rattle.std.proofs.Common.{◌≡◌, refl, sym, subst}
+use Rattle.exec_steps.{specs.{Records.SameNames, declared.parts.worker.Worker.Worker}, proofs.Growing.{reserved_worker, rooms_kept, same_names, untold_self}}
 use Rattle.exec_steps.proofs.parts.worker.Worker.make_room_for_sleep.Goals as goal
 
 pub returns-in_err-reserve-clause-kept : goal.returns-in_err-reserve-clause-kept

@@ -1,7 +1,5 @@
-use Rattle.std.proofs.Common.{◌≡◌, Some, refl, sym, ap, ◌∙◌, slice_set}
-use Rattle.std.proofs.lemmas.Option.{slice_get-get_or}
-use Rattle.exec_steps.specs.Polls.{sight_of}
-use Rattle.exec_steps.proofs.Making.{kept_if, made_if}
+use Rattle.std.proofs.{Common.{◌≡◌, Some, refl, sym, ap, ◌∙◌, slice_set}, lemmas.Option.slice_get-get_or}
+use Rattle.exec_steps.{specs.Polls.sight_of, proofs.Making.{kept_if, made_if}}
 use Rattle.exec_steps.proofs.parts.worker.Worker.next_act.Goals as goal
 
 pub returns-clause-acts : goal.returns-clause-acts

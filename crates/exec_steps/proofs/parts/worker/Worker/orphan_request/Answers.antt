@@ -1,11 +1,6 @@
-use Rattle.std.proofs.Common.{◌≡◌, ◌-◌, ◌++◌, ◌∷◌, [], true, Some, refl, sym, ap, ◌∙◌}
-use Rattle.std.proofs.lemmas.Bool.{false≢true}
-use Rattle.std.proofs.lemmas.Option.{slice_get-get_or}
-use Rattle.std.specs.Prelude.{slice_set}
-use Rattle.std.specs.VecDeque.{deque_capacity}
+use Rattle.std.{proofs.{Common.{◌≡◌, ◌-◌, ◌++◌, ◌∷◌, [], true, Some, refl, sym, ap, ◌∙◌, slice_set}, lemmas.{Bool.false≢true, Option.slice_get-get_or}}, specs.VecDeque.deque_capacity}
 use Rattle.exec_machine.specs.Requests.{ends_by_drop, joined_if}
-use Rattle.exec_steps.specs.declared.parts.names.Names.{Names}
-use Rattle.exec_steps.proofs.Newest.{dropped_is}
+use Rattle.exec_steps.{specs.declared.parts.names.Names.Names, proofs.Newest.dropped_is}
 use Rattle.exec_steps.proofs.parts.worker.Worker.orphan_request.Goals as goal
 
 pub orphan-requires : goal.orphan-requires

@@ -1,8 +1,5 @@
-use Rattle.std.proofs.Common.{◌≡◌, Some, refl, sym, ap, ◌∙◌}
-use Rattle.std.proofs.lemmas.Option.{slice_get-get_or}
-use Rattle.std.specs.Prelude.{slice_set}
-use Rattle.exec_steps.specs.Polls.{pended_slot}
-use Rattle.exec_steps.proofs.Pending.{slot_ended}
+use Rattle.std.proofs.{Common.{◌≡◌, Some, refl, sym, ap, ◌∙◌, slice_set}, lemmas.Option.slice_get-get_or}
+use Rattle.exec_steps.{specs.Polls.pended_slot, proofs.Pending.slot_ended}
 use Rattle.exec_steps.proofs.parts.worker.Worker.pend.Goals as goal
 
 pub returns-clause-task : goal.returns-clause-task

@@ -1,7 +1,5 @@
-use Rattle.std.proofs.Common.{◌≡◌, refl, sym, subst}
-use Rattle.exec_moves.specs.declared.place.Place.TheVariants as at
-use Rattle.exec_steps.specs.Sound.{SoundAt}
-use Rattle.exec_steps.proofs.{Picks.{counted_down, popped, mirror_loaded, share_taken, head_loaded, share_fits}, Looking.clock_read, Sleeping.ring_slept, Testing.ring_tested, Waiting.ring_armed, Flagging.root_flag_taken, Loading.own_head_loaded}
+use Rattle.std.proofs.Common.{◌≡◌}
+use Rattle.exec_steps.proofs.Picks.{counted_down, popped, mirror_loaded, share_taken, head_loaded, share_fits}
 use Rattle.exec_steps.proofs.parts.worker.Worker.pick.Goals as goal
 
 pub take_share-requires-clause-room : goal.take_share-requires-clause-room

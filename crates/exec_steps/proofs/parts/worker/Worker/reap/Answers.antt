@@ -1,16 +1,9 @@
-use Rattle.std.proofs.Common.{◌≡◌, ◌<◌, true, false, not, length, [], Option, Some, None, refl, sym, ap, subst, ◌∙◌}
-use Rattle.std.proofs.lemmas.Bool.{false≢true}
-use Rattle.std.specs.Prelude.{is_some, slice_get}
-use Rattle.std.specs.Vec.{with_item}
+use Rattle.std.{proofs.{Common.{◌≡◌, ◌<◌, true, false, not, length, [], Some, None, refl, sym, ap, subst, ◌∙◌, is_some, slice_get}, lemmas.Bool.false≢true}, specs.Vec.with_item}
 use Rattle.exec_request.specs.States.{as_answer}
 use Rattle.exec_machine.specs.{Requests.{joined_if, reaped}, declared.event.Event.TheVariants.{Reap, Serve}}
-use Rattle.exec_moves.specs.{Serve.after_permit, declared.place.AfterPermit.AfterPermit}
-use Rattle.exec_moves.specs.declared.place.AfterPermit.TheVariants as permit
-use Rattle.exec_moves.specs.declared.place.InService.TheVariants as step
-use Rattle.exec_moves.specs.declared.place.Place.TheVariants as at
+use Rattle.exec_moves.specs.{Serve.after_permit, declared.place.{AfterPermit.AfterPermit, InService.InService, Place.Place}}
 use Rattle.exec_driver.specs.Steps.{ReapsNext}
-use Rattle.exec_steps.specs.{declared.parts.{names.Names.Names, record.Record.Record, worker.Worker.Worker}, Records.number_in, Submitting.after_giving_up, Flown.operations, View.driver_of, Works.Steps}
-use Rattle.exec_steps.proofs.{Dating.set_changes, Settled.judged_steps, Reaped.{reaps_none, reaps_quiet, tells_none}, Reporting.{none_of, of_it, reaped_lawful, reaped_number, reaped_one_part, reaped_plain, reaped_room, reaped_within}, Sweeping.none_reaped, parts.worker.Worker.reap.Goals.{then-has_completion, else-has_completion}}
+use Rattle.exec_steps.{specs.{declared.parts.{names.Names.Names, record.Record.Record, worker.Worker.Worker}, Records.number_in, Submitting.after_giving_up, Flown.operations, View.driver_of, Works.Steps}, proofs.{Dating.set_changes, Settled.judged_steps, Reaped.{reaps_none, reaps_quiet, tells_none}, Reporting.{none_of, of_it, reaped_lawful, reaped_one_part, reaped_plain, reaped_room, reaped_within}, Sweeping.none_reaped, parts.worker.Worker.reap.Goals.{then-has_completion, else-has_completion}}}
 use Rattle.exec_steps.proofs.parts.worker.Worker.reap.Goals as goal
 
 pub returns-in_default : goal.returns-in_default
@@ -19,7 +12,7 @@ returns-in_default g c =
     let s = c.args.shared.now in
     let d = driver_of w in
     let told = c.reap-reaped.result in
-    let w1 : Worker = record w { place = at.Service (after_permit (permit.Reaped c.args.reaping)) c.args.service; home = record w.home { driver = c.reap-reaped.new.self } } in
+    let w1 : Worker = record w { place = Place.Service (after_permit (AfterPermit.Reaped c.args.reaping)) c.args.service; home = record w.home { driver = c.reap-reaped.new.self } } in
     let d' = driver_of w1 in
     let reaps = c.reap-reaped.ensures.reaps in
     let is : told ≡ None = none_of told c.in_default.not-Some in
@@ -29,11 +22,11 @@ returns-in_default g c =
     let facts = reaps_none w.names d d' s.requests.items s.opens c.reap-reaped.new.opens w.home.deferred c.reap-reaped.new.deferred told reaps none in
     let quiet = reaps_quiet w.names d d' s.requests.items s.opens c.reap-reaped.new.opens w.home.deferred c.reap-reaped.new.deferred told reaps none in
     let no : c.has_completion.result ≡ false = c.has_completion.ensures ∙ ap not quiet in
-    let back : c.if-has_completion.back ≡ permit.Reaped c.args.reaping =
+    let back : c.if-has_completion.back ≡ AfterPermit.Reaped c.args.reaping =
     elim c.if-has_completion.branch [ then-has_completion x ↦ absurd (false≢true (sym no ∙ x.if-has_completion.true)) | else-has_completion x ↦ x.back-is ] in
     let same : c.after_permit.new.self ≡ w1 =
     c.after_permit.ensures
-    ∙ ap (λ (b : AfterPermit). record w { place = at.Service (after_permit b) c.args.service; home = record w.home { driver = c.reap-reaped.new.self; deferred = c.reap-reaped.new.deferred } }) back
+    ∙ ap (λ (b : AfterPermit). record w { place = Place.Service (after_permit b) c.args.service; home = record w.home { driver = c.reap-reaped.new.self; deferred = c.reap-reaped.new.deferred } }) back
     ∙ ap (λ x. record w1 { home = record w1.home { deferred = x } }) facts.3 in
     let steps : Steps g.B.Body.left g.B.Scripted.spot w s Serve w1 s = none_reaped g.B.Body.left g.B.Scripted.spot c.args.reaping c.args.service w w1 s Serve c.requires.sound none refl facts.0 refl in
     record {
@@ -44,19 +37,19 @@ returns-in_default g c =
 pub index_mut-requires : goal.index_mut-requires
 index_mut-requires g c =
     subst (λ n. c.request-request.result < n) (sym c.args.shared.now.requests.ok.0)
-    (subst (λ n. n < length c.args.shared.now.requests.items) (sym c.request-request.ensures) (reaped_within (at.Service (step.Reap c.args.reaping) c.args.service) c.args.self.now c.args.shared.now c.requires.sound (driver_of (record c.args.self.now { home = record c.args.self.now.home { driver = c.reap-reaped.new.self } })) c.args.shared.now.opens c.reap-reaped.new.opens c.args.self.now.home.deferred c.reap-reaped.new.deferred c.in-Some.reaped c.in-Some.ensures.reaps))
+    (subst (λ n. n < length c.args.shared.now.requests.items) (sym c.request-request.ensures) (reaped_within (Place.Service (InService.Reap c.args.reaping) c.args.service) c.args.self.now c.args.shared.now c.requires.sound (driver_of (record c.args.self.now { home = record c.args.self.now.home { driver = c.reap-reaped.new.self } })) c.args.shared.now.opens c.reap-reaped.new.opens c.args.self.now.home.deferred c.reap-reaped.new.deferred c.in-Some.reaped c.in-Some.ensures.reaps))
 
 pub tell_reaped-requires-clause-room : goal.tell_reaped-requires-clause-room
-tell_reaped-requires-clause-room g c = reaped_room (at.Service (step.Reap c.args.reaping) c.args.service) c.args.self.now c.args.shared.now c.requires.sound (driver_of (record c.args.self.now { home = record c.args.self.now.home { driver = c.reap-reaped.new.self } })) c.args.shared.now.opens c.reap-reaped.new.opens c.args.self.now.home.deferred c.reap-reaped.new.deferred c.in-Some.reaped c.in-Some.ensures.reaps
+tell_reaped-requires-clause-room g c = reaped_room (Place.Service (InService.Reap c.args.reaping) c.args.service) c.args.self.now c.args.shared.now c.requires.sound (driver_of (record c.args.self.now { home = record c.args.self.now.home { driver = c.reap-reaped.new.self } })) c.args.shared.now.opens c.reap-reaped.new.opens c.args.self.now.home.deferred c.reap-reaped.new.deferred c.in-Some.reaped c.in-Some.ensures.reaps
 
 pub tell_reaped-requires-clause-lawful : goal.tell_reaped-requires-clause-lawful
-tell_reaped-requires-clause-lawful g c = reaped_lawful (at.Service (step.Reap c.args.reaping) c.args.service) c.args.self.now c.args.shared.now c.requires.sound (driver_of (record c.args.self.now { home = record c.args.self.now.home { driver = c.reap-reaped.new.self } })) c.args.shared.now.opens c.reap-reaped.new.opens c.args.self.now.home.deferred c.reap-reaped.new.deferred c.in-Some.reaped c.in-Some.ensures.reaps c.request-request.result c.index_mut.result.now c.request-request.ensures c.index_mut.ensures.value
+tell_reaped-requires-clause-lawful g c = reaped_lawful (Place.Service (InService.Reap c.args.reaping) c.args.service) c.args.self.now c.args.shared.now c.requires.sound (driver_of (record c.args.self.now { home = record c.args.self.now.home { driver = c.reap-reaped.new.self } })) c.args.shared.now.opens c.reap-reaped.new.opens c.args.self.now.home.deferred c.reap-reaped.new.deferred c.in-Some.reaped c.in-Some.ensures.reaps c.request-request.result c.index_mut.result.now c.request-request.ensures c.index_mut.ensures.value
 
 pub tell_reaped-requires-clause-one_part : goal.tell_reaped-requires-clause-one_part
-tell_reaped-requires-clause-one_part g c = reaped_one_part (at.Service (step.Reap c.args.reaping) c.args.service) c.args.self.now c.args.shared.now c.requires.sound (driver_of (record c.args.self.now { home = record c.args.self.now.home { driver = c.reap-reaped.new.self } })) c.args.shared.now.opens c.reap-reaped.new.opens c.args.self.now.home.deferred c.reap-reaped.new.deferred c.in-Some.reaped c.in-Some.ensures.reaps c.request-request.result c.index_mut.result.now c.request-request.ensures c.index_mut.ensures.value
+tell_reaped-requires-clause-one_part g c = reaped_one_part (Place.Service (InService.Reap c.args.reaping) c.args.service) c.args.self.now c.args.shared.now c.requires.sound (driver_of (record c.args.self.now { home = record c.args.self.now.home { driver = c.reap-reaped.new.self } })) c.args.shared.now.opens c.reap-reaped.new.opens c.args.self.now.home.deferred c.reap-reaped.new.deferred c.in-Some.reaped c.in-Some.ensures.reaps c.request-request.result c.index_mut.result.now c.request-request.ensures c.index_mut.ensures.value
 
 pub tell_reaped-requires-clause-plain : goal.tell_reaped-requires-clause-plain
-tell_reaped-requires-clause-plain g c = reaped_plain (at.Service (step.Reap c.args.reaping) c.args.service) c.args.self.now c.args.shared.now c.requires.sound (driver_of (record c.args.self.now { home = record c.args.self.now.home { driver = c.reap-reaped.new.self } })) c.args.shared.now.opens c.reap-reaped.new.opens c.args.self.now.home.deferred c.reap-reaped.new.deferred c.in-Some.reaped c.in-Some.ensures.reaps c.request-request.result c.index_mut.result.now c.request-request.ensures c.index_mut.ensures.value
+tell_reaped-requires-clause-plain g c = reaped_plain (Place.Service (InService.Reap c.args.reaping) c.args.service) c.args.self.now c.args.shared.now c.requires.sound (driver_of (record c.args.self.now { home = record c.args.self.now.home { driver = c.reap-reaped.new.self } })) c.args.shared.now.opens c.reap-reaped.new.opens c.args.self.now.home.deferred c.reap-reaped.new.deferred c.in-Some.reaped c.in-Some.ensures.reaps c.request-request.result c.index_mut.result.now c.request-request.ensures c.index_mut.ensures.value
 
 pub returns : goal.returns
 returns g c =
@@ -67,10 +60,10 @@ returns g c =
     let j = c.request-request.result in
     let number : j ≡ number_in n done.id.0 = c.request-request.ensures in
     let back = c.if-has_completion.back in
-    let w1 : Worker = record w { place = at.Service (after_giving_up done.permit back) c.args.service; home = record w.home { driver = c.reap-reaped.new.self; deferred = c.reap-reaped.new.deferred }; names = record w.names { ended = c.tell_reaped.new.self.names.ended } } in
+    let w1 : Worker = record w { place = Place.Service (after_giving_up done.permit back) c.args.service; home = record w.home { driver = c.reap-reaped.new.self; deferred = c.reap-reaped.new.deferred }; names = record w.names { ended = c.tell_reaped.new.self.names.ended } } in
     let s1 = record s { requests = with_item s.requests j c.tell_reaped.new.it; opens = c.reap-reaped.new.opens } in
     let f : Record → Record = λ r. record r { shown = reaped done.given (as_answer done.ended) r.shown } in
-    let r = of_it (at.Service (step.Reap c.args.reaping) c.args.service) w s c.requires.sound (driver_of w1) s.opens c.reap-reaped.new.opens w.home.deferred c.reap-reaped.new.deferred done c.in-Some.ensures.reaps in
+    let r = of_it (Place.Service (InService.Reap c.args.reaping) c.args.service) w s c.requires.sound (driver_of w1) s.opens c.reap-reaped.new.opens w.home.deferred c.reap-reaped.new.deferred done c.in-Some.ensures.reaps in
     let there : slice_get s.requests.items (number_in n done.id.0) ≡ Some r.reaped.has.r = ap (λ x. slice_get s.requests.items (number_in n x.0)) r.id ∙ r.reaped.has.there in
     let same : c.tell_reaped.new.self ≡ w1 = c.tell_reaped.ensures.same in
     record {

@@ -1,14 +1,9 @@
-use Rattle.std.proofs.Common.{◌≡◌, ◌++◌, ◌∷◌, [], ◌<◌, length, Some, refl, sym, ap, subst, ◌∙◌, arith}
-use Rattle.std.proofs.lemmas.List.{set-set}
-use Rattle.std.proofs.lemmas.Option.{slice_get-get_or}
-use Rattle.std.specs.Prelude.{is_some, slice_set}
+use Rattle.std.proofs.{Common.{◌≡◌, ◌++◌, ◌∷◌, [], length, Some, refl, sym, ap, subst, ◌∙◌, arith, is_some, slice_set}, lemmas.{List.set-set, Option.slice_get-get_or}}
 use Rattle.exec_request.specs.Requests.{asked_of, deadline_of}
-use Rattle.exec_task.specs.declared.body.Said.TheVariants as hears
 use Rattle.exec_machine.specs.{declared.event.Event.TheVariants.Admit, Requests.{outcome_if_late, new_request, resolved_if}}
-use Rattle.exec_moves.specs.declared.place.InPoll.TheVariants as poll
-use Rattle.exec_moves.specs.declared.place.Place.TheVariants as at
-use Rattle.exec_steps.specs.{Admitting.NamesOne, Records.{outcome_in, plain_operation}, declared.parts.{shared.Shared.Shared, task_slot.TaskSlot.TaskSlot, worker.Worker.Worker}}
-use Rattle.exec_steps.proofs.{Enlisting.{ended_within, few_records, named_room, named_within, outcome_shown, plain_range, records_room, records_same, slot_is, slot_room, slot_within}, Growing.{refuses_by, rooms_within}}
+use Rattle.exec_steps.{specs.{Admitting.NamesOne, Records.{outcome_in, plain_operation}, declared.parts.{shared.Shared.Shared, task_slot.TaskSlot.TaskSlot, worker.Worker.Worker}}, proofs.{Enlisting.{ended_within, few_records, named_room, named_within, outcome_shown, plain_range, records_room, records_same, slot_is, slot_room, slot_within}, Growing.{refuses_by, rooms_within}}}
+use Rattle.exec_task.specs.declared.body.Said.{Said}
+use Rattle.exec_moves.specs.declared.place.{InPoll.InPoll, Place.Place}
 use Rattle.exec_steps.proofs.parts.worker.Worker.register.Goals as goal
 
 pub operation_of-operation-requires : goal.operation_of-operation-requires
@@ -71,10 +66,10 @@ returns-clause-made g c =
     let shown : c.name_record-record.result.shown ≡ resolved_if (outcome_if_late w.moments.sampled (deadline_of q)) (new_request w.index (plain_operation q)) =
     c.name_record-record.ensures.shown ∙ ap (λ l. resolved_if l (new_request c.admit.new.self.index c.operation_of-operation.result)) late
     ∙ ap (λ n. resolved_if (outcome_if_late w.moments.sampled (deadline_of q)) (new_request n c.operation_of-operation.result)) index ∙ ap (λ o. resolved_if (outcome_if_late w.moments.sampled (deadline_of q)) (new_request w.index o)) plain in
-    let told : c.tell-2.new.self ≡ record o { held = c.hold.new.self.held; told = Some (hears.Admitted k) } = c.tell-2.ensures ∙ ap (λ (x : TaskSlot g.row.B.Denot). record x { told = Some (hears.Admitted k) }) c.hold.ensures.same in
+    let told : c.tell-2.new.self ≡ record o { held = c.hold.new.self.held; told = Some (Said.Admitted k) } = c.tell-2.ensures ∙ ap (λ (x : TaskSlot g.row.B.Denot). record x { told = Some (Said.Admitted k) }) c.hold.ensures.same in
     let slot : o ≡ record t.rooms.slot { held = o.held } = is ∙ t.rooms.same ∙ ap (λ (x : TaskSlot g.row.B.Denot). record t.rooms.slot { held = x.held }) (sym is) in
-    let took : c.tell-2.new.self ≡ record t.rooms.slot { held = c.hold.new.self.held; told = Some (hears.Admitted (length s.requests.items)) } =
-    told ∙ ap (λ (x : TaskSlot g.row.B.Denot). record x { held = c.hold.new.self.held; told = Some (hears.Admitted k) }) slot ∙ ap (λ n. record t.rooms.slot { held = c.hold.new.self.held; told = Some (hears.Admitted n) }) count in
+    let took : c.tell-2.new.self ≡ record t.rooms.slot { held = c.hold.new.self.held; told = Some (Said.Admitted (length s.requests.items)) } =
+    told ∙ ap (λ (x : TaskSlot g.row.B.Denot). record x { held = c.hold.new.self.held; told = Some (Said.Admitted k) }) slot ∙ ap (λ n. record t.rooms.slot { held = c.hold.new.self.held; told = Some (Said.Admitted n) }) count in
     let held : c.tell-2.new.self.held ≡ c.hold.new.self.held = ap (λ (x : TaskSlot g.row.B.Denot). x.held) told in
     record {
       id = c.in-Ok.id;
@@ -86,10 +81,10 @@ returns-clause-made g c =
       shown = shown;
       names = subst (λ n. NamesOne c.in-Ok.id n (is_some (outcome_if_late w.moments.sampled (deadline_of q))) c.admit.new.self.names c.name_record-record.new.self.names) count
           (subst (λ l. NamesOne c.in-Ok.id k (is_some l) c.admit.new.self.names c.name_record-record.new.self.names) late c.name_record-record.ensures.names);
-      worker = ap (λ (x : Worker). record x { place = at.Poll c.args.task poll.Act }) c.name_record-record.ensures.same ∙ ap (λ n. record c.admit.new.self { place = at.Poll c.args.task poll.Act; names = n }) refl;
+      worker = ap (λ (x : Worker). record x { place = Place.Poll c.args.task InPoll.Act }) c.name_record-record.ensures.same ∙ ap (λ n. record c.admit.new.self { place = Place.Poll c.args.task InPoll.Act; names = n }) refl;
       requests = c.push_reserved.ensures.items ∙ ap (λ xs. xs ++ c.name_record-record.result ∷ []) before;
       slot' = c.tell-2.new.self;
-      took = took ∙ ap (λ h. record t.rooms.slot { held = h; told = Some (hears.Admitted (length s.requests.items)) }) (sym held);
+      took = took ∙ ap (λ h. record t.rooms.slot { held = h; told = Some (Said.Admitted (length s.requests.items)) }) (sym held);
       held = ap (λ h. h.items) held ∙ c.hold.ensures.held ∙ ap (λ n. o.held.items ++ n ∷ []) count ∙ ap (λ xs. xs ++ length s.requests.items ∷ []) (ap (λ (x : TaskSlot g.row.B.Denot). x.held.items) is ∙ t.rooms.held);
       tasks = ap (λ ts. slice_set ts c.args.task c.tell-2.new.self) (ap (λ (x : Shared g.row.B.Denot). x.tasks.items) t.shared ∙ t.rooms.tasks) ∙ set-set s.tasks.items c.args.task t.rooms.slot' c.tell-2.new.self;
       shared = refl;

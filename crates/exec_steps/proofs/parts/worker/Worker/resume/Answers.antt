@@ -1,19 +1,16 @@
-use Rattle.std.proofs.Common.{◌≡◌, Some, sym, ap, ◌∙◌}
-use Rattle.std.proofs.lemmas.Option.{slice_get-get_or}
-use Rattle.std.specs.Prelude.{slice_get}
-use Rattle.exec_moves.specs.declared.place.InPoll.TheVariants as poll
-use Rattle.exec_steps.specs.Sound.{may_resume}
-use Rattle.exec_steps.proofs.Taking.{never_resumes, polled_there, request_there, timer_there, wake_resumed}
+use Rattle.std.proofs.{Common.{◌≡◌, Some, sym, ap, ◌∙◌, slice_get}, lemmas.Option.slice_get-get_or}
+use Rattle.exec_steps.{specs.Sound.may_resume, proofs.Taking.{never_resumes, polled_there, request_there, timer_there, wake_resumed}}
+use Rattle.exec_moves.specs.declared.place.InPoll.{InPoll}
 use Rattle.exec_steps.proofs.parts.worker.Worker.resume.Goals as goal
 
 pub take_wake-requires : goal.take_wake-requires
-take_wake-requires g c = record { there = polled_there c.args.task poll.Resume c.args.self.now c.args.shared.now c.requires.sound c.requires.sound.hand.0 }
+take_wake-requires g c = record { there = polled_there c.args.task InPoll.Resume c.args.self.now c.args.shared.now c.requires.sound c.requires.sound.hand.0 }
 
 pub returns-in-Woken : goal.returns-in-Woken
 returns-in-Woken g c =
     let slot = c.index.result.now in
     let items = c.args.shared.now.tasks.items in
-    let within = polled_there c.args.task poll.Resume c.args.self.now c.args.shared.now c.requires.sound c.requires.sound.hand.0 in
+    let within = polled_there c.args.task InPoll.Resume c.args.self.now c.args.shared.now c.requires.sound c.requires.sound.hand.0 in
     let there = slice_get-get_or items c.args.task slot within ∙ ap (λ z. Some z) (sym c.index.ensures) in
     let is = c.take_wake.ensures in
     record { steps = wake_resumed g.B.Body.left g.B.Scripted.spot g.B.Scripted.answered c.args.task c.args.self.now c.take_wake.new.self c.args.shared.now c.take_wake.new.shared c.take_wake.result slot c.requires.sound there (sym c.waiting.ensures ∙ c.in-Woken.is) is.event is.worker is.task }
@@ -22,7 +19,7 @@ pub resume_timer-requires : goal.resume_timer-requires
 resume_timer-requires g c =
     let slot = c.index.result.now in
     let items = c.args.shared.now.tasks.items in
-    let within = polled_there c.args.task poll.Resume c.args.self.now c.args.shared.now c.requires.sound c.requires.sound.hand.0 in
+    let within = polled_there c.args.task InPoll.Resume c.args.self.now c.args.shared.now c.requires.sound c.requires.sound.hand.0 in
     let there = slice_get-get_or items c.args.task slot within ∙ ap (λ z. Some z) (sym c.index.ensures) in
     let what = sym c.waiting.ensures ∙ c.in-Timer.is in
     record {
@@ -38,7 +35,7 @@ pub resume_request-requires : goal.resume_request-requires
 resume_request-requires g c =
     let slot = c.index.result.now in
     let items = c.args.shared.now.tasks.items in
-    let within = polled_there c.args.task poll.Resume c.args.self.now c.args.shared.now c.requires.sound c.requires.sound.hand.0 in
+    let within = polled_there c.args.task InPoll.Resume c.args.self.now c.args.shared.now c.requires.sound c.requires.sound.hand.0 in
     let there = slice_get-get_or items c.args.task slot within ∙ ap (λ z. Some z) (sym c.index.ensures) in
     let what = sym c.waiting.ensures ∙ c.in-Request.is in
     record {
@@ -55,7 +52,7 @@ unreachable-requires g c =
     let sound = c.requires.sound in
     let slot = c.index.result.now in
     let items = c.args.shared.now.tasks.items in
-    let within = polled_there c.args.task poll.Resume c.args.self.now c.args.shared.now sound sound.hand.0 in
+    let within = polled_there c.args.task InPoll.Resume c.args.self.now c.args.shared.now sound sound.hand.0 in
     let there = slice_get-get_or items c.args.task slot within ∙ ap (λ z. Some z) (sym c.index.ensures) in
     let stands = sound.tied.stands slot (ap (slice_get items) (sym sound.hand.0) ∙ there) in
     never_resumes c.waiting.result (ap may_resume c.waiting.ensures ∙ stands.waits) c.in-Nothing.is

@@ -1,8 +1,6 @@
-use Rattle.std.proofs.Common.{◌≡◌, Some, sym, ap, ◌∙◌}
-use Rattle.std.proofs.lemmas.Option.{slice_get-get_or, slice_get_within}
-use Rattle.std.specs.Prelude.{slice_get}
-use Rattle.exec_moves.specs.declared.place.InPoll.TheVariants as poll
+use Rattle.std.proofs.{Common.{◌≡◌, Some, sym, ap, ◌∙◌, slice_get}, lemmas.Option.{slice_get-get_or, slice_get_within}}
 use Rattle.exec_steps.proofs.{Pending.{at_end, at_resume}, Receiving.{output_ready, output_taken}, Taking.request_awaited}
+use Rattle.exec_moves.specs.declared.place.InPoll.{InPoll}
 use Rattle.exec_steps.proofs.parts.worker.Worker.resume_request.Goals as goal
 
 pub take_output-requires : goal.take_output-requires
@@ -22,7 +20,7 @@ returns-then-is_over g c =
 
 pub pend-requires : goal.pend-requires
 pend-requires g c =
-    let it = at_end poll.Resume c.args.task c.args.self.now c.args.shared.now c.requires.sound c.requires.sound.hand.0 (at_resume c.args.task) in
+    let it = at_end InPoll.Resume c.args.task c.args.self.now c.args.shared.now c.requires.sound c.requires.sound.hand.0 (at_resume c.args.task) in
     record { there = it.there; polled = it.polled; body = it.body; kept = it.kept }
 
 pub returns : goal.returns

@@ -1,7 +1,4 @@
-use Rattle.std.proofs.Common.{◌≡◌, refl, sym, subst, ◌∙◌}
-use Rattle.std.proofs.lemmas.Bool.{false≢true}
-use Rattle.exec_moves.specs.declared.place.Place.TheVariants as at
-use Rattle.exec_steps.specs.Sound.{SoundAt}
+use Rattle.std.proofs.{Common.{◌≡◌, refl, sym}, lemmas.Bool.false≢true}
 use Rattle.exec_steps.proofs.{Entered.last_entered, Serving.sampled, Advancing.advanced_on}
 use Rattle.exec_steps.proofs.parts.worker.Worker.service.Goals as goal
 

@@ -1,16 +1,9 @@
-use Rattle.std.proofs.Common.{◌≡◌, ◌≢◌, ℕ, ◌≤◌, ◌++◌, ◌∷◌, [], ◌+◌, ◌<◌, length, Some, refl, sym, ap, subst, ◌∙◌, arith}
-use Rattle.std.proofs.lemmas.List.{set-set}
-use Rattle.std.proofs.lemmas.Option.{slice_get-get_or}
-use Rattle.std.specs.Prelude.{min, slice_get, slice_set}
-use Rattle.exec_base.specs.{Slab.{Slab, inserted, next_id, IsPast, TakesId}, declared.{limits.TheConstants.LONGEST_TIMEOUT, task_no.TaskNo.TaskNo}}
-use Rattle.exec_time.specs.declared.timers.Observer.TheVariants as sleep
-use Rattle.exec_time.specs.declared.timers.TimerId.{TimerId}
-use Rattle.exec_machine.specs.{declared.event.Event.TheVariants.Timer, Deadlines.new_sleeper}
-use Rattle.exec_machine.specs.declared.state.Waiting.TheVariants as waiting
-use Rattle.exec_moves.specs.declared.place.InPoll.TheVariants as poll
-use Rattle.exec_moves.specs.declared.place.Place.TheVariants as at
-use Rattle.exec_steps.specs.declared.parts.{names.Names.Names, task_slot.TaskSlot.TaskSlot, worker.Worker.Worker}
-use Rattle.exec_steps.proofs.{Dozing.{bed_names, bed_room, bed_within}, Growing.{refuses_by, rooms_there, rooms_within}}
+use Rattle.std.proofs.{Common.{◌≡◌, ◌≢◌, ℕ, ◌≤◌, ◌++◌, ◌∷◌, [], ◌+◌, length, Some, refl, sym, ap, subst, ◌∙◌, arith, min, slice_get, slice_set}, lemmas.{List.set-set, Option.slice_get-get_or}}
+use Rattle.exec_base.specs.{Slab.{inserted, next_id, IsPast, TakesId}, declared.{limits.TheConstants.LONGEST_TIMEOUT, task_no.TaskNo.TaskNo}}
+use Rattle.exec_time.specs.declared.timers.{TimerId.TimerId, Observer.Observer}
+use Rattle.exec_machine.specs.{declared.{event.Event.TheVariants.Timer, state.Waiting.Waiting}, Deadlines.new_sleeper}
+use Rattle.exec_steps.{specs.declared.parts.{names.Names.Names, task_slot.TaskSlot.TaskSlot, worker.Worker.Worker}, proofs.{Dozing.{bed_names, bed_room, bed_within}, Growing.{refuses_by, rooms_there, rooms_within}}}
+use Rattle.exec_moves.specs.declared.place.{InPoll.InPoll, Place.Place}
 use Rattle.exec_steps.proofs.parts.worker.Worker.sleep_for.Goals as goal
 
 pub index_mut-requires : goal.index_mut-requires
@@ -48,8 +41,8 @@ returns-clause-made g c =
     let is : o ≡ t.rooms.slot' = rooms_there t.rooms o there in
     let index : x.index ≡ w.index = ap (λ (y : Worker). y.index) t.worker ∙ ap (λ (y : Worker). y.index) t.rooms.worker in
     let slot : o ≡ record t.rooms.slot { held = o.held } = is ∙ t.rooms.same ∙ ap (λ (y : TaskSlot g.row.B.Denot). record t.rooms.slot { held = y.held }) (sym is) in
-    let waits : c.wait_for.new.self ≡ record t.rooms.slot { held = o.held; waiting = waiting.Timer (length s.sleepers.items) } =
-    c.wait_for.ensures ∙ ap (λ (y : TaskSlot g.row.B.Denot). record y { waiting = waiting.Timer k }) slot ∙ ap (λ n. record t.rooms.slot { held = o.held; waiting = waiting.Timer n }) count in
+    let waits : c.wait_for.new.self ≡ record t.rooms.slot { held = o.held; waiting = Waiting.Timer (length s.sleepers.items) } =
+    c.wait_for.ensures ∙ ap (λ (y : TaskSlot g.row.B.Denot). record y { waiting = Waiting.Timer k }) slot ∙ ap (λ n. record t.rooms.slot { held = o.held; waiting = Waiting.Timer n }) count in
     let held : c.wait_for.new.self.held ≡ o.held = ap (λ (y : TaskSlot g.row.B.Denot). y.held) waits in
     let names : x.names ≡ t.mid.names = bed_names _ _ _ _ _ _ _ _ t in
     let until = w.moments.sampled + c.min.result in
@@ -68,8 +61,8 @@ returns-clause-made g c =
       made = c.new.result;
       shown = c.new.ensures.shown ∙ ap (λ m. new_sleeper (w.moments.sampled + m) x.index c.args.task) c.min.ensures ∙ ap (λ i. new_sleeper till i c.args.task) index;
       next = subst (λ (y : TimerId). next_id t.mid.home.timers ≡ Some y.0) named t.next;
-      timers = t.timers ∙ ap (λ m. record (inserted t.mid.home.timers (record { deadline = w.moments.sampled + m; observer = sleep.Local c.number-waker.result })) { room = x.home.timers.room }) c.min.ensures
-          ∙ ap (λ (n : TaskNo). record (inserted t.mid.home.timers (record { deadline = till; observer = sleep.Local n })) { room = x.home.timers.room }) number;
+      timers = t.timers ∙ ap (λ m. record (inserted t.mid.home.timers (record { deadline = w.moments.sampled + m; observer = Observer.Local c.number-waker.result })) { room = x.home.timers.room }) c.min.ensures
+          ∙ ap (λ (n : TaskNo). record (inserted t.mid.home.timers (record { deadline = till; observer = Observer.Local n })) { room = x.home.timers.room }) number;
       unnamed = subst (λ (y : TimerId). IsPast t.mid.home.timers y.0 → ⊥) named t.unnamed;
       past = subst (λ (y : TimerId). TakesId t.mid.home.timers x.home.timers y.0) named t.past;
       number_is = subst (λ (y : TimerId). slice_get c.name_timer.new.self.timers.items y.0.index ≡ Some (length s.sleepers.items)) named (c.name_timer.ensures.number ∙ ap (λ n. Some n) count);
@@ -77,10 +70,10 @@ returns-clause-made g c =
           (λ j apart. c.name_timer.ensures.others j apart ∙ ap (λ (n : Names). slice_get n.timers.items j) names);
       longer = subst (λ (n : Names). length n.timers.items ≤ length c.name_timer.new.self.timers.items) names c.name_timer.ensures.longer;
       names = c.name_timer.ensures.same ∙ ap (λ (n : Names). record n { timers = c.name_timer.new.self.timers }) names;
-      worker = ap (λ (y : Worker). record y { place = at.Poll c.args.task poll.Pend; names = c.name_timer.new.self }) t.worker;
+      worker = ap (λ (y : Worker). record y { place = Place.Poll c.args.task InPoll.Pend; names = c.name_timer.new.self }) t.worker;
       sleepers = c.push_reserved.ensures.items ∙ ap (λ xs. xs ++ c.new.result ∷ []) t.rooms.sleepers;
       slot' = c.wait_for.new.self;
-      waits = waits ∙ ap (λ h. record t.rooms.slot { held = h; waiting = waiting.Timer (length s.sleepers.items) }) (sym held);
+      waits = waits ∙ ap (λ h. record t.rooms.slot { held = h; waiting = Waiting.Timer (length s.sleepers.items) }) (sym held);
       held = ap (λ h. h.items) held ∙ ap (λ (y : TaskSlot g.row.B.Denot). y.held.items) is ∙ t.rooms.held;
       tasks = ap (λ ts. slice_set ts c.args.task c.wait_for.new.self) t.rooms.tasks ∙ set-set s.tasks.items c.args.task t.rooms.slot' c.wait_for.new.self;
       shared = refl;

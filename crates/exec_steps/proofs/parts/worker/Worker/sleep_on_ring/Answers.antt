@@ -1,5 +1,4 @@
-use Rattle.std.proofs.Common.{◌≡◌, sym, ◌∙◌}
-use Rattle.std.proofs.lemmas.Bool.{not-true, not-false}
+use Rattle.std.proofs.{Common.{◌≡◌, sym, ◌∙◌}, lemmas.Bool.{not-true, not-false}}
 use Rattle.exec_steps.proofs.Sleeping.{ring_slept, ring_unslept}
 use Rattle.exec_steps.proofs.parts.worker.Worker.sleep_on_ring.Goals as goal
 

@@ -1,22 +1,20 @@
 use Rattle.std.proofs.Common.{◌≡◌, ap, sym, ◌∙◌}
-use Rattle.exec_moves.specs.declared.place.InWordWait.TheVariants as word
-use Rattle.exec_moves.specs.declared.place.Place.TheVariants as at
 use Rattle.exec_words.specs.Word.{is_idle_at}
-use Rattle.exec_steps.specs.{declared.parts.worker.Worker.Worker, Tests.slept_after}
-use Rattle.exec_steps.proofs.{Sleeping.{word_slept, word_unslept}, Waiting.word_read}
+use Rattle.exec_steps.{specs.{declared.parts.worker.Worker.Worker, Tests.slept_after}, proofs.{Sleeping.{word_slept, word_unslept}, Waiting.word_read}}
+use Rattle.exec_moves.specs.declared.place.{InWordWait.InWordWait, Place.Place}
 use Rattle.exec_steps.proofs.parts.worker.Worker.sleep_on_word.Goals as goal
 
 pub returns-then-not-still_idle : goal.returns-then-not-still_idle
 returns-then-not-still_idle g c =
     let w = c.args.self.now in
-    let read = word_read (at.WordWait word.SleepOnWord) w c.args.shared.now c.index.result.now c.requires.sound c.index.ensures in
+    let read = word_read (Place.WordWait InWordWait.SleepOnWord) w c.args.shared.now c.index.result.now c.requires.sound c.index.ensures in
     record { steps = word_unslept g.B.Body.left g.B.Scripted.spot w c.args.shared.now c.requires.sound (ap (λ x. is_idle_at x w.processed) (sym read) ∙ sym c.still_idle.ensures ∙ c.if-not-still_idle.true) }
 
 pub returns : goal.returns
 returns g c =
     let w = c.args.self.now in
     let e = c.sleep-event.result in
-    let read = word_read (at.WordWait word.SleepOnWord) w c.args.shared.now c.index.result.now c.requires.sound c.index.ensures in
+    let read = word_read (Place.WordWait InWordWait.SleepOnWord) w c.args.shared.now c.index.result.now c.requires.sound c.index.ensures in
     record {
       steps = word_slept g.B.Body.left g.B.Scripted.spot w c.note_sleep.new.self c.args.shared.now c.sleep-event.new.shared e c.requires.sound
           (ap (λ x. is_idle_at x w.processed) (sym read) ∙ sym c.still_idle.ensures ∙ c.if-not-still_idle.false) c.sleep-event.ensures.sleeps

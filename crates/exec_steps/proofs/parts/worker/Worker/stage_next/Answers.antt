@@ -1,6 +1,5 @@
-use Rattle.std.proofs.Common.{◌≡◌, true, false, refl, sym, ap, ◌∙◌, rules, inl, inr}
-use Rattle.exec_steps.specs.{Submitting.must_flush, View.driver_of}
-use Rattle.exec_steps.proofs.{Ceasing.{flush_entered, staging_ended}, Staging.{cancel_stages, cancels_named, first_may, first_there, has_places, has_room, none_there, queued_named}, Started.request_stages}
+use Rattle.std.proofs.Common.{◌≡◌, true, false, refl, sym, ◌∙◌, rules, inl, inr}
+use Rattle.exec_steps.{specs.{Submitting.must_flush, View.driver_of}, proofs.{Ceasing.{flush_entered, staging_ended}, Staging.{cancel_stages, cancels_named, first_may, first_there, has_places, has_room, none_there, queued_named}, Started.request_stages}}
 use Rattle.exec_steps.proofs.parts.worker.Worker.stage_next.Goals as goal
 
 pub flush-requires : goal.flush-requires

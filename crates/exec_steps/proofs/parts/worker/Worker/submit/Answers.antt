@@ -1,6 +1,5 @@
-use Rattle.std.proofs.Common.{◌≡◌, true, false, [], refl, sym, ap, ◌∙◌, rules}
-use Rattle.exec_steps.specs.View.{driver_of}
-use Rattle.exec_steps.proofs.{Idling.no_gate, Staging.none_there}
+use Rattle.std.proofs.Common.{◌≡◌, true, false, sym, ◌∙◌, rules}
+use Rattle.exec_steps.{specs.View.driver_of, proofs.{Idling.no_gate, Staging.none_there}}
 use Rattle.exec_steps.proofs.parts.worker.Worker.submit.Goals as goal
 
 pub expire-requires : goal.expire-requires

@@ -1,13 +1,8 @@
-use Rattle.std.proofs.Common.{◌≡◌, ◌++◌, Some, refl, sym, ap, ◌∙◌}
-use Rattle.std.proofs.lemmas.Option.{slice_get-get_or}
-use Rattle.std.specs.Prelude.{option_to_list}
-use Rattle.exec_task.specs.declared.body.Said.TheVariants as said
-use Rattle.exec_machine.specs.declared.event.Event.TheVariants.{Got}
-use Rattle.exec_machine.specs.declared.state.Waiting.TheVariants as waiting
-use Rattle.exec_moves.specs.declared.place.InPoll.TheVariants as poll
-use Rattle.exec_moves.specs.declared.place.Place.TheVariants as at
-use Rattle.exec_steps.specs.{Records.outcome_in, declared.parts.task_slot.TaskSlot.TaskSlot}
-use Rattle.exec_steps.proofs.Receiving.{may_see, seen_ready}
+use Rattle.std.proofs.{Common.{◌≡◌, ◌++◌, Some, refl, sym, ap, ◌∙◌, option_to_list}, lemmas.Option.slice_get-get_or}
+use Rattle.exec_machine.specs.declared.{event.Event.TheVariants.Got, state.Waiting.Waiting}
+use Rattle.exec_steps.{specs.{Records.outcome_in, declared.parts.task_slot.TaskSlot.TaskSlot}, proofs.Receiving.{may_see, seen_ready}}
+use Rattle.exec_task.specs.declared.body.Said.{Said}
+use Rattle.exec_moves.specs.declared.place.{InPoll.InPoll, Place.Place}
 use Rattle.exec_steps.proofs.parts.worker.Worker.take_output.Goals as goal
 
 pub unreachable-requires : goal.unreachable-requires
@@ -43,8 +38,8 @@ returns g c =
     let found : Some c.in-Some.outcome ≡ Some ready.outcome = sym c.in-Some.is ∙ c.outcome.ensures ∙ ap outcome_in ready.is in
     let same : c.in-Some.outcome ≡ ready.outcome = cc (found) in
     let fewer = c.let_go-2.new.self in
-    let step : c.take.new.self ≡ record o { held = fewer.held; waiting = waiting.Nothing; told = Some (said.Output c.in-Ready.output) } =
-    c.take.ensures ∙ ap (λ (x : TaskSlot g.row.B.Denot). record x { waiting = waiting.Nothing; told = Some (said.Output c.in-Ready.output) }) c.let_go-2.ensures.same in
+    let step : c.take.new.self ≡ record o { held = fewer.held; waiting = Waiting.Nothing; told = Some (Said.Output c.in-Ready.output) } =
+    c.take.ensures ∙ ap (λ (x : TaskSlot g.row.B.Denot). record x { waiting = Waiting.Nothing; told = Some (Said.Output c.in-Ready.output) }) c.let_go-2.ensures.same in
     record {
       took = record {
         slot = o;
@@ -55,14 +50,14 @@ returns g c =
         outcome = ready.outcome;
         is = ready.is;
         event = ap (λ x. Got c.args.request x) same;
-        worker = ap (λ n. record w { place = at.Poll c.args.task poll.Act; names = n; home = record w.home { driver = c.observe.new.self } }) c.let_go.ensures;
+        worker = ap (λ n. record w { place = Place.Poll c.args.task InPoll.Act; names = n; home = record w.home { driver = c.observe.new.self } }) c.let_go.ensures;
         driver = c.observe.ensures.taken;
         punctual = c.observe.ensures.punctual;
         requests = refl;
         tasks = refl;
         kept = refl;
         output = c.in-Ready.output;
-        took = step ∙ ap (λ h. record o { held = h; waiting = waiting.Nothing; told = Some (said.Output c.in-Ready.output) }) (sym (ap (λ (x : TaskSlot g.row.B.Denot). x.held) step));
+        took = step ∙ ap (λ h. record o { held = h; waiting = Waiting.Nothing; told = Some (Said.Output c.in-Ready.output) }) (sym (ap (λ (x : TaskSlot g.row.B.Denot). x.held) step));
         newest = c.let_go-2.result;
         some = c.let_go-2.ensures.some (c.requires.holds o there);
         held = c.let_go-2.ensures.held ∙ ap (λ h. h.items ++ option_to_list c.let_go-2.result) (sym (ap (λ (x : TaskSlot g.row.B.Denot). x.held) step));

@@ -1,6 +1,4 @@
 use Rattle.std.proofs.Common.{◌≡◌}
-use Rattle.exec_moves.specs.declared.place.Place.TheVariants as at
-use Rattle.exec_steps.specs.Sound.{SoundAt}
 use Rattle.exec_steps.proofs.{Entered.full_ring_entered, Parking.ring_entered, Testing.ring_tested, Waiting.{ring_armed, ring_disarmed}}
 use Rattle.exec_steps.proofs.parts.worker.Worker.wait_on_ring.Goals as goal
 

@@ -1,6 +1,4 @@
-use Rattle.std.proofs.Common.{◌≡◌, refl, sym, ap, ◌∙◌}
-use Rattle.exec_moves.specs.declared.place.Place.TheVariants as at
-use Rattle.exec_steps.specs.Sound.{SoundAt}
+use Rattle.std.proofs.Common.{◌≡◌}
 use Rattle.exec_steps.proofs.Waiting.{batch_sought, latch_sought, latch_taken, word_armed, word_disarmed}
 use Rattle.exec_steps.proofs.parts.worker.Worker.wait_on_word.Goals as goal
 
