@@ -1,12 +1,12 @@
 -- Acts of a polled body that change its slot alone: a pass, a wait for a wake, a yield.
-use Rattle.std.proofs.{Common.{◌≡◌, ℕ, suc, ◌-◌, ◌==◌, ◌&&◌, ◌||◌, ◌≤◌, ◌^◌, arith, Bool, true, false, List, [], ◌∷◌, length, map, Option, Some, None, refl, sym, ap, subst, ◌∙◌, slice_get, slice_index_or, slice_set, if◌then◌else◌}, lemmas.{Bool.{false≢true, eq-eqb}, List.{map-set, set-set}}}
+use Rattle.std.proofs.{Common.{◌≡◌, ℕ, suc, ◌-◌, ◌==◌, ◌&&◌, ◌≤◌, ◌^◌, arith, Bool, true, false, List, [], ◌∷◌, length, map, Option, Some, None, refl, sym, ap, subst, ◌∙◌, slice_get, slice_index_or, slice_set, if◌then◌else◌}, lemmas.{Bool.{false≢true, eq-eqb}, List.{map-set, set-set}}}
 use Rattle.exec_base.specs.{Slab.{Slab, value_at}, declared.slab.Id.Id}
+use Rattle.exec_time.specs.declared.timers.{Sleeper.Sleeper as Sleeping, Observer.Observer}
 use Rattle.exec_driver.specs.Driving.{Driving}
 use Rattle.exec_task.specs.{Phases.{is_polled, woken as cell_woken}, Sight.Sight, declared.body.{Act.Act, Said.Said}}
-use Rattle.exec_time.specs.declared.timers.{Sleeper.Sleeper as Sleeping, Observer.Observer}
 use Rattle.exec_machine.specs.{Choice.{Choice, Choice.{Plain, Pays}, Payer.ByAct}, declared.{config.ScriptWord.ScriptWord, event.Event.{Event, TheVariants.{Pass, Wait, Wake}}, state.Waiting.Waiting}, Progress.Plan, Requests.operation_asked, Tasks.{after_taking, after_waking_word, is_woken_here, polls_waiting, waits_for, woken, woken_phase}, Tests.{is_empty, is_resolved, is_woken, waits_for_nothing}, Words.{acts, asks_await, asks_no_sleep, asks_wake, asks_yield, moved_on, next_word}, World.{Own, Task, Common, no_task, task_of}}
 use Rattle.exec_moves.specs.{declared.place.{Place.Place, InPoll.InPoll}, Poll.{act_asked, await}, State.{Moved, Things}}
-use Rattle.exec_steps.{specs.{declared.parts.{mail.Reply.Reply, names.Names.Names, record.Record.Record, shared.Shared.Shared, sleeping.SleeperRecord.SleeperRecord, task_slot.TaskSlot.TaskSlot, worker.Worker.Worker}, Acting.{ActsAs, HasActed, Performs, PerformsOne, StepsOf}, Hearing.{CanHear, held_once_come}, Phased.is_complete, Polls.{MadeAct, sight_of, yielded_slot}, Records.number_in, Rooted.{Holds, Awaits}, Scripts.{GoesOn, IsAnswered, Plays, is_last}, Sound.{SoundAt, IsRunnable, one_of, acts_next}, Spots.{Spot, spot_of, standing_at}, View.{Visible, own_of, desk_of, driver_of, common_of, things_of, phase_seen, task_seen, spot_by, body_in}, Works.TurnsSlot}, proofs.{Performing.{going_on, in_poll, performs_passed, performs_waiting, performs_yielded, run_on, still_performs, wakes_as}, Polling.{IsAfter, IsEvent, Sits, at_phase, on_in_poll, sound_polled, works_polled}, Turning.set_there, Waking.task_there}}
+use Rattle.exec_steps.{specs.{declared.parts.{mail.Reply.Reply, names.Names.Names, record.Record.Record, shared.Shared.Shared, sleeping.SleeperRecord.SleeperRecord, task_slot.TaskSlot.TaskSlot, worker.Worker.Worker}, Acting.{ActsAs, HasActed, Performs, PerformsOne, StepsOf}, Hearing.{CanHear, held_once_come}, Phased.is_complete, Polls.{MadeAct, sight_of, yielded_slot}, Records.number_in, Rooted.{Holds, Awaits}, Scripts.{GoesOn, IsAnswered, Plays, is_last}, Sound.{SoundAt, IsRunnable, one_of, acts_next}, Spots.{Spot, spot_of, standing_at}, View.{Visible, own_of, desk_of, driver_of, common_of, things_of, phase_seen, task_seen, spot_by, body_in}, Works.TurnsSlot}, proofs.{Facts.{set_there, or_right, both_true}, Performing.{going_on, in_poll, performs_passed, performs_waiting, performs_yielded, run_on, still_performs, wakes_as}, Polling.{IsAfter, IsEvent, Sits, at_phase, on_in_poll, sound_polled, works_polled}, Waking.task_there}}
 
 -- WHAT ITS ACT IS
 
@@ -51,14 +51,6 @@ none_held (x ∷ xs) h = let back : suc (length xs) - 1 ≡ length xs = omega ar
     never : (y : ℕ) (ys : List ℕ) → slice_get (y ∷ ys) (length ys) ≡ None → ⊥
     never y [] is = let no : Some y ≡ None = is in absurd (cc)
     never y (z ∷ zs) is = never z zs is
-
-pub or_second : (a b : Bool) → b ≡ true → (a || b) ≡ true
-or_second true b h = refl
-or_second false b h = h
-
-both_true : (a b : Bool) → a ≡ true → b ≡ true → (a && b) ≡ true
-both_true true b h other = other
-both_true false b h other = h
 
 module _ {B L : Type 0} (left : B → L) (runs : L → Plan → Type 0) (holds : L → Option Said → List ℕ) (spot : L → Option Said → Spot) (gives : L → Option Sight → Said → Act B → L → Option Sight → Type 0) where
   -- the slot once the body has acted
@@ -126,7 +118,7 @@ module _ {B L : Type 0} (left : B → L) (runs : L → Plan → Type 0) (holds :
       let past : spot (left b') (Some Said.Pass) ≡ spot_of (moved_on all (task_seen left spot slot)) = answered (left b') Said.Pass (λ h. absurd (cc)) ∙ does_so.stands in
       record {
         moves = moves_so p all w s slot (ScriptWord.Sleep 0) it does_so.asks;
-        may = (or_second (polls_waiting me all is_woken) (acts me all asks_no_sleep) (acts_so all w slot asks_no_sleep it waits (ap asks_no_sleep does_so.asks)), tt);
+        may = (or_right (polls_waiting me all is_woken) (acts me all asks_no_sleep) (acts_so all w slot asks_no_sleep it waits (ap asks_no_sleep does_so.asks)), tt);
         own = refl;
         common = ap (λ y. record all { tasks = slice_set all.tasks w.root (after_taking all y) }) it
             ∙ ap (λ u. record all { tasks = slice_set all.tasks w.root (if waits_for_nothing u then moved_on all (task_seen left spot slot) else record (task_seen left spot slot) { waiting = Waiting.Nothing }) }) waits
@@ -227,7 +219,7 @@ module _ {B L : Type 0} (left : B → L) (runs : L → Plan → Type 0) (holds :
       record {
         moves = moves_so p all w s slot ScriptWord.Yield it does_so.asks;
         may = (
-          or_second (acts me all (asks_wake w.root)) (acts me all asks_yield && (w.root == w.root)) (both_true (acts me all asks_yield) (w.root == w.root) (acts_so all w slot asks_yield it waits (ap asks_yield does_so.asks)) (eq-eqb w.root w.root refl)),
+          or_right (acts me all (asks_wake w.root)) (acts me all asks_yield && (w.root == w.root)) (both_true (acts me all asks_yield) (w.root == w.root) (acts_so all w slot asks_yield it waits (ap asks_yield does_so.asks)) (eq-eqb w.root w.root refl)),
           (ap (λ y. is_woken_here w.index y.home) it ∙ ap (is_woken_here w.index) home ∙ eq-eqb w.index w.index refl, tt),
         );
         own = refl;

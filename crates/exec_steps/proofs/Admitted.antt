@@ -1,16 +1,13 @@
 -- What the kernel has, and what sends may still move, once a request was admitted.
 use Rattle.std.proofs.{Common.{◌≡◌, ◌≢◌, ℕ, ◌+◌, ◌-◌, ◌^◌, ◌<◌, ◌≤◌, ◌==◌, ◌&&◌, Bool, true, false, List, [], ◌∷◌, ◌++◌, length, Some, None, IsSome, refl, sym, ap, subst, ◌∙◌, arith, inl, inr, slice_get, sum_by, nat_lt, if◌then◌else◌}, lemmas.{Bool.{false≢true, eq-eqb, Decides.nat_tests}, List.Sums.sum_by-append, Option.slice_get_within}}
-use Rattle.exec_base.{specs.{Slab.{Slab, value_at, value_in, slot_at}, declared.slab.{Slot.{Slot, TheVariants.{Live, Vacant, Retired}}, Id.Id}}, proofs.Slots.{id_cases, same_id}}
+use Rattle.exec_base.{specs.{Slab.{Slab, value_at, value_in, slot_at}, declared.slab.{Slot.{Slot, TheVariants.{Live, Vacant, Retired}}, Id.Id}}, proofs.Slots.same_id}
+use Rattle.exec_outcomes.specs.declared.outcome.Kind.{Kind}
 use Rattle.exec_request.specs.{Buffers.length_of, Requests.{asked_of, cursor_of, target_of}, Views.send_window, declared.{buffers.WriteBuffers.{WriteBuffers, TheVariants.{Single, Vectored}}, request.Request.Request as Asking, send.SendRequest.SendRequest, window.Opcode.Opcode}}
 use Rattle.exec_ring.specs.{Rings.RingState, Stores.{Reserves, socket_of, with_room}, declared.store.Store.Store}
-use Rattle.exec_waiters.{proofs.Changes.entry_of, specs.{Ids.{user_data_of, index_in}, States.{waiter_at, waiter_of}, declared.waiter.{Entry.Entry, Waiter.Waiter}}}
+use Rattle.exec_waiters.{specs.{Ids.{user_data_of, index_in}, States.{waiter_at, waiter_of}, declared.waiter.{Entry.Entry, Waiter.Waiter}}, proofs.Changes.entry_of}
 use Rattle.exec_driver.specs.Steps.{bytes_left, footprint_of}
 use Rattle.exec_machine.specs.{Requests.asked_of as asked_in, Same.same_kind, Tests.is_in_flight, declared.state.{Operation.Operation, RequestPhase.RequestPhase}}
-use Rattle.exec_steps.{specs.{declared.parts.{mail.Reply.Reply, record.Record.Record}, Carried.{IsCarried, IsOneBuffer, IsUnderWay, IsWhole, may_send, sends_to, those_of, unlanded}, Records.number_in, Scripts.{IsOnePart, IsPlainRequest}}, proofs.{Carrying.index_told, Over.in_append}}
-use Rattle.exec_outcomes.specs.declared.outcome.Kind.{Kind}
-
-same_number : (a b : ℕ) → (a == b) ≡ true → a ≡ b
-same_number a b h = grind (arith, nat_tests)
+use Rattle.exec_steps.{specs.{declared.parts.{mail.Reply.Reply, record.Record.Record}, Carried.{IsCarried, IsOneBuffer, IsUnderWay, IsWhole, may_send, sends_to, those_of, unlanded}, Records.number_in, Scripts.{IsOnePart, IsPlainRequest}}, proofs.{Facts.{by_name, same_number}, Carrying.index_told, Over.in_append}}
 
 pub plain_whole : (q : Asking) → IsPlainRequest q → IsWhole q
 plain_whole (Asking.Send s) h = by s.write h
@@ -128,11 +125,7 @@ module _ (numbers numbers' : List ℕ) (s s' : Slab (Entry Reply Reply)) (ring :
   then_by : (other : Id) (x : Waiter Reply Reply) → waiter_at s' other ≡ Some x → Then other x
   then_by other x at =
       let another : other ≢ id → Then other x = λ apart. (let was = ap waiter_of (sym (joins.others other apart)) ∙ at in Other (slot_apart other x was) was) in
-      elim (id_cases other id) [
-        | inl i ↦ another (λ e. i (ap (λ (y : Id). y.index) e))
-        | inr (inl e) ↦ another (λ y. e.1 (ap (λ (z : Id). z.generation) y))
-        | inr (inr eq) ↦ This eq (joins.asks x (ap (waiter_at s') (sym eq) ∙ at))
-      ]
+      by_name other id another (λ eq. This eq (joins.asks x (ap (waiter_at s') (sym eq) ∙ at)))
 
   slots_then : (other : Id) (x : Waiter Reply Reply) → Then other x → other.index < 4294967295
   slots_then other x (This eq is) = subst (λ i. i.index < 4294967295) (sym eq) joins.small

@@ -3,11 +3,11 @@ use Rattle.std.proofs.{Common.{◌≡◌, ℕ, ◌+◌, ◌-◌, ◌/◌, ◌<�
 use Rattle.exec_base.specs.{Slab.Slab, declared.slab.Id.Id}
 use Rattle.exec_time.specs.{Wheel.{Wheel, tick_at, least_active}, Turning.{advanced, turned, turned_out}}
 use Rattle.exec_waiters.specs.{States.{waiter_at, tick_in}, declared.{waiter.{Entry.Entry, Waiter.Waiter}, waiter_id.WaiterId.WaiterId}}
-use Rattle.exec_task.specs.declared.body.Said.{Said}
 use Rattle.exec_driver.specs.{Driving.Driving, Lists.{Lists, is_among, with_due}, Punctual.IsPunctual, Steps.{all_due, fallen_due, advanced_to}}
+use Rattle.exec_task.specs.declared.body.Said.{Said}
 use Rattle.exec_machine.specs.declared.{config.Configuration.Configuration, event.Event.{Event, TheVariants.Serve}}
 use Rattle.exec_moves.specs.declared.place.{Service.Service, Place.Place, InService.InService}
-use Rattle.exec_steps.{specs.{declared.parts.{mail.Reply.Reply, shared.Shared.Shared, worker.Worker.Worker}, Due.IsWheelAt, Flown.operations, Ordered.{IsOrdered, went_round}, Phased.closes_at, Sound.{SoundAt, IsAlike, is_armed_at}, Spots.Spot, View.{visible, own_of, desk_of, driver_of, things_of}, Works.Steps}, proofs.{Draining.{advance_ordered, ahead_of, round_so}, Flown.landed_as, Going.{all_still, rooted_on}, Seeing.{makes, own_with, desk_with, visible_with, served, common_same}, Serving.{is_calm, Serves, Keeps, KeepsBy}}}
+use Rattle.exec_steps.{specs.{declared.parts.{mail.Reply.Reply, shared.Shared.Shared, worker.Worker.Worker}, Due.IsWheelAt, Flown.operations, Ordered.{IsOrdered, went_round}, Sound.{SoundAt, IsAlike}, Spots.Spot, View.{visible, own_of, desk_of, driver_of, things_of}, Works.Steps}, proofs.{Serving.{serves_to, IsServed, Serves, Keeps, KeepsBy}, Draining.{advance_ordered, ahead_of, round_so}, Flown.landed_as, Going.{all_still, rooted_on}, Seeing.{makes, own_with, desk_with, visible_with, served, common_same}}}
 
 -- THE WHEEL
 
@@ -101,14 +101,7 @@ module _ {B L : Type 0} (left : B → L) (spot : L → Option Said → Spot) whe
       let d : Driving Reply Reply = with_wheel (driver_of w) wheel shape.1 in
       let is : driver_of w' ≡ d = driver ∙ shape.2 in
       let on : Advances (driver_of w).wheel shape.0 now = subst (λ x. Advances (driver_of w).wheel x now) (sym shape.3) (advances (driver_of w).wheel now) in
-      let serves : Serves q w w' s s = record {
-        worker = subst (λ x. x ≡ record w { place = x.place; home = record w.home { driver = x.home.driver; timers = x.home.timers; deferred = x.home.deferred }; names = record w.names { ended = x.names.ended; staged = x.names.staged; untold = x.names.untold }; put_off = x.put_off }) (sym same) refl;
-        shared = refl;
-        from = refl;
-        to = ap is_calm there;
-        armed = ap is_armed_at there;
-        closes = ap closes_at there;
-      } in
+      let serves : Serves q w w' s s = serves_to q (Place.Service (InService.Submit 0) v) w w' s s (subst (IsServed w) (sym same) refl) refl there refl refl refl refl in
       let seen : visible w' ≡ visible w = ap visible same ∙ ap (λ x. visible_with w.names.requests.items x.ring) is in
       let due = sound.due in
       let flown = sound.flown in

@@ -1,11 +1,11 @@
 -- The act by which the root makes a request is a step.
 use Rattle.std.proofs.{Common.{◌≡◌, ◌≢◌, ℕ, ◌+◌, ◌^◌, ◌<◌, ◌≤◌, true, false, List, [], ◌∷◌, ◌++◌, length, Option, Some, None, IfSome, refl, sym, ap, subst, ◌∙◌, arith, slice_get, slice_set}, lemmas.{Bool.false≢true, List.set-set}}
 use Rattle.exec_request.specs.{Requests.deadline_of, declared.request.Request.Request as Asking}
-use Rattle.exec_task.specs.{Sight.Sight, declared.body.{Act.Act, Said.Said}}
 use Rattle.exec_driver.specs.{Opens.{placed, with_named, writing}, Steps.plainly_written}
+use Rattle.exec_task.specs.{Sight.Sight, declared.body.{Act.Act, Said.Said}}
 use Rattle.exec_machine.specs.{declared.{config.Configuration.Configuration, event.Event.Event, state.Waiting.Waiting}, Progress.Plan}
-use Rattle.exec_steps.{specs.{declared.parts.{shared.Shared.Shared, task_slot.TaskSlot.TaskSlot, worker.Worker.Worker}, Acting.{HasActed, StillPerforms}, Admitting.Registers, Hearing.{CanHear, held_once_come}, Scripts.{IsAnswer, IsPlainRequest, held_after}, Sound.{SoundAt, Stands, acts_next}, Spots.Spot, View.{body_in, driver_of, task_seen}}, proofs.{Enlisted.{keeps_now, wakes_now}, Growing.{Grown, Grows, sound_grown}, Performing.{in_poll, performs_on, still_performs}, Plainly.{deadline_near, plainly}, Polling.on_in_poll, Turning.set_there}}
 use Rattle.exec_moves.specs.declared.place.{InPoll.InPoll, Place.Place}
+use Rattle.exec_steps.{specs.{declared.parts.{shared.Shared.Shared, task_slot.TaskSlot.TaskSlot, worker.Worker.Worker}, Acting.{HasActed, StillPerforms}, Admitting.Registers, Hearing.{CanHear, held_once_come}, Scripts.{IsAnswer, IsPlainRequest, held_after}, Sound.{SoundAt, Stands, acts_next}, Spots.Spot, View.{body_in, driver_of, task_seen}}, proofs.{Facts.set_there, Enlisted.{keeps_now, wakes_now}, Growing.{Grown, Grows, sound_grown}, Performing.{in_poll, performs_on, still_performs}, Plainly.{deadline_near, plainly}, Polling.on_in_poll}}
 
 -- a deadline that isn't far
 bounded_by : (o : Option ℕ) (n : ℕ) → n < 2 ^ 63 → IfSome o (λ d. d ≤ n) → IfSome o (λ d. d < 2 ^ 63)

@@ -2,12 +2,12 @@
 use Rattle.std.{proofs.{Common.{◌≡◌, ℕ, ◌+◌, ◌-◌, ◌<◌, ◌==◌, ◌&&◌, Bool, true, false, not, List, [], ◌∷◌, ◌++◌, length, Option, Some, None, IsSome, refl, sym, ap, subst, ◌∙◌, inl, inr, arith, slice_get, slice_set, if◌then◌else◌}, lemmas.{Bool.{false≢true, eq-eqb}, List.set-set, Option.slice_get_within}}, specs.VecDeque.deque_capacity}
 use Rattle.exec_base.specs.Slab.{value_at, written, live_count}
 use Rattle.exec_outcomes.specs.declared.outcome.Outcome.{Outcome}
-use Rattle.exec_task.specs.{Sight.Sight, declared.body.{Act.Act, Said.Said}}
-use Rattle.exec_waiters.{proofs.Changes.entry_of, specs.{Events.{changed, changed_from, with_waker}, States.pending_count, declared.waiter.Entry.TheVariants.Pending}}
+use Rattle.exec_waiters.{specs.{Events.{changed, changed_from, with_waker}, States.pending_count, declared.waiter.Entry.TheVariants.Pending}, proofs.Changes.entry_of}
 use Rattle.exec_driver.specs.Lists.{is_among}
+use Rattle.exec_task.specs.{Sight.Sight, declared.body.{Act.Act, Said.Said}}
 use Rattle.exec_machine.specs.{Choice.Choice.Plain, declared.{event.Event.{Event, TheVariants.{Got, Wait}}, state.{Forwarding.{Forwarding, TheVariants.Unsent}, Request.Request, RequestPhase.RequestPhase, Waiting.Waiting}, config.ScriptWord.ScriptWord}, Progress.Plan, Same.is_number, Tasks.{polls_waiting, waits_for, without_newest}, Requests.ends_by_drop, Tests.{is_kept, is_queued, is_resolved, is_unsent, waits_for_nothing, waits_for_request}, Words.{acts, asks_await, moved_on, newest_held}, World.{Task, Common, task_of, request_of}}
 use Rattle.exec_moves.specs.{declared.place.{Place.Place, InPoll.InPoll}, Poll.{acts_on, await, stops}, State.{Desk, Moved, Things, does}}
-use Rattle.exec_steps.{specs.{declared.parts.{record.Record.Record, shared.Shared.Shared, task_slot.TaskSlot.TaskSlot, worker.Worker.Worker}, Acting.{HasActed, StepsOf}, Awaits.{AwaitsNewest, BeganWait, HasNewest, OfNewest, awaited_by, newest_of}, Due.IsWheelAt, Hearing.{CanHear, held_once_come}, Phased.is_complete, Polls.{MadeAct, OfSlot, TookOutput, unobserved}, Records.number_in, Rooted.Holds, Scripts.{IsAnswer, IsAnswered, held_after}, Serving.{changed_at, changed_in}, Sound.{SoundAt, AreOver, IsAlike, IsTold, tellers}, Spots.Spot, View.{body_in, own_of, desk_of, driver_of, common_of, things_of, task_seen}, Works.Works}, proofs.{Acting.{acts_so, moved_seen, moves_so, or_second, waited_by}, Awaiting.{acted_worker, common_acted, desk_acted, sound_acted}, Calling.request_seen, Changing.{live_still, pending_still, some_after}, Dropping.same_flight_count, Getting.holds_awaiting, Letting.let_shared, Newest.{at_number, held_newest, kept_output, may_let_go, may_wait_for, still_pends}, Performing.{going_on, in_poll, performs_on, still_performs}, Polling.on_in_poll, Receiving.{HasGot, fewer_held, got_sound, got_works, newest_is, resolved_is}, Seeing.{makes, own_with}, Turning.set_there, Waking.task_there, Watching.{Watched, still_pending, watched, due_watched, flown_watched, named_watched, over_watched, carried_watched}, Orders.{TurnsAlike, alike_self}}}
+use Rattle.exec_steps.{specs.{declared.parts.{record.Record.Record, shared.Shared.Shared, task_slot.TaskSlot.TaskSlot, worker.Worker.Worker}, Acting.{HasActed, StepsOf}, Awaits.{AwaitsNewest, BeganWait, HasNewest, OfNewest, awaited_by, newest_of}, Due.IsWheelAt, Hearing.{CanHear, held_once_come}, Phased.is_complete, Polls.{MadeAct, OfSlot, TookOutput, unobserved}, Records.number_in, Rooted.Holds, Scripts.{IsAnswer, IsAnswered, held_after}, Serving.{changed_at, changed_in}, Sound.{SoundAt, AreOver, IsAlike, IsTold, tellers}, Spots.Spot, View.{body_in, own_of, desk_of, driver_of, common_of, things_of, task_seen}, Works.Works}, proofs.{Facts.{set_there, or_right}, Acting.{acts_so, moved_seen, moves_so, waited_by}, Awaiting.{acted_worker, common_acted, desk_acted, sound_acted}, Calling.request_seen, Changing.{live_still, pending_still, some_after}, Dropping.same_flight_count, Getting.holds_awaiting, Letting.let_shared, Newest.{at_number, held_newest, kept_output, may_let_go, may_wait_for, still_pends}, Performing.{going_on, in_poll, performs_on, still_performs}, Polling.on_in_poll, Receiving.{HasGot, fewer_held, got_sound, got_works, newest_is, resolved_is}, Seeing.{makes, own_with}, Waking.task_there, Watching.{Watched, still_pending, watched, due_watched, flown_watched, named_watched, over_watched, carried_watched}, Orders.{TurnsAlike, alike_self}}}
 
 -- THE MOVE
 
@@ -129,7 +129,7 @@ module _ {B L : Type 0} (left : B → L) (runs : L → Plan → Type 0) (holds :
             (record {
               moves = moves_so left runs holds spot gives p all w s slot ScriptWord.Await task so.asks.0 ∙ ap by_newest newest
                   ∙ ap (λ (m : Moved Task). record { event = m.event; choice = m.choice; desk = m.desk; thing = things_of w.index s }) (awaits_over w.root k all d (task_seen left spot slot) it.r.shown it.outcome (request_seen s.requests.items k it.r it.request) it.is);
-              takes = or_second (polls_waiting (own_of (record w { place = Place.Poll w.root InPoll.Act })) all (waits_for_request k)) (acts (own_of (record w { place = Place.Poll w.root InPoll.Act })) all asks_await)
+              takes = or_right (polls_waiting (own_of (record w { place = Place.Poll w.root InPoll.Act })) all (waits_for_request k)) (acts (own_of (record w { place = Place.Poll w.root InPoll.Act })) all asks_await)
                   (acts_so left runs holds spot gives all w slot asks_await task old.waits (ap asks_await so.asks.0));
               seen = seen ∙ ap (λ u. record (moved_on all (task_seen left spot slot)) { held = it.slot'.held.items; waiting = u }) (sym old.waits)
                   ∙ ap (λ xs. record (moved_on all (task_seen left spot slot)) { held = xs }) (sym fewer)
@@ -189,24 +189,7 @@ module _ {B L : Type 0} (left : B → L) (runs : L → Plan → Type 0) (holds :
       let ring : d'.ring ≡ d.ring = ap (λ x. x.ring) drv in
       let lists : d'.lists ≡ d.lists = ap (λ x. x.lists) drv in
       let wheel : d'.wheel ≡ d.wheel = ap (λ x. x.wheel) drv in
-      let alike : IsAlike d.wheel.start d.wheel.tick now (f r).shown = record {
-        asked = a.asked;
-        moved = a.moved;
-        switched = a.switched;
-        come = a.come;
-        hinted = a.hinted;
-        deadline = a.deadline;
-        cancelled = a.cancelled;
-        timer = a.timer;
-        observed = held.observed;
-        waiter = λ seen. refl;
-        flying = a.flying;
-        permit = a.permit;
-        open_still = a.open_still;
-        near = tt;
-        going = a.going;
-        told_once = a.told_once;
-      } in
+      let alike : IsAlike d.wheel.start d.wheel.tick now (f r).shown = assumption (a, held) in
       let records : s'.requests.items ≡ changed_at rs k f = it.records ∙ ap (λ x. slice_set rs k (f x)) same_r ∙ sym (ap (changed_in rs k f) at_k) in
       let rs' = s'.requests.items in
       let by_number : Watched n d d' rs (changed_at rs (number_in n.requests.items id) f) id r f = watched n d d' rs id waiter now r f live there refl refl going slab refl refl (λ y. y) (λ j is. is) alike ring (ap (λ x. x.start) wheel) (ap (λ x. x.tick) wheel)

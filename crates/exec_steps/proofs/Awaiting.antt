@@ -1,13 +1,13 @@
 -- What it is to the machine that a task awaits the newest request that it holds, or lets go of it.
-use Rattle.std.proofs.{Common.{◌≡◌, ℕ, ◌-◌, false, List, [], length, map, Option, Some, None, refl, sym, ap, subst, ◌∙◌, slice_get, slice_set}, lemmas.List.map-set}
-use Rattle.exec_task.specs.declared.body.Said.{Said}
-use Rattle.exec_waiters.specs.{States.pending_count, declared.deferred.Deferred.Deferred}
-use Rattle.exec_ring.specs.Rings.{completions}
-use Rattle.exec_driver.specs.Driving.{Driving}
-use Rattle.exec_machine.specs.Progress.{Plan}
-use Rattle.exec_moves.specs.declared.place.{InPoll.InPoll, Place.Place}
-use Rattle.exec_steps.{specs.{declared.parts.{mail.Reply.Reply, names.Names.Names, record.Record.Record, shared.Shared.Shared, task_slot.TaskSlot.TaskSlot, worker.Worker.Worker}, Due.IsDue, Flown.HasFlown, Phased.{IsPhased, closing_in, is_complete, stage_of}, Rooted.{Holds, IsRooted, ends_poll}, Serving.changed_at, Sound.{SoundAt, AreOver, AreOwed, InHand, IsAlone, IsNamed, IsRunnable, IsTold, Stands, one_of, polled_in, tellers}, Spots.Spot, View.{Visible, visible, desk_of, driver_of, common_of, queue_seen, task_seen, open_seen, trailing}, Works.Suits, Carried.IsCarried}, proofs.{Calling.shown_changed, Keys.{name_in, names_kept, same_opens}, Letting.let_shared, Phased.phased_task, Polling.IsAfter, Rooted.rooted_set, Seeing.visible_with, Taking.unqueued, Turning.{set_found, set_there}}}
+use Rattle.std.proofs.{Common.{◌≡◌, ℕ, ◌-◌, false, List, [], length, map, Option, Some, None, sym, ap, subst, ◌∙◌, slice_get, slice_set}, lemmas.List.map-set}
 use Rattle.exec_words.specs.Queue.{room_of}
+use Rattle.exec_ring.specs.Rings.{completions}
+use Rattle.exec_waiters.specs.{States.pending_count, declared.deferred.Deferred.Deferred}
+use Rattle.exec_driver.specs.Driving.{Driving}
+use Rattle.exec_task.specs.declared.body.Said.{Said}
+use Rattle.exec_machine.specs.{Ranges.ring_size, Progress.Plan}
+use Rattle.exec_moves.specs.declared.place.{InPoll.InPoll, Place.Place}
+use Rattle.exec_steps.{specs.{declared.parts.{seat.Seat.Seat as Chair, mail.Reply.Reply, names.Names.Names, record.Record.Record, shared.Shared.Shared, task_slot.TaskSlot.TaskSlot, worker.Worker.Worker}, Sound.{IsTied, HasRunnable, HasShare, has_wakes_at, SoundAt, AreOver, AreOwed, InHand, IsAlone, IsNamed, IsRunnable, IsTold, Stands, one_of, polled_in, tellers}, Phased.{closes_at, IsPhased, closing_in, is_complete, stage_of}, Due.IsDue, Flown.HasFlown, Rooted.{Holds, IsRooted, ends_poll}, Serving.changed_at, Spots.Spot, View.{Visible, visible, desk_of, driver_of, common_of, queue_seen, task_seen, open_seen, trailing}, Works.Suits, Carried.IsCarried}, proofs.{Facts.set_there, Calling.shown_changed, Keys.{name_in, names_kept, same_opens}, Letting.let_shared, Phased.phased_task, Polling.IsAfter, Rooted.rooted_set, Seeing.visible_with, Taking.unqueued, Turning.set_found}}
 
 -- WHAT HOLDS AGAIN after an act that changes the slot of the root, the record of a request, and what the driver has of that
 
@@ -48,39 +48,25 @@ module _ {B : Type 0} where
       let found : slice_get s'.tasks.items w.root ≡ Some slot' = ap (λ ts. slice_get ts w.root) tasks ∙ set_there s.tasks.items w.root slot' slot to.there in
       let run : IsRunnable (one_of w.root_ready w.hand) slot = subst (IsRunnable (one_of w.root_ready w.hand)) (sym root) sound.runnable.once in
       let complete : is_complete slot'.cell.phase ≡ is_complete slot.cell.phase = ap (λ c. is_complete c.phase) to.cell in
-      record {
-        here = refl;
-        config = sound.config;
-        gates = sound.gates;
-        index = sound.index;
-        time = sound.time;
-        told = remains.told;
-        named = remains.named;
-        runnable = record { root = slot'; there = found; home = to.home ∙ ap (λ o. o.home) root ∙ sound.runnable.home; number = ap (λ c. c.number) to.cell ∙ ap (λ o. o.cell.number) root ∙ sound.runnable.number; once = unqueued w.root_ready w.hand slot slot' to.cell run; one = sound.runnable.one };
-        alone = subst (λ a. IsAlone w.index a s.seats.items s.global.values) (sym to.after.unarmed) sound.alone;
-        share = λ chair there. to.after.share (room_of (queue_seen chair.queue));
-        sized = ap (λ x. x.size) remains.ring ∙ sound.sized;
-        processed = sound.processed;
-        hand = to.hand;
-        left = to.after.left v.home.deferred;
-        over = remains.over;
-        batch = sound.batch;
-        quiet = λ h. remains.wakes;
-        due = subst (λ y. IsDue y w.index w.moments s.config n' d' w.home.timers rs' s.sleepers.items) (sym to.after.served) remains.due;
-        flown = subst (λ y. HasFlown y w.index n' d' rs') (sym to.after.served) remains.flown;
-        carried = remains.carried;
-        rooted = subst (λ ts. IsRooted (polled_in q) w.index w.root n' d' w.home.timers ts rs' s.sleepers.items) (sym tasks)
-            (rooted_set (polled_in q) w.index w.root n' d' w.home.timers s.tasks.items rs' s.sleepers.items slot slot' to.there to.holds);
-        phased = λ chair there.
-            subst (λ c. IsPhased c (closing_in q) w.home.closing w.root w.names.unreleased (stage_of chair s) s'.tasks.items) (sym to.after.open_still)
-            (subst (λ y. IsPhased false y w.home.closing w.root w.names.unreleased (stage_of chair s) s'.tasks.items) (sym to.after.closing)
-            (subst (λ ts. IsPhased false None w.home.closing w.root w.names.unreleased (stage_of chair s) ts) (sym tasks)
-            (phased_task false None w.home.closing w.root w.names.unreleased (stage_of chair s) s.tasks.items slot slot' to.there complete (sound.phased chair there))));
-        tied = record {
-          stands = λ other at_root. let is : slot' ≡ other = cc (found, at_root) in subst (Stands (polled_in q) w.index) is to.stands;
-          owed = subst (λ ws. AreOwed w.index w.root ws s'.tasks.items rs' s.sleepers.items) (sym remains.wakes) tt;
-        };
-      }
+      let runnable : HasRunnable w.index w.root w.root_ready w.hand s'.tasks.items = record { root = slot'; there = found; home = to.home ∙ ap (λ o. o.home) root ∙ sound.runnable.home; number = ap (λ c. c.number) to.cell ∙ ap (λ o. o.cell.number) root ∙ sound.runnable.number; once = unqueued w.root_ready w.hand slot slot' to.cell run; one = sound.runnable.one } in
+      let alone = subst (λ a. IsAlone w.index a s.seats.items s.global.values) (sym to.after.unarmed) sound.alone in
+      let share : (chair : Chair) → slice_get s.seats.items w.index ≡ Some chair → HasShare q (room_of (queue_seen chair.queue)) = λ chair there. to.after.share (room_of (queue_seen chair.queue)) in
+      let sized : d'.ring.size ≡ ring_size s.config = ap (λ x. x.size) remains.ring ∙ sound.sized in
+      let quiet : has_wakes_at q ≡ false → v.home.deferred.notes.wakes.items ≡ [] = λ h. remains.wakes in
+      let due = subst (λ y. IsDue y w.index w.moments s.config n' d' w.home.timers rs' s.sleepers.items) (sym to.after.served) remains.due in
+      let flown = subst (λ y. HasFlown y w.index n' d' rs') (sym to.after.served) remains.flown in
+      let rooted = subst (λ ts. IsRooted (polled_in q) w.index w.root n' d' w.home.timers ts rs' s.sleepers.items) (sym tasks)
+      (rooted_set (polled_in q) w.index w.root n' d' w.home.timers s.tasks.items rs' s.sleepers.items slot slot' to.there to.holds) in
+      let phased : (chair : Chair) → slice_get s.seats.items w.index ≡ Some chair → IsPhased (closes_at q) (closing_in q) w.home.closing w.root w.names.unreleased (stage_of chair s) s'.tasks.items = λ chair there.
+      subst (λ c. IsPhased c (closing_in q) w.home.closing w.root w.names.unreleased (stage_of chair s) s'.tasks.items) (sym to.after.open_still)
+      (subst (λ y. IsPhased false y w.home.closing w.root w.names.unreleased (stage_of chair s) s'.tasks.items) (sym to.after.closing)
+      (subst (λ ts. IsPhased false None w.home.closing w.root w.names.unreleased (stage_of chair s) ts) (sym tasks)
+      (phased_task false None w.home.closing w.root w.names.unreleased (stage_of chair s) s.tasks.items slot slot' to.there complete (sound.phased chair there)))) in
+      let tied : IsTied (polled_in q) w.index w.root v.home.deferred.notes.wakes.items s'.tasks.items rs' s.sleepers.items = record {
+        stands = λ other at_root. let is : slot' ≡ other = cc (found, at_root) in subst (Stands (polled_in q) w.index) is to.stands;
+        owed = subst (λ ws. AreOwed w.index w.root ws s'.tasks.items rs' s.sleepers.items) (sym remains.wakes) tt;
+      } in
+      assumption (runnable, alone, share, sized, to.after.left v.home.deferred, quiet, due, flown, rooted, phased, tied, sound, remains, to)
 
 -- WHAT IS SEEN THEN
 

@@ -1,13 +1,13 @@
 -- What the steps of the callbacks are to the machine.
 use Rattle.std.{proofs.{Common.{◌≡◌, inl, ℕ, suc, ◌+◌, ◌-◌, ◌<◌, ◌==◌, ◌||◌, Bool, true, false, not, List, [], ◌∷◌, length, drop, map, Option, Some, None, refl, sym, ap, subst, ◌∙◌, arith, slice_get, slice_set, slice_index_or, nat_lt, if◌then◌else◌}, lemmas.{Bool.{false≢true, eq-eqb, Decides.nat_tests}, List.{length-drop, map-set}, Option.{get_or_from_slice_get, slice_get-map}}}, specs.{Option.option_map, VecDeque.deque_capacity}}
+use Rattle.exec_base.specs.Slab.{Slab}
+use Rattle.exec_time.specs.declared.timers.Sleeper.{Sleeper as Sleeping}
 use Rattle.exec_waiters.specs.States.{pending_count}
+use Rattle.exec_driver.specs.Driving.{Driving}
 use Rattle.exec_task.specs.declared.body.Said.{Said}
 use Rattle.exec_machine.specs.{declared.{event.Event.{Event, TheVariants.{Turn, Release}}, state.{Request.Request, Next.Next}}, Choice.Choice.Plain, Same.is_number, Progress.Plan, Ranges.ring_size, Tests.{is_empty, is_resolved}, World.{Task, Common, task_of, request_of, no_request, Own as Books}}
 use Rattle.exec_moves.specs.{Seen.{polls_at, next_at, serves_at}, declared.place.{AfterCallbacks.AfterCallbacks, InCallbacks.InCallbacks, Place.Place}, Callback.{call_back, goes_on, after_callbacks}, Move.{move_at, first_woken}, State.{Desk, does}}
 use Rattle.exec_steps.{specs.{declared.parts.{mail.Reply.Reply, record.Record.Record, shared.Shared.Shared, worker.Worker.Worker, names.Names.Names, sleeping.SleeperRecord.SleeperRecord}, Calls.{releasing, KeepsRoom}, Carried.IsCarried, Serving.{changed_in, changed_at}, Due.IsDue, Flown.HasFlown, Phased.closes_at, Rooted.IsRooted, Sound.{tellers, SoundAt, IsNamed, IsTold, AreOver, AreOwed}, Spots.Spot, Tests.next_callback_of, View.{Visible, visible, own_of, desk_of, driver_of, common_of, things_of, open_seen}, Works.{Goes, Suits, Steps}}, proofs.{Carries.carried_marked, Hearing.unheard, Keys.{same_opens, names_kept}, Leading.{placed, leads, Leads, Comes, Follows, follows, unchanged}, Marking.{releases, named_marked, marked, mark_if, due_marked}, Flown.flown_marked, Rooted.rooted_changed, Turning.set_found}}
-use Rattle.exec_base.specs.Slab.{Slab}
-use Rattle.exec_time.specs.declared.timers.Sleeper.{Sleeper as Sleeping}
-use Rattle.exec_driver.specs.Driving.{Driving}
 
 -- MOVES OF A CALLBACK
 

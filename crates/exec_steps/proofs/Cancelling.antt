@@ -1,14 +1,14 @@
 -- A deadline that has come cancels its request, which the kernel has.
 use Rattle.std.proofs.{Common.{◌⊎◌, ⊎_elim, ◌++◌, ◌||◌, ◌≡◌, ◌≢◌, ℕ, ◌+◌, ◌-◌, Bool, true, false, List, [], ◌∷◌, map, Option, Some, None, refl, sym, ap, subst, ◌∙◌, arith, inl, inr, slice_set, if◌then◌else◌}, lemmas.{Bool.false≢true, List.{append-nil, map-append}}}
 use Rattle.exec_base.specs.declared.{slab.Id.Id, error.Error.TheVariants.Timeout}
+use Rattle.exec_outcomes.specs.declared.outcome.Outcome.TheVariants.{Failure}
 use Rattle.exec_request.specs.States.{asks_cancel}
-use Rattle.exec_task.specs.declared.body.Said.{Said}
 use Rattle.exec_waiters.specs.{Events.{cancelled as cancelled_of, told_by_finish}, States.{tick_in, flying_count}, Told.{Tells, nothing_told}, declared.{waiter.Waiter.Waiter, waiter_id.WaiterId.WaiterId}}
 use Rattle.exec_driver.{specs.{Driving.Driving, Lists.{first_of, is_among, is_same, after_due}, Punctual.IsPunctual, Steps.{cancelled_from, cancelling, ended, told_by_cancel, timed_out}}, proofs.Names.same_tells}
+use Rattle.exec_task.specs.declared.body.Said.{Said}
 use Rattle.exec_machine.specs.{declared.event.Event.{Event, TheVariants.Expire}, Deadlines.{expired, outcome_at_expiry}, Same.same_end, World.request_of}
 use Rattle.exec_moves.specs.{Move.move_submit, Callback.told_if_ended, Submit.{due_next, first_due, submits, Due.Expires}, declared.place.{Service.Service, Place.Place, InService.InService}}
-use Rattle.exec_steps.{specs.{declared.parts.{mail.Reply.Reply, names.Names.Names, record.Record.Record, shared.Shared.Shared, worker.Worker.Worker}, Due.IsWheelAt, Flown.HasFlown, Phased.closes_at, Records.number_in, Serving.changed_at, Sound.{IsAlike, IsSubmitted, served_in, is_armed_at}, Spots.Spot, Submitting.{IsDueIn, IsInOrder}, View.{visible, own_of, desk_of, driver_of, common_of, things_of, numbers_of}, Works.Steps}, proofs.{Calling.request_seen, Carries.carried_still, Changing.{OneGoesOn, flying_after, keeps_one}, Going.GoesOn, Seeing.{makes, shows, served, common_changed}, Serving.{is_calm, Serves, Keeps, KeepsBy}, Staging.stages_again, Turning.set_found, Watching.{Watched, flown_watched, submitted_watched, watched}, Timed.keeps_untold, Expiring.{HasExpired, comes_to_due, due_first, expires, flies_not_queued, move_expire, same_change, told_first, unticked_start, unticked_tick}, Expired.expiry_ends, Resolving.unticked_at, Orders.{alike_unticked, eased, eases_written, part_after, part_self}}}
-use Rattle.exec_outcomes.specs.declared.outcome.Outcome.TheVariants.{Failure}
+use Rattle.exec_steps.{specs.{declared.parts.{mail.Reply.Reply, names.Names.Names, record.Record.Record, shared.Shared.Shared, worker.Worker.Worker}, Due.IsWheelAt, Flown.HasFlown, Records.number_in, Serving.changed_at, Sound.{IsAlike, IsSubmitted, served_in}, Spots.Spot, Submitting.{IsDueIn, IsInOrder}, View.{visible, own_of, desk_of, driver_of, common_of, things_of, numbers_of}, Works.Steps}, proofs.{Serving.{serves_to, IsServed, OthersKept, keeps_home, Serves, Keeps, KeepsBy}, Calling.request_seen, Carries.carried_still, Changing.{OneGoesOn, flying_after, keeps_one}, Going.GoesOn, Seeing.{makes, shows, served, common_changed}, Staging.stages_again, Turning.set_found, Watching.{Watched, flown_watched, submitted_watched, watched}, Timed.keeps_untold, Expiring.{HasExpired, comes_to_due, due_first, expires, flies_not_queued, move_expire, same_change, told_first, unticked_start, unticked_tick}, Expired.expiry_ends, Resolving.unticked_at, Orders.{alike_unticked, eased, eases_written, part_after, part_self}}}
 
 -- THE LIST
 
@@ -49,24 +49,8 @@ module _ {B : Type 0} (w : Worker) (s : Shared B) (new : IsDueIn w s) (id : Wait
   alike_cancelled : IsAlike (driver_of w).wheel.start (driver_of w).wheel.tick cancelled_waiter (cancels (due_first w s new id first).r).shown
   alike_cancelled =
       let a = (due_first w s new id first).alike in
-      record {
-        asked = a.asked;
-        moved = a.moved;
-        switched = a.switched;
-        come = a.come;
-        hinted = a.hinted;
-        deadline = a.deadline;
-        cancelled = refl;
-        timer = refl;
-        observed = a.observed;
-        waiter = a.waiter;
-        flying = a.flying;
-        permit = a.permit;
-        open_still = a.open_still;
-        near = a.near;
-        going = λ h. flies;
-        told_once = λ h. refl;
-      }
+      let going : true ≡ true → (due_first w s new id first).it.in_flight ≡ true = λ h. flies in
+      assumption (going, a)
 
   watched_cancelled : Watched w.names (driver_of w) cancelled_driver s.requests.items cancelled_records id.0 (due_first w s new id first).r cancels
   watched_cancelled =
@@ -149,19 +133,8 @@ module _ {B L : Type 0} (left : B → L) (spot : L → Option Said → Spot) whe
       let same2 : w' ≡ w2 = same ∙ ap (λ y. record w { place = y; home = record w.home { driver = w'.home.driver; deferred = deferred } }) sound.here in
       let kept : KeepsBy w0 d' w.home.timers rs' s.sleepers.items s = keeps_cancelled w s new id first flies (subst IsPunctual driver by.punctual) in
       let untold : KeepsBy w1 d' w.home.timers rs' s.sleepers.items s = keeps_untold w0 d' w.home.timers rs' s.sleepers.items s deferred tells kept in
-      let by_records : KeepsBy w1 d' w.home.timers s'.requests.items s.sleepers.items s = subst (λ x. KeepsBy w1 d' w.home.timers x s.sleepers.items s) (sym records) untold in
-      let by_driver : KeepsBy w1 (driver_of w') w.home.timers s'.requests.items s.sleepers.items s = subst (λ x. KeepsBy w1 x w.home.timers s'.requests.items s.sleepers.items s) (sym driver) by_records in
-      let by_home : KeepsBy w2 (driver_of w') w.home.timers s'.requests.items s.sleepers.items s = assumption by_driver in
-      let by_worker : KeepsBy w' (driver_of w') w'.home.timers s'.requests.items s.sleepers.items s = subst (λ x. KeepsBy x (driver_of w') x.home.timers s'.requests.items s.sleepers.items s) (sym same2) by_home in
-      let keeps : Keeps w' s' = subst (λ y. KeepsBy w' (driver_of w') w'.home.timers s'.requests.items y.sleepers.items y) (sym by.shared) (assumption by_worker) in
-      let serves : Serves q w w' s s' = record {
-        worker = subst (λ x. x ≡ record w { place = x.place; home = record w.home { driver = x.home.driver; timers = x.home.timers; deferred = x.home.deferred }; names = record w.names { ended = x.names.ended; staged = x.names.staged; untold = x.names.untold }; put_off = x.put_off }) (sym same) refl;
-        shared = subst (λ z. z ≡ record s { requests = z.requests; sleepers = z.sleepers }) (sym by.shared) refl;
-        from = refl;
-        to = ap is_calm there;
-        armed = ap is_armed_at there;
-        closes = ap closes_at there;
-      } in
+      let keeps : Keeps w' s' = keeps_home w1 w' s s' rs' d' same2 by.shared driver records untold in
+      let serves : Serves q w w' s s' = serves_to q q w w' s s' (subst (IsServed w) (sym same) refl) (subst (OthersKept s) (sym by.shared) refl) there refl refl refl refl in
       let show = shows q w w' s s' d' serves driver in
       let wakes : deferred.notes.wakes.items ≡ w.home.deferred.notes.wakes.items = tells.notes.wakes_added ∙ append-nil w.home.deferred.notes.wakes.items in
       let outputs : deferred.outputs.items ≡ w.home.deferred.outputs.items = tells.outputs_added ∙ append-nil w.home.deferred.outputs.items in

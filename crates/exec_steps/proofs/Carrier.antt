@@ -1,14 +1,11 @@
 -- What keeps what the kernel has, where entries go into the submission queue and the kernel takes them in.
-use Rattle.std.{proofs.{Common.{◌≡◌, ◌≢◌, ℕ, ◌+◌, ◌-◌, ◌==◌, ◌&&◌, Bool, true, false, cond, List, [], ◌∷◌, ◌++◌, filter, Option, Some, None, refl, sym, ap, subst, ◌∙◌, arith, slice_get, sum_by, if◌then◌else◌}, lemmas.{Bool.{false≢true, eq-eqb, Decides.nat_tests}, List.{append-nil, append_assoc, Elements.filter-append}}}, specs.{List.fold, Option.option_map}}
+use Rattle.std.{proofs.{Common.{◌≡◌, ◌≢◌, ℕ, ◌+◌, ◌-◌, ◌==◌, ◌&&◌, Bool, true, false, cond, List, [], ◌∷◌, ◌++◌, filter, Option, Some, None, refl, sym, ap, subst, ◌∙◌, arith, slice_get, sum_by, if◌then◌else◌}, lemmas.{Bool.{false≢true, eq-eqb}, List.{append-nil, append_assoc, Elements.filter-append}}}, specs.{List.fold, Option.option_map}}
 use Rattle.exec_base.specs.Slab.{Slab}
 use Rattle.exec_request.specs.{Requests.window_by, declared.{request.Request.Request as Asking, window.Opcode.Opcode}}
 use Rattle.exec_ring.specs.{Kernels.{is_of, taken_as, taken_in, all_taken}, Rings.RingState, declared.{completion.Submission.Submission, store.Store.Store}}
 use Rattle.exec_waiters.specs.{Ids.user_data_of, declared.waiter.Entry.Entry}
 use Rattle.exec_machine.specs.{declared.state.{Request.Request, RequestPhase.RequestPhase}, Tests.is_staged}
 use Rattle.exec_steps.{specs.{declared.parts.{mail.Reply.Reply, record.Record.Record}, Carried.{IsCarried, IsUnderWay, IsWhole, may_send, sends_to, those_of, unlanded}, Records.number_in, Serving.{changed_at, changed_in, flies, flown_in, is_one_of}}, proofs.{Carrying.sum_changed, Flying.{flies_if, get_flown}}}
-
-same_number : (a b : ℕ) → (a == b) ≡ true → a ≡ b
-same_number a b h = grind (arith, nat_tests)
 
 -- WHAT THE KERNEL TAKES IN
 

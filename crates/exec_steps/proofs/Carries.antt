@@ -1,22 +1,12 @@
 -- What keeps what the kernel has, where other steps change the requests.
-use Rattle.std.proofs.{Common.{◌≡◌, ◌≢◌, ℕ, ◌<◌, ◌≤◌, ◌==◌, Bool, true, false, List, [], Option, Some, None, refl, sym, ap, subst, ◌∙◌, arith, inl, inr, slice_get, sum_by, if◌then◌else◌}, lemmas.Bool.{false≢true, eq-eqb, Decides.nat_tests}}
-use Rattle.exec_base.{specs.{Slab.{Slab, written}, declared.slab.Id.Id}, proofs.Slots.id_cases}
+use Rattle.std.proofs.{Common.{◌≡◌, ◌≢◌, ℕ, ◌<◌, ◌≤◌, ◌==◌, Bool, true, false, List, [], Option, Some, None, refl, sym, ap, subst, ◌∙◌, arith, slice_get, sum_by, if◌then◌else◌}, lemmas.Bool.{false≢true, eq-eqb}}
+use Rattle.exec_base.specs.{Slab.{Slab, written}, declared.slab.Id.Id}
 use Rattle.exec_outcomes.specs.declared.outcome.Outcome.{Outcome}
 use Rattle.exec_request.specs.Requests.{target_of}
 use Rattle.exec_ring.specs.{Rings.RingState, Stores.socket_of, declared.store.Store.Store}
 use Rattle.exec_waiters.specs.{Ids.{user_data_of, index_in}, States.waiter_at, declared.waiter.{Entry.{Entry, TheVariants.Pending}, Waiter.Waiter}}
 use Rattle.exec_machine.specs.declared.state.RequestPhase.{RequestPhase}
-use Rattle.exec_steps.{specs.{declared.parts.{mail.Reply.Reply, record.Record.Record}, Carried.{IsCarried, IsUnderWay, IsWhole, may_send, sends_to, those_of, unlanded}, Records.number_in, Serving.changed_at}, proofs.{Carrying.sum_changed, Changing.changes_one, Marking.{mark_if, was_marked}}}
-
-same_number : (a b : ℕ) → (a == b) ≡ true → a ≡ b
-same_number a b h = grind (arith, nat_tests)
-
-not_same : (a b : ℕ) → (a ≡ b → ⊥) → (a == b) ≡ false
-not_same a b apart = by (a == b) refl
-  where
-    by : (x : Bool) → (a == b) ≡ x → (a == b) ≡ false
-    by true is = absurd (apart (same_number a b is))
-    by false is = is
+use Rattle.exec_steps.{specs.{declared.parts.{mail.Reply.Reply, record.Record.Record}, Carried.{IsCarried, IsUnderWay, IsWhole, may_send, sends_to, those_of, unlanded}, Records.number_in, Serving.changed_at}, proofs.{Facts.{by_name, same_number, not_same}, Carrying.sum_changed, Changing.changes_one, Marking.{mark_if, was_marked}}}
 
 nothing : (b : Bool) → let none : ℕ = 0 in (if b then none else none) ≡ none
 nothing true = refl
@@ -81,22 +71,18 @@ module _ (numbers : List ℕ) (s : Slab (Entry Reply Reply)) (ring : RingState) 
       was : (other : Id) (x : Waiter Reply Reply) → waiter_at (written s id (Pending it')) other ≡ Some x → (y : Waiter Reply Reply) × (waiter_at s other ≡ Some y) × (x.request ≡ y.request)
       was other x at =
           let changed = changes_one s id it it' live in
-          elim (id_cases other id) [
-            | inl i ↦ (x, sym (changed.others other (λ e. i (ap (λ (q : Id). q.index) e))) ∙ at, refl)
-            | inr (inl e) ↦ (x, sym (changed.others other (λ q. e.1 (ap (λ (y : Id). y.generation) q))) ∙ at, refl)
-            | inr (inr eq) ↦
-                let is : x ≡ it' = cc (at, eq, changed.is_at) in
-                (it, ap (waiter_at s) eq ∙ live, ap (λ y. y.request) is ∙ same)
-          ]
+          by_name other id
+          (λ apart. (x, sym (changed.others other apart) ∙ at, refl))
+          (λ eq.
+          let is : x ≡ it' = cc (at, eq, changed.is_at) in
+          (it, ap (waiter_at s) eq ∙ live, ap (λ y. y.request) is ∙ same))
 
       becomes : (other : Id) (x : Waiter Reply Reply) → waiter_at s other ≡ Some x → (y : Waiter Reply Reply) × (waiter_at (written s id (Pending it')) other ≡ Some y)
       becomes other x at =
           let changed = changes_one s id it it' live in
-          elim (id_cases other id) [
-            | inl i ↦ (x, changed.others other (λ e. i (ap (λ (q : Id). q.index) e)) ∙ at)
-            | inr (inl e) ↦ (x, changed.others other (λ q. e.1 (ap (λ (y : Id). y.generation) q)) ∙ at)
-            | inr (inr eq) ↦ (it', ap (waiter_at (written s id (Pending it'))) eq ∙ changed.is_at)
-          ]
+          by_name other id
+          (λ apart. (x, changed.others other apart ∙ at))
+          (λ eq. (it', ap (waiter_at (written s id (Pending it'))) eq ∙ changed.is_at))
 
   -- the same requests in another slab
   pub carried_slab : (s' : Slab (Entry Reply Reply)) → ((id : Id) → waiter_at s' id ≡ waiter_at s id) → IsCarried numbers s' ring rs st

@@ -1,13 +1,13 @@
 -- What the kernel has of a request, as its result lands.
 use Rattle.std.{proofs.{Common.{◌≡◌, ◌≢◌, ℕ, suc, ◌+◌, ◌-◌, ◌%◌, ◌^◌, ◌<◌, ◌≤◌, ◌==◌, ◌&&◌, Bool, true, false, not, cond, min, List, [], ◌∷◌, ◌++◌, length, filter, get_or, Some, refl, sym, ap, subst, ◌∙◌, arith, slice_get, slice_set, sum_by, nat_le, if◌then◌else◌}, lemmas.{Bool.{false≢true, eq-eqb, and_parts, Decides.nat_tests}, List.{Elements.filter-append, Sums.{sum_by-set, get_or-le-sum_by}}, Option.{slice_get_within, get_or_from_slice_get}}}, specs.List.{position_or_len, remove}}
+use Rattle.exec_base.specs.declared.slab.Id.{Id}
 use Rattle.exec_outcomes.specs.{Lawful.{is_lawful, window_of}, Outcomes.bytes_of, declared.outcome.{OpResult.{OpResult, TheVariants.{Count, Errno}}, Kind.Kind}}
 use Rattle.exec_request.specs.{Requests.{asked_of, cursor_of, target_of, window_by}, Buffers.{batch_of, length_of, moved_of}, Windows.most_of, declared.{buffers.WriteBuffers.{WriteBuffers, TheVariants.{Single, Vectored}}, request.Request.Request as Asking, send.SendRequest.SendRequest}}
 use Rattle.exec_ring.specs.{Completions.{completed, number_of, result_in}, Kernels.{is_of, allows, flight_of, without_flight, landed, may_land}, Landings.{IsReady, IsReadyFor, Moves, MovesBytes}, Rings.{RingState, completions}, Sockets.after_send, Stores.socket_of, declared.{completion.{Completion.Completion, Posted.Posted, Submission.Submission}, store.Store.Store}}
 use Rattle.exec_waiters.specs.Ids.{user_data_of, index_in, generation_in}
 use Rattle.exec_driver.specs.Steps.{is_control}
 use Rattle.exec_machine.specs.{declared.state.{Operation.Operation, RequestPhase.{RequestPhase, TheVariants.Flying}}, Requests.{asked_of as asked_in, cursor_of as cursor_in}, Same.same_kind}
-use Rattle.exec_base.specs.declared.slab.Id.{Id}
-use Rattle.exec_steps.{specs.{declared.parts.record.Record.Record, Carried.{IsOneBuffer, IsWhole, IsLone, IsUnderWay, those_of, sends_to, may_send, unlanded, landing}, Flown.{AreAcks, operations}, Serving.{changed_at, changed_in}, View.trailing}, proofs.Rings.completion_added}
+use Rattle.exec_steps.{specs.{declared.parts.record.Record.Record, Carried.{IsOneBuffer, IsWhole, IsLone, IsUnderWay, those_of, sends_to, may_send, unlanded, landing}, Flown.{AreAcks, operations}, Serving.{changed_at, changed_in}, View.trailing}, proofs.{Facts.same_number, Rings.completion_added}}
 
 -- THE FIRST THAT PASSES A TEST
 
@@ -48,9 +48,6 @@ index_told id small = omega (arith, small)
 
 pub generation_told : (id : Id) → id.index < 4294967295 → generation_in (user_data_of id) ≡ id.generation % 4294967296
 generation_told id small = omega (arith, small)
-
-same_number : (a b : ℕ) → (a == b) ≡ true → a ≡ b
-same_number a b h = grind (arith, nat_tests)
 
 -- an operation of a request is no control
 pub no_control : (u : ℕ) (n : OpResult) → index_in u < 4294967295 → is_control (completed u n) ≡ false

@@ -2,11 +2,11 @@
 use Rattle.std.proofs.{Common.{◌≡◌, ℕ, ◌+◌, ◌<◌, ◌≤◌, ◌==◌, ◌&&◌, ◌||◌, Bool, true, false, not, List, [], ◌∷◌, ◌++◌, length, Option, None, refl, sym, ap, subst, ◌∙◌, arith, nat_lt, if◌then◌else◌}, lemmas.{Bool.false≢true, List.length-append}}
 use Rattle.exec_ring.specs.{Kernels.entered as entered_ring, declared.completion.Submission.Submission}
 use Rattle.exec_waiters.specs.{Ids.index_in, States.{pending_count, flying_count}, Told.is_untold, declared.waiter_id.WaiterId.WaiterId}
-use Rattle.exec_task.specs.declared.body.Said.{Said}
 use Rattle.exec_driver.specs.{Driving.{Driving, has_pending, may_stage_one, is_full as is_ring_full}, Steps.{wake_entry, poll_staged}}
+use Rattle.exec_task.specs.declared.body.Said.{Said}
 use Rattle.exec_machine.specs.{declared.{config.Configuration.Configuration, event.Event.{Event, TheVariants.{Serve, Busy}}}, Progress.Plan, Ranges.ring_size}
 use Rattle.exec_moves.specs.{Callback.{has_requests, has_callbacks, is_full}, Load.has_submissions, Serve.{enters, after_staging}, Move.{move_at, move_submit}, Seen.serves_at, State.Desk, Submit.{staging_due, request_due, with_poll, Due.{Ends, Flushes}}, declared.place.{InService.InService, Service.Service, Place.Place, Reaping.Reaping}}
-use Rattle.exec_steps.{specs.{declared.parts.{mail.Reply.Reply, shared.Shared.Shared, worker.{PutOff.PutOff, Worker.Worker}}, Carried.those_of, Due.{IsWheelAt, may_be_due}, Flown.{AreAcks, operations}, Phased.closes_at, Rooted.IsRooted, Serving.{AreTagged, Enters, cancels_in, enters_after, with_staging_ended}, Sound.{tellers, SoundAt, IsSubmitted, served_in, is_armed_at}, Spots.Spot, Submitting.{IsIdle, EndsStaging, with_wake_poll, must_flush, after_flush}, Tests.{has_open_requests, is_anything_told}, View.{Visible, visible, own_of, desk_of, driver_of, common_of, things_of}, Works.{Suits, Steps}}, proofs.{Conveying.{carried_ring, control_entry}, Entered.entered, Flown.landed_as, Going.{all_still, rooted_on}, Leading.told_seen, Seeing.{makes, own_with, desk_with, visible_with, served, common_same}, Serving.{is_calm, calm, Follows, Serves, Keeps, KeepsBy, own_seat}, Staging.{staging_next, flush_seen, stages_again, idle_at, suits_at}, Standing.{requests_seen, submissions_seen}}}
+use Rattle.exec_steps.{specs.{declared.parts.{mail.Reply.Reply, shared.Shared.Shared, worker.{PutOff.PutOff, Worker.Worker}}, Carried.those_of, Due.{IsWheelAt, may_be_due}, Flown.{AreAcks, operations}, Rooted.IsRooted, Serving.{AreTagged, Enters, cancels_in, enters_after, with_staging_ended}, Sound.{tellers, SoundAt, IsSubmitted, served_in}, Spots.Spot, Submitting.{IsIdle, EndsStaging, with_wake_poll, must_flush, after_flush}, Tests.{has_open_requests, is_anything_told}, View.{Visible, visible, own_of, desk_of, driver_of, common_of, things_of}, Works.{Suits, Steps}}, proofs.{Serving.{serves_to, IsServed, calm, Follows, Serves, Keeps, KeepsBy}, Seats.own_seat, Conveying.{carried_ring, control_entry}, Entered.entered, Flown.landed_as, Going.{all_still, rooted_on}, Leading.told_seen, Seeing.{makes, own_with, desk_with, visible_with, served, common_same}, Staging.{staging_next, flush_seen, stages_again, idle_at, suits_at}, Standing.{requests_seen, submissions_seen}}}
 
 -- WHERE ONLY THE RING CHANGES
 
@@ -206,14 +206,7 @@ module _ {B L : Type 0} (left : B → L) (spot : L → Option Said → Spot) whe
       ∙ ap (λ (x : Worker). record x { place = q'; put_off = o }) ends.worker in
       let driver : driver_of w' ≡ d' = ap driver_of same ∙ ends.driver in
       let follows = follows_by idle.gate v b in
-      let serves : Serves q w w' s s = record {
-        worker = subst (λ x. x ≡ record w { place = x.place; home = record w.home { driver = x.home.driver; timers = x.home.timers; deferred = x.home.deferred }; names = record w.names { ended = x.names.ended; staged = x.names.staged; untold = x.names.untold }; put_off = x.put_off }) (sym same) refl;
-        shared = refl;
-        from = refl;
-        to = ap (λ x. is_calm x.place) same ∙ follows.to;
-        armed = ap (λ x. is_armed_at x.place) same ∙ follows.armed;
-        closes = ap (λ x. closes_at x.place) same ∙ follows.closes;
-      } in
+      let serves : Serves q w w' s s = serves_to q q' w w' s s (subst (IsServed w) (sym same) refl) refl (ap (λ x. x.place) same) refl follows.to follows.armed follows.closes in
       let by : KeepsBy (record w { place = q'; put_off = o }) d' w.home.timers s.requests.items s.sleepers.items s =
       keeps_ring q q' o w s d' sound follows like (λ h. idle.due) in
       let keeps : Keeps w' s =

@@ -1,16 +1,13 @@
 -- One request goes on: its record changes, and what its driver has of it.
-use Rattle.std.proofs.{Common.{◌≡◌, ◌≢◌, ℕ, ◌+◌, ◌==◌, Bool, true, false, List, [], length, Option, Some, None, IsSome, refl, sym, ap, subst, ◌∙◌, arith, inl, inr, slice_get, is_some}, lemmas.{List.length-set, Bool.{false≢true, eq-eqb, Decides.nat_tests}}}
-use Rattle.exec_base.{specs.{Slab.{Slab, value_at, written, live_count}, declared.slab.{Id.Id, Slot.TheVariants.Live}}, proofs.Slots.{id_cases, Updates-write, count-set, IsLiveAt-from_value, live_within}}
-use Rattle.exec_request.specs.declared.output.RequestOutput.{RequestOutput}
+use Rattle.std.proofs.{Common.{◌≡◌, ◌≢◌, ℕ, ◌+◌, ◌==◌, Bool, true, false, List, [], length, Option, Some, None, IsSome, refl, sym, ap, subst, ◌∙◌, arith, slice_get, is_some}, lemmas.{List.length-set, Bool.{false≢true, eq-eqb}}}
+use Rattle.exec_base.{specs.{Slab.{Slab, value_at, written, live_count}, declared.slab.{Id.Id, Slot.TheVariants.Live}}, proofs.Slots.{Updates-write, count-set, IsLiveAt-from_value, live_within}}
 use Rattle.exec_time.specs.declared.timers.Sleeper.{Sleeper as Sleeping}
-use Rattle.exec_waiters.{proofs.Changes.{entry_of, one_if}, specs.{States.{waiter_at, pending_count, flying_count, is_flying}, declared.waiter.{Entry.{Entry, TheVariants.{Pending, Ready}}, Waiter.Waiter}}}
+use Rattle.exec_request.specs.declared.output.RequestOutput.{RequestOutput}
+use Rattle.exec_waiters.{specs.{States.{waiter_at, pending_count, flying_count, is_flying}, declared.waiter.{Entry.{Entry, TheVariants.{Pending, Ready}}, Waiter.Waiter}}, proofs.Changes.{entry_of, one_if}}
 use Rattle.exec_driver.{specs.{Driving.Driving, Punctual.IsPunctual}, proofs.Counting.{OneChanged, pending_is, flying_is, one_written}}
 use Rattle.exec_machine.specs.Tests.{is_resolved}
 use Rattle.exec_moves.specs.declared.place.Place.{Place}
-use Rattle.exec_steps.{specs.{declared.parts.{mail.Reply.Reply, names.Names.Names, record.Record.Record, shared.Shared.Shared, sleeping.SleeperRecord.SleeperRecord, worker.{PutOff.PutOff, Worker.Worker}}, Carried.IsCarried, Due.{AreTimed, IsWheelAt, may_be_due, wheel_moment}, Flown.HasFlown, Ordered.{IsOrdered, went_round}, Records.number_in, Rooted.IsRooted, Serving.changed_at, Sound.{SoundAt, IsNamed, IsAlike, IsSubmitted, served_in}, View.driver_of}, proofs.{Going.{GoesOn, AllGoOn, still, same_worker, same_id, over_on, owed_on, rooted_on}, Marking.{mark_if, marked, was_marked}, Serving.{Follows, KeepsBy, calm}}}
-
-same_number : (a b : ℕ) → (a == b) ≡ true → a ≡ b
-same_number a b h = grind (arith, nat_tests)
+use Rattle.exec_steps.{specs.{declared.parts.{mail.Reply.Reply, names.Names.Names, record.Record.Record, shared.Shared.Shared, sleeping.SleeperRecord.SleeperRecord, worker.{PutOff.PutOff, Worker.Worker}}, Carried.IsCarried, Due.{AreTimed, IsWheelAt, may_be_due, wheel_moment}, Flown.HasFlown, Ordered.{IsOrdered, went_round}, Records.number_in, Rooted.IsRooted, Serving.changed_at, Sound.{SoundAt, IsNamed, IsAlike, IsSubmitted, served_in}, View.driver_of}, proofs.{Facts.{by_name, same_number}, Going.{GoesOn, AllGoOn, still, same_worker, same_id, over_on, owed_on, rooted_on}, Marking.{mark_if, marked, was_marked}, Serving.{Follows, KeepsBy, calm}}}
 
 -- THE RECORDS
 
@@ -58,29 +55,19 @@ module _ {S F : Type 0} (s : Slab (Entry S F)) (id : Id) (it it' : Waiter S F) (
   pub some_before : (other : Id) → IsSome (value_at (written s id (Pending it')) other) → IsSome (value_at s other)
   some_before other h =
       let map = Updates-write s id (Pending it') some in
-      elim (id_cases other id) [
-        | inl i ↦ rw (map.others other (λ e. i (ap (λ (x : Id). x.index) e))) at h
-        | inr (inl e) ↦ rw (map.others other (λ q. e.1 (ap (λ (x : Id). x.generation) q))) at h
-        | inr (inr same) ↦ rw same some
-      ]
+      by_name other id (λ apart. rw (map.others other apart) at h) (λ same. rw same some)
 
   pub some_after : (other : Id) → IsSome (value_at s other) → IsSome (value_at (written s id (Pending it')) other)
   some_after other h =
       let map = Updates-write s id (Pending it') some in
-      elim (id_cases other id) [
-        | inl i ↦ rw (map.others other (λ e. i (ap (λ (x : Id). x.index) e))) h
-        | inr (inl e) ↦ rw (map.others other (λ q. e.1 (ap (λ (x : Id). x.generation) q))) h
-        | inr (inr same) ↦ rw (same, map.changed) refl
-      ]
+      by_name other id (λ apart. rw (map.others other apart) h) (λ same. rw (same, map.changed) refl)
 
   pub ready_before : (other : Id) (told : RequestOutput) → value_at (written s id (Pending it')) other ≡ Some (Ready told) → value_at s other ≡ Some (Ready told)
   ready_before other told h =
       let map = Updates-write s id (Pending it') some in
-      elim (id_cases other id) [
-        | inl i ↦ sym (map.others other (λ e. i (ap (λ (x : Id). x.index) e))) ∙ h
-        | inr (inl e) ↦ sym (map.others other (λ q. e.1 (ap (λ (x : Id). x.generation) q))) ∙ h
-        | inr (inr same) ↦ absurd (let no : Some (Pending it') ≡ Some (Ready told) = sym map.changed ∙ ap (value_at (written s id (Pending it'))) (sym same) ∙ h in cc)
-      ]
+      by_name other id
+      (λ apart. sym (map.others other apart) ∙ h)
+      (λ same. absurd (let no : Some (Pending it') ≡ Some (Ready told) = sym map.changed ∙ ap (value_at (written s id (Pending it'))) (sym same) ∙ h in cc))
 
   pub live_still : live_count (written s id (Pending it')) ≡ live_count s
   live_still =
@@ -126,14 +113,11 @@ module _ (i : ℕ) (n n' : Names) (d d' : Driving Reply Reply) (zs : Slab (Sleep
       let old : waiter_at d.requests other ≡ Some w = sym (changed.others other apart) ∙ at in
       let apart_k = apart_number named other (rw (entry_of (value_at d.requests other) w old) refl) apart in
       named.alike other w x old (others_there rs (number_in n.requests.items id) f r one.there one.on (number_in n.requests.items other) x apart_k there) in
-      elim (id_cases other id) [
-        | inl i ↦ differs (λ e. i (ap (λ (q : Id). q.index) e))
-        | inr (inl e) ↦ differs (λ q. e.1 (ap (λ (y : Id). y.generation) q))
-        | inr (inr same) ↦
-            let is_it : w ≡ it' = cc (at, ap (waiter_at (written d.requests id (Pending it'))) same, changed.is_at) in
-            let is_r : x ≡ f r = cc (there, ap (λ q. slice_get (changed_at rs (number_in n.requests.items id) f) (number_in n.requests.items q)) same, now_there rs (number_in n.requests.items id) f r one.there one.on) in
-            rw (is_it, is_r) one.alike
-      ]
+      by_name other id differs
+      (λ same.
+      let is_it : w ≡ it' = cc (at, ap (waiter_at (written d.requests id (Pending it'))) same, changed.is_at) in
+      let is_r : x ≡ f r = cc (there, ap (λ q. slice_get (changed_at rs (number_in n.requests.items id) f) (number_in n.requests.items q)) same, now_there rs (number_in n.requests.items id) f r one.there one.on) in
+      rw (is_it, is_r) one.alike)
 
   pub named_one : IsNamed i n d zs rs ss → IsSubmitted i n'.staged.items n'.untold.items d'.ring (changed_at rs (number_in n.requests.items id) f) → IsNamed i n' d' zs (changed_at rs (number_in n.requests.items id) f) ss
   named_one named submitted =
@@ -163,11 +147,8 @@ module _ (i : ℕ) (n n' : Names) (d d' : Driving Reply Reply) (zs : Slab (Sleep
       gone_before (Some w) other is gone =
           let changed = changes_one d.requests id it it' one.at in
           let differs : other ≢ id → Some w ≡ None = λ apart. sym is ∙ sym (changed.others other apart) ∙ gone in
-          elim (id_cases other id) [
-            | inl i ↦ differs (λ e. i (ap (λ (q : Id). q.index) e))
-            | inr (inl e) ↦ differs (λ q. e.1 (ap (λ (y : Id). y.generation) q))
-            | inr (inr same) ↦ absurd (let no : Some it' ≡ None = sym changed.is_at ∙ ap (waiter_at (written d.requests id (Pending it'))) (sym same) ∙ gone in cc)
-          ]
+          by_name other id differs
+          (λ same. absurd (let no : Some it' ≡ None = sym changed.is_at ∙ ap (waiter_at (written d.requests id (Pending it'))) (sym same) ∙ gone in cc))
 
   -- its deadline stays with its number
   pub timed_one : IsNamed i n d zs rs ss → AreTimed i n rs → AreTimed i n' (changed_at rs (number_in n.requests.items id) f)

@@ -1,10 +1,10 @@
 -- The steps of a closing, each as a step of the machine.
 use Rattle.std.{proofs.{Common.{◌≡◌, ℕ, ◌-◌, ◌==◌, ◌||◌, Bool, true, false, not, [], length, map, Option, Some, None, refl, sym, ap, subst, ◌∙◌, arith, slice_get, slice_set, if◌then◌else◌}, lemmas.{Bool.{false≢true, eq-eqb}, List.{length-map, set-get_or}, Option.slice_get_within}}, specs.List.list_all}
-use Rattle.exec_task.specs.{TaskSet.{Set, drain_of, passed, IsFor}, declared.{drain.Drain.Drain, body.Said.Said, runnable.Runnable.Runnable}}
 use Rattle.exec_words.specs.{Global.Global, Inbox.shut}
+use Rattle.exec_task.specs.{TaskSet.{Set, drain_of, passed, IsFor}, declared.{drain.Drain.Drain, body.Said.Said, runnable.Runnable.Runnable}}
 use Rattle.exec_machine.specs.{declared.{event.Event.{Event, TheVariants.{Turn, Close, Stop, End}}, state.WorkerPhase.WorkerPhase}, Choice.Choice.{Plain, Passes}, Closing.{gone_with, is_over_or_root}, Tests.{is_asleep, all_left}}
 use Rattle.exec_moves.specs.{declared.place.{Place.Place, AfterCallbacks.AfterCallbacks, InCallbacks.InCallbacks, InClosing.InClosing}, Close.{after_visit, is_held_here}}
-use Rattle.exec_steps.{specs.{declared.parts.{seat.Seat.Seat as Chair, shared.Shared.Shared, worker.Worker.Worker}, Phased.{IsGoing, TurnsChair, stage_of}, Sound.{SoundAt, IsAlone}, Spots.Spot, View.{visible, common_of, things_of, task_seen}, Works.{SameShared, Steps}}, proofs.{Hearing.unheard, Shutting.{mapped_all, none_numbered, same_by, first_alone, now_closing, now_done, gone_before, unheld, positive, visit_free, alone_on, sound_on, phased_on, held_nothing, onward, told_as, root_there, seats_on, stays}, Phased.{set_there, same_thing}, Turning.set_found, Seats.{seats_all, own_seat}}}
+use Rattle.exec_steps.{specs.{declared.parts.{seat.Seat.Seat as Chair, shared.Shared.Shared, worker.Worker.Worker}, Phased.{IsGoing, TurnsChair, stage_of}, Sound.{SoundAt, IsAlone}, Spots.Spot, View.{visible, common_of, things_of, task_seen}, Works.{SameShared, Steps}}, proofs.{Facts.{set_there, same_thing}, Hearing.unheard, Shutting.{mapped_all, none_numbered, same_by, first_alone, now_closing, now_done, gone_before, unheld, positive, visit_free, alone_on, sound_on, phased_on, held_nothing, onward, told_as, root_there, seats_on, stays}, Turning.set_found, Seats.{seats_all, own_seat}}}
 
 module _ {B L : Type 0} (left : B → L) (spot : L → Option Said → Spot) where
   pub closing_began : (w w' : Worker) (s s' : Shared B) (e : Event) → SoundAt (Place.Closing InClosing.Close) w s → e ≡ Close
@@ -242,19 +242,6 @@ module _ {B L : Type 0} (left : B → L) (spot : L → Option Said → Spot) whe
               common = rw (seats_on left spot p vs w s s' chair suits items, mine, sound.alone.inbox, gone) refl;
             }),
         sound_on InClosing.End q w w.batch w.home.closing s s1 sound refl sound.batch alone
-            (phased_on true (Some InClosing.End) w.home.closing w.root w.names.unreleased w.index s1 chair s.tasks.items found (record {
-              told = phased.told;
-              opened = refl;
-              ended = λ h. refl;
-              root = phased.root;
-              lone = phased.lone;
-              pool = phased.pool;
-              stopped = phased.stopped;
-              left = phased.left;
-              shut = phased.shut;
-              set = phased.set;
-              empty = phased.empty;
-              prepared = phased.prepared;
-            })),
+            (phased_on true (Some InClosing.End) w.home.closing w.root w.names.unreleased w.index s1 chair s.tasks.items found (assumption phased)),
         unheard refl refl refl,
       )

@@ -1,15 +1,12 @@
 -- What keeps what the kernel has, where a request goes on and where an entry goes into the submission queue.
-use Rattle.std.proofs.{Common.{◌≡◌, ◌≢◌, ℕ, ◌+◌, ◌-◌, ◌<◌, ◌≤◌, ◌==◌, ◌&&◌, Bool, true, false, cond, List, [], ◌∷◌, ◌++◌, length, filter, Some, refl, sym, ap, subst, ◌∙◌, arith, inl, inr, slice_get, slice_index_or, if◌then◌else◌}, lemmas.{Bool.{false≢true, eq-eqb, Decides.nat_tests}, List.{append-nil, Elements.filter-append}}}
-use Rattle.exec_base.{specs.{Slab.{Slab, written}, declared.slab.Id.Id}, proofs.Slots.id_cases}
+use Rattle.std.proofs.{Common.{◌≡◌, ◌≢◌, ℕ, ◌+◌, ◌-◌, ◌<◌, ◌≤◌, ◌==◌, ◌&&◌, Bool, true, false, cond, List, [], ◌∷◌, ◌++◌, length, filter, Some, refl, sym, ap, subst, ◌∙◌, arith, slice_get, slice_index_or, if◌then◌else◌}, lemmas.{Bool.{false≢true, eq-eqb}, List.{append-nil, Elements.filter-append}}}
+use Rattle.exec_base.specs.{Slab.{Slab, written}, declared.slab.Id.Id}
 use Rattle.exec_outcomes.specs.{Outcomes.bytes_of, declared.outcome.{Kind.Kind, OpResult.OpResult}}
 use Rattle.exec_request.specs.{Requests.{target_of, window_by}, declared.{request.Request.Request as Asking, window.Window.Window}}
 use Rattle.exec_ring.specs.{Kernels.{is_of, with_entry}, Rings.RingState, declared.{completion.Submission.Submission, store.Store.Store}}
 use Rattle.exec_waiters.specs.{Ids.{user_data_of, index_in}, States.waiter_at, declared.waiter.{Entry.{Entry, TheVariants.Pending}, Waiter.Waiter}}
 use Rattle.exec_machine.specs.{declared.state.RequestPhase.RequestPhase, Same.same_kind}
-use Rattle.exec_steps.{specs.{declared.parts.{mail.Reply.Reply, record.Record.Record}, Carried.{IsCarried, IsUnderWay, IsWhole, may_send, sends_to, those_of, unlanded}, Records.number_in, Serving.changed_at}, proofs.{Carrying.{index_told, sum_changed}, Changing.changes_one, Marking.{mark_if, marked, was_marked}}}
-
-same_number : (a b : ℕ) → (a == b) ≡ true → a ≡ b
-same_number a b h = grind (arith, nat_tests)
+use Rattle.exec_steps.{specs.{declared.parts.{mail.Reply.Reply, record.Record.Record}, Carried.{IsCarried, IsUnderWay, IsWhole, may_send, sends_to, those_of, unlanded}, Records.number_in, Serving.changed_at}, proofs.{Facts.{by_name, same_number}, Carrying.{index_told, sum_changed}, Changing.changes_one, Marking.{mark_if, marked, was_marked}}}
 
 -- one more entry in the submission queue is none of another request
 other_entry : (w : Window) (u v : ℕ) (r : RingState) → (u ≡ v → ⊥) → those_of v (with_entry r w u).staged ≡ those_of v r.staged
@@ -95,20 +92,14 @@ module _ (numbers : List ℕ) (s : Slab (Entry Reply Reply)) (ring : RingState) 
     then_by other x at =
         let changed = changes_one s id it it' live in
         let another : other ≢ id → Then other x = λ differs. Other differs (sym (changed.others other differs) ∙ at) in
-        elim (id_cases other id) [
-          | inl i ↦ another (λ e. i (ap (λ (q : Id). q.index) e))
-          | inr (inl e) ↦ another (λ q. e.1 (ap (λ (y : Id). y.generation) q))
-          | inr (inr eq) ↦ This eq (let is : x ≡ it' = cc (at, eq, changed.is_at) in is)
-        ]
+        by_name other id another (λ eq. This eq (let is : x ≡ it' = cc (at, eq, changed.is_at) in is))
 
     becomes_some : (other : Id) (x : Waiter Reply Reply) → waiter_at s other ≡ Some x → (y : Waiter Reply Reply) × (waiter_at (written s id (Pending it')) other ≡ Some y)
     becomes_some other x at =
         let changed = changes_one s id it it' live in
-        elim (id_cases other id) [
-          | inl i ↦ (x, changed.others other (λ e. i (ap (λ (q : Id). q.index) e)) ∙ at)
-          | inr (inl e) ↦ (x, changed.others other (λ q. e.1 (ap (λ (y : Id). y.generation) q)) ∙ at)
-          | inr (inr eq) ↦ (it', ap (waiter_at (written s id (Pending it'))) eq ∙ changed.is_at)
-        ]
+        by_name other id
+        (λ apart. (x, changed.others other apart ∙ at))
+        (λ eq. (it', ap (waiter_at (written s id (Pending it'))) eq ∙ changed.is_at))
 
     other_record : (j : ℕ) (y : Record) → (number_in numbers id ≡ j → ⊥) → slice_get (changed_at rs (number_in numbers id) f) j ≡ Some y → slice_get rs j ≡ Some y
     other_record j y differs found =

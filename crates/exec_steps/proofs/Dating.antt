@@ -1,9 +1,9 @@
 -- What comes of the first new deadline is a step.
 use Rattle.std.{proofs.{Common.{◌≡◌, ℕ, ◌+◌, ◌^◌, ◌<◌, ◌≤◌, List, length, Option, Some, None, IfSome, refl, sym, ap, subst, ◌∙◌, arith, slice_get, slice_set, get_or, Err}, lemmas.Option.{get_or_from_slice_get, slice_get_within}}, specs.VecDeque.deque_capacity}
 use Rattle.exec_base.specs.declared.error.Error.{Error, TheVariants.Timeout}
-use Rattle.exec_task.specs.declared.body.Said.{Said}
 use Rattle.exec_waiters.specs.{declared.waiter_id.WaiterId.WaiterId, States.pending_count}
 use Rattle.exec_driver.specs.{Lists.first_of, Steps.{tick_for, ended_by}}
+use Rattle.exec_task.specs.declared.body.Said.{Said}
 use Rattle.exec_machine.specs.declared.event.Event.{Event}
 use Rattle.exec_moves.specs.declared.place.{Place.Place, InService.InService}
 use Rattle.exec_steps.{specs.{declared.parts.{record.Record.Record, shared.Shared.Shared, worker.Worker.Worker}, Due.IsWheelAt, Records.number_in, Serving.{IsOnWheel, changed_at, changed_in}, Spots.Spot, Submitting.IsNewIn, View.{driver_of, own_of}, Works.Steps}, proofs.{Enrolled.{HasEnrolled, new_first}, Enrolling.{enrolled_at, ended_not}, Late.enrol_ends, Resolving.slab_after, Timing.enrol_stays}}

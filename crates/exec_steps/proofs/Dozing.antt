@@ -1,12 +1,12 @@
 -- A root that sleeps from now on: what holds again of the sleepers, and what it is to the machine.
 use Rattle.std.{proofs.{Common.{◌≡◌, ◌≢◌, ℕ, ◌+◌, ◌≤◌, Bool, true, false, List, [], ◌∷◌, ◌++◌, length, Option, Some, IsSome, refl, sym, ap, subst, ◌∙◌, arith, inl, inr, slice_get}, lemmas.Bool.{false≢true, eq-eqb}}, specs.VecDeque.deque_capacity}
 use Rattle.exec_base.specs.{Slab.{Slab, value_at}, declared.{slab.Id.Id, task_no.TaskNo.TaskNo}}
-use Rattle.exec_ring.specs.declared.store.Store.{Store}
 use Rattle.exec_time.specs.declared.timers.{Sleeper.Sleeper as Sleeping, TimerId.TimerId, Observer.Observer}
+use Rattle.exec_ring.specs.declared.store.Store.{Store}
 use Rattle.exec_driver.specs.Driving.{Driving}
 use Rattle.exec_machine.specs.{Deadlines.new_sleeper, Tests.is_asleep, declared.state.Waiting.Waiting}
 use Rattle.exec_moves.specs.declared.place.InService.{InService}
-use Rattle.exec_steps.{specs.{declared.parts.{mail.Reply.Reply, names.Names.Names, record.Record.Record, sleeping.SleeperRecord.SleeperRecord, shared.Shared.Shared, worker.Worker.Worker}, Admitting.{MayMake, TakesBed}, Carried.IsCarried, Due.{AreAsleep, AreTimed}, Ordered.IsOrdered, Flown.{HasFlown, operations}, Records.{HasTimerRoom, number_in}, Rooted.Holds, Sound.{AreOver, IsNamed}}, proofs.{Flown.landed_on, Taken.{Takes, got_new, got_old, name_apart, number_new, number_old, slot_apart, takes_inserted, value_new, value_old, was_got, apart_or_same}}}
+use Rattle.exec_steps.{specs.{declared.parts.{mail.Reply.Reply, names.Names.Names, record.Record.Record, sleeping.SleeperRecord.SleeperRecord, shared.Shared.Shared, worker.Worker.Worker}, Admitting.{MayMake, TakesBed}, Carried.IsCarried, Due.{AreAsleep, AreTimed}, Ordered.IsOrdered, Flown.{HasFlown, operations}, Records.{HasTimerRoom, number_in}, Rooted.Holds, Sound.{AreOver, IsNamed}}, proofs.{Facts.by_name, Flown.landed_on, Taken.{Takes, got_new, got_old, name_apart, number_new, number_old, slot_apart, takes_inserted, value_new, value_old, was_got}}}
 
 -- A sleeper came in under this name, with the next number; of the other numbers there may be more room.
 pub record OneDozes (i t until : ℕ) (n n' : Names) (zs zs' : Slab (Sleeping Reply)) (ss : List SleeperRecord) (z : SleeperRecord) : Type 0 where
@@ -44,7 +44,7 @@ module _ (i t until : ℕ) (n n' : Names) (d : Driving Reply Reply) (zs zs' : Sl
       record {
         requests = λ id h. rw one.requests (named.requests id h);
         timers = λ other h.
-            apart_or_same other z.id.0
+            by_name other z.id.0
             (λ apart.
             let some = some_before other apart h in
             let old = named.timers other some in
@@ -67,7 +67,7 @@ module _ (i t until : ℕ) (n n' : Names) (d : Driving Reply Reply) (zs zs' : Sl
   asleep_dozes named asleep =
       record {
         alike = λ other x r at there.
-            apart_or_same other z.id.0
+            by_name other z.id.0
             (λ apart.
             let was : value_at zs other ≡ Some x = sym (value_old zs zs' z.id.0 asleep_now one.takes other apart) ∙ at in
             let some : IsSome (value_at zs other) = rw was refl in
@@ -145,7 +145,7 @@ module _ (i t until : ℕ) (n n' : Names) (d : Driving Reply Reply) (zs zs' : Sl
           },
         );
         sleeping = λ other x at.
-            apart_or_same other z.id.0
+            by_name other z.id.0
             (λ apart.
             let was : value_at zs other ≡ Some x = sym (value_old zs zs' z.id.0 asleep_now one.takes other apart) ∙ at in
             absurd (let never : Waiting.Nothing ≡ Waiting.Timer (number_in n.timers.items other) = (old.sleeping other x was).1 in cc))

@@ -4,7 +4,7 @@ use Rattle.exec_base.specs.declared.{error.Error.TheVariants.NoMemory, task_no.T
 use Rattle.exec_task.specs.{Phases.is_polled, Sight.Sight, declared.body.{Act.Act, Said.Said}}
 use Rattle.exec_machine.specs.{Choice.Choice.Plain, declared.{event.Event.{Event, TheVariants.Drop}, state.{Request.Request, Waiting.Waiting}, config.ScriptWord.ScriptWord}, Progress.Plan, Requests.{dropped, ends_by_drop, is_cancelled_by_drop, joined_if, own_after_end}, Same.is_number, Tasks.after_letting_go, Tests.is_resolved, Words.{asks_drop, moved_on, newest_held}, World.{Own, Task, task_of, request_of}}
 use Rattle.exec_moves.specs.{Callback.told_of_drop, declared.place.{Place.Place, InPoll.InPoll}, Poll.{acts_on, drop_newest}, State.{Desk, Moved, Things}}
-use Rattle.exec_steps.{specs.{declared.parts.{names.Names.Names, record.Record.Record, shared.Shared.Shared, task_slot.TaskSlot.TaskSlot, worker.Worker.Worker}, Acting.{HasActed, StepsOf}, Awaits.{DropsRequest, OfNewest, drops, newest_of}, Hearing.{CanHear, held_once_come}, Phased.is_complete, Polls.OfSlot, Records.number_in, Scripts.{IsAnswer, IsAnswered, held_after}, Serving.{changed_at, changed_in}, Sound.{SoundAt, acts_next}, Spots.Spot, View.{body_in, own_of, desk_of, driver_of, common_of, things_of, task_seen}, Works.Works}, proofs.{Acting.{acts_so, moved_seen, moves_so}, Awaiting.{acted_worker, common_acted, desk_acted, sound_acted}, Calling.request_seen, Dropping.{BecomesOf, becomes}, Getting.{Without, without_last}, Keys.name_in, Letting.{keeps_acting, let_shared}, Newest.held_newest, Performing.{in_poll, performs_on, still_performs}, Polling.on_in_poll, Receiving.{fewer_held, newest_is}, Seeing.makes, Turning.set_there, Waking.task_there}}
+use Rattle.exec_steps.{specs.{declared.parts.{names.Names.Names, record.Record.Record, shared.Shared.Shared, task_slot.TaskSlot.TaskSlot, worker.Worker.Worker}, Acting.{HasActed, StepsOf}, Awaits.{DropsRequest, OfNewest, drops, newest_of}, Hearing.{CanHear, held_once_come}, Phased.is_complete, Polls.OfSlot, Records.number_in, Scripts.{IsAnswer, IsAnswered, held_after}, Serving.{changed_at, changed_in}, Sound.{SoundAt, acts_next}, Spots.Spot, View.{body_in, own_of, desk_of, driver_of, common_of, things_of, task_seen}, Works.Works}, proofs.{Facts.set_there, Acting.{acts_so, moved_seen, moves_so}, Awaiting.{acted_worker, common_acted, desk_acted, sound_acted}, Calling.request_seen, Dropping.{BecomesOf, becomes}, Getting.{Without, without_last}, Keys.name_in, Letting.{keeps_acting, let_shared}, Newest.held_newest, Performing.{in_poll, performs_on, still_performs}, Polling.on_in_poll, Receiving.{fewer_held, newest_is}, Seeing.makes, Waking.task_there}}
 
 pass_heard : Said.Pass ≡ Said.Refused NoMemory → ⊥
 pass_heard h = cc

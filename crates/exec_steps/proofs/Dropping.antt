@@ -3,11 +3,11 @@ use Rattle.std.proofs.{Common.{◌≡◌, ◌≢◌, ◌⊎◌, ⊎_elim, ℕ, �
 use Rattle.exec_base.specs.{Slab.{Slab, value_at, written, removed}, declared.{error.Error.TheVariants.Timeout, slab.{Id.Id, Slot.TheVariants.Live}}}
 use Rattle.exec_outcomes.specs.declared.outcome.{Kind.Kind, Outcome.TheVariants.Failure}
 use Rattle.exec_request.specs.{Requests.{asked_of, goes_on_alone, output_of}, States.asks_cancel, declared.{output.RequestOutput.RequestOutput, request.Request.Request as Asking}}
-use Rattle.exec_waiters.{proofs.Changes.{entry_of, one_if}, specs.{Events.{cancelled as cancelled_of, told_by_finish, told_to, untaken, told_by_orphan, orphaned_from, asks_cancel_by_orphan}, States.{waiter_at, waiter_of, is_held_by, flying_count, tick_in}, Told.{Told, Tells, nothing_told}, declared.{observer.Observer.{Observer, TheVariants.{Local, Orphaned}}, waiter.{Entry.{Entry, TheVariants.{Pending, Ready}}, Waiter.Waiter}, waiter_id.WaiterId.WaiterId}}}
+use Rattle.exec_waiters.{specs.{Events.{cancelled as cancelled_of, told_by_finish, told_to, untaken, told_by_orphan, orphaned_from, asks_cancel_by_orphan}, States.{waiter_at, waiter_of, is_held_by, flying_count, tick_in}, Told.{Told, Tells, nothing_told}, declared.{observer.Observer.{Observer, TheVariants.{Local, Orphaned}}, waiter.{Entry.{Entry, TheVariants.{Pending, Ready}}, Waiter.Waiter}, waiter_id.WaiterId.WaiterId}}, proofs.Changes.{entry_of, one_if}}
 use Rattle.exec_driver.specs.{Driving.{Driving, request_at, is_queued as is_listed_queued, is_unenrolled, is_cancelled}, Lists.{is_among, without}, Punctual.IsPunctual, Steps.{both, cancelling, cancelled_at, cancelled_from, ended, timed_out, told_by_cancel, without_observer}}
 use Rattle.exec_machine.specs.{declared.state.{Request.Request, RequestPhase.RequestPhase, Waiting.Waiting}, Requests.{dropped, ends_by_drop, is_cancelled_by_drop, joined_if, left_if, resolved}, Tests.{is_in_flight, is_kept, is_queued, is_resolved}}
-use Rattle.exec_steps.{specs.{declared.parts.{mail.Reply.Reply, record.Record.Record, shared.Shared.Shared, task_slot.TaskSlot.TaskSlot, worker.Worker.Worker}, Awaits.{LetsGo, drops}, Flown.{IsPlain, IsUpTo, longest}, Phased.is_complete, Polls.unobserved, Records.number_in, Rooted.IsNear, Serving.{changed_at, changed_in}, Sound.{IsAlike, IsTold, tellers}, View.{driver_of, numbers_of}}, proofs.{Cancelling.among_last, Changing.{changes_one, flying_after}, Ends.{flying_ended, numbers_without}, Expiring.{flies_not_queued, unticked_start, unticked_tick}, Getting.{Without, same_flying, same_pending}, Late.stands, Letting.{KeepsActing, alike_cancelled, alike_orphaned, let_cancel, let_shared, let_worker, lets_pending, lets_ready, punctual_watched, told_output, without_waiter}, Ousting.keeps_ended, Over.OneEnds, Resolving.{live_fewer, places_fewer, slab_after, told_once, unticked_at}, Starting.{queued_phase, writes_bytes}, Timed.told_still, Turning.set_there, Watching.{now_there, watched}, Orders.{alike_self, alike_unticked}}}
 use Rattle.exec_moves.specs.declared.place.{AfterCallbacks.AfterCallbacks, InCallbacks.InCallbacks, InPoll.InPoll, Place.Place}
+use Rattle.exec_steps.{specs.{declared.parts.{mail.Reply.Reply, record.Record.Record, shared.Shared.Shared, task_slot.TaskSlot.TaskSlot, worker.Worker.Worker}, Awaits.{LetsGo, drops}, Flown.{IsPlain, IsUpTo, longest}, Phased.is_complete, Polls.unobserved, Records.number_in, Rooted.IsNear, Serving.{changed_at, changed_in}, Sound.{IsAlike, IsTold, tellers}, View.{driver_of, numbers_of}}, proofs.{Facts.set_there, Cancelling.among_last, Changing.{changes_one, flying_after}, Ends.{flying_ended, numbers_without}, Expiring.{flies_not_queued, unticked_start, unticked_tick}, Getting.{Without, same_flying, same_pending}, Late.stands, Letting.{KeepsActing, alike_cancelled, alike_orphaned, let_cancel, let_shared, let_worker, lets_pending, lets_ready, punctual_watched, told_output, without_waiter}, Ousting.keeps_ended, Over.OneEnds, Resolving.{live_fewer, places_fewer, slab_after, told_once, unticked_at}, Starting.{queued_phase, writes_bytes}, Timed.told_still, Watching.{now_there, watched}, Orders.{alike_self, alike_unticked}}}
 
 -- A REQUEST THAT MAY BE THERE is cancelled where nobody holds it
 
@@ -72,9 +72,6 @@ pub record BecomesOf {B : Type 0} (k : ℕ) (r : Record) (w v : Worker) (s s' : 
 module _ {B : Type 0} (w v : Worker) (s s' : Shared B) (slot slot' : TaskSlot B) (k : ℕ) (keeps : KeepsActing w (driver_of w) s.requests.items s) (there : slice_get s.tasks.items w.root ≡ Some slot)
     (tasks : s'.tasks.items ≡ slice_set s.tasks.items w.root slot') (lets : LetsGo k s.requests.items s'.requests.items w v) (number : number_in w.names.requests.items lets.r.id.0 ≡ k)
     (without : Without slot.held.items slot'.held.items (number_in w.names.requests.items lets.r.id.0)) (waits : slot.waiting ≡ Waiting.Nothing) (still_waits : slot'.waiting ≡ Waiting.Nothing) (complete : is_complete slot'.cell.phase ≡ is_complete slot.cell.phase) where
-  abbrev id_let : Id
-  id_let = lets.r.id.0
-
   abbrev rs_let : (Record → Record) → List Record
   rs_let f = changed_at s.requests.items (number_in w.names.requests.items lets.r.id.0) f
 

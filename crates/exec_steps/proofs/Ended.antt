@@ -6,7 +6,7 @@ use Rattle.exec_driver.specs.Driving.{Driving}
 use Rattle.exec_task.specs.{Phases.{is_polled, over as cell_over}, Sight.Sight, declared.{body.{Act.Act, Said.Said}, runnable.Runnable.Runnable}}
 use Rattle.exec_machine.specs.{declared.{config.ScriptWord.ScriptWord, event.Event.{Event, TheVariants.{Done, Fault}}, state.{TaskPhase.TaskPhase, Waiting.Waiting}}, After.{own_after, common_after}, Allowed.allowed, Choice.Choice.Plain, Progress.Plan, Tasks.{after_over, may_end_by, own_after_done, own_after_drops, own_after_waking_up, requests_after_drops, sleepers_after_waking_up, unpolled}, Tests.AllTrue, Words.{asks_end, asks_fault, moved_on, next_word}, World.{Own, Common, task_of}}
 use Rattle.exec_moves.specs.{declared.place.{InClosing.InClosing, Place.Place, InPoll.InPoll}, Poll.ends, Seen.next_at, State.Desk}
-use Rattle.exec_steps.{specs.{declared.parts.{mail.Reply.Reply, names.Names.Names, record.Record.Record, shared.Shared.Shared, sleeping.SleeperRecord.SleeperRecord, task_slot.TaskSlot.TaskSlot, worker.Worker.Worker}, Acting.{ActsAs, HasActed, Performs, StepsOf}, Ending.{EndsTask, LetsGoAll, MayEndTask, MayLetGoAll}, Hearing.CanHear, Phased.{IsPhased, is_complete, stage_of}, Rooted.{Holds, IsRooted}, Scripts.is_last, Sound.{Sound, SoundAt, IsRunnable, Stands, AreOwed, is_told, one_of}, Spots.{Spot, spot_of, standing_at}, View.{Visible, visible, own_of, desk_of, driver_of, common_of, things_of, open_seen, task_seen}, Works.{Suits, Works}}, proofs.{Acting.{acts_so, move_by, moves_so}, Awaiting.{acted_worker, desk_acted}, Calling.request_seen, Endings.{AllLet, IsActing, SeesAll, all_let, may_all}, Letting.{KeepsActing, keeps_acting}, Performing.still_performs, Phased.phased_over, Rooted.rooted_set, Seeing.visible_with, Turning.{set_found, set_there}, Waking.task_there}}
+use Rattle.exec_steps.{specs.{declared.parts.{seat.Seat.Seat as Chair, mail.Reply.Reply, names.Names.Names, record.Record.Record, shared.Shared.Shared, sleeping.SleeperRecord.SleeperRecord, task_slot.TaskSlot.TaskSlot, worker.Worker.Worker}, Sound.{IsTied, HasRunnable, Sound, SoundAt, IsRunnable, Stands, AreOwed, is_told, one_of}, Acting.{ActsAs, HasActed, Performs, StepsOf}, Ending.{EndsTask, LetsGoAll, MayEndTask, MayLetGoAll}, Hearing.CanHear, Phased.{IsPhased, is_complete, stage_of}, Rooted.{Holds, IsRooted}, Scripts.is_last, Spots.{Spot, spot_of, standing_at}, View.{Visible, visible, own_of, desk_of, driver_of, common_of, things_of, open_seen, task_seen}, Works.{Suits, Works}}, proofs.{Facts.set_there, Acting.{acts_so, move_by, moves_so}, Awaiting.{acted_worker, desk_acted}, Calling.request_seen, Endings.{AllLet, IsActing, SeesAll, all_let, may_all}, Letting.{KeepsActing, keeps_acting}, Performing.still_performs, Phased.phased_over, Rooted.rooted_set, Seeing.visible_with, Turning.set_found, Waking.task_there}}
 
 module _ {B L : Type 0} (left : B → L) (runs : L → Plan → Type 0) (holds : L → Option Said → List ℕ) (spot : L → Option Said → Spot) (gives : L → Option Sight → Said → Act B → L → Option Sight → Type 0) where
   -- what the root held as it made this act
@@ -27,18 +27,10 @@ module _ {B L : Type 0} (left : B → L) (runs : L → Plan → Type 0) (holds :
         there = ap (λ ts. slice_get ts w.root) m.tasks ∙ set_there s.tasks.items w.root m.slot' m.slot m.there;
         held = ap (λ (o : TaskSlot B). o.held.items) m.acts.slot;
         waits = ap (λ (o : TaskSlot B). o.waiting) m.acts.slot ∙ (h.sound.tied.stands m.slot m.there).waits;
-        keeps = record {
-          told = keeps.told;
-          named = keeps.named;
-          sized = keeps.sized;
-          over = keeps.over;
-          quiet = keeps.quiet;
-          due = keeps.due;
-          flown = keeps.flown;
-          carried = keeps.carried;
-          rooted = subst (λ ts. IsRooted None i w.root n d zs ts rs ss) (sym m.tasks) (rooted_set None i w.root n d zs s.tasks.items rs ss m.slot m.slot' m.there now);
-          owed = subst (λ ws. AreOwed i w.root ws s1.tasks.items rs ss) (sym (keeps.quiet refl)) tt;
-        };
+        keeps =
+            let rooted = subst (λ ts. IsRooted None i w.root n d zs ts rs ss) (sym m.tasks) (rooted_set None i w.root n d zs s.tasks.items rs ss m.slot m.slot' m.there now) in
+            let owed = subst (λ ws. AreOwed i w.root ws s1.tasks.items rs ss) (sym (keeps.quiet refl)) tt in
+            assumption (rooted, owed, keeps);
       } in
       subst (IsActing m.slot.held.items m.slot' w d) (sym m.kept) it
 
@@ -70,9 +62,6 @@ holds_over i t o n d zs rs ss old =
 -- The root of a worker that was polled made an act that is its last.
 module _ {B L : Type 0} (left : B → L) (runs : L → Plan → Type 0) (holds : L → Option Said → List ℕ) (spot : L → Option Said → Spot) (gives : L → Option Sight → Said → Act B → L → Option Sight → Type 0)
     (w w' : Worker) (s s1 s' : Shared B) (a : Act B) (h : HasActed left runs holds spot gives w s s1 a) (it : EndsTask w.root w w' s1 s') where
-  abbrev slot0 : TaskSlot B
-  slot0 = h.made.slot
-
   abbrev v : Worker
   v = it.v
 
@@ -157,46 +146,27 @@ module _ {B L : Type 0} (left : B → L) (runs : L → Plan → Type 0) (holds :
       let root : h.made.slot ≡ sound.runnable.root = cc (h.made.there, sound.runnable.there) in
       let old = sound.tied.stands h.made.slot h.made.there in
       let run : IsRunnable (one_of w.root_ready w.hand) h.made.slot = subst (IsRunnable (one_of w.root_ready w.hand)) (sym root) sound.runnable.once in
-      record {
-        here = refl;
-        config = sound.config;
-        gates = sound.gates;
-        index = sound.index;
-        time = sound.time;
-        told = keeps.told;
-        named = keeps.named;
-        runnable = record {
-          root = it.slot';
-          there = found;
-          home = ap (λ (o : TaskSlot B). o.home) slot_is ∙ ap (λ (o : TaskSlot B). o.home) root ∙ sound.runnable.home;
-          number = ap (λ (o : TaskSlot B). o.cell.number) slot_is ∙ ap (λ (o : TaskSlot B). o.cell.number) root ∙ sound.runnable.number;
-          once = run_over (one_of w.root_ready w.hand) h.made.slot it.slot' old.polled (ap (λ (o : TaskSlot B). is_polled o.cell.phase) slot_is) (ap (λ (o : TaskSlot B). is_complete o.cell.phase) slot_is) run;
-          one = sound.runnable.one;
-        };
-        alone = sound.alone;
-        share = λ chair there. tt;
-        sized = keeps.sized;
-        processed = sound.processed;
-        hand = sound.hand.1;
-        left = tt;
-        over = keeps.over;
-        batch = sound.batch;
-        quiet = λ e. absurd (false≢true (sym e));
-        due = keeps.due;
-        flown = keeps.flown;
-        carried = keeps.carried;
-        rooted = record {
-          root = λ o at_o. let is : it.slot' ≡ o = cc (found, at_o) in
-              subst (λ (x : TaskSlot B). Holds false w.index w.root x.held.items x.waiting (is_complete x.cell.phase) over_worker.names (driver_of it.v) w.home.timers s'.requests.items s.sleepers.items) is over_holds;
-        };
-        phased = λ chair there.
-            subst (λ ts. IsPhased false (Some InClosing.Close) w.home.closing w.root w.names.unreleased (stage_of chair s) ts) (sym tasks_are)
-            (phased_over w.home.closing w.root w.names.unreleased (stage_of chair s) s.tasks.items h.made.slot it.slot' h.made.there (ap (λ (o : TaskSlot B). is_complete o.cell.phase) slot_is) (sound.phased chair there));
-        tied = record {
-          stands = λ o at_o. let is : it.slot' ≡ o = cc (found, at_o) in subst (Stands None w.index) (sym slot_is ∙ is) over_stands;
-          owed = subst (λ ws. AreOwed w.index w.root ws s'.tasks.items s'.requests.items s.sleepers.items) (sym (keeps.quiet refl)) tt;
-        };
-      }
+      let runnable : HasRunnable w.index w.root w.root_ready w.hand s'.tasks.items = record {
+        root = it.slot';
+        there = found;
+        home = ap (λ (o : TaskSlot B). o.home) slot_is ∙ ap (λ (o : TaskSlot B). o.home) root ∙ sound.runnable.home;
+        number = ap (λ (o : TaskSlot B). o.cell.number) slot_is ∙ ap (λ (o : TaskSlot B). o.cell.number) root ∙ sound.runnable.number;
+        once = run_over (one_of w.root_ready w.hand) h.made.slot it.slot' old.polled (ap (λ (o : TaskSlot B). is_polled o.cell.phase) slot_is) (ap (λ (o : TaskSlot B). is_complete o.cell.phase) slot_is) run;
+        one = sound.runnable.one;
+      } in
+      let quiet : true ≡ false → over_worker.home.deferred.notes.wakes.items ≡ [] = λ e. absurd (false≢true (sym e)) in
+      let rooted : IsRooted None w.index w.root over_worker.names (driver_of it.v) w.home.timers s'.tasks.items s'.requests.items s.sleepers.items = record {
+        root = λ o at_o. let is : it.slot' ≡ o = cc (found, at_o) in
+            subst (λ (x : TaskSlot B). Holds false w.index w.root x.held.items x.waiting (is_complete x.cell.phase) over_worker.names (driver_of it.v) w.home.timers s'.requests.items s.sleepers.items) is over_holds;
+      } in
+      let phased : (chair : Chair) → slice_get s.seats.items w.index ≡ Some chair → IsPhased false (Some InClosing.Close) w.home.closing w.root w.names.unreleased (stage_of chair s) s'.tasks.items = λ chair there.
+      subst (λ ts. IsPhased false (Some InClosing.Close) w.home.closing w.root w.names.unreleased (stage_of chair s) ts) (sym tasks_are)
+      (phased_over w.home.closing w.root w.names.unreleased (stage_of chair s) s.tasks.items h.made.slot it.slot' h.made.there (ap (λ (o : TaskSlot B). is_complete o.cell.phase) slot_is) (sound.phased chair there)) in
+      let tied : IsTied None w.index w.root over_worker.home.deferred.notes.wakes.items s'.tasks.items s'.requests.items s.sleepers.items = record {
+        stands = λ o at_o. let is : it.slot' ≡ o = cc (found, at_o) in subst (Stands None w.index) (sym slot_is ∙ is) over_stands;
+        owed = subst (λ ws. AreOwed w.index w.root ws s'.tasks.items s'.requests.items s.sleepers.items) (sym (keeps.quiet refl)) tt;
+      } in
+      assumption (runnable, sound.hand.1, quiet, rooted, phased, tied, sound, keeps)
 
   -- WHAT IT IS TO THE MACHINE
 

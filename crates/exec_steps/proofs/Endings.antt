@@ -1,12 +1,12 @@
 -- A task that acts lets go of all that it holds, one after another: what holds again, and what is seen of it.
 use Rattle.std.{proofs.{Common.{◌≡◌, ℕ, zero, suc, ◌+◌, ◌-◌, ◌<◌, ◌==◌, ◌&&◌, ◌||◌, not, Bool, true, false, List, [], ◌∷◌, length, map, Option, Some, None, IsSome, Err, refl, sym, ap, subst, ◌∙◌, arith, slice_get, slice_index_or, slice_set, if◌then◌else◌}, lemmas.{Bool.{false≢true, eq-eqb}, List.{length-set, map-set, set-get_or, set-set}, Option.{get_or_from_slice_get, slice_get_within}}}, specs.VecDeque.deque_capacity}
 use Rattle.exec_base.specs.{Slab.value_at, declared.error.Error.TheVariants.Timeout}
-use Rattle.exec_driver.specs.{Driving.Driving, Opens.OpenState}
 use Rattle.exec_outcomes.specs.declared.outcome.Outcome.TheVariants.{Failure}
 use Rattle.exec_waiters.specs.{States.{pending_count, flying_count, waiter_of}, declared.waiter.Entry.{Entry, TheVariants.{Pending, Ready}}}
+use Rattle.exec_driver.specs.{Driving.Driving, Opens.OpenState}
 use Rattle.exec_machine.specs.{declared.state.{MailMessage.TheVariants.CancelRequest, Request.Request, Waiting.Waiting}, Requests.{dropped, ends_by_drop, is_cancelled_by_drop, joined_if, left_if, own_after_drop, resolved}, Tasks.{own_after_drops, owes, requests_after_drops}, Tests.{is_kept, is_queued, is_resolved}, World.{Own, Common, no_request, request_of}}
 use Rattle.exec_moves.specs.{Callback.told_of_drop, Poll.told_of_all, State.Desk}
-use Rattle.exec_steps.{specs.{declared.parts.{mail.Reply.Reply, record.Record.Record, shared.Shared.Shared, task_slot.TaskSlot.TaskSlot, worker.Worker.Worker}, Awaits.{LetsGo, MayLetGo, drops}, Ending.{LetsGoAll, MayLetGoAll}, Records.number_in, Rooted.IsHeld, Serving.{changed_at, changed_in}, View.{driver_of, numbers_of, open_seen, own_of}}, proofs.{Calling.request_seen, Dating.{one_pending, room_by}, Dropping.{BecomesOf, becomes}, Getting.{Without, without_first}, Keys.{name_in, names_kept, same_opens}, Letting.KeepsActing, Resolving.{live_fewer, places_fewer, slab_after}, Turning.set_there}}
+use Rattle.exec_steps.{specs.{declared.parts.{mail.Reply.Reply, record.Record.Record, shared.Shared.Shared, task_slot.TaskSlot.TaskSlot, worker.Worker.Worker}, Awaits.{LetsGo, MayLetGo, drops}, Ending.{LetsGoAll, MayLetGoAll}, Records.number_in, Rooted.IsHeld, Serving.{changed_at, changed_in}, View.{driver_of, numbers_of, open_seen, own_of}}, proofs.{Facts.set_there, Calling.request_seen, Dating.{one_pending, room_by}, Dropping.{BecomesOf, becomes}, Getting.{Without, without_first}, Keys.{name_in, names_kept, same_opens}, Letting.KeepsActing, Resolving.{live_fewer, places_fewer, slab_after}}}
 
 set_apart : {A : Type 0} (xs : List A) (i j : ℕ) (a : A) → (i ≡ j → ⊥) → slice_get (slice_set xs i a) j ≡ slice_get xs j
 set_apart [] i j a apart = refl

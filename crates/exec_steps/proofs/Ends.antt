@@ -1,5 +1,5 @@
 -- What is seen of a request's end.
-use Rattle.std.proofs.{Common.{◌≡◌, ◌≢◌, ℕ, ◌+◌, ◌==◌, Bool, true, false, not, List, [], ◌∷◌, ◌++◌, length, map, filter, Option, Some, None, refl, sym, ap, ◌∙◌, arith, inl, inr, if◌then◌else◌}, lemmas.{Bool.{eq-eqb, Decides.nat_tests}, List.{append-nil, length-append}}}
+use Rattle.std.proofs.{Common.{◌≡◌, ◌≢◌, ℕ, ◌+◌, ◌==◌, Bool, true, false, not, List, [], ◌∷◌, ◌++◌, length, map, filter, Option, Some, None, refl, sym, ap, ◌∙◌, arith, inl, inr, if◌then◌else◌}, lemmas.{Bool.eq-eqb, List.{append-nil, length-append}}}
 use Rattle.exec_base.specs.{Slab.Slab, declared.{slab.Id.Id, task_no.TaskNo.TaskNo}}
 use Rattle.exec_outcomes.specs.Accounts.{Account}
 use Rattle.exec_request.specs.{States.Ended, declared.output.RequestOutput.RequestOutput}
@@ -7,19 +7,9 @@ use Rattle.exec_waiters.specs.{Events.{finished, output_told, waker_in}, States.
 use Rattle.exec_driver.{specs.Lists.{is_among, is_same, without}, proofs.{Counting.flying_is, Endings.one_finished, Names.same_tells}}
 use Rattle.exec_machine.specs.declared.state.Request.{Request}
 use Rattle.exec_moves.specs.{Callback.{told_of_end, waker_of}, State.Desk}
-use Rattle.exec_steps.specs.{declared.parts.mail.Reply.Reply, Records.number_in, Rooted.IsNear, Sound.map_waker, View.numbers_of}
+use Rattle.exec_steps.{specs.{declared.parts.mail.Reply.Reply, Records.number_in, Rooted.IsNear, Sound.map_waker, View.numbers_of}, proofs.Facts.{same_self, not_same}}
 
 -- THE NUMBERS of those that are left
-
-not_same : (k j : ℕ) → (k ≡ j → ⊥) → (k == j) ≡ false
-not_same k j apart = by (k == j) refl
-  where
-    by : (b : Bool) → (k == j) ≡ b → (k == j) ≡ false
-    by true is = absurd (apart (grind (arith, nat_tests)))
-    by false is = is
-
-same_self : (id : WaiterId) → is_same id id ≡ true
-same_self id = rw (eq-eqb id.0.index id.0.index refl, eq-eqb id.0.generation id.0.generation refl) refl
 
 first_in : (x : WaiterId) (ids : List WaiterId) → is_among x (x ∷ ids) ≡ true
 first_in x ids = rw (same_self x) refl

@@ -3,12 +3,12 @@ use Rattle.std.{proofs.{Common.{◌≡◌, ◌≢◌, ℕ, ◌+◌, ◌^◌, ◌
 use Rattle.exec_base.specs.{Slab.{live_count, next_id, IsPast}, declared.error.Error.TheVariants.Timeout}
 use Rattle.exec_outcomes.specs.declared.outcome.Outcome.{Outcome, TheVariants.Failure}
 use Rattle.exec_request.specs.{Requests.{asked_of, deadline_of, output_of}, declared.request.Request.Request as Asking}
+use Rattle.exec_ring.specs.Stores.{Reserves}
 use Rattle.exec_waiters.specs.{Events.{finished, told_by_finish}, States.{counts_pending, pending_count}, Told.{Tells, nothing_told}, declared.{observer.Observer.TheVariants.Local, waiter.{Entry.TheVariants.Pending, Waiter.Waiter}}}
 use Rattle.exec_driver.specs.{Admission.with_rooms, Driving.{Driving, seen}, Lists.{withdrawn, without}, Placed.ListsRequests, Punctual.IsPunctual, Steps.{footprint_of, is_late, newcomer, placed_at, taken_in, timed_out, told_at_admission}}
-use Rattle.exec_ring.specs.Stores.{Reserves}
 use Rattle.exec_machine.specs.{declared.{event.Event.Event, state.{Request.Request, RequestPhase.RequestPhase, Waiting.Waiting}}, Requests.{new_request, outcome_if_late, resolved, resolved_if}}
 use Rattle.exec_moves.specs.declared.place.{Place.Place, AfterCallbacks.AfterCallbacks, InCallbacks.InCallbacks, InPoll.InPoll}
-use Rattle.exec_steps.{specs.{declared.parts.{mail.Reply.Reply, names.Names.Names, record.Record.Record, shared.Shared.Shared, task_slot.TaskSlot.TaskSlot, worker.Worker.Worker}, Admitting.{Registers, most_told}, Due.{IsWheelAt, wheel_moment}, Ordered.went_round, Phased.is_complete, Records.{number_in, plain_operation}, Rooted.{Holds, IsRooted}, Scripts.IsPlainRequest, Serving.{changed_at, changed_in}, Sound.{SoundAt, AreOver, AreOwed, IsTold, tellers}, View.driver_of}, proofs.{Enlisting.{cancels_are, due_are, enrolments_are, driver_then, placed_late, placed_queued, queued_driver, taken_by}, Growing.{Grows, few_tellers, told_same}, Late.tells_error, Newcomer.{OneComes, carried_next, flown_next, holds_next, is_here, named_next, order_next, over_next, punctual_next, timed_next}, Orders.{TurnsAlike, alike_self}, Ousting.keeps_ended, Over.OneEnds, Performing.going_on, Plainly.{late_is, plainly}, Resolving.{SlabAfter, places_fewer, slab_after, told_once}, Rooted.rooted_set, Serving.KeepsBy, Taken.{Takes, got_new}, Timed.keeps_untold, Turning.set_there}}
+use Rattle.exec_steps.{specs.{declared.parts.{mail.Reply.Reply, names.Names.Names, record.Record.Record, shared.Shared.Shared, task_slot.TaskSlot.TaskSlot, worker.Worker.Worker}, Admitting.{Registers, most_told}, Due.{IsWheelAt, wheel_moment}, Ordered.went_round, Phased.is_complete, Records.{number_in, plain_operation}, Rooted.{Holds, IsRooted}, Scripts.IsPlainRequest, Serving.{changed_at, changed_in}, Sound.{SoundAt, AreOver, AreOwed, IsTold, tellers}, View.driver_of}, proofs.{Facts.set_there, Enlisting.{cancels_are, due_are, enrolments_are, driver_then, placed_late, placed_queued, queued_driver, taken_by}, Growing.{Grows, few_tellers, told_same}, Late.tells_error, Newcomer.{OneComes, carried_next, flown_next, holds_next, is_here, named_next, order_next, over_next, punctual_next, timed_next}, Orders.{TurnsAlike, alike_self}, Ousting.keeps_ended, Over.OneEnds, Performing.going_on, Plainly.{late_is, plainly}, Resolving.{SlabAfter, places_fewer, slab_after, told_once}, Rooted.rooted_set, Serving.KeepsBy, Taken.{Takes, got_new}, Timed.keeps_untold}}
 
 set_last : {A : Type 0} (xs : List A) (x y : A) → slice_set (xs ++ x ∷ []) (length xs) y ≡ xs ++ y ∷ []
 set_last [] x y = refl

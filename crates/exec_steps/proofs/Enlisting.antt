@@ -1,12 +1,12 @@
 -- A request that the root made: what holds again, once it is queued, and where it is over at once.
-use Rattle.std.{proofs.{Common.{◌≡◌, ℕ, ◌+◌, ◌^◌, ◌<◌, ◌≤◌, Bool, true, false, not, List, [], ◌∷◌, ◌++◌, length, Option, Some, None, refl, sym, ap, subst, ◌∙◌, arith, inr, slice_get, slice_set, if◌then◌else◌}, lemmas.{Bool.eq-eqb, List.{append-nil, set_past, Elements.filter-append}}}, specs.Vec.vec_capacity}
+use Rattle.std.{proofs.{Common.{◌≡◌, ℕ, ◌+◌, ◌^◌, ◌<◌, ◌≤◌, Bool, true, false, not, List, [], ◌∷◌, ◌++◌, length, Option, Some, None, refl, sym, ap, subst, ◌∙◌, arith, inr, slice_get, slice_set, if◌then◌else◌}, lemmas.List.{append-nil, set_past, Elements.filter-append}}, specs.Vec.vec_capacity}
 use Rattle.exec_base.{specs.{Slab.{Slab, slot_at, generation_of, filled, inserted, next_id, written, IsPast, TakesId}, declared.slab.{Id.Id, Slot.TheVariants.Live}}, proofs.Slots.{NextIs, some_of_if}}
 use Rattle.exec_outcomes.specs.{declared.outcome.Outcome.Outcome, Accounts.is_durable}
 use Rattle.exec_request.specs.{Requests.{deadline_of, gate_of, output_of}, declared.request.Request.Request as Asking}
 use Rattle.exec_waiters.specs.{Events.finished, declared.{observer.Observer.TheVariants.Local, waiter.Entry.{Entry, TheVariants.{Pending, Ready}}, waiter_id.WaiterId.WaiterId}}
 use Rattle.exec_driver.specs.{Admission.with_rooms, Driving.{Driving, seen}, Lists.{Lists, is_same, with_enrolment, with_queued, withdrawn, without}, Steps.{ended, in_place, is_late, newcomer, placed_at, taken_in, timed_out, with_deadline}}
 use Rattle.exec_machine.specs.{declared.state.{Operation.Operation, RequestPhase.RequestPhase}, Requests.{new_request, resolved_if}}
-use Rattle.exec_steps.{specs.{declared.parts.{mail.Reply.Reply, names.Names.Names, shared.Shared.Shared, task_slot.TaskSlot.TaskSlot, worker.Worker.Worker}, Admitting.{MayMake, TakesIn}, Records.{HasRequestRoom, IsInRange, outcome_in}, Scripts.IsPlainRequest, View.driver_of}, proofs.{Growing.{rooms_there, rooms_within}, Plainly.plainly, Taken.{Takes, takes_by, takes_room, enrolled_if}}}
+use Rattle.exec_steps.{specs.{declared.parts.{mail.Reply.Reply, names.Names.Names, shared.Shared.Shared, task_slot.TaskSlot.TaskSlot, worker.Worker.Worker}, Admitting.{MayMake, TakesIn}, Records.{HasRequestRoom, IsInRange, outcome_in}, Scripts.IsPlainRequest, View.driver_of}, proofs.{Facts.same_self, Growing.{rooms_there, rooms_within}, Plainly.plainly, Taken.{Takes, takes_by, takes_room, enrolled_if}}}
 
 -- THE DRIVER, once the request is queued
 
@@ -48,18 +48,10 @@ placed_queued like d id q now gate late =
     by None = refl
     by (Some deadline) = refl
 
--- and where it has, it ended from there
-same_here : (id : WaiterId) → is_same id id ≡ true
-same_here id = rw (eq-eqb id.0.index id.0.index refl, eq-eqb id.0.generation id.0.generation refl) refl
-
 without_last : (id : WaiterId) (ids : List WaiterId) → without id (ids ++ id ∷ []) ≡ without id ids
 without_last id ids =
     filter-append (λ other. not (is_same other id)) ids (id ∷ [])
-    ∙ ap (λ b. without id ids ++ (if not b then id ∷ [] else [])) (same_here id) ∙ append-nil (without id ids)
-
-without_enrolled : (id : WaiterId) (o : Option ℕ) (ids : List WaiterId) → without id (enrolled_if o id ids) ≡ without id ids
-without_enrolled id None ids = refl
-without_enrolled id (Some deadline) ids = without_last id ids
+    ∙ ap (λ b. without id ids ++ (if not b then id ∷ [] else [])) (same_self id) ∙ append-nil (without id ids)
 
 pub withdrawn_queued : (id : WaiterId) (o : Option ℕ) (l : Lists) → withdrawn id (with_queued id (enrolled_in id o l)) ≡ withdrawn id l
 withdrawn_queued id None l = ap (λ ids. record (withdrawn id l) { queued = ids }) (without_last id l.queued)
@@ -150,9 +142,6 @@ module _ {B : Type 0} (t : ℕ) (q : Asking) (id : WaiterId) (w w' : Worker) (s 
 
   pub few_records : length s.requests.items < 2 ^ 32
   few_records = subst (λ xs. length xs < 2 ^ 32) in_it.rooms.requests in_it.has.few
-
-  pub tasks_same : s'.tasks ≡ in_it.all.tasks
-  tasks_same = ap (λ (x : Shared B). x.tasks) in_it.shared
 
   pub slot_within : t < length s'.tasks.items
   slot_within = subst (λ (x : Shared B). t < length x.tasks.items) (sym in_it.shared) (rooms_within in_it.rooms)

@@ -1,14 +1,14 @@
 -- What the machine sees of a worker whose root has made a request.
 use Rattle.std.proofs.{Common.{◌≡◌, ℕ, ◌+◌, ◌^◌, ◌<◌, ◌==◌, Bool, true, false, not, List, [], ◌∷◌, ◌++◌, length, filter, map, Option, Some, None, IsSome, IfSome, refl, sym, ap, ◌∙◌, arith, is_some, if◌then◌else◌}, lemmas.{List.{append-nil, map-append}, Option.slice_get_within}}
 use Rattle.exec_base.specs.{Slab.value_at, declared.{slab.Id.Id, error.Error.TheVariants.Timeout}}
-use Rattle.exec_request.specs.{Requests.{deadline_of, gate_of}, declared.request.Request.Request as Asking}
 use Rattle.exec_outcomes.specs.declared.outcome.Outcome.TheVariants.{Failure}
+use Rattle.exec_request.specs.{Requests.{deadline_of, gate_of}, declared.request.Request.Request as Asking}
 use Rattle.exec_ring.specs.Rings.{RingState, completions}
 use Rattle.exec_waiters.specs.{Events.told_by_finish, States.{counts_flying, flying_count, waiter_at}, Told.nothing_told, declared.{observer.Observer.TheVariants.Local, waiter.Waiter.Waiter, waiter_id.WaiterId.WaiterId}}
 use Rattle.exec_driver.specs.{Admission.with_rooms, Driving.{Driving, is_cancelled, is_queued, is_unenrolled}, Lists.{is_among, without}, Steps.{ended, in_place, is_late, newcomer, taken_in, timed_out, with_deadline}}
 use Rattle.exec_machine.specs.{declared.{event.Event.Event, state.Next.Next}, Requests.{own_after_admit, outcome_if_late}, Same.is_none, World.Own}
-use Rattle.exec_steps.{specs.{declared.parts.{mail.Reply.Reply, shared.Shared.Shared, task_slot.TaskSlot.TaskSlot, worker.Worker.Worker}, Admitting.Registers, Flown.operations, Records.{number_in, plain_operation}, Scripts.IsPlainRequest, Sound.SoundAt, View.{desk_of, driver_of, landed_in, numbers_of, own_of, trailing, visible}}, proofs.{Asked.flat, Ends.{flying_ended, later_in, numbers_without}, Enlisted.{driver_is, driver_late, driver_made, names_made, one_comes, record_made, tells_now, wakes_now}, Enlisting.{enrolments_are, placed_queued, queued_are}, Flown.numbers_on, Growing.{desk_by, own_by}, Late.stands, Newcomer.{OneComes, flies_on, is_here, number_here, number_there}, Taken.{enrolled_if, or_first, same_self}, Plainly.{late_is, plainly}}}
 use Rattle.exec_moves.specs.declared.place.{InPoll.InPoll, Place.Place}
+use Rattle.exec_steps.{specs.{declared.parts.{mail.Reply.Reply, shared.Shared.Shared, task_slot.TaskSlot.TaskSlot, worker.Worker.Worker}, Admitting.Registers, Flown.operations, Records.{number_in, plain_operation}, Scripts.IsPlainRequest, Sound.SoundAt, View.{desk_of, driver_of, landed_in, numbers_of, own_of, trailing, visible}}, proofs.{Facts.{same_self, or_left}, Asked.flat, Ends.{flying_ended, later_in, numbers_without}, Enlisted.{driver_is, driver_late, driver_made, names_made, one_comes, record_made, tells_now, wakes_now}, Enlisting.{enrolments_are, placed_queued, queued_are}, Flown.numbers_on, Growing.{desk_by, own_by}, Late.stands, Newcomer.{OneComes, flies_on, is_here, number_here, number_there}, Taken.enrolled_if, Plainly.{late_is, plainly}}}
 
 -- a placing leaves the ring
 ring_placed : (d : Driving Reply Reply) (id : WaiterId) (w : Waiter Reply Reply) (o g : Option ℕ) (b : Bool)
@@ -44,7 +44,7 @@ module _ {B : Type 0} (w w' : Worker) (s sx s' : Shared B) (q : Asking) (e : Eve
 
   still : (ids : List WaiterId) → AllLive ids → numbers_of w'.names.requests.items ids ≡ numbers_of w.names.requests.items ids
   still [] live = refl
-  still (x ∷ ids) live = rw (there x.0 (live x (or_first _ _ (same_self x))), still ids (λ y among. live y (later_in x y ids among))) refl
+  still (x ∷ ids) live = rw (there x.0 (live x (or_left _ _ (same_self x))), still ids (λ y among. live y (later_in x y ids among))) refl
 
   -- the new one is the last, or leaves
   joined : (ids : List WaiterId) → AllLive ids → numbers_of w'.names.requests.items (ids ++ reg.id ∷ []) ≡ numbers_of w.names.requests.items ids ++ length s.requests.items ∷ []

@@ -2,10 +2,10 @@
 use Rattle.std.{proofs.{Common.{◌≡◌, ◌≢◌, ℕ, ◌^◌, ◌<◌, ◌&&◌, Bool, true, false, not, Option, Some, None, refl, sym, ap, ◌∙◌, slice_get, is_some}, lemmas.Bool.false≢true}, specs.{Prelude.unwrap_or, VecDeque.deque_capacity}}
 use Rattle.exec_base.specs.{Slab.value_at, declared.error.Error.Error}
 use Rattle.exec_request.specs.Requests.{deadline_of}
-use Rattle.exec_waiters.{proofs.Changes.entry_of, specs.{States.{waiter_at, takes_tick}, declared.{waiter.Waiter.Waiter, waiter_id.WaiterId.WaiterId}}}
+use Rattle.exec_waiters.{specs.{States.{waiter_at, takes_tick}, declared.{waiter.Waiter.Waiter, waiter_id.WaiterId.WaiterId}}, proofs.Changes.entry_of}
 use Rattle.exec_driver.specs.{Driving.{request_at, is_unenrolled}, Lists.first_of, Punctual.IsPunctual, Steps.EnrolsAs}
 use Rattle.exec_machine.specs.{declared.{event.Event.{Event, TheVariants.Enrol}, state.RequestPhase.RequestPhase}, Deadlines.enrolled, Requests.joined_if}
-use Rattle.exec_steps.{specs.{declared.parts.{mail.Reply.Reply, record.Record.Record, shared.Shared.Shared, worker.Worker.Worker}, Records.number_in, Serving.{changed_at, first_tick, outcome_of_error}, Sound.IsAlike, Submitting.IsNewIn, View.driver_of}, proofs.{Staging.among_first, Starting.queued_phase}}
+use Rattle.exec_steps.{specs.{declared.parts.{mail.Reply.Reply, record.Record.Record, shared.Shared.Shared, worker.Worker.Worker}, Records.number_in, Serving.{changed_at, first_tick, outcome_of_error}, Sound.IsAlike, Submitting.IsNewIn, View.driver_of}, proofs.{Facts.some_of, Staging.among_first, Starting.queued_phase}}
 
 -- THE FIRST NEW DEADLINE
 
@@ -14,10 +14,6 @@ new_parts true b c h = absurd (false≢true h)
 new_parts false true true h = (refl, refl, refl)
 new_parts false true false h = absurd (false≢true h)
 new_parts false false c h = absurd (false≢true h)
-
-some_of : {A : Type 0} (o : Option A) → is_some o ≡ true → (x : A) × (o ≡ Some x)
-some_of None h = absurd (false≢true h)
-some_of (Some x) h = (x, refl)
 
 -- whose it is
 pub record NewAt {B : Type 0} (w : Worker) (s : Shared B) (id : WaiterId) : Type 0 where

@@ -2,11 +2,11 @@
 use Rattle.std.proofs.Common.{◌≡◌, ℕ, ◌+◌, ◌≤◌, Bool, true, false, not, List, [], length, map, filter, Option, None, refl, sym, ap, subst, ◌∙◌, arith, slice_set}
 use Rattle.exec_ring.specs.{Kernels.{all_taken, entered as entered_ring}, Rings.{RingState, completions}}
 use Rattle.exec_waiters.specs.States.{flying_count, pending_count}
-use Rattle.exec_task.specs.declared.body.Said.{Said}
 use Rattle.exec_driver.specs.{Driving.Driving, Steps.is_control}
+use Rattle.exec_task.specs.declared.body.Said.{Said}
 use Rattle.exec_machine.specs.{declared.{event.Event.{Event, TheVariants.{Enter, Busy}}, state.Request.Request}, Choice.{Choice, Choice.Plain}, World.{Own, Seat, Open, Common}, Progress.Plan, Requests.flown}
 use Rattle.exec_moves.specs.{declared.place.{Stay.Stay, Service.Service, Place.Place, InService.InService, InRingWait.InRingWait, Reaping.Reaping}, State.{Desk, Things, Moved}, Move.move_at, Seen.{polls_at, next_at, serves_at}, Serve.enter}
-use Rattle.exec_steps.{specs.{declared.parts.{mail.Reply.Reply, shared.Shared.Shared, worker.{PutOff.PutOff, Worker.Worker}}, Carried.IsCarried, Serving.{Enters, flown_in}, Sound.{SoundAt, IsNamed, IsSubmitted, served_in}, Due.{IsWheelAt, may_be_due}, Flown.{AreAcks, operations}, Rooted.IsRooted, Spots.Spot, View.{Visible, visible, own_of, desk_of, driver_of, common_of, things_of, seats_seen, seat_seen, open_seen, numbers_of, number_told, trailing}, Works.{Works, Suits, Steps}}, proofs.{Carrier.carried_entered, Conveying.carried_ring, Hearing.unheard, Turning.set_found, Serving.{calm, Follows, Serves, KeepsBy, keeps_all, own_seat, seats_set, sound_again}, Flying.all_flown, Keys.{same_opens, flown_names}, Rings.all_acknowledged, Entering.{submitted_busy, submitted_free, named_beside, named_free, all_go, timed_flown, flown_entered}, Going.{over_on, owed_on, rooted_on}}}
+use Rattle.exec_steps.{specs.{declared.parts.{mail.Reply.Reply, shared.Shared.Shared, worker.{PutOff.PutOff, Worker.Worker}}, Carried.IsCarried, Serving.{Enters, flown_in}, Sound.{SoundAt, IsNamed, IsSubmitted, served_in}, Due.{IsWheelAt, may_be_due}, Flown.{AreAcks, operations}, Rooted.IsRooted, Spots.Spot, View.{Visible, visible, own_of, desk_of, driver_of, common_of, things_of, seats_seen, seat_seen, open_seen, numbers_of, number_told, trailing}, Works.{Works, Suits, Steps}}, proofs.{Seats.own_seat, Carrier.carried_entered, Conveying.carried_ring, Hearing.unheard, Turning.set_found, Serving.{calm, Follows, Serves, KeepsBy, keeps_all, seats_set, sound_again}, Flying.all_flown, Keys.{same_opens, flown_names}, Rings.all_acknowledged, Entering.{submitted_busy, submitted_free, named_beside, named_free, all_go, timed_flown, flown_entered}, Going.{over_on, owed_on, rooted_on}}}
 
 -- what a move makes, and what is seen of a ring
 abbrev pub made : Event → Choice → Desk → Things → Moved Things

@@ -1,14 +1,14 @@
 -- What an enter is to the machine.
 use Rattle.std.{proofs.{Common.{◌≡◌, ℕ, ◌+◌, ◌≤◌, ◌==◌, ◌&&◌, Bool, true, false, List, [], length, Option, Some, None, refl, sym, ap, subst, ◌∙◌, slice_get, if◌then◌else◌}, lemmas.Bool.{false≢true, eq-eqb}}, specs.{Option.option_map, Vec.vec_capacity}}
 use Rattle.exec_base.specs.Slab.{Slab}
+use Rattle.exec_outcomes.specs.declared.outcome.OpResult.{OpResult}
 use Rattle.exec_time.specs.declared.timers.Sleeper.{Sleeper as Sleeping}
 use Rattle.exec_ring.specs.{Kernels.Landing, Rings.RingState}
 use Rattle.exec_waiters.specs.{States.waiter_at, declared.waiter.Waiter.Waiter}
 use Rattle.exec_driver.specs.Driving.{Driving}
-use Rattle.exec_outcomes.specs.declared.outcome.OpResult.{OpResult}
 use Rattle.exec_machine.specs.{declared.state.{Request.Request, RequestPhase.RequestPhase}, Requests.flown, Tests.{is_staged, is_in_flight, is_resolved}}
-use Rattle.exec_steps.{specs.{declared.parts.{mail.Reply.Reply, names.Names.Names, record.Record.Record, sleeping.SleeperRecord.SleeperRecord}, Due.AreTimed, Flown.{AreAcks, IsPlain, HasFlown, operations, passes_permit}, Records.number_in, Serving.{flies, flown_in, cancels_in, is_one_of}, Sound.{IsNamed, IsAlike, IsSubmitted}}, proofs.{Flown.landed_on, Going.{GoesOn, AllGoOn, still, same_worker, same_id}, Flying.{flies_if, worker_kept, get_flown}, Rings.Acknowledges}}
 use Rattle.exec_moves.specs.declared.place.InService.{InService}
+use Rattle.exec_steps.{specs.{declared.parts.{mail.Reply.Reply, names.Names.Names, record.Record.Record, sleeping.SleeperRecord.SleeperRecord}, Due.AreTimed, Flown.{AreAcks, IsPlain, HasFlown, operations, passes_permit}, Records.number_in, Serving.{flies, flown_in, cancels_in, is_one_of}, Sound.{IsNamed, IsAlike, IsSubmitted}}, proofs.{Facts.and_right, Flown.landed_on, Going.{GoesOn, AllGoOn, still, same_worker, same_id}, Flying.{flies_if, worker_kept, get_flown}, Rings.Acknowledges}}
 
 -- A REQUEST THAT FLIES
 
@@ -20,30 +20,11 @@ staged_stands : (p : RequestPhase) → is_staged p ≡ true → is_resolved p �
 staged_stands RequestPhase.Staged h = refl
 staged_stands _ h = absurd (false≢true h)
 
-and_right : (a b : Bool) → (a && b) ≡ true → b ≡ true
-and_right true b h = h
-and_right false b h = absurd (false≢true h)
-
 alike_by : (start tick : ℕ) (b : Bool) (it : Waiter Reply Reply) (r : Request) → (b ≡ true → is_staged r.phase ≡ true) → IsAlike start tick it r → IsAlike start tick it (if b then (record r { phase = RequestPhase.Flying }) else r)
 alike_by start tick true it r staged a =
-    record {
-      asked = a.asked;
-      moved = a.moved;
-      switched = a.switched;
-      come = a.come;
-      hinted = a.hinted;
-      deadline = a.deadline;
-      cancelled = a.cancelled;
-      timer = a.timer;
-      observed = a.observed;
-      waiter = a.waiter;
-      flying = sym (staged_flies r.phase (staged refl)) ∙ a.flying;
-      permit = λ h. absurd (false≢true h);
-      open_still = refl;
-      near = a.near;
-      going = a.going;
-      told_once = a.told_once;
-    }
+    let flying = sym (staged_flies r.phase (staged refl)) ∙ a.flying in
+    let permit : false ≡ true → it.permit ≡ false = λ h. absurd (false≢true h) in
+    assumption (flying, permit, a)
 alike_by start tick false it r staged a = a
 
 alike_flown : (start tick i : ℕ) (it : Waiter Reply Reply) (r : Request) → IsAlike start tick it r → IsAlike start tick it (flown i r)

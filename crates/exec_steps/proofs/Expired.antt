@@ -1,21 +1,14 @@
 -- A deadline that has come ends its request, which the kernel doesn't have.
-use Rattle.std.proofs.{Common.{◌≡◌, ◌≢◌, ℕ, ◌+◌, ◌≤◌, ◌==◌, Bool, true, false, not, [], ◌∷◌, ◌++◌, length, map, filter, Option, Some, None, IsSome, refl, sym, ap, subst, ◌∙◌, arith, slice_set, is_some, if◌then◌else◌, Err}, lemmas.Bool.false≢true}
+use Rattle.std.proofs.{Common.{◌≡◌, ◌≢◌, ℕ, ◌+◌, ◌≤◌, ◌==◌, true, false, not, [], ◌∷◌, ◌++◌, length, map, filter, Option, Some, None, IsSome, refl, sym, ap, subst, ◌∙◌, arith, slice_set, is_some, if◌then◌else◌, Err}, lemmas.Bool.false≢true}
 use Rattle.exec_base.specs.{Slab.value_at, declared.error.Error.{Error, TheVariants.Timeout}}
-use Rattle.exec_outcomes.specs.declared.outcome.Outcome.{Outcome, TheVariants.Failure}
+use Rattle.exec_outcomes.specs.declared.outcome.Outcome.TheVariants.{Failure}
 use Rattle.exec_request.specs.{Requests.{asked_of, output_of}, States.asks_cancel}
-use Rattle.exec_task.specs.declared.body.Said.{Said}
-use Rattle.exec_waiters.{proofs.Changes.entry_of, specs.{Events.{finished, told_by_finish}, States.{tick_in, flying_count}, Told.{Tells, nothing_told, Told}, declared.{waiter.Waiter.Waiter, waiter_id.WaiterId.WaiterId}}}
+use Rattle.exec_waiters.specs.{Events.{finished, told_by_finish}, States.{tick_in, flying_count}, Told.{Tells, nothing_told, Told}, declared.waiter_id.WaiterId.WaiterId}
 use Rattle.exec_driver.specs.{Driving.{Driving, request_at, is_queued, is_unenrolled, is_cancelled}, Lists.{first_of, rest_of, after_due, without, withdrawn}, Punctual.IsPunctual, Steps.{cancelled_from, cancelling, ended, told_by_cancel, timed_out, unscheduled}}
+use Rattle.exec_task.specs.declared.body.Said.{Said}
 use Rattle.exec_machine.specs.{declared.{event.Event.{Event, TheVariants.Expire}, state.RequestPhase.RequestPhase}, Deadlines.{expired, outcome_at_expiry}, Same.same_end, Tests.is_queued as is_phase_queued, World.request_of, Requests.{joined_if, resolved}}
 use Rattle.exec_moves.specs.{Move.move_submit, Callback.{told_if_ended, told_of_end, waker_of}, Submit.{due_next, first_due, submits, Due.Expires}, declared.place.{Service.Service, Place.Place, InService.InService}}
-use Rattle.exec_steps.{specs.{declared.parts.{mail.Reply.Reply, record.Record.Record, shared.Shared.Shared, worker.Worker.Worker}, Due.IsWheelAt, Flown.{IsUpTo, longest}, Phased.closes_at, Records.number_in, Serving.changed_at, Sound.is_armed_at, Spots.Spot, Submitting.{IsDueIn, IsInOrder}, View.{visible, own_of, desk_of, driver_of, common_of, things_of, numbers_of}, Works.Steps}, proofs.{Calling.request_seen, Seeing.{makes, shows, served, common_changed, desk_with}, Serving.{is_calm, Serves, Keeps, KeepsBy, calm, kept}, Staging.split_first, Turning.set_found, Ends.{desk_ended, flying_ended, numbers_without, without_first}, Orders.alike_unticked, Ousting.keeps_ended, Over.OneEnds, Resolving.{slab_after, told_once, unticked_at}, Starting.queued_phase, Expiring.{HasExpired, comes_to_due, due_first, expires, move_expire, same_change, told_first, unticked_start, unticked_tick}, Late.{same_error_self, same_place, tells_error, wakes_are}}}
-
-abbrev ends_as : Outcome → Record → Record
-ends_as outcome r = record r { shown = resolved outcome r.shown }
-
-stands : (d : Driving Reply Reply) (x : WaiterId) (test : Option (Waiter Reply Reply) → Bool) (o : Option (Waiter Reply Reply)) → request_at d x ≡ o → test None ≡ false → test o ≡ true → IsSome (value_at d.requests x.0)
-stands d x test None at none h = absurd (false≢true (sym none ∙ h))
-stands d x test (Some y) at none h = rw (entry_of (value_at d.requests x.0) y at) refl
+use Rattle.exec_steps.{specs.{declared.parts.{mail.Reply.Reply, shared.Shared.Shared, worker.Worker.Worker}, Due.IsWheelAt, Flown.{IsUpTo, longest}, Records.number_in, Serving.changed_at, Spots.Spot, Submitting.{IsDueIn, IsInOrder}, View.{visible, own_of, desk_of, driver_of, common_of, things_of, numbers_of}, Works.Steps}, proofs.{Serving.{serves_to, IsServed, OthersKept, keeps_home, Serves, Keeps, KeepsBy, calm, kept}, Late.{stands, ends_as, same_error_self, same_place, tells_error, wakes_are}, Calling.request_seen, Seeing.{makes, shows, served, common_changed, desk_with}, Staging.split_first, Turning.set_found, Ends.{desk_ended, flying_ended, numbers_without, without_first}, Orders.alike_unticked, Ousting.keeps_ended, Over.OneEnds, Resolving.{slab_after, told_once, unticked_at}, Starting.queued_phase, Expiring.{HasExpired, comes_to_due, due_first, expires, move_expire, same_change, told_first, unticked_start, unticked_tick}}}
 
 module _ {B L : Type 0} (left : B → L) (spot : L → Option Said → Spot) where
   pub expiry_ends : (w w' : Worker) (s s' : Shared B) (e : Event) (id : WaiterId) → (new : IsDueIn w s) → IsInOrder w s → (first : first_of (driver_of w).lists.due ≡ Some id) → (due_first w s new id first).it.in_flight ≡ false → HasExpired w w' s s' e id (due_first w s new id first).r → Steps left spot w s e w' s'
@@ -77,19 +70,8 @@ module _ {B L : Type 0} (left : B → L) (spot : L → Option Said → Spot) whe
       let w2 : Worker = record w1 { home = record w1.home { driver = w'.home.driver } } in
       let there : w'.place ≡ q = ap (λ x. x.place) by.worker ∙ sound.here in
       let same2 : w' ≡ w2 = by.worker ∙ ap (λ y. record w { place = y; home = record w.home { driver = w'.home.driver; deferred = deferred }; names = record w.names { ended = w'.names.ended } }) sound.here in
-      let by_records : KeepsBy w1 d' w.home.timers s'.requests.items s.sleepers.items s = subst (λ x. KeepsBy w1 d' w.home.timers x s.sleepers.items s) (sym records) kept_now in
-      let by_driver : KeepsBy w1 (driver_of w') w.home.timers s'.requests.items s.sleepers.items s = subst (λ x. KeepsBy w1 x w.home.timers s'.requests.items s.sleepers.items s) (sym driver) by_records in
-      let by_home : KeepsBy w2 (driver_of w') w.home.timers s'.requests.items s.sleepers.items s = assumption by_driver in
-      let by_worker : KeepsBy w' (driver_of w') w'.home.timers s'.requests.items s.sleepers.items s = subst (λ x. KeepsBy x (driver_of w') x.home.timers s'.requests.items s.sleepers.items s) (sym same2) by_home in
-      let keeps : Keeps w' s' = subst (λ y. KeepsBy w' (driver_of w') w'.home.timers s'.requests.items y.sleepers.items y) (sym by.shared) (assumption by_worker) in
-      let serves : Serves q w w' s s' = record {
-        worker = subst (λ x. x ≡ record w { place = x.place; home = record w.home { driver = x.home.driver; timers = x.home.timers; deferred = x.home.deferred }; names = record w.names { ended = x.names.ended; staged = x.names.staged; untold = x.names.untold }; put_off = x.put_off }) (sym by.worker) refl;
-        shared = subst (λ z. z ≡ record s { requests = z.requests; sleepers = z.sleepers }) (sym by.shared) refl;
-        from = refl;
-        to = ap is_calm there;
-        armed = ap is_armed_at there;
-        closes = ap closes_at there;
-      } in
+      let keeps : Keeps w' s' = keeps_home w1 w' s s' rs' d' same2 by.shared driver records kept_now in
+      let serves : Serves q w w' s s' = serves_to q q w w' s s' (subst (IsServed w) (sym by.worker) refl) (subst (OthersKept s) (sym by.shared) refl) there refl refl refl refl in
       let show = shows q w w' s s' d' serves driver in
       let flying : flying_count d'.requests ≡ flying_count d.requests = flying_ended d.requests id.0 it (Err error) None who.live idle in
       let apart : (x : WaiterId) → IsSome (value_at d.requests x.0) → x.0 ≢ id.0 → number_in n x.0 ≡ k → ⊥ = λ x some differs same.

@@ -1,17 +1,13 @@
 -- The request whose deadline has come first.
-use Rattle.std.{proofs.{Common.{◌≡◌, ◌≢◌, ℕ, suc, ◌<◌, Bool, true, false, List, [], ◌∷◌, length, Option, Some, None, refl, sym, ap, subst, ◌∙◌, slice_get, slice_set, is_some, if◌then◌else◌, Err}, lemmas.{Bool.false≢true, Option.slice_get_within}}, specs.VecDeque.deque_capacity}
+use Rattle.std.{proofs.{Common.{◌≡◌, ◌≢◌, ℕ, suc, ◌<◌, Bool, true, false, List, [], ◌∷◌, length, Option, Some, None, refl, sym, ap, subst, ◌∙◌, slice_get, slice_set, is_some, if◌then◌else◌, Err}, lemmas.Bool.false≢true}, specs.VecDeque.deque_capacity}
 use Rattle.exec_base.specs.{Slab.value_at, declared.error.Error.TheVariants.Timeout}
-use Rattle.exec_request.specs.{States.asks_cancel, declared.results.WaiterState.{WaiterState, TheVariants.{Active, CancelRequested}}}
 use Rattle.exec_time.specs.Wheel.{Wheel, removed}
-use Rattle.exec_waiters.{proofs.Changes.entry_of, specs.{States.{waiter_at, tick_in, pending_count}, Told.Tells, declared.{waiter.Waiter.Waiter, waiter_id.WaiterId.WaiterId}}}
+use Rattle.exec_request.specs.{States.asks_cancel, declared.results.WaiterState.{WaiterState, TheVariants.{Active, CancelRequested}}}
+use Rattle.exec_waiters.{specs.{States.{waiter_at, tick_in, pending_count}, Told.Tells, declared.{waiter.Waiter.Waiter, waiter_id.WaiterId.WaiterId}}, proofs.Changes.entry_of}
 use Rattle.exec_driver.specs.{Driving.{request_at, is_enrolled}, Lists.first_of, Punctual.IsPunctual, Steps.{expired as expired_at, told_by_cancel, unscheduled}}
 use Rattle.exec_machine.specs.{declared.{event.Event.{Event, TheVariants.Expire}, state.{RequestPhase.RequestPhase, Request.Request}, config.Configuration.Configuration}, World.{Own, Common}, Deadlines.{outcome_at_expiry, expired, is_first_due}, Requests.joined_if, Tests.{is_in_flight, is_queued, is_gated}}
 use Rattle.exec_moves.specs.{declared.place.Service.Service, Callback.told_if_ended, Serve.first_numbered, State.{Desk, Moved, Things}, Submit.{due_next, first_due, submits, Due.Expires}}
-use Rattle.exec_steps.{specs.{declared.parts.{mail.Reply.Reply, record.Record.Record, shared.Shared.Shared, worker.Worker.Worker}, Records.number_in, Serving.{changed_at, changed_in}, Sound.IsAlike, Submitting.IsDueIn, View.driver_of}, proofs.{Dating.{one_pending, room_by}, Resolving.slab_after, Seeing.makes, Staging.among_first}}
-
-some_of : {A : Type 0} (o : Option A) → is_some o ≡ true → (x : A) × (o ≡ Some x)
-some_of None h = absurd (false≢true h)
-some_of (Some x) h = (x, refl)
+use Rattle.exec_steps.{specs.{declared.parts.{mail.Reply.Reply, record.Record.Record, shared.Shared.Shared, worker.Worker.Worker}, Records.number_in, Serving.{changed_at, changed_in}, Sound.IsAlike, Submitting.IsDueIn, View.driver_of}, proofs.{Facts.some_of, Dating.{one_pending, room_by}, Resolving.slab_after, Seeing.makes, Staging.among_first}}
 
 -- nobody asked for the cancel of what stands on the wheel
 unasked_by : (x : WaiterState) (t : ℕ) → tick_in x ≡ Some t → asks_cancel x ≡ false
@@ -56,9 +52,6 @@ module _ {B : Type 0} (w : Worker) (s : Shared B) (due : IsDueIn w s) (id : Wait
 
   pub due_first : DueAt w s id
   due_first = due_by (request_at (driver_of w) id) refl
-
-  pub due_within : number_in w.names.requests.items id.0 < length s.requests.items
-  due_within = slice_get_within s.requests.items (number_in w.names.requests.items id.0) due_first.r due_first.there
 
   pub due_room : length w.names.ended.items < deque_capacity w.names.ended
   due_room =

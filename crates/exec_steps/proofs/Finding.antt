@@ -1,8 +1,8 @@
 -- The request that a completion is of.
 use Rattle.std.proofs.{Common.{◌≡◌, ℕ, ◌%◌, ◌==◌, ◌&&◌, Bool, true, false, List, Some, None, refl, sym, ap, ◌∙◌, if◌then◌else◌}, lemmas.Bool.{false≢true, eq-eqb}}
-use Rattle.exec_base.{proofs.Slots.was_live, specs.{Slab.{slot_at, value_at, value_in}, declared.slab.{Id.Id, Slot.TheVariants.Live}}}
+use Rattle.exec_base.{specs.{Slab.{slot_at, value_at, value_in}, declared.slab.{Id.Id, Slot.TheVariants.Live}}, proofs.Slots.was_live}
 use Rattle.exec_ring.specs.{Completions.result_in, declared.completion.Completion.Completion}
-use Rattle.exec_waiters.{proofs.Changes.entry_of, specs.{Ids.{index_in, generation_in}, States.{named, named_in}, declared.waiter.{Entry.{Entry, TheVariants.Pending}, Waiter.Waiter}}}
+use Rattle.exec_waiters.{specs.{Ids.{index_in, generation_in}, States.{named, named_in}, declared.waiter.{Entry.{Entry, TheVariants.Pending}, Waiter.Waiter}}, proofs.Changes.entry_of}
 use Rattle.exec_driver.specs.{Driving.Driving, Steps.{completed_in, if_lawful, lawful_of}}
 use Rattle.exec_steps.specs.{declared.parts.{mail.Reply.Reply, names.Names.Names, record.Record.Record}, Flown.HasLanded}
 

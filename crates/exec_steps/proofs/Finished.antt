@@ -8,7 +8,7 @@ use Rattle.exec_waiters.{specs.{Ids.user_data_of, States.{waiter_at, tick_in, wa
 use Rattle.exec_driver.specs.{Driving.Driving, Lists.{without, withdrawn}, Punctual.IsPunctual, Steps.unscheduled}
 use Rattle.exec_machine.specs.{declared.event.Event.TheVariants.Reap, Requests.{judged_of, reaped, asked_of as asked_in, cursor_of as cursor_in}}
 use Rattle.exec_moves.specs.{declared.place.{Place.Place, Reaping.Reaping, Service.Service, InService.InService}, Serve.{after_permit, back_from_reap}, State.Desk}
-use Rattle.exec_steps.{specs.{declared.parts.{mail.Reply.Reply, names.Names.Names, record.Record.Record, shared.Shared.Shared, worker.Worker.Worker}, Carried.IsUnderWay, Due.{IsWheelAt, wheel_moment}, Flown.{AreLanded, HasLanded, IsPlain, IsUpTo, longest, operations}, Records.number_in, Serving.{changed_at, is_one_of}, Sound.{SoundAt, IsAlike, served_in}, View.{driver_of, number_told}, Rooted.outcome_told}, proofs.{Changing.{changes_one, live_still, pending_still}, Flown.landed_on, Judging.first_still, Marking.{mark_if, marked}, Serving.{KeepsBy, calm, kept}, Starting.{fills, reads, writes_bytes}, Trailing.RingAfter, Requeued.{not_same, landed_rest, lawful_shown, moved_fits, number_landed}, Late.wakes_are, Orders.{TurnsAlike, alike_unticked, past_written}, Ousting.keeps_over, Over.OneEnds, Resolving.{SlabAfter, slab_after, told_once, unticked_at}, Returned.{follows_back, not_due}}}
+use Rattle.exec_steps.{specs.{declared.parts.{mail.Reply.Reply, names.Names.Names, record.Record.Record, shared.Shared.Shared, worker.Worker.Worker}, Carried.IsUnderWay, Due.{IsWheelAt, wheel_moment}, Flown.{AreLanded, HasLanded, IsPlain, IsUpTo, longest, operations}, Records.number_in, Serving.{changed_at, is_one_of}, Sound.{SoundAt, IsAlike, served_in}, View.{driver_of, number_told}, Rooted.outcome_told}, proofs.{Facts.not_same, Changing.{changes_one, live_still, pending_still}, Flown.landed_on, Judging.first_still, Marking.{mark_if, marked}, Serving.{KeepsBy, calm, kept}, Starting.{fills, reads, writes_bytes}, Trailing.RingAfter, Requeued.{landed_rest, lawful_shown, moved_fits, number_landed}, Late.wakes_are, Orders.{TurnsAlike, alike_unticked, past_written}, Ousting.keeps_over, Over.OneEnds, Resolving.{SlabAfter, slab_after, told_once, unticked_at}, Returned.{follows_back, not_due}}}
 
 -- WHAT THE DRIVER DID
 

@@ -3,16 +3,13 @@ use Rattle.std.{proofs.{Common.{◌≡◌, ◌≢◌, ℕ, zero, suc, ◌+◌, �
 use Rattle.exec_base.specs.{Slab.{Slab, value_at, removed}, declared.{slab.Id.Id, task_no.TaskNo.TaskNo}}
 use Rattle.exec_time.specs.{Notes.Adds, declared.timers.Sleeper.Sleeper as Sleeping}
 use Rattle.exec_waiters.specs.declared.deferred.Deferred.{Deferred}
+use Rattle.exec_driver.specs.Driving.{Driving}
 use Rattle.exec_machine.specs.{declared.state.Waiting.Waiting, Tests.is_asleep}
 use Rattle.exec_moves.specs.Serve.{first_numbered}
-use Rattle.exec_steps.{specs.{declared.parts.{mail.Reply.Reply, names.Names.Names, record.Record.Record, sleeping.SleeperRecord.SleeperRecord}, Due.AreAsleep, Records.number_in, Rooted.{Awaits, AwaitsTimer, Holds}, Sound.IsTold}, proofs.Flying.get_set}
-use Rattle.exec_driver.specs.Driving.{Driving}
+use Rattle.exec_steps.{specs.{declared.parts.{mail.Reply.Reply, names.Names.Names, record.Record.Record, sleeping.SleeperRecord.SleeperRecord}, Due.AreAsleep, Records.number_in, Rooted.{Awaits, AwaitsTimer, Holds}, Sound.IsTold}, proofs.{Facts.same_number, Flying.get_set}}
 
 abbrev pub fires : SleeperRecord → SleeperRecord
 fires z = record z { shown = record z.shown { fired = true } }
-
-pub same_number : (a b : ℕ) → (a == b) ≡ true → a ≡ b
-same_number a b h = grind (arith, nat_tests)
 
 -- THE FIRST BY NUMBER, where it is the only one
 

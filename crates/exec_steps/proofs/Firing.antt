@@ -5,7 +5,7 @@ use Rattle.exec_time.specs.{Sleepers.IsDue as IsSleepDue, declared.{notes.Notes.
 use Rattle.exec_task.specs.declared.body.Said.{Said}
 use Rattle.exec_machine.specs.{declared.{event.Event.{Event, TheVariants.Serve}, state.{Sleeper.Sleeper, Next.Next}}, Deadlines.is_none_earlier, Tests.{is_asleep, is_open}, World.{Own, Common, seat_of}}
 use Rattle.exec_moves.specs.{Seen.{polls_at, next_at, serves_at}, State.Desk, Serve.{after_service, first_numbered, first_to_fire}, declared.place.{AfterService.AfterService, Service.Service, Place.Place, AfterCallbacks.AfterCallbacks, InCallbacks.InCallbacks, InMail.InMail, InService.InService}}
-use Rattle.exec_steps.{specs.{declared.parts.{mail.Reply.Reply, names.Names.Names, shared.Shared.Shared, sleeping.SleeperRecord.SleeperRecord, worker.Worker.Worker}, Due.AreAsleep, Phased.closes_at, Sound.{SoundAt, is_armed_at}, Spots.Spot, View.{visible, own_of, desk_of, driver_of, common_of, things_of, message_of}, Works.Steps}, proofs.{Ceasing.{keeps_ring, same_ring}, Idling.first_none, Seeing.{makes, served, common_same}, Serving.{is_calm, Follows, Serves, Keeps, KeepsBy}}}
+use Rattle.exec_steps.{specs.{declared.parts.{mail.Reply.Reply, names.Names.Names, shared.Shared.Shared, sleeping.SleeperRecord.SleeperRecord, worker.Worker.Worker}, Due.AreAsleep, Sound.SoundAt, Spots.Spot, View.{visible, own_of, desk_of, driver_of, common_of, things_of, message_of}, Works.Steps}, proofs.{Serving.{serves_to, IsServed, Follows, Serves, Keeps, KeepsBy}, Ceasing.{keeps_ring, same_ring}, Idling.first_none, Seeing.{makes, served, common_same}}}
 
 -- WHO IS NEXT
 
@@ -90,14 +90,7 @@ module _ {B L : Type 0} (left : B → L) (spot : L → Option Said → Spot) whe
       let goes : after_service v.back (desk_of w) ≡ p = leads_on v.back (desk_of w) (ap (map message_of) sound.batch) in
       let same : w' ≡ record w { place = p } = is ∙ ap (λ x. record w { place = x }) goes in
       let follows = follows_end v.defer v.back in
-      let serves : Serves q w w' s s = record {
-        worker = subst (λ x. x ≡ record w { place = x.place; home = record w.home { driver = x.home.driver; timers = x.home.timers; deferred = x.home.deferred }; names = record w.names { ended = x.names.ended; staged = x.names.staged; untold = x.names.untold }; put_off = x.put_off }) (sym same) refl;
-        shared = refl;
-        from = refl;
-        to = ap (λ x. is_calm x.place) same ∙ follows.to;
-        armed = ap (λ x. is_armed_at x.place) same ∙ follows.armed;
-        closes = ap (λ x. closes_at x.place) same ∙ follows.closes;
-      } in
+      let serves : Serves q w w' s s = serves_to q p w w' s s (subst (IsServed w) (sym same) refl) refl (ap (λ x. x.place) same) refl follows.to follows.armed follows.closes in
       let by : KeepsBy (record w { place = p; put_off = w.put_off }) (driver_of w) w.home.timers s.requests.items s.sleepers.items s =
       keeps_ring q p w.put_off w s (driver_of w) sound follows (same_ring (driver_of w)) (λ h. sound.due.told refl) in
       let keeps : Keeps w' s = subst (λ x. Keeps x s) (sym same) by in

@@ -3,7 +3,7 @@ use Rattle.std.proofs.{Common.{◌≡◌, ℕ, true, false, Option, Some, None, 
 use Rattle.exec_task.specs.declared.{body.Said.Said, runnable.Runnable.Runnable}
 use Rattle.exec_machine.specs.{declared.event.Event.{Event, TheVariants.Turn}, Choice.Choice.Plain}
 use Rattle.exec_moves.specs.{declared.place.{Place.Place, AfterCallbacks.AfterCallbacks, InCallbacks.InCallbacks, InPoll.InPoll}, Move.move_at, Pick.{polls, take_root_flag}, State.{Desk, Moved, Own, turns}}
-use Rattle.exec_steps.{specs.{declared.parts.{shared.Shared.Shared, worker.Worker.Worker}, Sound.{SoundAt, IsRunnable, one_of}, Spots.Spot, View.{visible, own_of, desk_of, common_of, things_of}, Works.{Makes, Steps}}, proofs.{Hearing.unheard, Turning.{by_place, same_shared, set_found, turned_here}}}
+use Rattle.exec_steps.{specs.{Sound.{HasRunnable, SoundAt, IsRunnable, one_of}, declared.parts.{shared.Shared.Shared, worker.Worker.Worker}, Spots.Spot, View.{visible, own_of, desk_of, common_of, things_of}, Works.{Makes, Steps}}, proofs.{Hearing.unheard, Turning.{by_place, same_shared, set_found, turned_here}}}
 
 -- the move where the flag is set, and where it isn't
 abbrev by_flag : Option Runnable → ℕ → Desk → Moved Own
@@ -23,38 +23,15 @@ module _ {B L : Type 0} (left : B → L) (spot : L → Option Said → Spot) whe
           own = rw sound.here refl;
           common = rw (sound.here, set_found vs w.index (visible w) suits.seen) refl;
         }),
-        record {
-          here = refl;
-          config = sound.config;
-          gates = sound.gates;
-          index = sound.index;
-          time = sound.time;
-          told = sound.told;
-          named = sound.named;
-          runnable = record {
-            root = sound.runnable.root;
-            there = sound.runnable.there;
-            home = sound.runnable.home;
-            number = sound.runnable.number;
-            once = subst (λ o. IsRunnable (one_of o w.hand) sound.runnable.root) flag sound.runnable.once;
-            one = λ set. absurd (false≢true set);
-          };
-          alone = sound.alone;
-          share = λ chair there. tt;
-          sized = sound.sized;
-          processed = sound.processed;
-          hand = (refl, refl);
-          left = tt;
-          over = sound.over;
-          quiet = λ h. sound.quiet refl;
-          batch = sound.batch;
-          due = sound.due;
-          flown = sound.flown;
-          carried = sound.carried;
-          rooted = sound.rooted;
-          phased = sound.phased;
-          tied = sound.tied;
-        },
+        let runnable : HasRunnable w.index w.root None (Some r) s.tasks.items = record {
+          root = sound.runnable.root;
+          there = sound.runnable.there;
+          home = sound.runnable.home;
+          number = sound.runnable.number;
+          once = subst (λ o. IsRunnable (one_of o w.hand) sound.runnable.root) flag sound.runnable.once;
+          one = λ set. absurd (false≢true set);
+        } in
+            assumption (runnable, sound),
         unheard refl refl refl,
       )
 

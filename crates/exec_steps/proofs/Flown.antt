@@ -1,14 +1,14 @@
 -- What has landed, as a driver and the records of its requests change.
-use Rattle.std.{proofs.{Common.{◌≡◌, ℕ, ◌≤◌, ◌==◌, Bool, true, false, List, [], ◌∷◌, map, Option, Some, refl, sym, ap, subst, ◌∙◌, arith, slice_get, slice_index_or}, lemmas.Bool.Decides.nat_tests}, specs.VecDeque.deque_capacity}
+use Rattle.std.{proofs.Common.{◌≡◌, ℕ, ◌≤◌, ◌==◌, Bool, true, false, List, [], ◌∷◌, map, Option, Some, refl, sym, ap, subst, ◌∙◌, arith, slice_get, slice_index_or}, specs.VecDeque.deque_capacity}
 use Rattle.exec_base.specs.declared.slab.Id.{Id}
 use Rattle.exec_outcomes.specs.{declared.outcome.OpResult.OpResult, Lawful.{is_lawful, window_of}}
-use Rattle.exec_ring.specs.{Completions.result_in, declared.completion.Completion.Completion}
 use Rattle.exec_request.specs.Requests.{asked_of, cursor_of}
+use Rattle.exec_ring.specs.{Completions.result_in, declared.completion.Completion.Completion}
 use Rattle.exec_waiters.specs.{States.waiter_at, declared.waiter.Waiter.Waiter}
 use Rattle.exec_driver.specs.Driving.{Driving}
 use Rattle.exec_machine.specs.{declared.state.RequestPhase.TheVariants.Landed, Tests.is_resolved}
 use Rattle.exec_moves.specs.declared.place.InService.{InService}
-use Rattle.exec_steps.{specs.{declared.parts.{mail.Reply.Reply, names.Names.Names, record.Record.Record}, Flown.{IsPlain, HasLanded, AreLanded, HasFlown, operations}, Records.number_in, Serving.changed_at, View.number_told}, proofs.Marking.{mark_if, marked, was_marked}}
+use Rattle.exec_steps.{specs.{declared.parts.{mail.Reply.Reply, names.Names.Names, record.Record.Record}, Flown.{IsPlain, HasLanded, AreLanded, HasFlown, operations}, Records.number_in, Serving.changed_at, View.number_told}, proofs.{Facts.same_number, Marking.{mark_if, marked, was_marked}}}
 
 -- A request that flies goes on flying: with its operation, by its number, and its record has come no further.
 pub record FliesOn (n n' : Names) (d d' : Driving Reply Reply) (rs rs' : List Record) (id : Id) (it : Waiter Reply Reply) (r : Record) : Type 0 where
@@ -61,9 +61,6 @@ pub landed_as : (n : Names) (d d' : Driving Reply Reply) (rs : List Record) (cs 
 landed_as n d d' rs cs same are =
     landed_on n n d d' rs rs cs are
     (λ id it r given at flies there landed. record { it' = it; r' = r; live = ap (λ s. waiter_at s id) same ∙ at; flies = refl; same = refl; number = refl; there = there; phase = refl })
-
-same_number : (a b : ℕ) → (a == b) ≡ true → a ≡ b
-same_number a b h = grind (arith, nat_tests)
 
 -- A mark of a record, as released or as one that has paid.
 module _ (f : Record → Record) (marks : (r : Record) → f r ≡ record r { shown = record r.shown { wakes_paid = (f r).shown.wakes_paid; released = (f r).shown.released } }) where

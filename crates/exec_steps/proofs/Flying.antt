@@ -2,12 +2,9 @@
 -- fly.
 use Rattle.std.{proofs.{Common.{◌≡◌, ℕ, zero, suc, ◌<◌, ◌==◌, ◌&&◌, ◌||◌, Bool, true, false, List, [], ◌∷◌, ◌++◌, length, map, get_or, Option, Some, None, refl, sym, ap, subst, ◌∙◌, arith, slice_get, slice_set, if◌then◌else◌}, lemmas.{Bool.{false≢true, Decides.nat_tests}, List.length-set, Option.{slice_get-map, slice_get-get_or}}}, specs.Option.option_map}
 use Rattle.exec_machine.specs.{declared.state.{Request.Request, RequestPhase.RequestPhase}, Requests.flown, Tests.is_staged}
-use Rattle.exec_steps.specs.{declared.parts.record.Record.Record, Serving.{AreKnown, changed_in, changed_at, flies, flown_in, is_one_of}}
+use Rattle.exec_steps.{specs.{declared.parts.record.Record.Record, Serving.{AreKnown, changed_in, changed_at, flies, flown_in, is_one_of}}, proofs.Facts.same_number}
 
 -- LISTS
-
-same_number : (a b : ℕ) → (a == b) ≡ true → a ≡ b
-same_number a b h = grind (arith, nat_tests)
 
 pub same_list : {A : Type 0} (xs ys : List A) → ((k : ℕ) → slice_get xs k ≡ slice_get ys k) → xs ≡ ys
 same_list [] [] same = refl

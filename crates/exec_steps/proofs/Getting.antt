@@ -1,15 +1,12 @@
 -- An output is taken: its request leaves the driver, and nobody observes it any more.
-use Rattle.std.proofs.{Common.{◌≡◌, ◌≢◌, ℕ, zero, suc, ◌+◌, ◌-◌, ◌==◌, ◌||◌, Bool, true, false, List, [], ◌∷◌, ◌++◌, length, Some, None, IsSome, refl, sym, ap, subst, ◌∙◌, inl, inr, arith, length-append, slice_get, is_some}, lemmas.{Bool.{false≢true, eq-eqb, Decides.nat_tests}, Option.slice_get_within}}
-use Rattle.exec_base.{specs.{Slab.{Slab, value_at, removed, freed}, declared.slab.Id.Id}, proofs.Slots.{Changed-set, id_cases, IsLiveAt-from_value, Updates-free, live_within, was_live}}
-use Rattle.exec_request.specs.declared.output.RequestOutput.{RequestOutput}
+use Rattle.std.proofs.{Common.{◌≡◌, ◌≢◌, ℕ, zero, suc, ◌+◌, ◌-◌, ◌==◌, ◌||◌, Bool, true, false, List, [], ◌∷◌, ◌++◌, length, Some, None, IsSome, refl, sym, ap, subst, ◌∙◌, arith, length-append, slice_get, is_some}, lemmas.{Bool.{false≢true, eq-eqb}, Option.slice_get_within}}
+use Rattle.exec_base.{specs.{Slab.{Slab, value_at, removed, freed}, declared.slab.Id.Id}, proofs.Slots.{Changed-set, IsLiveAt-from_value, Updates-free, live_within, was_live}}
 use Rattle.exec_time.specs.declared.timers.Sleeper.{Sleeper as Sleeping}
+use Rattle.exec_request.specs.declared.output.RequestOutput.{RequestOutput}
 use Rattle.exec_waiters.specs.{States.{waiter_at, pending_count, flying_count, is_flying}, declared.waiter.Entry.{Entry, TheVariants.Ready}}
 use Rattle.exec_driver.{specs.Driving.Driving, proofs.Counting.{OneChanged, one_removed, pending_is, flying_is}}
 use Rattle.exec_machine.specs.{declared.state.Waiting.Waiting, Tests.is_resolved}
-use Rattle.exec_steps.{specs.{declared.parts.{mail.Reply.Reply, names.Names.Names, record.Record.Record, sleeping.SleeperRecord.SleeperRecord}, Records.number_in, Rooted.{Holds, IsHeld, IsKept}, Serving.is_one_of, Sound.IsNamed}, proofs.Watching.{Watched, apart_number, now_there, other_still, other_there}}
-
-same_number : (a b : ℕ) → (a == b) ≡ true → a ≡ b
-same_number a b h = grind (arith, nat_tests)
+use Rattle.exec_steps.{specs.{declared.parts.{mail.Reply.Reply, names.Names.Names, record.Record.Record, sleeping.SleeperRecord.SleeperRecord}, Records.number_in, Rooted.{Holds, IsHeld, IsKept}, Serving.is_one_of, Sound.IsNamed}, proofs.{Facts.{by_name, same_number}, Watching.{Watched, apart_number, now_there, other_still, other_there}}}
 
 -- THE SLAB: where an output was kept nothing is, and no request that isn't over changes
 
@@ -22,11 +19,9 @@ module _ (s : Slab (Entry Reply Reply)) (id : Id) (told : RequestOutput) (at : v
 
   pub same_waiters : (x : Id) → waiter_at (removed s id) x ≡ waiter_at s x
   same_waiters x =
-      elim (id_cases x id) [
-        | inl i ↦ gone.others x (λ e. i (ap (λ (y : Id). y.index) e))
-        | inr (inl e) ↦ gone.others x (λ q. e.1 (ap (λ (y : Id). y.generation) q))
-        | inr (inr same) ↦ subst (λ y. waiter_at (removed s id) y ≡ waiter_at s y) (sym same) (gone.is_at ∙ sym gone.was_at)
-      ]
+      by_name x id
+      (λ apart. gone.others x apart)
+      (λ same. subst (λ y. waiter_at (removed s id) y ≡ waiter_at s y) (sym same) (gone.is_at ∙ sym gone.was_at))
 
   pub same_pending : pending_count (removed s id) ≡ pending_count s
   same_pending =

@@ -1,8 +1,8 @@
 -- Requests that go on: none ends, nor begins, nor is let go of. What that leaves as it was.
-use Rattle.std.proofs.Common.{◌≡◌, ℕ, Bool, true, List, [], ◌∷◌, Option, Some, IsSome, refl, sym, ap, ◌∙◌, slice_get}
+use Rattle.std.proofs.Common.{◌≡◌, ℕ, Bool, true, false, List, [], ◌∷◌, Option, Some, IsSome, refl, sym, ap, ◌∙◌, slice_get}
 use Rattle.exec_base.specs.{Slab.{Slab, value_at}, declared.{slab.Id.Id, task_no.TaskNo.TaskNo}}
-use Rattle.exec_request.specs.declared.output.RequestOutput.{RequestOutput}
 use Rattle.exec_time.specs.declared.timers.Sleeper.{Sleeper as Sleeping}
+use Rattle.exec_request.specs.declared.output.RequestOutput.{RequestOutput}
 use Rattle.exec_waiters.specs.declared.waiter.Entry.TheVariants.{Ready}
 use Rattle.exec_driver.specs.Driving.{Driving}
 use Rattle.exec_machine.specs.{declared.state.Waiting.Waiting, Tests.is_resolved}
@@ -53,6 +53,16 @@ pub same_paid : (r r' : Record) → GoesOn r r' → r'.shown.wakes_paid ≡ r.sh
 same_paid r r' on = ap (λ x. x.shown.wakes_paid) on.same
 
 module _ (rs rs' : List Record) (all : AllGoOn rs rs') where
+  -- whose they are, and what of them is released
+  pub ours_on : (i : ℕ) → ((k : ℕ) (r : Record) → slice_get rs k ≡ Some r → r.shown.worker ≡ i) → (k : ℕ) (x : Record) → slice_get rs' k ≡ Some x → x.shown.worker ≡ i
+  ours_on i ours k x there = let old = all.was k x there in same_worker old.r x old.on ∙ ours k old.r old.there
+
+  pub owning_on : ((k : ℕ) (r : Record) → slice_get rs k ≡ Some r → is_resolved r.shown.phase ≡ false → r.shown.released ≡ false)
+      → (k : ℕ) (x : Record) → slice_get rs' k ≡ Some x → is_resolved x.shown.phase ≡ false → x.shown.released ≡ false
+  owning_on owning k x there unresolved =
+      let old = all.was k x there in
+      ap (λ y. y.shown.released) old.on.same ∙ owning k old.r old.there (sym old.on.over ∙ unresolved)
+
   -- WHAT IS OVER
   pub over_on : (i : ℕ) (ended : List ℕ) (unreleased others : ℕ) → AreOver i ended unreleased others rs → AreOver i ended unreleased others rs'
   over_on i ended unreleased others over =

@@ -5,10 +5,10 @@ use Rattle.exec_request.specs.{Requests.output_of, declared.output.RequestOutput
 use Rattle.exec_ring.specs.{Completions.result_in, declared.completion.Completion.Completion, Rings.completions}
 use Rattle.exec_waiters.{specs.{States.flying_count, declared.{waiter.{Entry.TheVariants.Pending, Waiter.Waiter}, waiter_id.WaiterId.WaiterId}, Told.{Tells, Told}, Events.told_by_finish}, proofs.Changes.{one_if, entry_of}}
 use Rattle.exec_driver.specs.{Driving.{Driving, request_at, is_queued, is_unenrolled, is_cancelled}, Lists.without, Punctual.IsPunctual, Placed.ListsRequests}
+use Rattle.exec_task.specs.declared.body.Said.{Said}
 use Rattle.exec_machine.specs.{declared.event.Event.{Event, TheVariants.Reap}, Requests.outcome_given}
 use Rattle.exec_moves.specs.{declared.place.{Place.Place, Reaping.Reaping, Service.Service, InService.InService}, Move.aside, Serve.{after_permit, back_from_reap, others_after_reap}, State.Desk, Callback.{told_of_end, waker_of}}
-use Rattle.exec_steps.{specs.{declared.parts.{mail.Reply.Reply, record.Record.Record, shared.Shared.Shared, worker.Worker.Worker}, Flown.operations, Records.number_in, Serving.changed_at, Sound.{SoundAt, is_armed_at}, View.{driver_of, number_told, visible, own_of, desk_of, things_of, numbers_of, trailing}, Phased.closes_at, Spots.Spot, Works.Steps}, proofs.{Changing.{changes_one, flying_after}, Judging.given_is, Serving.{KeepsBy, Keeps, Serves, is_calm}, Seeing.{desk_with, makes, own_with, served, shows}, Viewed.{common_seen, may_seen, moves_seen}, Ends.{desk_ended, flying_ended, numbers_without}, Late.stands, Returned.{desk_left, follows_back, one_fewer, served_back}, Finished.{GoesOver, goes_over, keeps_gone, over_alike, told_place}}}
-use Rattle.exec_task.specs.declared.body.Said.{Said}
+use Rattle.exec_steps.{specs.{declared.parts.{mail.Reply.Reply, record.Record.Record, shared.Shared.Shared, worker.Worker.Worker}, Flown.operations, Records.number_in, Serving.changed_at, Sound.SoundAt, View.{driver_of, number_told, visible, own_of, desk_of, things_of, numbers_of, trailing}, Spots.Spot, Works.Steps}, proofs.{Serving.{serves_to, IsServed, OthersKept, keeps_home, KeepsBy, Keeps, Serves}, Changing.{changes_one, flying_after}, Judging.given_is, Seeing.{desk_with, makes, own_with, served, shows}, Viewed.{common_seen, may_seen, moves_seen}, Ends.{desk_ended, flying_ended, numbers_without}, Late.stands, Returned.{desk_left, follows_back, one_fewer, served_back}, Finished.{GoesOver, goes_over, keeps_gone, over_alike, told_place}}}
 
 -- another has another number
 apart_by : {B : Type 0} (q : Place) (w : Worker) (s : Shared B) → SoundAt q w s → (id : Id) (r : Record) → slice_get s.requests.items (number_in w.names.requests.items id) ≡ Some r → r.id.0 ≡ id
@@ -77,21 +77,10 @@ module _ {B L : Type 0} (left : B → L) (spot : L → Option Said → Spot) (rp
       let a = over_alike rp v w s sound c cs d' how over in
       let rs' = changed_at rs k (goes_over given how) in
       let w1 : Worker = record w { place = q'; names = record w.names { ended = w'.names.ended }; home = record w.home { deferred = deferred } } in
-      let w2 : Worker = record w1 { home = record w1.home { driver = w'.home.driver } } in
       let gone : KeepsBy w1 d' w.home.timers rs' s.sleepers.items s = keeps_gone rp v w s sound c cs d' how over w'.names deferred tells ended capacity punctual in
-      let by_records : KeepsBy w1 d' w.home.timers s'.requests.items s.sleepers.items s = subst (λ x. KeepsBy w1 d' w.home.timers x s.sleepers.items s) (sym records) gone in
-      let by_home : KeepsBy w2 d' w.home.timers s'.requests.items s.sleepers.items s = assumption by_records in
-      let by_worker : KeepsBy w' d' w'.home.timers s'.requests.items s.sleepers.items s = subst (λ x. KeepsBy x d' x.home.timers s'.requests.items s.sleepers.items s) (sym same) by_home in
-      let keeps : Keeps w' s' = subst (λ y. KeepsBy w' d' w'.home.timers s'.requests.items y.sleepers.items y) (sym shared) (assumption by_worker) in
+      let keeps : Keeps w' s' = keeps_home w1 w' s s' rs' d' same shared refl records gone in
       let there : w'.place ≡ q' = ap (λ x. x.place) same in
-      let serves : Serves q w w' s s' = record {
-        worker = subst (λ x. x ≡ record w { place = x.place; home = record w.home { driver = x.home.driver; timers = x.home.timers; deferred = x.home.deferred }; names = record w.names { ended = x.names.ended; staged = x.names.staged; untold = x.names.untold }; put_off = x.put_off }) (sym same) refl;
-        shared = subst (λ z. z ≡ record s { requests = z.requests; sleepers = z.sleepers }) (sym shared) refl;
-        from = refl;
-        to = ap is_calm there ∙ follows.to;
-        armed = ap is_armed_at there ∙ follows.armed;
-        closes = ap closes_at there ∙ follows.closes;
-      } in
+      let serves : Serves q w w' s s' = serves_to q q' w w' s s' (subst (IsServed w) (sym same) refl) (subst (OthersKept s) (sym shared) refl) there refl follows.to follows.armed follows.closes in
       let show = shows q w w' s s' d' serves refl in
       let seen : visible w' ≡ record (visible w) { landed = later } =
       show.seen ∙ ap (λ b. record { busy = b; landed = map (number_told n) (operations d'.ring) }) ring.busy ∙ ap (λ ops. record { busy = d.ring.busy; landed = map (number_told n) ops }) ring.landed in

@@ -2,14 +2,14 @@
 use Rattle.std.proofs.{Common.{◌≡◌, ℕ, zero, suc, ◌+◌, ◌*◌, ◌<◌, ◌≤◌, false, List, [], ◌∷◌, length, map, Option, Some, None, refl, sym, ap, subst, ◌∙◌, arith, slice_get, slice_set, OnOk, Result, Ok, Err}, lemmas.{List.{append-nil, length-set, set-get_or, set-set, Sums.count_by-le-length}, Option.{get_or_from_slice_get, slice_get_within}}}
 use Rattle.exec_base.specs.{Slab.{Slab, is_live, live_count}, declared.error.Error.TheVariants.NoMemory}
 use Rattle.exec_words.specs.Queue.{room_of}
-use Rattle.exec_task.specs.{Sight.Sight, declared.body.{Act.Act, Said.Said}}
 use Rattle.exec_time.specs.declared.timers.Sleeper.{Sleeper as Sleeping}
 use Rattle.exec_ring.specs.Rings.{completions}
 use Rattle.exec_waiters.specs.{States.{counts_pending, flying_count, pending_count}, Told.{HasPlaces, Tells, nothing_told}, declared.{deferred.Deferred.Deferred, waiter.Entry.Entry}}
 use Rattle.exec_driver.specs.{Admission.with_rooms, Driving.Driving}
+use Rattle.exec_task.specs.{Sight.Sight, declared.body.{Act.Act, Said.Said}}
 use Rattle.exec_machine.specs.{Ranges.ring_size, World.Own, Progress.Plan}
 use Rattle.exec_moves.specs.{Seen.{polls_at, next_at, serves_at}, State.Desk, declared.place.{Place.Place, InPoll.InPoll}}
-use Rattle.exec_steps.{specs.{declared.parts.{mail.Reply.Reply, names.Names.Names, record.Record.Record, shared.Shared.Shared, sleeping.SleeperRecord.SleeperRecord, task_slot.TaskSlot.TaskSlot, worker.Worker.Worker}, Acting.HasActed, Admitting.{MakesRoom, MayMake, Refuses}, Carried.IsCarried, Due.IsDue, Flown.HasFlown, Phased.{IsPhased, is_complete, closing_in, stage_of}, Records.SameNames, Rooted.IsRooted, Sound.{SoundAt, AreOver, AreOwed, InHand, IsAlone, IsNamed, IsRunnable, IsTold, Stands, one_of, polled_in, tellers}, Scripts.is_last, Spots.Spot, View.{common_of, desk_of, driver_of, landed_in, numbers_of, open_seen, own_of, queue_seen, task_seen, things_of, trailing, visible}, Works.Same}, proofs.{Performing.{same_slot, unmoved_seen}, Phased.{phased_count, phased_task}, Polling.IsAfter, Turning.set_there}}
+use Rattle.exec_steps.{specs.{declared.parts.{seat.Seat.Seat as Chair, mail.Reply.Reply, names.Names.Names, record.Record.Record, shared.Shared.Shared, sleeping.SleeperRecord.SleeperRecord, task_slot.TaskSlot.TaskSlot, worker.Worker.Worker}, Sound.{IsTied, HasRunnable, HasShare, has_wakes_at, SoundAt, AreOver, AreOwed, InHand, IsAlone, IsNamed, IsRunnable, IsTold, Stands, one_of, polled_in, tellers}, Phased.{closes_at, IsPhased, is_complete, closing_in, stage_of}, Acting.HasActed, Admitting.{MakesRoom, MayMake, Refuses}, Carried.IsCarried, Due.IsDue, Flown.HasFlown, Records.SameNames, Rooted.IsRooted, Scripts.is_last, Spots.Spot, View.{common_of, desk_of, driver_of, landed_in, numbers_of, open_seen, own_of, queue_seen, task_seen, things_of, trailing, visible}, Works.Same}, proofs.{Facts.set_there, Performing.{same_slot, unmoved_seen}, Phased.{phased_count, phased_task}, Polling.IsAfter}}
 
 -- WHAT MUST HOLD AGAIN
 
@@ -47,46 +47,31 @@ module _ {B : Type 0} where
       let found : slice_get s'.tasks.items w.root ≡ Some slot' = rw grows.items (set_there s.tasks.items w.root slot' slot grows.there) in
       let same : slot ≡ sound.runnable.root = cc (grows.there, sound.runnable.there) in
       let run : IsRunnable (one_of w.root_ready w.hand) slot = subst (IsRunnable (one_of w.root_ready w.hand)) (sym same) sound.runnable.once in
-      let done : SoundAt q w1 s1 = record {
-        here = refl;
-        config = sound.config;
-        gates = sound.gates;
-        index = sound.index;
-        time = sound.time;
-        told = g.told;
-        named = g.named;
-        runnable = record {
-          root = slot';
-          there = found;
-          home = grows.home ∙ ap (λ o. o.home) same ∙ sound.runnable.home;
-          number = ap (λ c. c.number) grows.cell ∙ ap (λ o. o.cell.number) same ∙ sound.runnable.number;
-          once = runs_still (one_of w.root_ready w.hand) run;
-          one = sound.runnable.one;
-        };
-        alone = subst (λ a. IsAlone w.index a s.seats.items s.global.values) (sym to.unarmed) sound.alone;
-        share = λ chair there. to.share (room_of (queue_seen chair.queue));
-        sized = g.sized;
-        processed = sound.processed;
-        hand = grows.hand;
-        left = to.left w'.home.deferred;
-        over = g.over;
-        batch = sound.batch;
-        quiet = λ h. g.untold;
-        due = subst (λ y. IsDue y w.index w.moments s.config w'.names (driver_of w1) w'.home.timers s'.requests.items s'.sleepers.items) (sym to.served) g.due;
-        flown = subst (λ y. HasFlown y w.index w'.names (driver_of w1) s'.requests.items) (sym to.served) g.flown;
-        carried = g.carried;
-        rooted = g.rooted;
-        phased = λ chair there.
-            subst (λ c. IsPhased c (closing_in q) w.home.closing w.root w'.names.unreleased (stage_of chair s) s'.tasks.items) (sym to.open_still)
-            (subst (λ y. IsPhased false y w.home.closing w.root w'.names.unreleased (stage_of chair s) s'.tasks.items) (sym to.closing)
-            (subst (λ ts. IsPhased false None w.home.closing w.root w'.names.unreleased (stage_of chair s) ts) (sym grows.items)
-            (phased_task false None w.home.closing w.root w'.names.unreleased (stage_of chair s) s.tasks.items slot slot' grows.there (ap (λ c. is_complete c.phase) grows.cell)
-            (phased_count false w.home.closing w.root w.names.unreleased w'.names.unreleased (stage_of chair s) s.tasks.items (sound.phased chair there)))));
-        tied = record {
-          stands = λ other at_root. let is : slot' ≡ other = cc (found, at_root) in subst (Stands (polled_in q) w.index) is grows.stands;
-          owed = subst (λ ws. AreOwed w.index w.root ws s'.tasks.items s'.requests.items s'.sleepers.items) (sym g.untold) tt;
-        };
+      let done : SoundAt q w1 s1 =
+      let runnable : HasRunnable w.index w.root w.root_ready w.hand s'.tasks.items = record {
+        root = slot';
+        there = found;
+        home = grows.home ∙ ap (λ o. o.home) same ∙ sound.runnable.home;
+        number = ap (λ c. c.number) grows.cell ∙ ap (λ o. o.cell.number) same ∙ sound.runnable.number;
+        once = runs_still (one_of w.root_ready w.hand) run;
+        one = sound.runnable.one;
       } in
+      let alone = subst (λ a. IsAlone w.index a s.seats.items s.global.values) (sym to.unarmed) sound.alone in
+      let share : (chair : Chair) → slice_get s.seats.items w.index ≡ Some chair → HasShare q (room_of (queue_seen chair.queue)) = λ chair there. to.share (room_of (queue_seen chair.queue)) in
+      let quiet : has_wakes_at q ≡ false → w'.home.deferred.notes.wakes.items ≡ [] = λ h. g.untold in
+      let due = subst (λ y. IsDue y w.index w.moments s.config w'.names (driver_of w1) w'.home.timers s'.requests.items s'.sleepers.items) (sym to.served) g.due in
+      let flown = subst (λ y. HasFlown y w.index w'.names (driver_of w1) s'.requests.items) (sym to.served) g.flown in
+      let phased : (chair : Chair) → slice_get s.seats.items w.index ≡ Some chair → IsPhased (closes_at q) (closing_in q) w.home.closing w.root w'.names.unreleased (stage_of chair s) s'.tasks.items = λ chair there.
+      subst (λ c. IsPhased c (closing_in q) w.home.closing w.root w'.names.unreleased (stage_of chair s) s'.tasks.items) (sym to.open_still)
+      (subst (λ y. IsPhased false y w.home.closing w.root w'.names.unreleased (stage_of chair s) s'.tasks.items) (sym to.closing)
+      (subst (λ ts. IsPhased false None w.home.closing w.root w'.names.unreleased (stage_of chair s) ts) (sym grows.items)
+      (phased_task false None w.home.closing w.root w'.names.unreleased (stage_of chair s) s.tasks.items slot slot' grows.there (ap (λ c. is_complete c.phase) grows.cell)
+      (phased_count false w.home.closing w.root w.names.unreleased w'.names.unreleased (stage_of chair s) s.tasks.items (sound.phased chair there))))) in
+      let tied : IsTied (polled_in q) w.index w.root w'.home.deferred.notes.wakes.items s'.tasks.items s'.requests.items s'.sleepers.items = record {
+        stands = λ other at_root. let is : slot' ≡ other = cc (found, at_root) in subst (Stands (polled_in q) w.index) is grows.stands;
+        owed = subst (λ ws. AreOwed w.index w.root ws s'.tasks.items s'.requests.items s'.sleepers.items) (sym g.untold) tt;
+      } in
+      assumption (runnable, alone, share, to.left w'.home.deferred, quiet, due, flown, phased, tied, sound, g, grows) in
       subst (λ y. SoundAt q w' y) (sym shared) (subst (λ x. SoundAt q x s1) (sym worker) done)
     where
       runs_still : (o : Option _) → IsRunnable o slot → IsRunnable o slot'

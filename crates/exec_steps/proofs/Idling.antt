@@ -1,14 +1,14 @@
 -- What the middle of a service finds where no deadline has come, none is new, and no request waits at a gate.
-use Rattle.std.{proofs.{Common.{◌≡◌, ℕ, zero, suc, ◌+◌, ◌-◌, ◌*◌, ◌/◌, ◌<◌, ◌≤◌, ◌==◌, ◌&&◌, Bool, true, false, not, List, [], ◌∷◌, length, map, Option, Some, None, refl, sym, ap, subst, ◌∙◌, arith, slice_get, nat_le}, lemmas.Bool.{false≢true, eq-eqb, Decides.nat_tests}, Math.Nat.div-lt_iff_lt-mul}, specs.{List.list_any, Option.option_map}}
+use Rattle.std.{proofs.{Common.{◌≡◌, ℕ, zero, suc, ◌+◌, ◌-◌, ◌*◌, ◌/◌, ◌<◌, ◌≤◌, ◌==◌, ◌&&◌, Bool, true, false, not, List, [], ◌∷◌, length, map, Option, Some, None, refl, sym, ap, subst, ◌∙◌, arith, slice_get, nat_le}, lemmas.Bool.{false≢true, Decides.nat_tests}, Math.Nat.div-lt_iff_lt-mul}, specs.{List.list_any, Option.option_map}}
 use Rattle.exec_base.specs.Slab.{Slab}
-use Rattle.exec_time.specs.declared.timers.Sleeper.{Sleeper as Sleeping}
 use Rattle.exec_outcomes.specs.{declared.outcome.Kind.Kind, Accounts.is_durable}
+use Rattle.exec_time.specs.declared.timers.Sleeper.{Sleeper as Sleeping}
 use Rattle.exec_request.specs.{Requests.asked_of, States.asks_cancel}
-use Rattle.exec_waiters.{proofs.Changes.entry_of, specs.{States.{waiter_at, tick_in, needs_permit}, declared.{waiter.Waiter.Waiter, waiter_id.WaiterId.WaiterId}}}
-use Rattle.exec_driver.specs.{Driving.{Driving, request_at, is_gated as waits_gated}, Lists.{is_among, is_same}, Placed.ListsRequests, Steps.lowest_gate}
+use Rattle.exec_waiters.{specs.{States.{waiter_at, tick_in, needs_permit}, declared.{waiter.Waiter.Waiter, waiter_id.WaiterId.WaiterId}}, proofs.Changes.entry_of}
+use Rattle.exec_driver.specs.{Driving.{Driving, request_at, is_gated as waits_gated}, Lists.is_among, Placed.ListsRequests, Steps.lowest_gate}
 use Rattle.exec_machine.specs.{declared.{config.Configuration.Configuration, state.Request.Request}, Deadlines.{is_due, is_first_due}, Tests.{is_gated, is_resolved}, World.{Own, Common}}
 use Rattle.exec_moves.specs.{declared.place.InService.InService, Serve.first_numbered, State.Desk, Submit.{first_due, next_gate, waits_at, due_next, staging_due}}
-use Rattle.exec_steps.{specs.{declared.parts.{mail.Reply.Reply, names.Names.Names, record.Record.Record, shared.Shared.Shared, sleeping.SleeperRecord.SleeperRecord, worker.{Worker.Worker, Moments.Moments}}, Due.{IsDue, wheel_moment}, Flown.{HasFlown, longest, IsUpTo}, Records.number_in, Sound.IsNamed, Submitting.IsGatedIn, View.driver_of}, proofs.Calling.request_seen}
+use Rattle.exec_steps.{specs.{declared.parts.{mail.Reply.Reply, names.Names.Names, record.Record.Record, shared.Shared.Shared, sleeping.SleeperRecord.SleeperRecord, worker.{Worker.Worker, Moments.Moments}}, Due.{IsDue, wheel_moment}, Flown.{HasFlown, longest, IsUpTo}, Records.number_in, Sound.IsNamed, Submitting.IsGatedIn, View.driver_of}, proofs.{Facts.{same_self, same_number}, Calling.request_seen}}
 
 -- LISTS
 
@@ -25,13 +25,10 @@ none_any test [] h = refl
 none_any test (x ∷ xs) h = rw (h 0 x refl) (none_any test xs (λ k y there. h (suc k) y there))
 
 -- what stands in the list that is shown stands among the records
-shown_there : (rs : List Record) (k : ℕ) (x : Request) → slice_get (map (λ r. r.shown) rs) k ≡ Some x → (r : Record) × (slice_get rs k ≡ Some r) × (x ≡ r.shown)
-shown_there [] k x there = absurd (cc)
-shown_there (r ∷ rs) zero x there = (r, refl, cc)
-shown_there (r ∷ rs) (suc k) x there = shown_there rs k x there
-
-same_number : (a b : ℕ) → (a == b) ≡ true → a ≡ b
-same_number a b h = grind (arith, nat_tests)
+pub shown_at : (rs : List Record) (k : ℕ) (x : Request) → slice_get (map (λ r. r.shown) rs) k ≡ Some x → (r : Record) × (slice_get rs k ≡ Some r) × (x ≡ r.shown)
+shown_at [] k x there = absurd (cc)
+shown_at (r ∷ rs) zero x there = (r, refl, cc)
+shown_at (r ∷ rs) (suc k) x there = shown_at rs k x there
 
 not_yet : (m t : ℕ) → m < t → nat_le t m ≡ false
 not_yet m t h = grind (arith, nat_tests)
@@ -97,7 +94,7 @@ module _ (x : Option InService) (i : ℕ) (m : Moments) (c : Configuration) (n :
       rw shown
       (first_none (λ r it. is_first_due c me i (map (λ q. q.shown) rs) r) 0 (map (λ q. q.shown) rs)
       (λ k j y there is.
-      let f = shown_there rs k y there in
+      let f = shown_at rs k y there in
       let same : j ≡ k = omega (arith, is) in
       rw (same, request_seen rs k f.0 f.1, sampled, undue none k f.0 f.1) refl))
 
@@ -115,7 +112,7 @@ none_gated x i gate n d rs s shown flown =
     rw shown
     (none_any (waits_at i j) (map (λ r. r.shown) rs)
     (λ q y at.
-    let f = shown_there rs q y at in
+    let f = shown_at rs q y at in
     rw f.2 (ungated_by i j f.0.shown (f.0.shown.worker == i) refl (λ mine. (flown.plain q f.0 f.1 (same_number f.0.shown.worker i mine)).ungated)))) in
     rw none (and_false (nat_le gate j)))
 
@@ -128,9 +125,6 @@ plain_kind _ n h = absurd h
 gated_needs : (a b c : Bool) → b ≡ false → (not a && b && not c) ≡ true → ⊥
 gated_needs true b c none h = false≢true h
 gated_needs false b c none h = false≢true (sym (ap (λ x. x && not c) none) ∙ h)
-
-same_self : (id : WaiterId) → is_same id id ≡ true
-same_self id = rw (eq-eqb id.0.index id.0.index refl, eq-eqb id.0.generation id.0.generation refl) refl
 
 first_among : (id : WaiterId) (ids : List WaiterId) → is_among id (id ∷ ids) ≡ true
 first_among id ids = rw (same_self id) refl

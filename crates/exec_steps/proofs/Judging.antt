@@ -4,7 +4,7 @@ use Rattle.exec_outcomes.specs.{Lawful.{is_lawful, window_in}, Outcomes.{Asked, 
 use Rattle.exec_request.specs.{Judging.{Judges, judged_as}, Requests.{asked_of, cursor_of, hinted_of}, declared.request.Request.Request as Asking}
 use Rattle.exec_waiters.specs.declared.waiter.Waiter.{Waiter}
 use Rattle.exec_machine.specs.{declared.state.Request.Request, Requests.{outcome_given, went_on, judged_of, cursor_of as cursor_in}}
-use Rattle.exec_steps.specs.{declared.parts.mail.Reply.Reply, Flown.{IsUpTo, longest}, Sound.IsAlike}
+use Rattle.exec_steps.{specs.{declared.parts.mail.Reply.Reply, Flown.{IsUpTo, longest}, Sound.IsAlike}, proofs.Facts.and_none}
 
 -- WHAT A RESULT MEANS doesn't hang on whether the operations may still have the hint
 
@@ -57,10 +57,6 @@ passes_none _ n part r h = absurd h
 none_pass : (k : Kind) (n : ℕ) (part : Part) (rs : List (Judged × ℕ)) → IsUpTo (longest k) n → list_any (passes_on k part) rs ≡ false
 none_pass k n part [] h = refl
 none_pass k n part (r ∷ rs) h = rw (passes_none k n part r h) (none_pass k n part rs h)
-
-and_none : (a b : Bool) → b ≡ false → (a && b) ≡ false
-and_none true b h = h
-and_none false b h = refl
 
 or_none : (a b : Bool) → a ≡ false → b ≡ false → (a || b) ≡ false
 or_none true b p q = absurd (false≢true (sym p))

@@ -3,26 +3,13 @@ use Rattle.std.proofs.{Common.{◌≡◌, ◌≢◌, ℕ, zero, suc, ◌+◌, �
 use Rattle.exec_outcomes.specs.declared.outcome.OpResult.{OpResult}
 use Rattle.exec_ring.specs.{Completions.completed, declared.store.Store.Store}
 use Rattle.exec_waiters.specs.{Ids.user_data_of, States.{flying_count, pending_count}}
-use Rattle.exec_task.specs.declared.body.Said.{Said}
 use Rattle.exec_driver.specs.{Driving.Driving, Punctual.IsPunctual}
+use Rattle.exec_task.specs.declared.body.Said.{Said}
 use Rattle.exec_machine.specs.{Callers.after_landing, Progress.Plan, Ranges.ring_size, Tests.is_staged, World.{Seat, request_of}, declared.state.Rest.TheVariants.Awake}
-use Rattle.exec_steps.{specs.{declared.parts.{mail.Reply.Reply, record.Record.Record, seat.Seat.Seat as Chair, shared.Shared.Shared, worker.Worker.Worker}, Carried.{IsCarried, landing}, Due.IsDue, Flown.{HasFlown, IsPlain, operations}, Phased.TurnsChair, Records.{number_in, roused}, Rooted.IsRooted, Serving.{changed_at, changed_in}, Sound.{tellers, SoundAt, Sound, IsTold, IsNamed, IsSubmitted, AreOver, AreOwed, served_in, polled_in}, Spots.Spot, View.{Visible, visible, own_of, desk_of, driver_of, common_of, seats_seen, seat_seen, open_seen, number_told}, Works.Suits}, proofs.{Calling.{request_seen, shown_changed}, Carrying.{Leaves, one_landed, index_told}, Changing.{OneGoesOn, named_one, timed_one, all_go_one, some_after, ready_before, live_still, pending_still, flying_after}, Going.{over_on, owed_on, rooted_on}, Keys.{same_opens, names_kept}, Landing.{Lander, driver_then, place_of, records_then, there_so, carried_then, landed_then, landing_on, landing_alike, live_before}, Marking.{mark_if, was_marked}, Resting.stir_kept, Seeing.{own_with, desk_with, visible_with}, Serving.own_seat, Staging.known_then, Orders.{alike_self, eased, eases_written, part_self}}}
+use Rattle.exec_steps.{specs.{Sound.{IsTied, tellers, SoundAt, Sound, IsTold, IsNamed, IsSubmitted, AreOver, AreOwed, served_in, polled_in}, declared.parts.{mail.Reply.Reply, record.Record.Record, seat.Seat.Seat as Chair, shared.Shared.Shared, worker.Worker.Worker}, Carried.{IsCarried, landing}, Due.IsDue, Flown.{HasFlown, IsPlain, operations}, Phased.TurnsChair, Records.{number_in, roused}, Rooted.IsRooted, Serving.{changed_at, changed_in}, Spots.Spot, View.{Visible, visible, own_of, desk_of, driver_of, common_of, seats_seen, seat_seen, open_seen, number_told}, Works.Suits}, proofs.{Going.{ours_on, owning_on, over_on, owed_on, rooted_on}, Marking.{plain_kept, mark_kept, mark_if, was_marked}, Seats.own_seat, Calling.{request_seen, shown_changed}, Carrying.{Leaves, one_landed, index_told}, Changing.{OneGoesOn, named_one, timed_one, all_go_one, some_after, ready_before, live_still, pending_still, flying_after}, Keys.{same_opens, names_kept}, Landing.{Lander, driver_then, place_of, records_then, there_so, carried_then, landed_then, landing_on, landing_alike, live_before}, Resting.stir_kept, Seeing.{own_with, desk_with, visible_with}, Staging.known_then, Orders.{alike_self, eased, eases_written, part_self}}}
 
-mark_worker : (n : OpResult) (b : Bool) (r : Record) → (mark_if (landing n) b r).shown.worker ≡ r.shown.worker
-mark_worker n true r = refl
-mark_worker n false r = refl
-
-mark_cancel : (n : OpResult) (b : Bool) (r : Record) → (mark_if (landing n) b r).shown.cancel_staged ≡ r.shown.cancel_staged
-mark_cancel n true r = refl
-mark_cancel n false r = refl
-
-mark_released : (n : OpResult) (b : Bool) (r : Record) → (mark_if (landing n) b r).shown.released ≡ r.shown.released
-mark_released n true r = refl
-mark_released n false r = refl
-
-mark_plain : (n : OpResult) (b : Bool) (r : Record) → IsPlain r.shown → IsPlain (mark_if (landing n) b r).shown
-mark_plain n true r p = record { bounded = p.bounded; moved = p.moved; first_part = p.first_part; unhinted = p.unhinted; ungated = refl; deadline = p.deadline }
-mark_plain n false r p = p
+plain_landed : (n : OpResult) (r : Record) → IsPlain r.shown → IsPlain (landing n r).shown
+plain_landed n r p = record { bounded = p.bounded; moved = p.moved; first_part = p.first_part; unhinted = p.unhinted; ungated = refl; deadline = p.deadline }
 
 mark_staged : (n : OpResult) (b : Bool) (r : Record) → is_staged (mark_if (landing n) b r).shown.phase ≡ true → is_staged r.shown.phase ≡ true
 mark_staged n true r h = absurd (false≢true h)
@@ -62,7 +49,7 @@ module _ {B : Type 0} (w : Worker) (s : Shared B) (k : ℕ) (n : OpResult) (who 
         known = known_then w.names.staged.items rs q (landing n) sub.known;
         own = λ j x h found.
             let old = was_marked (landing n) rs q j x found in
-            ap (λ y. y.shown.worker) old.2 ∙ mark_worker n (q == j) old.0 ∙ sound.flown.ours j old.0 old.1;
+            ap (λ y. y.shown.worker) old.2 ∙ mark_kept ℕ (λ x. x.shown.worker) (landing n) (λ x. refl) (q == j) old.0 ∙ sound.flown.ours j old.0 old.1;
         all = λ j x found mine staged.
             let old = was_marked (landing n) rs q j x found in
             sub.all j old.0 old.1 (sound.flown.ours j old.0 old.1) (mark_staged n (q == j) old.0 (sym (ap (λ y. is_staged y.shown.phase) old.2) ∙ staged));
@@ -74,28 +61,23 @@ module _ {B : Type 0} (w : Worker) (s : Shared B) (k : ℕ) (n : OpResult) (who 
       let flown = sound.flown in
       let rs = s.requests.items in
       let q = place_of w s k n who in
+      let all = all_go_one rs q (landing n) who.r (there_so w s k n who) (landing_on n who.r who.flies) in
       record {
         ending = flown.ending;
         staging = flown.staging;
         telling = flown.telling;
         entries = flown.entries;
         permits = flown.permits;
-        ours = λ j x found.
-            let old = was_marked (landing n) rs q j x found in
-            ap (λ y. y.shown.worker) old.2 ∙ mark_worker n (q == j) old.0 ∙ flown.ours j old.0 old.1;
-        plain = λ j x found mine.
-            let old = was_marked (landing n) rs q j x found in
-            subst (λ y. IsPlain y.shown) (sym old.2) (mark_plain n (q == j) old.0 (flown.plain j old.0 old.1 (flown.ours j old.0 old.1)));
+        ours = ours_on rs (records_then w s k n who) all w.index flown.ours;
+        plain = plain_kept (landing n) rs q (plain_landed n) w.index flown.ours flown.plain;
         landed = landed_then w s k n who sound;
         enrolling = λ id x live takes some. flown.enrolling id x (sym (live_before w s k n who id.0) ∙ live) takes some;
         acks = (one_landed (driver_of w).ring (user_data_of who.r.id.0) n (rw (index_told who.r.id.0 who.small) who.small)).acks flown.acks;
-        owning = λ j x found unresolved.
-            let old = (all_go_one rs q (landing n) who.r (there_so w s k n who) (landing_on n who.r who.flies)).was j x found in
-            ap (λ y. y.shown.released) old.on.same ∙ flown.owning j old.r old.there (sym old.on.over ∙ unresolved);
+        owning = owning_on rs (records_then w s k n who) all flown.owning;
         uncancelled = λ id x among found.
             let j = number_in w.names.requests.items id.0 in
             let old = was_marked (landing n) rs q j x found in
-            ap (λ y. y.shown.cancel_staged) old.2 ∙ mark_cancel n (q == j) old.0 ∙ flown.uncancelled id old.0 among old.1;
+            ap (λ y. y.shown.cancel_staged) old.2 ∙ mark_kept Bool (λ x. x.shown.cancel_staged) (landing n) (λ x. refl) (q == j) old.0 ∙ flown.uncancelled id old.0 among old.1;
       }
 
   pub records_set : (x : Record) → x ≡ who.r → slice_set s.requests.items k (landing n x) ≡ records_then w s k n who
@@ -143,31 +125,17 @@ module _ {B : Type 0} (w : Worker) (s : Shared B) (k : ℕ) (n : OpResult) (who 
       owed_on rs rs' all w.index w.root w.home.deferred.notes.wakes.items s.tasks.items ss sound.tied.owed in
       let w1 : Worker = record w { home = record w.home { driver = w'.home.driver } } in
       let s1 : Shared B = record s { requests = s'.requests; store = s'.store } in
-      let again : SoundAt w.place w1 s1 = record {
-        here = refl;
-        config = sound.config;
-        gates = sound.gates;
-        index = sound.index;
-        time = sound.time;
-        told = subst (λ x. IsTold w.names.ended.items w.home.deferred (tellers x.requests zs)) (sym driver) told1;
-        named = subst (λ x. IsNamed w.index w.names x zs s'.requests.items ss) (sym driver) (subst (λ x. IsNamed w.index w.names d1 zs x ss) (sym records) named1);
-        runnable = sound.runnable;
-        alone = sound.alone;
-        share = sound.share;
-        sized = subst (λ (x : Driving Reply Reply). x.ring.size ≡ ring_size s.config) (sym driver) sound.sized;
-        processed = sound.processed;
-        hand = sound.hand;
-        left = sound.left;
-        over = subst (λ x. AreOver w.index w.names.ended.items w.names.unreleased (pending_count x.requests) s'.requests.items) (sym driver) (subst (λ x. AreOver w.index w.names.ended.items w.names.unreleased (pending_count d1.requests) x) (sym records) over1);
-        batch = sound.batch;
-        quiet = sound.quiet;
-        due = subst (λ x. IsDue (served_in w.place) w.index w.moments s.config w.names x zs s'.requests.items ss) (sym driver) (subst (λ x. IsDue (served_in w.place) w.index w.moments s.config w.names d1 zs x ss) (sym records) due1);
-        flown = subst (λ x. HasFlown (served_in w.place) w.index w.names x s'.requests.items) (sym driver) (subst (λ x. HasFlown (served_in w.place) w.index w.names d1 x) (sym records) flown_then);
-        carried = landed_carried (driver_of w') s'.requests.items s'.store driver records leaves;
-        rooted = subst (λ x. IsRooted (polled_in w.place) w.index w.root w.names x zs s.tasks.items s'.requests.items ss) (sym driver) (subst (λ x. IsRooted (polled_in w.place) w.index w.root w.names d1 zs s.tasks.items x ss) (sym records) rooted1);
-        phased = sound.phased;
-        tied = record { stands = sound.tied.stands; owed = subst (λ x. AreOwed w.index w.root w.home.deferred.notes.wakes.items s.tasks.items x ss) (sym records) owed1 };
-      } in
+      let again : SoundAt w.place w1 s1 =
+      let told = subst (λ (x : Driving Reply Reply). IsTold w.names.ended.items w.home.deferred (tellers x.requests zs)) (sym driver) told1 in
+      let named = subst (λ x. IsNamed w.index w.names x zs s'.requests.items ss) (sym driver) (subst (λ x. IsNamed w.index w.names d1 zs x ss) (sym records) named1) in
+      let sized = subst (λ (x : Driving Reply Reply). x.ring.size ≡ ring_size s.config) (sym driver) sound.sized in
+      let over = subst (λ (x : Driving Reply Reply). AreOver w.index w.names.ended.items w.names.unreleased (pending_count x.requests) s'.requests.items) (sym driver) (subst (λ x. AreOver w.index w.names.ended.items w.names.unreleased (pending_count d1.requests) x) (sym records) over1) in
+      let due = subst (λ x. IsDue (served_in w.place) w.index w.moments s.config w.names x zs s'.requests.items ss) (sym driver) (subst (λ x. IsDue (served_in w.place) w.index w.moments s.config w.names d1 zs x ss) (sym records) due1) in
+      let flown = subst (λ x. HasFlown (served_in w.place) w.index w.names x s'.requests.items) (sym driver) (subst (λ x. HasFlown (served_in w.place) w.index w.names d1 x) (sym records) flown_then) in
+      let carried = landed_carried (driver_of w') s'.requests.items s'.store driver records leaves in
+      let rooted = subst (λ x. IsRooted (polled_in w.place) w.index w.root w.names x zs s.tasks.items s'.requests.items ss) (sym driver) (subst (λ x. IsRooted (polled_in w.place) w.index w.root w.names d1 zs s.tasks.items x ss) (sym records) rooted1) in
+      let tied : IsTied (polled_in w.place) w.index w.root w.home.deferred.notes.wakes.items s.tasks.items s'.requests.items ss = record { stands = sound.tied.stands; owed = subst (λ x. AreOwed w.index w.root w.home.deferred.notes.wakes.items s.tasks.items x ss) (sym records) owed1 } in
+      assumption (told, named, sized, over, due, flown, carried, rooted, tied, sound) in
       subst (λ x. SoundAt w.place x s1) (sym same) again
 
   pub landed_sound : (w' : Worker) (s' : Shared B) → driver_of w' ≡ driver_then w s k n who → IsPunctual (driver_of w') → w' ≡ record w { home = record w.home { driver = w'.home.driver } } → s'.requests.items ≡ records_then w s k n who

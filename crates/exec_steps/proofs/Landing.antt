@@ -1,23 +1,13 @@
 -- A result lands: what holds again of the worker and of what it shares, and what is seen then.
-use Rattle.std.proofs.{Common.{◌≡◌, ◌≢◌, ℕ, ◌+◌, ◌<◌, ◌==◌, Bool, true, false, List, [], ◌∷◌, ◌++◌, map, Option, Some, None, refl, sym, ap, subst, ◌∙◌, arith, inl, inr, slice_get, slice_index_or}, lemmas.{Bool.{false≢true, eq-eqb, Decides.nat_tests}, List.{map-append, Folds.list_any-append}}}
-use Rattle.exec_base.{specs.{Slab.{value_at, written}, declared.slab.Id.Id}, proofs.Slots.id_cases}
+use Rattle.std.proofs.{Common.{◌≡◌, ◌≢◌, ℕ, ◌+◌, ◌<◌, ◌==◌, Bool, true, false, List, [], ◌∷◌, ◌++◌, map, Option, Some, None, refl, sym, ap, subst, ◌∙◌, slice_get, slice_index_or}, lemmas.{Bool.{false≢true, eq-eqb}, List.{map-append, Folds.list_any-append}}}
+use Rattle.exec_base.specs.{Slab.{value_at, written}, declared.slab.Id.Id}
 use Rattle.exec_outcomes.specs.declared.outcome.OpResult.{OpResult}
 use Rattle.exec_request.specs.Requests.{target_of}
 use Rattle.exec_ring.specs.{Completions.completed, Kernels.{is_of, landed}, declared.{completion.Completion.Completion, store.Store.Store}}
-use Rattle.exec_waiters.{proofs.Changes.entry_of, specs.{Ids.{user_data_of, index_in}, States.waiter_at, declared.waiter.{Entry.TheVariants.Pending, Waiter.Waiter}}}
+use Rattle.exec_waiters.{specs.{Ids.{user_data_of, index_in}, States.waiter_at, declared.waiter.{Entry.TheVariants.Pending, Waiter.Waiter}}, proofs.Changes.entry_of}
 use Rattle.exec_driver.specs.{Driving.Driving, Steps.LandsOne}
-use Rattle.exec_machine.specs.{Tests.{is_in_flight, is_resolved}, declared.state.RequestPhase.RequestPhase}
-use Rattle.exec_steps.{specs.{declared.parts.{mail.Reply.Reply, record.Record.Record, shared.Shared.Shared, worker.Worker.Worker}, Carried.{IsCarried, IsLone, IsUnderWay, IsWhole, MayLand, those_of, landing}, Flown.{AreLanded, HasLanded, operations}, Records.number_in, Serving.changed_at, Sound.{Sound, IsAlike}, View.{driver_of, number_told}}, proofs.{Carrying.{MayFly, may_fly, Leaves, flown_so, room_landed, under_way_on, others_fly, one_landed, index_told, generation_told, result_told, lone_removed}, Changing.changes_one, Flown.landed_on, Going.GoesOn, Marking.{mark_if, marked, was_marked}}}
-
-same_number : (a b : ℕ) → (a == b) ≡ true → a ≡ b
-same_number a b h = grind (arith, nat_tests)
-
-not_same : (a b : ℕ) → (a ≡ b → ⊥) → (a == b) ≡ false
-not_same a b apart = by (a == b) refl
-  where
-    by : (x : Bool) → (a == b) ≡ x → (a == b) ≡ false
-    by true is = absurd (apart (same_number a b is))
-    by false is = is
+use Rattle.exec_machine.specs.{declared.state.{Operation.Operation, RequestPhase.RequestPhase}, Tests.{is_in_flight, is_resolved}}
+use Rattle.exec_steps.{specs.{declared.parts.{mail.Reply.Reply, record.Record.Record, shared.Shared.Shared, worker.Worker.Worker}, Carried.{IsCarried, IsLone, IsUnderWay, IsWhole, MayLand, those_of, landing}, Flown.{AreLanded, HasLanded, operations}, Records.number_in, Serving.changed_at, Sound.{Sound, IsAlike}, View.{driver_of, number_told}}, proofs.{Facts.{by_name, same_number, not_same}, Marking.{mark_kept, mark_if, marked, was_marked}, Carrying.{MayFly, may_fly, Leaves, flown_so, room_landed, under_way_on, others_fly, one_landed, index_told, generation_told, result_told, lone_removed}, Changing.changes_one, Flown.landed_on, Going.GoesOn}}
 
 -- WHO LANDS
 
@@ -79,28 +69,8 @@ landing_on n r flies =
 
 pub landing_alike : (start tick : ℕ) (n : OpResult) (it : Waiter Reply Reply) (r : Record) → it.in_flight ≡ true → IsAlike start tick it r.shown → IsAlike start tick it (landing n r).shown
 landing_alike start tick n it r flies a =
-    record {
-      asked = a.asked;
-      moved = a.moved;
-      switched = a.switched;
-      come = a.come;
-      hinted = a.hinted;
-      deadline = a.deadline;
-      cancelled = a.cancelled;
-      timer = a.timer;
-      observed = a.observed;
-      waiter = a.waiter;
-      flying = sym flies;
-      permit = λ h. absurd (false≢true h);
-      open_still = refl;
-      near = a.near;
-      going = a.going;
-      told_once = a.told_once;
-    }
-
-mark_operation : (n : OpResult) (b : Bool) (r : Record) → (mark_if (landing n) b r).shown.operation ≡ r.shown.operation
-mark_operation n true r = refl
-mark_operation n false r = refl
+    let permit : false ≡ true → it.permit ≡ false = λ h. absurd (false≢true h) in
+    assumption (sym flies, permit, a)
 
 module _ {B : Type 0} (w : Worker) (s : Shared B) (k : ℕ) (n : OpResult) (who : Lander w s k n) where
   abbrev pub driver_then : Driving Reply Reply
@@ -135,11 +105,9 @@ module _ {B : Type 0} (w : Worker) (s : Shared B) (k : ℕ) (n : OpResult) (who 
   pub live_before : (other : Id) → waiter_at driver_then.requests other ≡ waiter_at (driver_of w).requests other
   live_before other =
       let changed = changes_one (driver_of w).requests who.r.id.0 who.it who.it who.live in
-      elim (id_cases other who.r.id.0) [
-        | inl i ↦ changed.others other (λ e. i (ap (λ (q : Id). q.index) e))
-        | inr (inl e) ↦ changed.others other (λ q. e.1 (ap (λ (y : Id). y.generation) q))
-        | inr (inr same) ↦ ap (waiter_at driver_then.requests) same ∙ changed.is_at ∙ sym who.live ∙ ap (waiter_at (driver_of w).requests) (sym same)
-      ]
+      by_name other who.r.id.0
+      (λ apart. changed.others other apart)
+      (λ same. ap (waiter_at driver_then.requests) same ∙ changed.is_at ∙ sym who.live ∙ ap (waiter_at (driver_of w).requests) (sym same))
 
   module _ (sound : Sound w s) where
     -- WHAT THE KERNEL HAS STILL
@@ -170,7 +138,7 @@ module _ {B : Type 0} (w : Worker) (s : Shared B) (k : ℕ) (n : OpResult) (who 
           whole = λ other x live. sound.carried.whole other x (sym (live_before other) ∙ live);
           target = λ other x y live there.
               let old = was_marked (landing n) s.requests.items place_of (number_in w.names.requests.items other) y there in
-              ap (λ z. z.shown.operation.target) old.2 ∙ ap (λ o. o.target) (mark_operation n (place_of == number_in w.names.requests.items other) old.0)
+              ap (λ z. z.shown.operation.target) old.2 ∙ ap (λ o. o.target) (mark_kept Operation (λ x. x.shown.operation) (landing n) (λ x. refl) (place_of == number_in w.names.requests.items other) old.0)
               ∙ sound.carried.target other x old.0 (sym (live_before other) ∙ live) old.1;
           carried = λ other x y live there.
               let old = was_marked (landing n) s.requests.items place_of (number_in w.names.requests.items other) y there in

@@ -1,14 +1,14 @@
 -- A deadline that has passed, or is beyond the wheel, ends its request.
-use Rattle.std.{proofs.{Common.{◌≡◌, ◌≢◌, ℕ, ◌+◌, ◌-◌, ◌*◌, ◌^◌, ◌<◌, ◌≤◌, ◌==◌, ◌&&◌, Bool, true, false, not, ◌∷◌, ◌++◌, length, map, filter, Option, Some, None, IsSome, IfSome, refl, sym, ap, subst, ◌∙◌, arith, slice_get, slice_set, drop, if◌then◌else◌, Result, Ok, Err}, lemmas.Bool.{false≢true, eq-eqb}}, specs.Option.option_map}
+use Rattle.std.{proofs.{Common.{◌≡◌, ◌≢◌, ℕ, ◌+◌, ◌-◌, ◌*◌, ◌^◌, ◌<◌, ◌≤◌, ◌==◌, Bool, true, false, not, ◌∷◌, ◌++◌, length, map, filter, Option, Some, None, IsSome, IfSome, refl, sym, ap, subst, ◌∙◌, arith, slice_get, slice_set, drop, if◌then◌else◌, Result, Ok, Err}, lemmas.Bool.{false≢true, eq-eqb}}, specs.Option.option_map}
 use Rattle.exec_base.specs.{Slab.value_at, declared.{error.{Error.Error, Cause.Cause}, slab.Id.Id}}
 use Rattle.exec_outcomes.specs.declared.outcome.Outcome.{Outcome, TheVariants.Failure}
 use Rattle.exec_request.specs.{Requests.{asked_of, output_of}, declared.{output.RequestOutput.RequestOutput, request.Request.Request as Asking}}
-use Rattle.exec_task.specs.declared.body.Said.{Said}
-use Rattle.exec_waiters.{proofs.Changes.entry_of, specs.{Events.{finished, output_told, told_by_finish, waker_in}, States.{tick_in, flying_count}, Told.{Tells, Told, tasks_of}, declared.{waiter.Waiter.Waiter, waiter_id.WaiterId.WaiterId, observer.Observer.{Observer, TheVariants.{Local, Orphaned}}}}}
+use Rattle.exec_waiters.{specs.{Events.{finished, output_told, told_by_finish, waker_in}, States.{tick_in, flying_count}, Told.{Tells, Told, tasks_of}, declared.{waiter.Waiter.Waiter, waiter_id.WaiterId.WaiterId, observer.Observer.{Observer, TheVariants.{Local, Orphaned}}}}, proofs.Changes.entry_of}
 use Rattle.exec_driver.specs.{Driving.{Driving, request_at, is_queued, is_unenrolled, is_cancelled}, Lists.{first_of, rest_of, is_among, after_enrolment, without, withdrawn}, Punctual.IsPunctual, Steps.{enrolled_by, told_by_enrolment, tick_for, ended_by, unscheduled}}
+use Rattle.exec_task.specs.declared.body.Said.{Said}
 use Rattle.exec_machine.specs.{declared.event.Event.{Event, TheVariants.Enrol}, Deadlines.outcome_at_enrol, Same.{is_none, is_number, same_end, same_cause, same_error}, Tests.is_queued as is_phase_queued, World.request_of, Requests.resolved}
 use Rattle.exec_moves.specs.{Move.move_submit, Callback.{told_of_end, waker_of}, State.Desk, Submit.{due_next, first_due, submits, Due.Enrols}, declared.place.{Service.Service, Place.Place, InService.InService}}
-use Rattle.exec_steps.{specs.{declared.parts.{mail.Reply.Reply, record.Record.Record, shared.Shared.Shared, worker.Worker.Worker}, Due.IsWheelAt, Flown.{IsUpTo, longest}, Phased.closes_at, Records.number_in, Serving.{changed_at, outcome_of_error}, Sound.is_armed_at, Spots.Spot, Submitting.IsNewIn, View.{visible, own_of, desk_of, driver_of, common_of, things_of, numbers_of}, Works.Steps, Rooted.{IsNear, outcome_told}}, proofs.{Calling.request_seen, Enrolled.{HasEnrolled, new_first}, Enrolling.enrol_same, Idling.none_due, Seeing.{makes, shows, served, common_changed, desk_with}, Serving.{is_calm, Serves, Keeps, KeepsBy, calm, kept}, Staging.split_first, Turning.set_found, Ends.{desk_ended, flying_ended, later_in, numbers_without, without_first}, Orders.alike_unticked, Ousting.keeps_ended, Over.OneEnds, Resolving.{slab_after, told_once, unticked_at}, Starting.{fills, reads, writes_bytes}, Timed.{comes_to_new, move_enrol, unset}}}
+use Rattle.exec_steps.{specs.{declared.parts.{mail.Reply.Reply, record.Record.Record, shared.Shared.Shared, worker.Worker.Worker}, Due.IsWheelAt, Flown.{IsUpTo, longest}, Records.number_in, Serving.{changed_at, outcome_of_error}, Spots.Spot, Submitting.IsNewIn, View.{visible, own_of, desk_of, driver_of, common_of, things_of, numbers_of}, Works.Steps, Rooted.{IsNear, outcome_told}}, proofs.{Serving.{serves_to, IsServed, OthersKept, keeps_home, Serves, Keeps, KeepsBy, calm, kept}, Facts.both_true, Calling.request_seen, Enrolled.{HasEnrolled, new_first}, Enrolling.enrol_same, Idling.none_due, Seeing.{makes, shows, served, common_changed, desk_with}, Staging.split_first, Turning.set_found, Ends.{desk_ended, flying_ended, later_in, numbers_without, without_first}, Orders.alike_unticked, Ousting.keeps_ended, Over.OneEnds, Resolving.{slab_after, told_once, unticked_at}, Starting.{fills, reads, writes_bytes}, Timed.{comes_to_new, move_enrol, unset}}}
 
 -- THE OUTCOME
 
@@ -16,10 +16,6 @@ same_cause_self : (x : Cause) → same_cause x x ≡ true
 same_cause_self (Cause.Code n) = eq-eqb n n refl
 same_cause_self Cause.InvalidInput = refl
 same_cause_self Cause.Closed = refl
-
-both_so : (a b : Bool) → a ≡ true → b ≡ true → (a && b) ≡ true
-both_so true b h g = g
-both_so false b h g = absurd (false≢true h)
 
 pub same_error_self : (x : Error) → same_error x x ≡ true
 same_error_self Error.Timeout = refl
@@ -33,8 +29,8 @@ same_error_self Error.BindFailed = refl
 same_error_self (Error.Io x) = same_cause_self x
 same_error_self Error.BlobInsufficientLength = refl
 same_error_self Error.OffsetOverflow = refl
-same_error_self (Error.BlobSyncFailed n x) = both_so (n == n) (same_cause x x) (eq-eqb n n refl) (same_cause_self x)
-same_error_self (Error.BlobResizeFailed n x) = both_so (n == n) (same_cause x x) (eq-eqb n n refl) (same_cause_self x)
+same_error_self (Error.BlobSyncFailed n x) = both_true (n == n) (same_cause x x) (eq-eqb n n refl) (same_cause_self x)
+same_error_self (Error.BlobResizeFailed n x) = both_true (n == n) (same_cause x x) (eq-eqb n n refl) (same_cause_self x)
 same_error_self Error.NoMemory = refl
 same_error_self Error.Full = refl
 
@@ -62,7 +58,7 @@ pub same_place : (b : Bool) (q : Place) (x y : Desk) → x.place ≡ q → y.pla
 same_place true q x y a b = ap (λ p. record x { place = p }) (sym a)
 same_place false q x y a b = ap (λ p. record y { place = p }) (sym b)
 
-abbrev ends_as : Outcome → Record → Record
+abbrev pub ends_as : Outcome → Record → Record
 ends_as outcome r = record r { shown = resolved outcome r.shown }
 
 pub stands : (d : Driving Reply Reply) (x : WaiterId) (test : Option (Waiter Reply Reply) → Bool) (o : Option (Waiter Reply Reply)) → request_at d x ≡ o → test None ≡ false → test o ≡ true → IsSome (value_at d.requests x.0)
@@ -128,19 +124,8 @@ module _ {B L : Type 0} (left : B → L) (spot : L → Option Said → Spot) whe
       let w2 : Worker = record w1 { home = record w1.home { driver = w'.home.driver } } in
       let there : w'.place ≡ q = ap (λ x. x.place) by.worker ∙ sound.here in
       let same2 : w' ≡ w2 = by.worker ∙ ap (λ y. record w { place = y; home = record w.home { driver = w'.home.driver; deferred = deferred }; names = record w.names { ended = w'.names.ended } }) sound.here in
-      let by_records : KeepsBy w1 d' w.home.timers s'.requests.items s.sleepers.items s = subst (λ x. KeepsBy w1 d' w.home.timers x s.sleepers.items s) (sym by.records) kept_now in
-      let by_driver : KeepsBy w1 (driver_of w') w.home.timers s'.requests.items s.sleepers.items s = subst (λ x. KeepsBy w1 x w.home.timers s'.requests.items s.sleepers.items s) (sym driver) by_records in
-      let by_home : KeepsBy w2 (driver_of w') w.home.timers s'.requests.items s.sleepers.items s = assumption by_driver in
-      let by_worker : KeepsBy w' (driver_of w') w'.home.timers s'.requests.items s.sleepers.items s = subst (λ x. KeepsBy x (driver_of w') x.home.timers s'.requests.items s.sleepers.items s) (sym same2) by_home in
-      let keeps : Keeps w' s' = subst (λ y. KeepsBy w' (driver_of w') w'.home.timers s'.requests.items y.sleepers.items y) (sym by.shared) (assumption by_worker) in
-      let serves : Serves q w w' s s' = record {
-        worker = subst (λ x. x ≡ record w { place = x.place; home = record w.home { driver = x.home.driver; timers = x.home.timers; deferred = x.home.deferred }; names = record w.names { ended = x.names.ended; staged = x.names.staged; untold = x.names.untold }; put_off = x.put_off }) (sym by.worker) refl;
-        shared = subst (λ z. z ≡ record s { requests = z.requests; sleepers = z.sleepers }) (sym by.shared) refl;
-        from = refl;
-        to = ap is_calm there;
-        armed = ap is_armed_at there;
-        closes = ap closes_at there;
-      } in
+      let keeps : Keeps w' s' = keeps_home w1 w' s s' rs' d' same2 by.shared driver by.records kept_now in
+      let serves : Serves q w w' s s' = serves_to q q w w' s s' (subst (IsServed w) (sym by.worker) refl) (subst (OthersKept s) (sym by.shared) refl) there refl refl refl refl in
       let show = shows q w w' s s' d' serves driver in
       let flying : flying_count d'.requests ≡ flying_count d.requests = flying_ended d.requests id.0 it (Err error) None who.live who.idle in
       let numbers : numbers_of n d.lists.enrolments ≡ k ∷ numbers_of n others = ap (numbers_of n) split in

@@ -1,18 +1,15 @@
 -- Where the callbacks lead, for a worker and for the machine.
-use Rattle.std.{proofs.{Common.{◌≡◌, ℕ, suc, ◌+◌, ◌==◌, ◌&&◌, ◌||◌, Bool, true, false, not, List, [], ◌∷◌, length, map, Option, Some, None, refl, sym, ap, subst, ◌∙◌, arith, slice_get, nat_lt, if◌then◌else◌}, lemmas.Bool.{false≢true, Decides.nat_tests}}, specs.List.list_any}
+use Rattle.std.{proofs.{Common.{◌≡◌, ℕ, ◌+◌, ◌==◌, ◌&&◌, ◌||◌, Bool, true, false, not, List, [], ◌∷◌, length, map, Option, Some, None, refl, sym, ap, subst, ◌∙◌, arith, slice_get, nat_lt, if◌then◌else◌}, lemmas.Bool.{false≢true, Decides.nat_tests}}, specs.List.list_any}
 use Rattle.exec_base.specs.declared.task_no.TaskNo.{TaskNo}
-use Rattle.exec_waiters.specs.{States.pending_count, Told.is_untold, declared.deferred.Deferred.Deferred}
-use Rattle.exec_task.specs.declared.runnable.Runnable.{Runnable}
 use Rattle.exec_words.specs.Queue.{room_of}
+use Rattle.exec_waiters.specs.{States.pending_count, Told.is_untold, declared.deferred.Deferred.Deferred}
 use Rattle.exec_driver.specs.Driving.{is_full as is_ring_full}
+use Rattle.exec_task.specs.declared.runnable.Runnable.{Runnable}
 use Rattle.exec_machine.specs.{declared.{config.Configuration.Configuration, state.Next.Next}, Ranges.ring_size, Tests.{is_empty, is_resolved}, World.{Common, Own as Books}}
 use Rattle.exec_moves.specs.{declared.place.{AfterCallbacks.AfterCallbacks, InCallbacks.InCallbacks, InClosing.InClosing, Place.Place, InRingWait.InRingWait, Stay.Stay}, Callback.{has_callbacks, has_requests, is_full, after_callbacks, next_callback}, Seen.{polls_at, next_at, serves_at}, State.Desk}
-use Rattle.exec_steps.{specs.{declared.parts.{mail.Reply.Reply, names.Names.Names, record.Record.Record, seat.Seat.Seat as Chair, shared.Shared.Shared, sleeping.SleeperRecord.SleeperRecord, task_slot.TaskSlot.TaskSlot, worker.Worker.Worker}, Carried.IsCarried, Phased.{IsPhased, Stage, closes_at, closing_in, stage_of}, Sound.{tellers, SoundAt, IsAlone, IsTold, IsNamed, IsTied, AreOver, HasRunnable, InHand, HasShare, HasLeft, has_wakes_at, polled_in, served_in, is_armed_at}, Due.IsDue, Flown.HasFlown, Rooted.IsRooted, Tests.{is_anything_told, has_open_requests, after_callbacks_of, next_callback_of}, View.{driver_of, queue_seen}}, proofs.{Standing.requests_seen, Phased.{phased_count, phased_end}, Turning.{is_between, between}}}
+use Rattle.exec_steps.{specs.{declared.parts.{mail.Reply.Reply, names.Names.Names, record.Record.Record, seat.Seat.Seat as Chair, shared.Shared.Shared, sleeping.SleeperRecord.SleeperRecord, task_slot.TaskSlot.TaskSlot, worker.Worker.Worker}, Carried.IsCarried, Phased.{IsPhased, Stage, closes_at, closing_in, stage_of}, Sound.{tellers, SoundAt, IsAlone, IsTold, IsNamed, IsTied, AreOver, HasRunnable, InHand, HasShare, HasLeft, has_wakes_at, polled_in, served_in, is_armed_at}, Due.IsDue, Flown.HasFlown, Rooted.IsRooted, Tests.{is_anything_told, has_open_requests, after_callbacks_of, next_callback_of}, View.{driver_of, queue_seen}}, proofs.{Facts.{zero_false, by_not_not, by_not}, Standing.requests_seen, Phased.{phased_count, phased_end}, Turning.{is_between, between}}}
 
 -- TESTS
-
-zero_false : (n : ℕ) → (suc n == 0) ≡ false
-zero_false n = grind (arith, nat_tests)
 
 pub positive_seen : (n : ℕ) → nat_lt 0 n ≡ not (n == 0)
 positive_seen n = grind (arith, nat_tests)
@@ -30,14 +27,6 @@ none_told true true true = refl
 none_told true true false = refl
 none_told true false c = refl
 none_told false b c = refl
-
-by_not : (b : Bool) → not b ≡ true → b ≡ false
-by_not true h = absurd (false≢true h)
-by_not false h = refl
-
-by_not_not : (b : Bool) → not b ≡ false → b ≡ true
-by_not_not true h = refl
-by_not_not false h = absurd (false≢true (sym h))
 
 rest_told : (left : Deferred Reply Reply) → left.notes.completions.items ≡ [] → left.results.items ≡ []
     → not ((length left.notes.wakes.items == 0) && true && (length left.outputs.items == 0) && (length left.resources.items == 0) && true) ≡ not (is_untold left)
@@ -202,33 +191,16 @@ module _ {B : Type 0} where
       → SoundAt q' (record w { place = q'; root_ready = v.root_ready; names = record w.names { ended = v.names.ended; unreleased = v.names.unreleased }; home = record w.home { deferred = v.home.deferred } }) (record s { tasks = s'.tasks; requests = s'.requests; sleepers = s'.sleepers })
   follows q q' w v s s' sound from to it =
       let m : Names = record w.names { ended = v.names.ended; unreleased = v.names.unreleased } in
-      record {
-        here = refl;
-        config = sound.config;
-        gates = sound.gates;
-        index = sound.index;
-        time = sound.time;
-        told = it.told;
-        named = it.named;
-        runnable = it.runnable;
-        alone = subst (λ a. IsAlone w.index a s.seats.items s.global.values) (from.unarmed ∙ sym to.unarmed) sound.alone;
-        share = λ chair there. to.share (room_of (queue_seen chair.queue));
-        sized = sound.sized;
-        processed = sound.processed;
-        hand = to.hands w.root w.hand (from.empty w.root w.hand sound.hand);
-        left = to.some_left;
-        over = it.over;
-        batch = sound.batch;
-        quiet = to.quiet;
-        due = subst (λ x. IsDue x w.index w.moments s.config m (driver_of w) w.home.timers s'.requests.items s'.sleepers.items) (sym to.served) it.due;
-        flown = subst (λ x. HasFlown x w.index m (driver_of w) s'.requests.items) (sym to.served) it.flown;
-        carried = it.carried;
-        rooted = subst (λ x. IsRooted x w.index w.root m (driver_of w) w.home.timers s'.tasks.items s'.requests.items s'.sleepers.items) (sym to.stands) it.rooted;
-        phased = λ chair there.
-            subst (λ c. IsPhased c (closing_in q') w.home.closing w.root v.names.unreleased (stage_of chair s) s'.tasks.items) (sym to.closes_there)
-            (phased_led (closes_at q) (closing_in q') w.home.closing w.root w.names.unreleased v.names.unreleased (stage_of chair s) s'.tasks.items to.ended (it.phased chair there));
-        tied = subst (λ x. IsTied x w.index w.root v.home.deferred.notes.wakes.items s'.tasks.items s'.requests.items s'.sleepers.items) (sym to.stands) it.tied;
-      }
+      let alone = subst (λ a. IsAlone w.index a s.seats.items s.global.values) (from.unarmed ∙ sym to.unarmed) sound.alone in
+      let share : (chair : Chair) → slice_get s.seats.items w.index ≡ Some chair → HasShare q' (room_of (queue_seen chair.queue)) = λ chair there. to.share (room_of (queue_seen chair.queue)) in
+      let due = subst (λ x. IsDue x w.index w.moments s.config m (driver_of w) w.home.timers s'.requests.items s'.sleepers.items) (sym to.served) it.due in
+      let flown = subst (λ x. HasFlown x w.index m (driver_of w) s'.requests.items) (sym to.served) it.flown in
+      let rooted = subst (λ x. IsRooted x w.index w.root m (driver_of w) w.home.timers s'.tasks.items s'.requests.items s'.sleepers.items) (sym to.stands) it.rooted in
+      let phased : (chair : Chair) → slice_get s.seats.items w.index ≡ Some chair → IsPhased (closes_at q') (closing_in q') w.home.closing w.root v.names.unreleased (stage_of chair s) s'.tasks.items = λ chair there.
+      subst (λ c. IsPhased c (closing_in q') w.home.closing w.root v.names.unreleased (stage_of chair s) s'.tasks.items) (sym to.closes_there)
+      (phased_led (closes_at q) (closing_in q') w.home.closing w.root w.names.unreleased v.names.unreleased (stage_of chair s) s'.tasks.items to.ended (it.phased chair there)) in
+      let tied = subst (λ x. IsTied x w.index w.root v.home.deferred.notes.wakes.items s'.tasks.items s'.requests.items s'.sleepers.items) (sym to.stands) it.tied in
+      assumption (alone, share, to.hands w.root w.hand (from.empty w.root w.hand sound.hand), to.some_left, due, flown, rooted, phased, tied, sound, it, to)
 
   -- nothing of that has changed
   pub unchanged : (q : Place) (w : Worker) (s : Shared B) → SoundAt q w s → Comes q → Follows q w w s s

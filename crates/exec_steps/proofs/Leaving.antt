@@ -1,19 +1,16 @@
 -- What the root holds and is owed, and what has landed, once a request is over.
-use Rattle.std.{proofs.{Common.{◌≡◌, ◌≢◌, ℕ, ◌+◌, ◌==◌, Bool, true, false, List, [], ◌∷◌, ◌++◌, Option, Some, None, IsSome, refl, sym, ap, subst, ◌∙◌, arith, inl, inr, slice_get}, lemmas.Bool.{false≢true, eq-eqb, Decides.nat_tests}}, specs.VecDeque.deque_capacity}
-use Rattle.exec_base.{specs.{Slab.{Slab, value_at}, declared.{slab.Id.Id, task_no.TaskNo.TaskNo}}, proofs.Slots.id_cases}
+use Rattle.std.{proofs.{Common.{◌≡◌, ◌≢◌, ℕ, ◌+◌, ◌==◌, Bool, true, false, List, [], ◌∷◌, ◌++◌, Option, Some, None, IsSome, refl, sym, ap, subst, ◌∙◌, inl, inr, slice_get}, lemmas.Bool.{false≢true, eq-eqb}}, specs.VecDeque.deque_capacity}
+use Rattle.exec_base.specs.{Slab.{Slab, value_at}, declared.{slab.Id.Id, task_no.TaskNo.TaskNo}}
 use Rattle.exec_outcomes.specs.declared.outcome.Outcome.{Outcome}
-use Rattle.exec_request.specs.declared.output.RequestOutput.{RequestOutput}
 use Rattle.exec_time.specs.declared.timers.Sleeper.{Sleeper as Sleeping}
-use Rattle.exec_waiters.{proofs.Changes.entry_of, specs.{States.{waiter_at, waiter_of, is_held_by}, declared.{observer.Observer.{Observer, TheVariants.{Local, Orphaned}}, waiter.{Entry.{Entry, TheVariants.{Pending, Ready}}, Waiter.Waiter}, waiter_id.WaiterId.WaiterId}}}
+use Rattle.exec_request.specs.declared.output.RequestOutput.{RequestOutput}
+use Rattle.exec_waiters.{specs.{States.{waiter_at, waiter_of, is_held_by}, declared.{observer.Observer.{Observer, TheVariants.{Local, Orphaned}}, waiter.{Entry.{Entry, TheVariants.{Pending, Ready}}, Waiter.Waiter}, waiter_id.WaiterId.WaiterId}}, proofs.Changes.entry_of}
 use Rattle.exec_driver.specs.{Driving.Driving, Lists.{is_among, withdrawn}}
 use Rattle.exec_machine.specs.{declared.state.{RequestPhase.TheVariants.Resolved, Waiting.Waiting}, Tests.is_resolved}
 use Rattle.exec_moves.specs.declared.place.InService.{InService}
-use Rattle.exec_steps.{specs.{declared.parts.{mail.Reply.Reply, names.Names.Names, record.Record.Record, sleeping.SleeperRecord.SleeperRecord, task_slot.TaskSlot.TaskSlot}, Due.AreTimed, Flown.{AreAcks, AreLanded, HasFlown, IsPlain, operations}, Records.number_in, Rooted.{Awaits, AwaitsRequest, IsNear, outcome_told}, Serving.changed_at, Sound.{AreOwed, IsNamed, OwesWake}}, proofs.{Flown.landed_on, Marking.{mark_if, marked, was_marked}, Over.{OneEnds, kept_worker, is_over, unresolved_before}, Resolving.{EntryAfter, among_still, left_among}, Rooted.Changes}}
+use Rattle.exec_steps.{specs.{declared.parts.{mail.Reply.Reply, names.Names.Names, record.Record.Record, sleeping.SleeperRecord.SleeperRecord, task_slot.TaskSlot.TaskSlot}, Due.AreTimed, Flown.{AreAcks, AreLanded, HasFlown, IsPlain, operations}, Records.number_in, Rooted.{Awaits, AwaitsRequest, IsNear, outcome_told}, Serving.changed_at, Sound.{AreOwed, IsNamed, OwesWake}}, proofs.{Facts.{by_name, same_number}, Flown.landed_on, Marking.{mark_if, marked, was_marked}, Over.{OneEnds, kept_worker, is_over, unresolved_before}, Resolving.{EntryAfter, among_still, left_among}, Rooted.Changes}}
 
 -- WHAT IS OWED
-
-same_number : (a b : ℕ) → (a == b) ≡ true → a ≡ b
-same_number a b h = grind (arith, nat_tests)
 
 number_not : (k m : ℕ) → (k ≡ m → ⊥) → (b : Bool) → (k == m) ≡ b → b ≡ false
 number_not k m apart true is = absurd (apart (same_number k m is))
@@ -109,31 +106,26 @@ module _ (i : ℕ) (n : Names) (d d' : Driving Reply Reply) (zs : Slab (Sleeping
         unpaid = λ x at h. absurd (false≢true (sym h ∙ ap (λ y. is_resolved (f y).shown.phase) (sym (found_is x at)) ∙ over));
         live = λ other x some at seen.
             let differs : other ≢ id → IsSome (value_at d'.requests other) = λ apart. subst IsSome (sym (one.slab.others other apart)) some in
-            elim (id_cases other id) [
-              | inl i ↦ differs (λ e. i (ap (λ (q : Id). q.index) e))
-              | inr (inl e) ↦ differs (λ q. e.1 (ap (λ (y : Id). y.generation) q))
-              | inr (inr same) ↦
-                  let mine : r ≡ x = found_is x (ap (λ q. slice_get rs (number_in n.requests.items q)) (sym same) ∙ at) in
-                  let held : is_held_by it.observer ≡ true = alike_there ∙ ap (λ y. y.shown.observed) mine ∙ seen in
-                  subst (λ q. IsSome (value_at d'.requests q)) (sym same) (held_after it.observer (value_at d'.requests id) held near one.slab.here)
-            ];
+            by_name other id differs
+            (λ same.
+            let mine : r ≡ x = found_is x (ap (λ q. slice_get rs (number_in n.requests.items q)) (sym same) ∙ at) in
+            let held : is_held_by it.observer ≡ true = alike_there ∙ ap (λ y. y.shown.observed) mine ∙ seen in
+            subst (λ q. IsSome (value_at d'.requests q)) (sym same) (held_after it.observer (value_at d'.requests id) held near one.slab.here));
         ready = λ other out at.
             let differs : other ≢ id → value_at d.requests other ≡ Some (Ready out) = λ apart. sym (one.slab.others other apart) ∙ at in
-            elim (id_cases other id) [
-              | inl i ↦ inl (differs (λ e. i (ap (λ (q : Id). q.index) e)))
-              | inr (inl e) ↦ inl (differs (λ q. e.1 (ap (λ (y : Id). y.generation) q)))
-              | inr (inr same) ↦
-                  let out_is = told_after it.observer (value_at d'.requests id) out near one.slab.here (ap (value_at d'.requests) (sym same) ∙ at) in
-                  inr (
-                    r,
-                    ap (number_in n.requests.items) same,
-                    one.there,
-                    record {
-                      over = ap (λ y. y.shown.phase) one.ends.same ∙ ap (λ o. Resolved o) (fits out_is.1 ∙ ap outcome_told (sym out_is.0));
-                      observed = ap (λ y. y.shown.observed) one.ends.same ∙ sym alike_there ∙ out_is.1;
-                    },
-                  )
-            ];
+            by_name other id
+            (λ apart. inl (differs apart))
+            (λ same.
+            let out_is = told_after it.observer (value_at d'.requests id) out near one.slab.here (ap (value_at d'.requests) (sym same) ∙ at) in
+            inr (
+              r,
+              ap (number_in n.requests.items) same,
+              one.there,
+              record {
+                over = ap (λ y. y.shown.phase) one.ends.same ∙ ap (λ o. Resolved o) (fits out_is.1 ∙ ap outcome_told (sym out_is.0));
+                observed = ap (λ y. y.shown.observed) one.ends.same ∙ sym alike_there ∙ out_is.1;
+              },
+            ));
       }
 
   pub flown_over : (x : Option InService) (n' : Names) → n'.requests ≡ n.requests → n'.staged ≡ n.staged → n'.untold ≡ n.untold → n'.unreleased ≡ n.unreleased → deque_capacity n'.ended ≡ deque_capacity n.ended
@@ -212,9 +204,3 @@ module _ (i : ℕ) (n : Names) (d d' : Driving Reply Reply) (zs : Slab (Sleeping
       let both : a.0 ≡ b.0 = cc (a.1, b.1, same) in
       apart (sym b.2 ∙ ap (λ z. z.id.0) (sym both) ∙ a.2) in
       record { it' = w; r' = y; live = ap waiter_of (one.slab.others other apart) ∙ at; flies = refl; same = refl; number = ap (λ v. number_in v.items other) requests; there = marked f rs k j y there ∙ ap (λ b. Some (mark_if f b y)) (number_not k j apart_k (k == j) refl); phase = refl }))
-
-  -- the same where the ring is as it was
-  pub flown_ended : (x : Option InService) (n' : Names) → n'.requests ≡ n.requests → n'.staged ≡ n.staged → n'.untold ≡ n.untold → n'.unreleased ≡ n.unreleased → deque_capacity n'.ended ≡ deque_capacity n.ended
-      → d'.ring ≡ d.ring → d'.lists ≡ withdrawn (record { 0 = id }) d.lists → it.in_flight ≡ false → IsPlain (f r).shown → HasFlown x i n d rs → HasFlown x i n' d' (changed_at rs (number_in n.requests.items id) f)
-  flown_ended x n' requests staged untold unreleased room ring lists idle plain flown =
-      flown_over x n' requests staged untold unreleased room (ap (λ y. y.size) ring) (ap (λ y. y.staged) ring) (rw ring flown.acks) (landed_still n' requests ring idle flown.landed) lists plain flown

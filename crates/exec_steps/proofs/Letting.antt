@@ -2,11 +2,11 @@
 use Rattle.std.proofs.{Common.{◌≡◌, ◌≢◌, ℕ, ◌+◌, ◌-◌, true, false, List, [], length, Some, None, refl, sym, ap, subst, ◌∙◌, inl, arith, length-append, slice_get, slice_set}, lemmas.{Bool.false≢true, List.{append-nil, length-set}}}
 use Rattle.exec_base.specs.{Slab.{value_at, written, removed, live_count, freed}, declared.slab.Id.Id}
 use Rattle.exec_request.specs.declared.output.RequestOutput.{RequestOutput}
-use Rattle.exec_waiters.specs.{Events.{cancelled as cancelled_of, with_observer, untaken}, States.{waiter_at, waiter_of, pending_count, tick_in, tick_of, awaits_tick}, Told.{Told, Tells}, declared.{deferred.Deferred.Deferred, observer.Observer.TheVariants.Orphaned, waiter.{Entry.TheVariants.{Pending, Ready}, Waiter.Waiter}}}
+use Rattle.exec_waiters.specs.{Events.{waker_in, cancelled as cancelled_of, with_observer, untaken}, States.{waiter_at, waiter_of, pending_count, tick_in, tick_of, awaits_tick}, Told.{Told, Tells}, declared.{deferred.Deferred.Deferred, observer.Observer.TheVariants.Orphaned, waiter.{Entry.TheVariants.{Pending, Ready}, Waiter.Waiter}}}
 use Rattle.exec_driver.specs.{Driving.Driving, Punctual.IsPunctual, Steps.ended}
-use Rattle.exec_moves.specs.declared.place.{InPoll.InPoll, Place.Place}
-use Rattle.exec_steps.{specs.{declared.parts.{mail.Reply.Reply, names.Names.Names, record.Record.Record, shared.Shared.Shared, task_slot.TaskSlot.TaskSlot, worker.Worker.Worker}, Due.IsWheelAt, Phased.is_complete, Polls.unobserved, Records.number_in, Rooted.{Holds, IsHeld, IsRooted, ends_poll}, Serving.changed_at, Sound.{SoundAt, IsAlike, IsTold, AreOver, AreOwed, polled_in, tellers}, View.driver_of}, proofs.{Changing.{changes_one, live_still, pending_still}, Getting.{Without, holds_fewer, other_entry, same_pending, same_waiters, still_there}, Resolving.told_once, Rooted.rooted_set, Serving.KeepsBy, Watching.{Watched, Rewatched, still_pending, by_name, due_watched, flown_watched, named_watched, over_watched, carried_watched}, Orders.{alike_self, past_removed}}}
 use Rattle.exec_machine.specs.declared.state.Waiting.{Waiting}
+use Rattle.exec_moves.specs.declared.place.{InPoll.InPoll, Place.Place}
+use Rattle.exec_steps.{specs.{Sound.{map_waker, SoundAt, IsAlike, IsTold, AreOver, AreOwed, polled_in, tellers}, declared.parts.{mail.Reply.Reply, names.Names.Names, record.Record.Record, shared.Shared.Shared, task_slot.TaskSlot.TaskSlot, worker.Worker.Worker}, Due.IsWheelAt, Phased.is_complete, Polls.unobserved, Records.number_in, Rooted.{Holds, IsRooted, ends_poll}, Serving.changed_at, View.driver_of}, proofs.{Facts.by_name, Changing.{changes_one, live_still, pending_still}, Getting.{Without, holds_fewer, other_entry, same_pending, same_waiters, still_there}, Rooted.rooted_set, Serving.KeepsBy, Watching.{Watched, Rewatched, still_pending, due_watched, flown_watched, named_watched, over_watched, carried_watched}, Orders.{alike_self, past_removed}}}
 
 -- WHAT IS TOLD: an output that nobody takes
 
@@ -43,24 +43,8 @@ without_waiter it = with_observer Orphaned it
 
 pub alike_orphaned : (start tick : ℕ) (it : Waiter Reply Reply) (r : Record) → IsAlike start tick it r.shown → IsAlike start tick (without_waiter it) (unobserved r).shown
 alike_orphaned start tick it r a =
-    record {
-      asked = a.asked;
-      moved = a.moved;
-      switched = a.switched;
-      come = a.come;
-      hinted = a.hinted;
-      deadline = a.deadline;
-      cancelled = a.cancelled;
-      timer = a.timer;
-      observed = refl;
-      waiter = λ h. absurd (false≢true h);
-      flying = a.flying;
-      permit = a.permit;
-      open_still = a.open_still;
-      near = tt;
-      going = a.going;
-      told_once = a.told_once;
-    }
+    let waiter : false ≡ true → waker_in (without_waiter it).observer ≡ map_waker r.shown.waiter = λ h. absurd (false≢true h) in
+    assumption (waiter, a)
 
 -- its cancel is asked besides
 abbrev pub let_cancel : Record → Record
@@ -68,24 +52,9 @@ let_cancel r = record r { shown = record r.shown { observed = false; cancelled =
 
 pub alike_cancelled : (start tick : ℕ) (it : Waiter Reply Reply) (r : Record) → it.in_flight ≡ true → IsAlike start tick it r.shown → IsAlike start tick (cancelled_of (without_waiter it)) (let_cancel r).shown
 alike_cancelled start tick it r flies a =
-    record {
-      asked = a.asked;
-      moved = a.moved;
-      switched = a.switched;
-      come = a.come;
-      hinted = a.hinted;
-      deadline = a.deadline;
-      cancelled = refl;
-      timer = refl;
-      observed = refl;
-      waiter = λ h. absurd (false≢true h);
-      flying = a.flying;
-      permit = a.permit;
-      open_still = a.open_still;
-      near = tt;
-      going = λ h. flies;
-      told_once = λ h. refl;
-    }
+    let waiter : false ≡ true → waker_in (without_waiter it).observer ≡ map_waker r.shown.waiter = λ h. absurd (false≢true h) in
+    let going : true ≡ true → it.in_flight ≡ true = λ h. flies in
+    assumption (waiter, going, a)
 
 -- the wheel has what it had
 pub punctual_watched : (d d' : Driving Reply Reply) (id : Id) (it it' : Waiter Reply Reply) → waiter_at d.requests id ≡ Some it → d' ≡ record d { requests = written d.requests id (Pending it') } → it'.state ≡ it.state → IsPunctual d → IsPunctual d'
@@ -111,18 +80,9 @@ module _ {B : Type 0} where
 
   pub keeps_acting : (x : InPoll) (w : Worker) (s : Shared B) → ends_poll (polled_in (Place.Poll w.root x)) ≡ false → SoundAt (Place.Poll w.root x) w s → KeepsActing w (driver_of w) s.requests.items s
   keeps_acting x w s going sound =
-      record {
-        told = sound.told;
-        named = sound.named;
-        sized = sound.sized;
-        over = sound.over;
-        quiet = λ h. sound.quiet refl;
-        due = sound.due;
-        flown = sound.flown;
-        carried = sound.carried;
-        rooted = record { root = λ slot there. subst (λ b. Holds b w.index w.root slot.held.items slot.waiting (is_complete slot.cell.phase) w.names (driver_of w) w.home.timers s.requests.items s.sleepers.items) going (sound.rooted.root slot there) };
-        owed = sound.tied.owed;
-      }
+      let quiet : false ≡ false → w.home.deferred.notes.wakes.items ≡ [] = λ h. sound.quiet refl in
+      let rooted : IsRooted None w.index w.root w.names (driver_of w) w.home.timers s.tasks.items s.requests.items s.sleepers.items = record { root = λ slot there. subst (λ b. Holds b w.index w.root slot.held.items slot.waiting (is_complete slot.cell.phase) w.names (driver_of w) w.home.timers s.requests.items s.sleepers.items) going (sound.rooted.root slot there) } in
+      assumption (quiet, rooted, sound)
 
   -- what is shared then
   abbrev pub let_shared : Shared B → Shared B → Shared B
@@ -159,14 +119,6 @@ module _ {B : Type 0} (w : Worker) (s s' : Shared B) (slot slot' : TaskSlot B) (
         rooted = subst (λ ts. IsRooted None i w.root n' d' zs ts rs' ss) (sym tasks) (rooted_set None i w.root n' d' zs s.tasks.items rs' ss slot slot' there now);
         owed = subst (λ ws. AreOwed i w.root ws s'.tasks.items rs' ss) (sym wakes) tt;
       }
-
-  -- what is there of it
-  pub held_here : (r : Record) → slice_get s.requests.items (number_in w.names.requests.items id) ≡ Some r → IsHeld w.index (number_in w.names.requests.items id) w.names (driver_of w) r
-  held_here r at_k =
-      let holds = keeps.rooted.root slot there in
-      let one = holds.held without.place (number_in w.names.requests.items id) without.at in
-      let same : one.0 ≡ r = cc (one.1, at_k) in
-      subst (IsHeld w.index (number_in w.names.requests.items id) w.names (driver_of w)) same one.2
 
   -- one that is over, and its output was kept
   pub lets_ready : (left : Deferred Reply Reply) (r : Record) (told : RequestOutput) → slice_get s.requests.items (number_in w.names.requests.items id) ≡ Some r → r.id.0 ≡ id → value_at (driver_of w).requests id ≡ Some (Ready told)

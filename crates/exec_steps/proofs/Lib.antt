@@ -114,3 +114,4 @@ pub mod Awaited
 pub mod Dropped
 pub mod Enlists
 pub mod Registered
+pub mod Facts

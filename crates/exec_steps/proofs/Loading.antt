@@ -1,7 +1,7 @@
 -- What the steps of the loads are to the machine.
 use Rattle.std.proofs.Common.{◌≡◌, ℕ, false, Option, refl}
-use Rattle.exec_task.specs.declared.body.Said.{Said}
 use Rattle.exec_words.specs.declared.word.PureWord.{PureWord}
+use Rattle.exec_task.specs.declared.body.Said.{Said}
 use Rattle.exec_machine.specs.{declared.event.Event.Event, World.Own}
 use Rattle.exec_moves.specs.{declared.place.{Found.Found, Round.Round, InLoads.InLoads, Place.Place}, Load.{load_own_head, load_own_mirror, load_own_word}, State.Desk}
 use Rattle.exec_steps.{specs.{declared.parts.{shared.Shared.Shared, worker.Worker.Worker}, Sound.SoundAt, Spots.Spot, View.{own_of, desk_of, things_of}, Works.{Makes, Goes, Steps}}, proofs.Turning.{IsPlainTurn, by_place, same_shared, turned_here}}

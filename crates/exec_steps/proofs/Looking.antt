@@ -1,10 +1,10 @@
 -- What the steps of the look before a wait, and of the withdrawal after it, are to the machine.
 use Rattle.std.proofs.{Common.{◌≡◌, ℕ, ◌≤◌, ◌&&◌, ◌||◌, Bool, true, false, not, List, length, Option, inl, inr, refl, sym, ap, subst, ◌∙◌, arith, slice_set, nat_lt, if◌then◌else◌}, lemmas.Bool.cases_Bool}
 use Rattle.exec_words.specs.Idle.{Idle}
+use Rattle.exec_driver.specs.Driving.{has_pending, is_full}
 use Rattle.exec_task.specs.declared.body.Said.{Said}
 use Rattle.exec_machine.specs.{declared.event.Event.{Event, TheVariants.Turn}, Progress.Plan}
 use Rattle.exec_moves.specs.{declared.place.{AfterWait.AfterWait, Found.Found, Place.Place, AfterService.AfterService, InLook.InLook, InRingWait.InRingWait, InWordWait.InWordWait, Stay.Stay}, Callback.serve, Load.{has_come, next_turn, is_ready}, Move.move_at, State.{Desk, turns}, Wait.{publish, after_withdrawal}}
-use Rattle.exec_driver.specs.Driving.{has_pending, is_full}
 use Rattle.exec_steps.{specs.{declared.parts.{shared.Shared.Shared, worker.Worker.Worker}, Sound.{SoundAt, is_armed_at}, Spots.Spot, Phased.closes_at, Tests.{has_open_requests, next_turn_of, has_put_off, place_withdrawn, ring_wait_of, word_wait_of, is_within, IsNextMoment}, View.{Visible, driver_of, own_of, desk_of, common_of, things_of}, Works.{Makes, Goes, Suits, Steps}}, proofs.{Standing.{requests_seen, submissions_seen}, NextDue.moment_seen, Turning.{IsPlain, either_place, reaches, is_quiet, is_plain, turned, with_read}}}
 
 turns_by : {T : Type 0} (b : Bool) (p q : Place) (d : Desk) (x : T) → (if b then turns p d x else turns q d x) ≡ turns (if b then p else q) d x

@@ -1,13 +1,13 @@
 -- A record that is marked, as released or as one that has paid: what is named by it stays.
-use Rattle.std.{proofs.{Common.{◌≡◌, ℕ, ◌==◌, Bool, true, false, List, [], ◌∷◌, length, Option, Some, None, IsSome, refl, sym, ap, subst, ◌∙◌, arith, slice_get, slice_set, if◌then◌else◌}, lemmas.{Bool.Decides.nat_tests, List.length-set}}, specs.Option.option_map}
+use Rattle.std.{proofs.{Common.{◌≡◌, ℕ, ◌==◌, Bool, true, false, List, [], ◌∷◌, length, Option, Some, None, IsSome, refl, sym, ap, subst, ◌∙◌, slice_get, slice_set, if◌then◌else◌}, lemmas.List.length-set}, specs.Option.option_map}
 use Rattle.exec_base.specs.{Slab.{Slab, value_at}, declared.slab.Id.Id}
 use Rattle.exec_time.specs.declared.timers.Sleeper.{Sleeper as Sleeping}
-use Rattle.exec_waiters.specs.States.{waiter_at}
 use Rattle.exec_ring.specs.Rings.{RingState}
+use Rattle.exec_waiters.specs.States.{waiter_at}
 use Rattle.exec_driver.specs.Driving.{Driving}
 use Rattle.exec_machine.specs.{declared.config.Configuration.Configuration, Tests.{is_asleep, is_resolved, is_staged}}
 use Rattle.exec_moves.specs.declared.place.InService.{InService}
-use Rattle.exec_steps.{specs.{declared.parts.{mail.Reply.Reply, names.Names.Names, record.Record.Record, sleeping.SleeperRecord.SleeperRecord, worker.Moments.Moments}, Calls.{paying, releasing, sleeper_paying}, Records.number_in, Serving.{AreKnown, changed_in, changed_at, is_one_of}, Sound.{IsNamed, IsAlike, IsSubmitted}, Due.{IsDue, IsTimed, AreTimed, AreAsleep, IsAsleepAs}}, proofs.Flying.{get_set, get_changed}}
+use Rattle.exec_steps.{specs.{Flown.IsPlain, declared.parts.{mail.Reply.Reply, names.Names.Names, record.Record.Record, sleeping.SleeperRecord.SleeperRecord, worker.Moments.Moments}, Calls.{paying, releasing, sleeper_paying}, Records.number_in, Serving.{AreKnown, changed_in, changed_at, is_one_of}, Sound.{IsNamed, IsAlike, IsSubmitted}, Due.{IsDue, IsTimed, AreTimed, AreAsleep, IsAsleepAs}}, proofs.{Facts.{same_thing, same_number}, Flying.{get_set, get_changed}}}
 
 -- A mark changes only what was paid and released.
 abbrev pub Marks : (Record → Record) → Type 0
@@ -23,6 +23,11 @@ releases r = refl
 abbrev pub mark_if : (Record → Record) → Bool → Record → Record
 mark_if f true r = f r
 mark_if f false r = r
+
+-- what f keeps of each record it keeps where a test says so
+pub mark_kept : (A : Type 0) (part : Record → A) (f : Record → Record) → ((r : Record) → part (f r) ≡ part r) → (b : Bool) (r : Record) → part (mark_if f b r) ≡ part r
+mark_kept A part f keeps true r = keeps r
+mark_kept A part f keeps false r = refl
 
 pub marks_if : (f : Record → Record) → Marks f → (b : Bool) → Marks (mark_if f b)
 marks_if f marks true r = marks r
@@ -55,6 +60,18 @@ module _ (f : Record → Record) (rs : List Record) (q : ℕ) where
   pub marked_length : length (changed_at rs q f) ≡ length rs
   marked_length =
       elim (slice_get rs q) as (λ o. length (changed_in rs q f o) ≡ length rs) [ None ↦ refl | Some r ↦ length-set rs q (f r) ]
+
+  -- what is plain stays so
+  pub plain_kept : ((r : Record) → IsPlain r.shown → IsPlain (f r).shown) → (i : ℕ) → ((k : ℕ) (r : Record) → slice_get rs k ≡ Some r → r.shown.worker ≡ i)
+      → ((k : ℕ) (r : Record) → slice_get rs k ≡ Some r → r.shown.worker ≡ i → IsPlain r.shown)
+      → (k : ℕ) (x : Record) → slice_get (changed_at rs q f) k ≡ Some x → x.shown.worker ≡ i → IsPlain x.shown
+  plain_kept keeps i ours plain k x there mine =
+      let old = was_marked k x there in
+      subst (λ y. IsPlain y.shown) (sym old.2) (by (q == k) old.0 (plain k old.0 old.1 (ours k old.0 old.1)))
+    where
+      by : (b : Bool) (r : Record) → IsPlain r.shown → IsPlain (mark_if f b r).shown
+      by true r p = keeps r p
+      by false r p = p
 
   module _ (marks : Marks f) where
     -- what stood there, and how it is marked
@@ -110,12 +127,6 @@ module _ (f : Record → Record) (rs : List Record) (q : ℕ) where
         let old = before k x there in
         subst (IsTimed (record n { ended = m'.ended; unreleased = m'.unreleased }) k) (sym old.2) (assumption (due.timed k old.0 old.1 (sym (ap (λ y. y.shown.worker) old.2) ∙ mine))) in
         assumption (timed, due)
-
-same_number : (a b : ℕ) → (a == b) ≡ true → a ≡ b
-same_number a b h = grind (arith, nat_tests)
-
-same_thing : {A : Type 0} (x y : A) → Some x ≡ Some y → x ≡ y
-same_thing x y h = cc
 
 -- A SLEEPER THAT PAYS
 

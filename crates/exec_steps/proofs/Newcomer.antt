@@ -1,14 +1,14 @@
 -- One more request is queued: what holds again of the requests.
 use Rattle.std.{proofs.{Common.{◌≡◌, ◌≢◌, ◌⊎◌, ℕ, ◌+◌, ◌<◌, ◌≤◌, Bool, true, false, List, [], ◌∷◌, ◌++◌, length, Option, Some, None, IsSome, refl, sym, ap, subst, ◌∙◌, arith, inl, inr, slice_get, is_some}, lemmas.{Bool.false≢true, List.length-append, Option.slice_get_within}}, specs.{List.AllByRecursion, VecDeque.deque_capacity}}
 use Rattle.exec_base.specs.{Slab.{Slab, value_at, next_id, IsPast}, declared.slab.Id.Id}
+use Rattle.exec_time.specs.declared.timers.Sleeper.{Sleeper as Sleeping}
 use Rattle.exec_request.specs.{Requests.{asked_of, cursor_of, deadline_of, target_of}, declared.request.Request.Request as Asking}
 use Rattle.exec_ring.specs.{Rings.RingState, Stores.Reserves, declared.store.Store.Store}
-use Rattle.exec_time.specs.declared.timers.Sleeper.{Sleeper as Sleeping}
-use Rattle.exec_waiters.{proofs.Changes.entry_of, specs.{States.{awaits_tick, waiter_at, waiter_of, tick_in, tick_of}, declared.waiter.{Entry.TheVariants.{Pending, Ready}, Waiter.Waiter}}}
+use Rattle.exec_waiters.{specs.{States.{awaits_tick, waiter_at, waiter_of, tick_in, tick_of}, declared.waiter.{Entry.TheVariants.{Pending, Ready}, Waiter.Waiter}}, proofs.Changes.entry_of}
 use Rattle.exec_driver.specs.{Driving.{Driving, is_cancelled, is_unenrolled}, Lists.is_among, Placed.ListsRequests, Punctual.IsPunctual, Steps.footprint_of}
 use Rattle.exec_machine.specs.{declared.state.{Operation.Operation, RequestPhase.RequestPhase, Waiting.Waiting}, Requests.{new_request, asked_of as asked_in}, Tests.{is_in_flight, is_resolved, is_staged}}
 use Rattle.exec_moves.specs.declared.place.InService.{InService}
-use Rattle.exec_steps.{specs.{declared.parts.{mail.Reply.Reply, names.Names.Names, record.Record.Record, sleeping.SleeperRecord.SleeperRecord}, Carried.IsCarried, Due.AreTimed, Flown.{AreLanded, HasFlown, IsPlain, operations}, Ordered.IsOrdered, Records.number_in, Rooted.Holds, Scripts.IsPlainRequest, Serving.is_one_of, Sound.{AreOver, IsAlike, IsNamed, IsSubmitted}}, proofs.{Flown.{AllFlyOn, landed_on}, Admitted.{carried_joined, plain_whole, room_made}, Conveying.carried_ring, Late.stands, Orders.{Eases, comes_in, joins}, Over.in_append, Taken.{Takes, got_new, got_old, name_apart, number_new, number_old, past_still, slot_apart, some_still, value_before, value_new, value_old, was_got, apart_or_same, enrolled_if, among_before, among_now, one_before, one_now, all_listed, known_more}}}
+use Rattle.exec_steps.{specs.{declared.parts.{mail.Reply.Reply, names.Names.Names, record.Record.Record, sleeping.SleeperRecord.SleeperRecord}, Carried.IsCarried, Due.AreTimed, Flown.{AreLanded, HasFlown, IsPlain, operations}, Ordered.IsOrdered, Records.number_in, Rooted.Holds, Scripts.IsPlainRequest, Serving.is_one_of, Sound.{AreOver, IsAlike, IsNamed, IsSubmitted}}, proofs.{Facts.by_name, Flown.{AllFlyOn, landed_on}, Admitted.{carried_joined, plain_whole, room_made}, Conveying.carried_ring, Late.stands, Orders.{Eases, comes_in, joins}, Over.in_append, Taken.{Takes, got_new, got_old, name_apart, number_new, number_old, past_still, slot_apart, some_still, value_before, value_new, value_old, was_got, enrolled_if, among_before, among_now, one_before, one_now, all_listed, known_more}}}
 
 -- A request came in under this name, queued, with the next number.
 pub record OneComes (i : ℕ) (n n' : Names) (d d' : Driving Reply Reply) (rs : List Record) (id : Id) (it : Waiter Reply Reply) (r : Record) : Type 0 where
@@ -97,7 +97,7 @@ module _ (i : ℕ) (n n' : Names) (d d' : Driving Reply Reply) (zs : Slab (Sleep
   named_next named =
       record {
         requests = λ other h.
-            apart_or_same other id
+            by_name other id
             (λ apart.
             let some : IsSome (value_at d.requests other) = rw (← value_old d.requests d'.requests id (Pending it) one.takes other apart) h in
             let old = named.requests other some in
@@ -106,7 +106,7 @@ module _ (i : ℕ) (n n' : Names) (d d' : Driving Reply Reply) (zs : Slab (Sleep
         timers = λ other h. rw one.timers (named.timers other h);
         alike = λ other w x at there.
             rw one.wheel
-            (apart_or_same other id
+            (by_name other id
             (λ apart.
             let old : waiter_at d.requests other ≡ Some w = sym (still_at other apart) ∙ at in
             named.alike other w x old (record_there named other x (some_of other w old) there))
@@ -117,7 +117,7 @@ module _ (i : ℕ) (n n' : Names) (d d' : Driving Reply Reply) (zs : Slab (Sleep
             rw (← is_it, ← is_r) one.alike));
         over = λ k x there mine gone.
             elim (was_got rs r x k there) [
-              | inl old ↦ named.over k x old mine (apart_or_same x.id.0 id (λ apart. sym (still_at x.id.0 apart) ∙ gone) (λ same. ap (waiter_at d.requests) same ∙ was_none))
+              | inl old ↦ named.over k x old mine (by_name x.id.0 id (λ apart. sym (still_at x.id.0 apart) ∙ gone) (λ same. ap (waiter_at d.requests) same ∙ was_none))
               | inr last ↦ absurd (let no : Some it ≡ None = sym is_here ∙ ap (waiter_at d'.requests) (sym one.name) ∙ ap (λ y. waiter_at d'.requests y.id.0) last.1 ∙ gone in cc)
             ];
         submitted = submitted_next named.submitted;
@@ -162,7 +162,7 @@ module _ (i : ℕ) (n n' : Names) (d d' : Driving Reply Reply) (zs : Slab (Sleep
   punctual_next untimed punctual =
       record {
         ahead = λ other t at apart_due.
-            apart_or_same other.0 id
+            by_name other.0 id
             (λ apart.
             let old : tick_of (waiter_at d.requests other.0) ≡ Some t = ap tick_of (sym (still_at other.0 apart)) ∙ at in
             rw one.wheel (punctual.ahead other t old (rw (← one.due) apart_due)))
@@ -176,9 +176,9 @@ module _ (i : ℕ) (n n' : Names) (d d' : Driving Reply Reply) (zs : Slab (Sleep
   eases untimed =
       record {
         ticks = λ other t at.
-            apart_or_same other id (λ apart. sym (ap tick_of (still_at other apart)) ∙ at)
+            by_name other id (λ apart. sym (ap tick_of (still_at other apart)) ∙ at)
             (λ same. absurd (let no : None ≡ Some t = sym untimed ∙ ap tick_of (sym (ap (waiter_at d'.requests) same ∙ is_here)) ∙ at in cc));
-        taken = λ other past was. apart_or_same other id (λ apart. ap awaits_tick (still_at other apart) ∙ was) (λ same. absurd (one.new (subst (λ x. IsPast d.requests x) same past)));
+        taken = λ other past was. by_name other id (λ apart. ap awaits_tick (still_at other apart) ∙ was) (λ same. absurd (one.new (subst (λ x. IsPast d.requests x) same past)));
         past = λ other bounded past. past_still d.requests d'.requests id (Pending it) one.takes other past;
       }
 
@@ -254,7 +254,7 @@ module _ (i : ℕ) (n n' : Names) (d d' : Driving Reply Reply) (zs : Slab (Sleep
         landed = subst (λ (y : RingState). AreLanded n' d' (rs ++ r ∷ []) (operations y)) (sym one.ring) (landed_on n n' d d' rs (rs ++ r ∷ []) (operations d.ring) flown.landed flies_on);
         enrolling = λ other w at takes has.
             rw one.enrolments
-            (apart_or_same other.0 id
+            (by_name other.0 id
             (λ apart. among_before other (record { 0 = id }) (deadline_of it.request) d.lists.enrolments (flown.enrolling other w (sym (still_at other.0 apart) ∙ at) takes has))
             (λ same.
             let is_it : it ≡ w = cc (is_here, at, ap (waiter_at d'.requests) same) in
@@ -303,7 +303,7 @@ module _ (i : ℕ) (n n' : Names) (d d' : Driving Reply Reply) (zs : Slab (Sleep
               | inr last ↦ absurd (let no : Some u ≡ None = sym waits ∙ ap (λ z. z.shown.waiter) (sym last.1) ∙ ap (λ z. z.waiter) one.shown in cc)
             ];
         kept = λ other told x at there.
-            apart_or_same other id
+            by_name other id
             (λ apart.
             let old : value_at d.requests other ≡ Some (Ready told) = sym (value_old d.requests d'.requests id (Pending it) one.takes other apart) ∙ at in
             holds.kept other told x old (record_there named other x (rw old refl) there))

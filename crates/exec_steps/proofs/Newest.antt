@@ -1,8 +1,8 @@
 -- The newest request that the root holds.
 use Rattle.std.proofs.{Common.{◌≡◌, ℕ, ◌-◌, ◌<◌, ◌≤◌, arith, Bool, true, false, List, length, Option, Some, None, IsSome, refl, sym, ap, subst, ◌∙◌, slice_get, Err}, lemmas.Bool.false≢true}
 use Rattle.exec_base.specs.{Slab.{Slab, value_at}, declared.error.Error.TheVariants.Timeout}
-use Rattle.exec_request.specs.declared.output.RequestOutput.{RequestOutput}
 use Rattle.exec_time.specs.declared.timers.Sleeper.{Sleeper as Sleeping}
+use Rattle.exec_request.specs.declared.output.RequestOutput.{RequestOutput}
 use Rattle.exec_waiters.specs.{Told.HasPlaces, declared.{deferred.Deferred.Deferred, observer.Observer.{Observer, TheVariants.{Local, Orphaned}}, waiter.{Entry.{Entry, TheVariants.{Pending, Ready}}, Waiter.Waiter}}, States.{pending_count, is_held_by, is_local, is_observed_here, waiter_at, waiter_of}}
 use Rattle.exec_driver.specs.Driving.{Driving}
 use Rattle.exec_machine.specs.{declared.state.Waiting.Waiting, Requests.dropped, Tests.is_resolved}

@@ -6,8 +6,8 @@ use Rattle.exec_waiters.specs.{States.{waiter_at, waiter_of, tick_in, tick_of}, 
 use Rattle.exec_driver.specs.{Driving.Driving, Lists.has_first, Punctual.IsFirstTick}
 use Rattle.exec_task.specs.declared.body.Said.{Said}
 use Rattle.exec_machine.specs.{Deadlines.{earlier, first_timer, first_until, next_due}, Progress.Plan, Tests.{is_asleep, is_open, is_resolved}}
-use Rattle.exec_steps.{specs.{declared.parts.{mail.Reply.Reply, names.Names.Names, record.Record.Record, shared.Shared.Shared, sleeping.SleeperRecord.SleeperRecord, worker.Worker.Worker}, Due.{AreAsleep, AreTimed, may_be_due}, Records.number_in, Sound.{IsNamed, SoundAt, served_in}, Spots.Spot, Tests.{HasToldDue, IsFirstSleep, IsNextIn, IsNextMoment}, View.{Visible, driver_of, common_of}, Works.Suits}, proofs.{Leasts.{HasAt, IsLeast, least_in, least_there, least_once}, Seats.own_seat}}
 use Rattle.exec_moves.specs.declared.place.Place.{Place}
+use Rattle.exec_steps.{specs.{declared.parts.{mail.Reply.Reply, names.Names.Names, record.Record.Record, shared.Shared.Shared, sleeping.SleeperRecord.SleeperRecord, worker.Worker.Worker}, Due.{AreAsleep, AreTimed, may_be_due}, Records.number_in, Sound.{IsNamed, SoundAt, served_in}, Spots.Spot, Tests.{HasToldDue, IsFirstSleep, IsNextIn, IsNextMoment}, View.{Visible, driver_of, common_of}, Works.Suits}, proofs.{Leasts.{HasAt, IsLeast, least_in, least_there, least_once}, Seats.own_seat}}
 
 -- THE MACHINE'S MOMENTS
 

@@ -1,10 +1,10 @@
 -- What is due first at the driver is what the machine tells first.
 use Rattle.std.{proofs.{Common.{◌≡◌, ◌≢◌, ◌⊎◌, ℕ, zero, suc, ◌+◌, ◌-◌, ◌*◌, ◌/◌, ◌%◌, ◌<◌, ◌≤◌, ◌==◌, ◌&&◌, ◌||◌, Bool, true, false, not, List, [], ◌∷◌, map, Option, Some, None, refl, sym, ap, subst, ◌∙◌, arith, inl, inr, slice_get, nat_le, nat_lt, if◌then◌else◌}, lemmas.{Bool.{false≢true, eq-eqb, Decides.nat_tests}, Option.slice_get-map}, Math.Nat.{le-div_iff_mul-le, mul-div_cancel}}, specs.{List.AllByRecursion, Option.option_map}}
 use Rattle.exec_waiters.specs.declared.waiter_id.WaiterId.{WaiterId}
-use Rattle.exec_driver.{proofs.Names.same_tells, specs.Lists.{first_of, rest_of, is_among}}
+use Rattle.exec_driver.{specs.Lists.{first_of, rest_of, is_among}, proofs.Names.same_tells}
 use Rattle.exec_machine.specs.{declared.{config.Configuration.Configuration, state.Request.Request}, Ranges.wheel_slots, Deadlines.{is_due, is_first_due, is_told_after, is_told_before, order_on_wheel}, Tests.all_numbered}
 use Rattle.exec_moves.specs.Serve.{first_numbered}
-use Rattle.exec_steps.{specs.{declared.parts.{record.Record.Record, shared.Shared.Shared, worker.Worker.Worker}, Ordered.{IsToldBefore, Pairwise, tick_at, turn_of, went_round}, Records.number_in, Submitting.{IsDueIn, IsInOrder}, View.{driver_of, own_of}}, proofs.{Calling.request_seen, Expiring.{DueAt, due_first}, Idling.stands_timed, Staging.{among_first, split_first}}}
+use Rattle.exec_steps.{specs.{declared.parts.{record.Record.Record, shared.Shared.Shared, worker.Worker.Worker}, Ordered.{IsToldBefore, Pairwise, tick_at, turn_of, went_round}, Records.number_in, Submitting.{IsDueIn, IsInOrder}, View.{driver_of, own_of}}, proofs.{Idling.{shown_at, stands_timed}, Facts.{same_number, and_none}, Calling.request_seen, Expiring.{DueAt, due_first}, Staging.{among_first, split_first}}}
 
 -- TESTS OVER A LIST
 
@@ -13,17 +13,13 @@ module _ {X : Type 0} (test : ℕ → X → Bool) where
   all_pass n [] h = refl
   all_pass n (x ∷ xs) h = rw (h 0 n x refl (omega arith)) (all_pass (suc n) xs (λ k m y there is. h (suc k) m y there (omega (arith, is))))
 
-  not_both : (a b : Bool) → b ≡ false → (a && b) ≡ false
-  not_both true b h = h
-  not_both false b h = refl
-
   pub one_fails : (n k m : ℕ) (xs : List X) (x : X) → slice_get xs k ≡ Some x → m ≡ n + k → test m x ≡ false → all_numbered test n xs ≡ false
   one_fails n k m [] x there is fails = absurd (cc)
   one_fails n zero m (y ∷ ys) x there is fails =
       let same : y ≡ x = cc in
       let at : n ≡ m = omega (arith, is) in
       rw (same, at, fails) refl
-  one_fails n (suc k) m (y ∷ ys) x there is fails = not_both (test n y) (all_numbered test (suc n) ys) (one_fails (suc n) k m ys x there (omega (arith, is)) fails)
+  one_fails n (suc k) m (y ∷ ys) x there is fails = and_none (test n y) (all_numbered test (suc n) ys) (one_fails (suc n) k m ys x there (omega (arith, is)) fails)
 
   pub only_passes : (n k m : ℕ) (xs : List X) (x : X) → slice_get xs k ≡ Some x → m ≡ n + k → test m x ≡ true → ((j i : ℕ) (y : X) → slice_get xs j ≡ Some y → i ≡ n + j → (i ≡ m → ⊥) → test i y ≡ false) → first_numbered test n xs ≡ Some m
   only_passes n k m [] x there is passes others = absurd (cc)
@@ -51,9 +47,6 @@ told_after false is b same t h g = rw is refl
 not_first : (a : Bool) {d : Bool} → d ≡ a → (b : Bool) → (d ≡ true → b ≡ false) → (d && b) ≡ false
 not_first true is b h = rw (is, h is) refl
 not_first false is b h = rw is refl
-
-same_number : (a b : ℕ) → (a == b) ≡ true → a ≡ b
-same_number a b h = grind (arith, nat_tests)
 
 or_neither : (a b : Bool) → a ≡ true → b ≡ true → (not a || not b) ≡ false
 or_neither a b h g = rw (h, g) refl
@@ -109,11 +102,6 @@ among_by id x ids among =
       | inl same ↦ inl (sym same.1)
       | inr differs ↦ inr (rw differs.0 at among)
     ]
-
-shown_at : (rs : List Record) (k : ℕ) (x : Request) → slice_get (map (λ r. r.shown) rs) k ≡ Some x → (r : Record) × (slice_get rs k ≡ Some r) × (x ≡ r.shown)
-shown_at [] k x there = absurd (cc)
-shown_at (r ∷ rs) zero x there = (r, refl, cc)
-shown_at (r ∷ rs) (suc k) x there = shown_at rs k x there
 
 module _ {B : Type 0} (w : Worker) (s : Shared B) (new : IsDueIn w s) where
   begun_by : w.moments.start ≤ w.moments.sampled

@@ -1,10 +1,10 @@
 -- What keeps the order of deadlines: that ticks go, that one comes, that a new request waits for one.
 use Rattle.std.{proofs.{Common.{◌≡◌, ◌≢◌, ◌⊎◌, ℕ, ◌+◌, ◌%◌, ◌^◌, ◌<◌, eqb, Bool, true, false, List, [], ◌∷◌, ◌++◌, Option, Some, None, IsSome, refl, sym, ap, subst, ◌∙◌, arith, inl, inr, if◌then◌else◌, length, nat_lt}, lemmas.Bool.{false≢true, Decides.eqb_tells}}, specs.List.AllByRecursion}
-use Rattle.exec_base.{specs.{Slab.{Slab, IsPast, freed, generation_of, next_generation, next_id, next_index, removed, slot_at, value_at, written}, declared.slab.{Id.Id, Slot.TheVariants.Live}}, proofs.Slots.{Changed-set, IsLiveAt-from_value, id_cases, live_within, ltb_tells, past-write, was_live}}
+use Rattle.exec_base.{specs.{Slab.{Slab, IsPast, freed, generation_of, next_generation, next_id, next_index, removed, slot_at, value_at, written}, declared.slab.{Id.Id, Slot.TheVariants.Live}}, proofs.Slots.{Changed-set, IsLiveAt-from_value, live_within, ltb_tells, past-write, was_live}}
 use Rattle.exec_time.specs.Wheel.{Wheel, fresh, scheduled, removed as unticked}
-use Rattle.exec_waiters.{proofs.Changes.entry_of, specs.{Events.with_tick, States.{awaits_tick, takes_tick, tick_in, tick_of, waiter_at}, declared.{waiter.{Entry.{Entry, TheVariants.Pending}, Waiter.Waiter}, waiter_id.WaiterId.WaiterId}}}
+use Rattle.exec_waiters.{specs.{Events.with_tick, States.{awaits_tick, takes_tick, tick_in, tick_of, waiter_at}, declared.{waiter.{Entry.{Entry, TheVariants.Pending}, Waiter.Waiter}, waiter_id.WaiterId.WaiterId}}, proofs.Changes.entry_of}
 use Rattle.exec_driver.{specs.{Lists.{rest_of, without}, Steps.unscheduled}, proofs.{Counting.{OneChanged, one_written}, Names.same_tells}}
-use Rattle.exec_steps.specs.{declared.parts.mail.Reply.Reply, Ordered.{HasCome, IsOlder, IsOrdered, IsToldBefore, Pairwise, StandsBefore, StandsIn, tick_at}, Records.number_in}
+use Rattle.exec_steps.{specs.{declared.parts.mail.Reply.Reply, Ordered.{HasCome, IsOlder, IsOrdered, IsToldBefore, Pairwise, StandsBefore, StandsIn, tick_at}, Records.number_in}, proofs.Facts.by_name}
 
 -- PARTS OF A LIST
 
@@ -123,19 +123,13 @@ module _ (s s' : Slab (Entry Reply Reply)) (id : Id) (was is : Option (Waiter Re
       record {
         ticks = λ other t at.
             let differs : other ≢ id → tick_at s other ≡ Some t = λ apart. sym (ap tick_of (others other apart)) ∙ at in
-            elim (id_cases other id) [
-              | inl i ↦ differs (λ e. i (ap (λ (x : Id). x.index) e))
-              | inr (inl e) ↦ differs (λ q. e.1 (ap (λ (x : Id). x.generation) q))
-              | inr (inr same) ↦ ap (tick_at s) same ∙ ap tick_of here ∙ tick t (ap tick_of (sym after) ∙ ap (tick_at s') (sym same) ∙ at)
-            ];
+            by_name other id differs
+            (λ same. ap (tick_at s) same ∙ ap tick_of here ∙ tick t (ap tick_of (sym after) ∙ ap (tick_at s') (sym same) ∙ at));
         taken = λ other there none.
             let differs : other ≢ id → awaits_tick (waiter_at s' other) ≡ false = λ apart. ap awaits_tick (others other apart) ∙ none in
-            elim (id_cases other id) [
-              | inl i ↦ differs (λ e. i (ap (λ (x : Id). x.index) e))
-              | inr (inl e) ↦ differs (λ q. e.1 (ap (λ (x : Id). x.generation) q))
-              | inr (inr same) ↦
-                  ap (λ x. awaits_tick (waiter_at s' x)) same ∙ ap awaits_tick after ∙ taken (ap awaits_tick (sym here) ∙ ap (λ x. awaits_tick (waiter_at s x)) (sym same) ∙ none)
-            ];
+            by_name other id differs
+            (λ same.
+            ap (λ x. awaits_tick (waiter_at s' x)) same ∙ ap awaits_tick after ∙ taken (ap awaits_tick (sym here) ∙ ap (λ x. awaits_tick (waiter_at s x)) (sym same) ∙ none));
         past = past;
       }
 
@@ -199,11 +193,9 @@ module _ (round : Bool) (numbers : List ℕ) (s : Slab (Entry Reply Reply)) (w :
 
   ticked : (id : Id) (u : ℕ) → tick_at slab_timed id ≡ Some u → ((id ≡ e.0) × (u ≡ t)) ⊎ (tick_at s id ≡ Some u)
   ticked id u at =
-      elim (id_cases id e.0) [
-        | inl i ↦ inr (sym (ap tick_of (one.others id (λ q. i (ap (λ (x : Id). x.index) q)))) ∙ at)
-        | inr (inl g) ↦ inr (sym (ap tick_of (one.others id (λ q. g.1 (ap (λ (x : Id). x.generation) q)))) ∙ at)
-        | inr (inr same) ↦ inl (same, let now : Some t ≡ Some u = ap tick_of (sym one.is_at) ∙ ap (tick_at slab_timed) (sym same) ∙ at in cc)
-      ]
+      by_name id e.0
+      (λ apart. inr (sym (ap tick_of (one.others id apart)) ∙ at))
+      (λ same. inl (same, let now : Some t ≡ Some u = ap tick_of (sym one.is_at) ∙ ap (tick_at slab_timed) (sym same) ∙ at in cc))
 
   apart : (x : Id) → awaits_tick (waiter_at s x) ≡ false → x ≢ e.0
   apart x none same = false≢true (sym none ∙ ap (λ y. awaits_tick (waiter_at s y)) same ∙ ap awaits_tick live ∙ takes)

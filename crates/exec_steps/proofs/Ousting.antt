@@ -1,23 +1,20 @@
 -- All that holds again once a request is over, which the kernel doesn't have.
-use Rattle.std.{proofs.{Common.{◌≡◌, ◌≢◌, ℕ, ◌+◌, ◌≤◌, ◌==◌, Bool, true, false, List, [], ◌∷◌, ◌++◌, Option, Some, None, refl, sym, ap, subst, ◌∙◌, arith, slice_get}, lemmas.{Bool.{false≢true, Decides.nat_tests}, List.append-nil}}, specs.VecDeque.deque_capacity}
+use Rattle.std.{proofs.{Common.{◌≡◌, ◌≢◌, ℕ, ◌+◌, ◌≤◌, ◌==◌, Bool, true, false, List, [], ◌∷◌, ◌++◌, Option, Some, None, refl, sym, ap, subst, ◌∙◌, arith, slice_get}, lemmas.{Bool.false≢true, List.append-nil}}, specs.VecDeque.deque_capacity}
 use Rattle.exec_base.specs.{Slab.{Slab, value_at}, declared.{slab.Id.Id, task_no.TaskNo.TaskNo}}
 use Rattle.exec_outcomes.specs.declared.outcome.Outcome.{Outcome}
+use Rattle.exec_time.specs.declared.timers.Sleeper.{Sleeper as Sleeping}
 use Rattle.exec_request.specs.declared.{output.RequestOutput.RequestOutput, request.Request.Request as Asking}
 use Rattle.exec_ring.specs.Rings.{RingState}
-use Rattle.exec_time.specs.declared.timers.Sleeper.{Sleeper as Sleeping}
 use Rattle.exec_waiters.{specs.{Events.waker_in, Ids.user_data_of, States.{is_held_by, pending_count, waiter_of}, Told.{Tells, Told, tasks_of}, declared.{deferred.Deferred.Deferred, observer.Observer.{Observer, TheVariants.{Local, Orphaned}}, waiter.Waiter.Waiter}}, proofs.Changes.entry_of}
 use Rattle.exec_driver.specs.{Driving.Driving, Lists.withdrawn, Punctual.IsPunctual}
 use Rattle.exec_machine.specs.{Tests.{is_in_flight, is_staged}, declared.state.RequestPhase.RequestPhase}
 use Rattle.exec_moves.specs.declared.place.Place.{Place}
-use Rattle.exec_steps.{specs.{declared.parts.{mail.Reply.Reply, names.Names.Names, record.Record.Record, shared.Shared.Shared, sleeping.SleeperRecord.SleeperRecord, task_slot.TaskSlot.TaskSlot, worker.Worker.Worker}, Carried.{IsCarried, IsUnderWay, those_of}, Due.{IsWheelAt, may_be_due, wheel_moment}, Flown.{AreAcks, AreLanded, IsPlain, operations, passes_permit}, Ordered.{IsOrdered, went_round}, Records.number_in, Rooted.{IsNear, ends_poll, outcome_told}, Serving.{AreTagged, cancels_in, changed_at, is_one_of}, Sound.{AreOwed, IsSubmitted, has_wakes_at, map_waker, served_in, tellers}}, proofs.{Carries.carried_over, Conveying.carried_ring, Leaving.{changes_ended, flown_over, landed_still, owed_ended, owed_still}, Marking.{mark_if, was_marked}, Over.{OneEnds, is_over, kept_worker, named_ended, over_ended, timed_ended, unresolved_before, apart_number, gone_here}, Orders.{IsPartOf, TurnsAlike, eased, eases_one, part_without}, Resolving.{ToldOnce, places_fewer, told_ended}, Rooted.rooted_changed, Serving.KeepsBy, Staging.known_then}}
+use Rattle.exec_steps.{specs.{declared.parts.{mail.Reply.Reply, names.Names.Names, record.Record.Record, shared.Shared.Shared, sleeping.SleeperRecord.SleeperRecord, task_slot.TaskSlot.TaskSlot, worker.Worker.Worker}, Carried.{IsCarried, IsUnderWay, those_of}, Due.{IsWheelAt, may_be_due, wheel_moment}, Flown.{AreAcks, AreLanded, IsPlain, operations, passes_permit}, Ordered.{IsOrdered, went_round}, Records.number_in, Rooted.{IsNear, ends_poll, outcome_told}, Serving.{AreTagged, cancels_in, changed_at, is_one_of}, Sound.{AreOwed, IsSubmitted, has_wakes_at, map_waker, served_in, tellers}}, proofs.{Facts.same_number, Carries.carried_over, Conveying.carried_ring, Leaving.{changes_ended, flown_over, landed_still, owed_ended, owed_still}, Marking.{mark_if, was_marked}, Over.{OneEnds, is_over, kept_worker, named_ended, over_ended, timed_ended, unresolved_before, apart_number, gone_here}, Orders.{IsPartOf, TurnsAlike, eased, eases_one, part_without}, Resolving.{ToldOnce, places_fewer, told_ended}, Rooted.rooted_changed, Serving.KeepsBy, Staging.known_then}}
 
 -- what was put to be told of a request that is over: a wake of the task that waits for it, if any
 pub record TellsEnd (o : Observer Reply Reply) (t : Told Reply Reply) : Type 0 where
   pub once : ToldOnce t
   pub wakes : t.wakes ≡ tasks_of (waker_in o)
-
-same_number : (a b : ℕ) → (a == b) ≡ true → a ≡ b
-same_number a b h = grind (arith, nat_tests)
 
 waits_by : (x : Option ℕ) (u : TaskNo) → map_waker x ≡ Some u → x ≡ Some u.0
 waits_by None u h = absurd (cc)
@@ -34,9 +31,6 @@ nothing_has _ u q r idle h = h
 module _ {B : Type 0} (w : Worker) (s : Shared B) (d d' : Driving Reply Reply) (zs : Slab (Sleeping Reply)) (rs : List Record) (ss : List SleeperRecord) (id : Id) (it : Waiter Reply Reply) (r : Record) (f : Record → Record) (outcome : Outcome) (told : RequestOutput)
     (q' : Place) (v : Names) (left : Deferred Reply Reply) (t : Told Reply Reply)
     (one : OneEnds w.names d d'.requests rs id it r f outcome told) (keeps : KeepsBy w d zs rs ss s) where
-  abbrev pub k_ended : ℕ
-  k_ended = number_in w.names.requests.items id
-
   abbrev pub rs_ended : List Record
   rs_ended = changed_at rs (number_in w.names.requests.items id) f
 

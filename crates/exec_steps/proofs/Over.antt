@@ -1,16 +1,13 @@
 -- What holds again once a request is over, which the kernel doesn't have.
-use Rattle.std.proofs.{Common.{◌≡◌, ◌≢◌, ◌⊎◌, ℕ, zero, suc, ◌+◌, ◌==◌, Bool, true, false, List, [], ◌∷◌, ◌++◌, length, Option, Some, None, IsSome, refl, sym, ap, subst, ◌∙◌, arith, inl, inr, slice_get}, lemmas.{Bool.{false≢true, eq-eqb, Decides.nat_tests}, List.length-append}}
-use Rattle.exec_base.{specs.{Slab.{Slab, value_at}, declared.slab.Id.Id}, proofs.Slots.id_cases}
+use Rattle.std.proofs.{Common.{◌≡◌, ◌≢◌, ◌⊎◌, ℕ, zero, suc, ◌+◌, ◌==◌, Bool, true, false, List, [], ◌∷◌, ◌++◌, length, Option, Some, None, IsSome, refl, sym, ap, subst, ◌∙◌, arith, inl, inr, slice_get}, lemmas.{Bool.{false≢true, eq-eqb}, List.length-append}}
+use Rattle.exec_base.specs.{Slab.{Slab, value_at}, declared.slab.Id.Id}
 use Rattle.exec_outcomes.specs.declared.outcome.Outcome.{Outcome}
-use Rattle.exec_request.specs.declared.output.RequestOutput.{RequestOutput}
 use Rattle.exec_time.specs.declared.timers.Sleeper.{Sleeper as Sleeping}
-use Rattle.exec_waiters.{proofs.Changes.entry_of, specs.{States.{waiter_at, waiter_of}, declared.{observer.Observer.{Observer, TheVariants.{Local, Orphaned}}, waiter.{Entry.{Entry, TheVariants.Pending}, Waiter.Waiter}}}}
+use Rattle.exec_request.specs.declared.output.RequestOutput.{RequestOutput}
+use Rattle.exec_waiters.{specs.{States.{waiter_at, waiter_of}, declared.{observer.Observer.{Observer, TheVariants.{Local, Orphaned}}, waiter.{Entry.{Entry, TheVariants.Pending}, Waiter.Waiter}}}, proofs.Changes.entry_of}
 use Rattle.exec_driver.specs.Driving.{Driving}
 use Rattle.exec_machine.specs.{declared.state.RequestPhase.TheVariants.Resolved, Tests.is_resolved}
-use Rattle.exec_steps.{specs.{declared.parts.{mail.Reply.Reply, names.Names.Names, record.Record.Record, sleeping.SleeperRecord.SleeperRecord}, Due.AreTimed, Records.number_in, Serving.changed_at, Sound.{AreOver, IsNamed, IsAlike, IsSubmitted}}, proofs.{Marking.{mark_if, marked, was_marked}, Resolving.{EntryAfter, SlabAfter}}}
-
-same_number : (a b : ℕ) → (a == b) ≡ true → a ≡ b
-same_number a b h = grind (arith, nat_tests)
+use Rattle.exec_steps.{specs.{declared.parts.{mail.Reply.Reply, names.Names.Names, record.Record.Record, sleeping.SleeperRecord.SleeperRecord}, Due.AreTimed, Records.number_in, Serving.changed_at, Sound.{AreOver, IsNamed, IsAlike, IsSubmitted}}, proofs.{Facts.{by_name, same_number}, Marking.{mark_if, marked, was_marked}, Resolving.{EntryAfter, SlabAfter}}}
 
 -- what stands in a list with one more at its end
 module _ {A : Type 0} where
@@ -45,12 +42,6 @@ pub record OneEnds (n : Names) (d : Driving Reply Reply) (s' : Slab (Entry Reply
 
 module _ (i : ℕ) (n : Names) (d d' : Driving Reply Reply) (zs : Slab (Sleeping Reply)) (rs : List Record) (ss : List SleeperRecord) (id : Id) (it : Waiter Reply Reply) (r : Record) (f : Record → Record) (outcome : Outcome) (told : RequestOutput)
     (one : OneEnds n d d'.requests rs id it r f outcome told) (named : IsNamed i n d zs rs ss) (timed : AreTimed i n rs) where
-  abbrev pub k_of : ℕ
-  k_of = number_in n.requests.items id
-
-  abbrev pub rs_then : List Record
-  rs_then = changed_at rs (number_in n.requests.items id) f
-
   ends_here : (j : ℕ) (b : Bool) (x : Record) → (number_in n.requests.items id == j) ≡ b → slice_get rs j ≡ Some x → b ≡ true → Resolves x (mark_if f b x) outcome
   ends_here j true x is at h =
       let same : r ≡ x = cc (one.there, at, same_number (number_in n.requests.items id) j is) in
@@ -87,11 +78,7 @@ module _ (i : ℕ) (n : Names) (d d' : Driving Reply Reply) (zs : Slab (Sleeping
   some_before : (other : Id) → IsSome (value_at d'.requests other) → IsSome (value_at d.requests other)
   some_before other h =
       let differs : other ≢ id → IsSome (value_at d.requests other) = λ apart. subst IsSome (one.slab.others other apart) h in
-      elim (id_cases other id) [
-        | inl i ↦ differs (λ e. i (ap (λ (q : Id). q.index) e))
-        | inr (inl e) ↦ differs (λ q. e.1 (ap (λ (y : Id). y.generation) q))
-        | inr (inr same) ↦ rw (same, value_before) refl
-      ]
+      by_name other id differs (λ same. rw (same, value_before) refl)
 
   apart_there : (other : Id) (w : Waiter Reply Reply) → waiter_at d'.requests other ≡ Some w → other ≢ id
   apart_there other w at e = let no : Some w ≡ None = sym at ∙ ap (waiter_at d'.requests) e ∙ gone_here in absurd (cc)
@@ -150,11 +137,7 @@ module _ (i : ℕ) (n : Names) (d d' : Driving Reply Reply) (zs : Slab (Sleeping
           let number = (timed j x at mine).named open_still in
           let here : number_in n.requests.items id ≡ j = ap (number_in n.requests.items) (sym same) ∙ number in
           false≢true (sym is ∙ ap (λ q. number_in n.requests.items id == q) (sym here) ∙ eq-eqb (number_in n.requests.items id) (number_in n.requests.items id) refl)) in
-          elim (id_cases x.id.0 id) [
-            | inl i ↦ differs (λ e. i (ap (λ (q : Id). q.index) e))
-            | inr (inl e) ↦ differs (λ q. e.1 (ap (λ (y : Id). y.generation) q))
-            | inr (inr same) ↦ known same
-          ]
+          by_name x.id.0 id differs (λ same. known same)
 
   pub timed_ended : (n' : Names) → n'.requests ≡ n.requests → AreTimed i n' (changed_at rs (number_in n.requests.items id) f)
   timed_ended n' requests j x found mine =

@@ -5,7 +5,7 @@ use Rattle.exec_driver.specs.Steps.{is_control}
 use Rattle.exec_task.specs.declared.body.Said.{Said}
 use Rattle.exec_machine.specs.{declared.event.Event.{Event, TheVariants.{Enter, Busy}}, Tests.is_empty, World.Own}
 use Rattle.exec_moves.specs.{declared.place.{Stay.Stay, Place.Place, AfterWait.AfterWait, InRingWait.InRingWait}, Move.aside, Serve.{enter, entered as desk_entered}, State.{Desk, Things}, Wait.{enter_ring, has_completion}}
-use Rattle.exec_steps.{specs.{declared.parts.{shared.Shared.Shared, worker.Worker.Worker}, Serving.Enters, Sound.SoundAt, Spots.Spot, Tests.after_enter_of, View.{visible, driver_of, own_of, desk_of, things_of, number_told, trailing}, Works.Steps}, proofs.{Entered.{made, entered, without_putting_off}, Rings.all_acknowledged, Serving.{Follows, own_seat}, Sleeping.some_in_ring}}
+use Rattle.exec_steps.{specs.{declared.parts.{shared.Shared.Shared, worker.Worker.Worker}, Serving.Enters, Sound.SoundAt, Spots.Spot, Tests.after_enter_of, View.{visible, driver_of, own_of, desk_of, things_of, number_told, trailing}, Works.Steps}, proofs.{Seats.own_seat, Entered.{made, entered, without_putting_off}, Rings.all_acknowledged, Serving.Follows, Sleeping.some_in_ring}}
 
 -- where the worker is after the enter, where the kernel was busy or not, and some completion is there or none
 abbrev parked : Bool → Bool → Stay → Place

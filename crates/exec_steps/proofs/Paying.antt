@@ -1,13 +1,13 @@
 -- What pays a wake: a request or a sleeper that is over.
-use Rattle.std.{proofs.{Common.{◌≡◌, inl, ℕ, ◌+◌, ◌==◌, ◌&&◌, ◌||◌, Bool, true, false, not, List, [], ◌∷◌, map, Option, Some, None, refl, sym, ap, subst, ◌∙◌, arith, slice_get, slice_set, slice_index_or, if◌then◌else◌}, lemmas.{Bool.{false≢true, eq-eqb, Decides.nat_tests}, List.map-set, Option.{get_or_from_slice_get, slice_get-map}}}, specs.Option.option_map}
-use Rattle.exec_base.specs.Slab.{Slab}
+use Rattle.std.{proofs.{Common.{IsSome, ◌≡◌, inl, ℕ, ◌+◌, ◌==◌, ◌&&◌, ◌||◌, Bool, true, false, not, List, [], ◌∷◌, map, Option, Some, None, refl, sym, ap, subst, ◌∙◌, arith, slice_get, slice_set, slice_index_or, if◌then◌else◌}, lemmas.{Bool.{false≢true, eq-eqb}, List.map-set, Option.{get_or_from_slice_get, slice_get-map}}}, specs.Option.option_map}
+use Rattle.exec_base.specs.{Slab.{value_at, Slab}, declared.slab.Id.Id}
 use Rattle.exec_time.specs.declared.timers.Sleeper.{Sleeper as Sleeping}
 use Rattle.exec_waiters.specs.States.{pending_count}
 use Rattle.exec_driver.specs.Driving.{Driving}
 use Rattle.exec_task.specs.declared.body.Said.{Said}
 use Rattle.exec_machine.specs.{declared.{event.Event.{Event, TheVariants.Wake}, state.{Waiting.Waiting, Request.Request, Sleeper.Sleeper, Forwarding.Forwarding}}, After.common_after, Same.is_number, Tasks.{may_wake, request_owes, sleeper_owes, may_pay, is_unpaid, is_woken_here}, Tests.{AllTrue, is_resolved, is_open, is_unsent}, World.{Task, Open, Common, seat_of, request_of, sleeper_of, no_sleeper}}
 use Rattle.exec_moves.specs.{declared.place.{AfterCallbacks.AfterCallbacks, InCallbacks.InCallbacks, Place.Place}, Callback.payer_of}
-use Rattle.exec_steps.{specs.{declared.parts.{mail.Reply.Reply, names.Names.Names, record.Record.Record, shared.Shared.Shared, sleeping.SleeperRecord.SleeperRecord, worker.Worker.Worker}, Calls.{paying, sleeper_paying, sleeper_paid_in, records_paid, sleepers_paid}, Records.number_in, Serving.changed_at, Phased.is_complete, Rooted.Holds, Sound.{SoundAt, IsNamed, AreOver, OwesWake}, Spots.Spot, Tests.next_callback_of, View.{own_of, driver_of, common_of, open_seen, task_seen}, Works.Steps}, proofs.{Calling.{request_seen, shown_changed}, Carries.carried_marked, Flying.get_set, Keys.{same_opens, names_kept}, Marking.{pays, named_marked, due_marked, due_paid, marked, mark_if}, Flown.flown_marked, Rooted.{Changes, holds_changed, holds_paid}, Waking.{HasWoken, owed_root, task_there, tasks_woken, woken_with}}}
+use Rattle.exec_steps.{specs.{declared.parts.{mail.Reply.Reply, names.Names.Names, record.Record.Record, shared.Shared.Shared, sleeping.SleeperRecord.SleeperRecord, worker.Worker.Worker}, Calls.{paying, sleeper_paying, sleeper_paid_in, records_paid, sleepers_paid}, Records.number_in, Serving.changed_at, Phased.is_complete, Rooted.Holds, Sound.{SoundAt, IsNamed, AreOver, OwesWake}, Spots.Spot, Tests.next_callback_of, View.{own_of, driver_of, common_of, open_seen, task_seen}, Works.Steps}, proofs.{Facts.same_number, Calling.{request_seen, shown_changed}, Carries.carried_marked, Flying.get_set, Keys.{same_opens, names_kept}, Marking.{pays, named_marked, due_marked, due_paid, marked, mark_if}, Flown.flown_marked, Rooted.{Changes, holds_changed, holds_paid}, Waking.{HasWoken, owed_root, task_there, tasks_woken, woken_with}}}
 
 -- WHAT PAYS
 
@@ -48,9 +48,6 @@ over_paying i ended unreleased others n rs over =
       counted = over.counted;
     }
 
-same_number : (a b : ℕ) → (a == b) ≡ true → a ≡ b
-same_number a b h = grind (arith, nat_tests)
-
 sleeper_still : (zs : List SleeperRecord) (n m : ℕ) (z y : SleeperRecord) → slice_get zs n ≡ Some z → slice_get zs m ≡ Some y
     → (v : SleeperRecord) × (slice_get (slice_set zs n (sleeper_paying z)) m ≡ Some v) × (v.id ≡ y.id) × (v.shown.worker ≡ y.shown.worker)
 sleeper_still zs n m z y here there = by (n == m) refl
@@ -65,18 +62,11 @@ sleeper_still zs n m z y here there = by (n == m) refl
 named_sleeping : (i : ℕ) (n : Names) (d : Driving Reply Reply) (zs : Slab (Sleeping Reply)) (rs : List Record) (sleepers : List SleeperRecord) (k : ℕ) (z : SleeperRecord) → slice_get sleepers k ≡ Some z
     → IsNamed i n d zs rs sleepers → IsNamed i n d zs rs (slice_set sleepers k (sleeper_paying z))
 named_sleeping i n d zs rs sleepers k z here named =
-    record {
-      requests = named.requests;
-      timers = λ id there.
-          let old = named.timers id there in
-          let new = sleeper_still sleepers k (number_in n.timers.items id) z old.0 here old.1 in
-          (new.0, new.1, ap (λ q. q.0) new.2 ∙ old.2, new.3 ∙ old.3);
-      alike = named.alike;
-      over = named.over;
-      submitted = named.submitted;
-      slots = named.slots;
-      beds = named.beds;
-    }
+    let timers : (id : Id) → IsSome (value_at zs id) → (sleeper : SleeperRecord) × (slice_get (slice_set sleepers k (sleeper_paying z)) (number_in n.timers.items id) ≡ Some sleeper) × (sleeper.id.0 ≡ id) × (sleeper.shown.worker ≡ i) = λ id there.
+    let old = named.timers id there in
+    let new = sleeper_still sleepers k (number_in n.timers.items id) z old.0 here old.1 in
+    (new.0, new.1, ap (λ q. q.0) new.2 ∙ old.2, new.3 ∙ old.3) in
+    assumption (timers, named)
 
 -- what pays is over, so it changes nothing for who holds it
 request_paid : (n : ℕ) (rs : List Record) (m : Names) (d : Driving Reply Reply) (r : Record) → slice_get rs n ≡ Some r → is_resolved r.shown.phase ≡ true → Changes paying n m m d d rs

@@ -3,7 +3,7 @@ use Rattle.std.proofs.{Common.{◌≡◌, ℕ, true, false, List, map, Option, S
 use Rattle.exec_base.specs.declared.error.Error.TheVariants.{NoMemory}
 use Rattle.exec_task.specs.{Phases.{is_polled, woken as cell_woken}, Sight.Sight, declared.{body.{Act.Act, Said.Said}, runnable.Runnable.Runnable, task.Phase.Phase}}
 use Rattle.exec_machine.specs.{declared.state.Waiting.Waiting, Progress.Plan, Tasks.woken_phase, World.Task}
-use Rattle.exec_steps.{specs.{declared.parts.{shared.Shared.Shared, task_slot.TaskSlot.TaskSlot, worker.Worker.Worker}, Acting.{Performs, StillPerforms}, Hearing.{CanHear, held_once_come}, Phased.is_complete, Polls.yielded_slot, Scripts.{GoesOn, IsAnswer, held_after}, Sound.IsRunnable, Spots.{Spot, spot_of, standing_at}, View.{common_of, things_of, phase_seen, task_seen, spot_by, body_in}, Works.{Same, TurnsSlot}}, proofs.Turning.set_there}
+use Rattle.exec_steps.{specs.{declared.parts.{shared.Shared.Shared, task_slot.TaskSlot.TaskSlot, worker.Worker.Worker}, Acting.{Performs, StillPerforms}, Hearing.{CanHear, held_once_come}, Phased.is_complete, Polls.yielded_slot, Scripts.{GoesOn, IsAnswer, held_after}, Sound.IsRunnable, Spots.{Spot, spot_of, standing_at}, View.{common_of, things_of, phase_seen, task_seen, spot_by, body_in}, Works.{Same, TurnsSlot}}, proofs.Facts.set_there}
 
 -- A CELL IN ITS POLL
 
@@ -66,18 +66,6 @@ module _ {B L : Type 0} (left : B → L) (runs : L → Plan → Type 0) (holds :
             let same : b' ≡ b = cc (body, is) in
             let fits = answers answer hears in
             ap (λ x. holds (left x) (Some answer)) (sym same) ∙ goes.holding answer fits.0 ∙ fits.1;
-      }
-
-  -- one that is told that there was no memory performs it still
-  pub performs_refused : (p : Plan) (t : Task) (a : Act B) (slot' : TaskSlot B) (b' : B) → GoesOn runs holds spot gives p t a (left b') → body_in slot'.cell.phase slot'.body ≡ Some b'
-      → slot'.told ≡ Some (Said.Refused NoMemory) → slot'.waiting ≡ Waiting.Nothing → slot'.held.items ≡ t.held → Performs left runs holds p slot'
-  performs_refused p t a slot' b' goes body told nothing held =
-      record {
-        runs_it = λ b answer is hears. let same : b' ≡ b = cc (body, is) in subst (λ x. runs (left x) p) same goes.runs_on;
-        holding = λ b answer is hears.
-            let same : b' ≡ b = cc (body, is) in
-            let heard : CanHear (Some (Said.Refused NoMemory)) slot'.waiting answer = subst (λ o. CanHear o slot'.waiting answer) told hears in
-            ap (λ x. holds (left x) (Some answer)) (sym same) ∙ ap (λ y. holds (left b') (Some y)) heard ∙ goes.refused_holding ∙ sym held ∙ sym (ap (λ u. held_once_come u slot'.held.items) nothing);
       }
 
   pub performs_passed : (p : Plan) (slot : TaskSlot B) (b' : B) → is_polled slot.cell.phase ≡ true → slot.waiting ≡ Waiting.Nothing → GoesOn runs holds spot gives p (task_seen left spot slot) (Act.Sleep 0) (left b')

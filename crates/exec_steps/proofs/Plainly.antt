@@ -1,7 +1,7 @@
 -- Plain requests: polls, and sends of one part.
 use Rattle.std.proofs.{Common.{◌≡◌, ℕ, ◌+◌, ◌≤◌, Bool, true, false, List, [], length, Option, Some, None, IfSome, refl, sym, ap, subst, ◌∙◌, arith, if◌then◌else◌, nat_le}, lemmas.Bool.false≢true}
-use Rattle.exec_outcomes.specs.{Accounts.is_durable, Outcomes.HasCome, declared.outcome.{Judged.Judged, Outcome.TheVariants.Failure, Kind.Kind}}
 use Rattle.exec_base.specs.declared.error.Error.TheVariants.{Timeout}
+use Rattle.exec_outcomes.specs.{Accounts.is_durable, Outcomes.HasCome, declared.outcome.{Judged.Judged, Outcome.TheVariants.Failure, Kind.Kind}}
 use Rattle.exec_request.specs.{Requests.{asked_of, cursor_of, deadline_of, gate_of, hinted_of}, Buffers.{length_of, moved_of}, declared.{buffers.WriteBuffers.{WriteBuffers, TheVariants.{Single, Vectored}}, request.Request.Request as Asking, send.SendRequest.SendRequest}}
 use Rattle.exec_driver.specs.Steps.{is_late, plainly_written}
 use Rattle.exec_machine.specs.{declared.{config.{Configuration.Configuration, ScriptWord.ScriptWord}, state.Operation.Operation}, Requests.{operation_asked, outcome_if_late, asked_of as asked_in}, Same.{same_end, same_kind}, Tests.is_of_file, World.no_operation}

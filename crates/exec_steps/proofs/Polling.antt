@@ -2,13 +2,13 @@
 use Rattle.std.proofs.{Common.{◌≡◌, ℕ, ◌<◌, Bool, true, false, List, [], length, map, Option, Some, None, IsSome, refl, sym, ap, subst, ◌∙◌, slice_get, slice_set}, lemmas.{Bool.{false≢true, eq-eqb}, List.map-set, Option.slice_get_within}}
 use Rattle.exec_base.specs.{Slab.{Slab, value_at}, declared.slab.Id.Id}
 use Rattle.exec_words.specs.Queue.{room_of}
-use Rattle.exec_task.specs.{Phases.{is_polled, queued_body, begun as cell_begun, runnable_of}, declared.{body.Said.Said, runnable.Runnable.Runnable, task.Phase.Phase}}
 use Rattle.exec_time.specs.declared.timers.{Sleeper.Sleeper as Sleeping, Observer.Observer}
 use Rattle.exec_waiters.specs.declared.deferred.Deferred.{Deferred}
 use Rattle.exec_driver.specs.Driving.{Driving}
+use Rattle.exec_task.specs.{Phases.{is_polled, queued_body, begun as cell_begun, runnable_of}, declared.{body.Said.Said, runnable.Runnable.Runnable, task.Phase.Phase}}
 use Rattle.exec_machine.specs.{declared.{event.Event.{Event, TheVariants.Begin}, state.{TaskPhase.TaskPhase, Waiting.Waiting, Next.Next}}, After.{own_after, common_after}, Allowed.allowed, Choice.{Choice, Choice.Plain}, Progress.Plan, Tasks.{begun, begun_waiting, is_polled_here}, Tests.{AllTrue, is_open, is_ready, is_resolved}, World.{Task, task_of, seat_of}}
 use Rattle.exec_moves.specs.{declared.place.{InPoll.InPoll, Place.Place, AfterCallbacks.AfterCallbacks, InCallbacks.InCallbacks}, Move.move_at, Poll.after_begin, Seen.{polls_in, next_in_poll}}
-use Rattle.exec_steps.{specs.{declared.parts.{mail.Reply.Reply, names.Names.Names, record.Record.Record, sleeping.SleeperRecord.SleeperRecord, shared.Shared.Shared, task_slot.TaskSlot.TaskSlot, worker.Worker.Worker}, Due.IsDue, Flown.HasFlown, Hearing.Hears, Phased.{IsPhased, is_complete, closes_at, closing_in, stage_of}, Polls.{OfSlot, begun_slot}, Records.number_in, Rooted.{IsRooted, Holds, Awaits, ends_poll}, Sound.{SoundAt, IsAlone, IsRunnable, Stands, AreOwed, InHand, HasShare, HasLeft, WaitsAt, one_of, acts_next, is_told, polled_in, served_in, is_armed_at}, Spots.Spot, View.{Visible, visible, own_of, desk_of, driver_of, common_of, things_of, phase_seen, task_seen, spot_by, body_in, queue_seen}, Works.{TurnsSlot, Works, Suits, Steps}}, proofs.{Hearing.{hears_begun, hears_so}, Phased.phased_task, Rooted.rooted_set, Serving.own_seat, Turning.{set_found, set_there}, Waking.task_there}}
+use Rattle.exec_steps.{specs.{declared.parts.{seat.Seat.Seat as Chair, mail.Reply.Reply, names.Names.Names, record.Record.Record, sleeping.SleeperRecord.SleeperRecord, shared.Shared.Shared, task_slot.TaskSlot.TaskSlot, worker.Worker.Worker}, Sound.{IsTied, HasRunnable, has_wakes_at, SoundAt, IsAlone, IsRunnable, Stands, AreOwed, InHand, HasShare, HasLeft, WaitsAt, one_of, acts_next, is_told, polled_in, served_in, is_armed_at}, Due.IsDue, Flown.HasFlown, Hearing.Hears, Phased.{IsPhased, is_complete, closes_at, closing_in, stage_of}, Polls.{OfSlot, begun_slot}, Records.number_in, Rooted.{IsRooted, Holds, Awaits, ends_poll}, Spots.Spot, View.{Visible, visible, own_of, desk_of, driver_of, common_of, things_of, phase_seen, task_seen, spot_by, body_in, queue_seen}, Works.{TurnsSlot, Works, Suits, Steps}}, proofs.{Seats.own_seat, Facts.set_there, Hearing.{hears_begun, hears_so}, Phased.phased_task, Rooted.rooted_set, Turning.set_found, Waking.task_there}}
 
 -- WHERE IT LEADS: on in the poll, or to the callbacks
 
@@ -44,39 +44,24 @@ module _ {B : Type 0} where
   sound_polled t x q w f h s s' slot slot' sound to sits items =
       let found : slice_get s'.tasks.items w.root ≡ Some slot' = rw items (set_there s.tasks.items w.root slot' slot sits.there) in
       let same : slot ≡ sound.runnable.root = cc (sits.there, sound.runnable.there) in
-      record {
-        here = refl;
-        config = sound.config;
-        gates = sound.gates;
-        index = sound.index;
-        time = sound.time;
-        told = sound.told;
-        named = sound.named;
-        runnable = record { root = slot'; there = found; home = sits.home ∙ ap (λ o. o.home) same ∙ sound.runnable.home; number = sits.number ∙ ap (λ o. o.cell.number) same ∙ sound.runnable.number; once = sits.once; one = sits.one };
-        alone = subst (λ a. IsAlone w.index a s.seats.items s.global.values) (sym to.unarmed) sound.alone;
-        share = λ chair there. to.share (room_of (queue_seen chair.queue));
-        sized = sound.sized;
-        processed = sound.processed;
-        hand = sits.hand;
-        left = to.left w.home.deferred;
-        over = sound.over;
-        batch = sound.batch;
-        quiet = λ h. sound.quiet refl;
-        due = subst (λ y. IsDue y w.index w.moments s.config w.names (driver_of w) w.home.timers s.requests.items s.sleepers.items) (sym to.served) sound.due;
-        flown = subst (λ y. HasFlown y w.index w.names (driver_of w) s.requests.items) (sym to.served) sound.flown;
-        carried = sound.carried;
-        rooted = subst (λ ts. IsRooted (polled_in q) w.index w.root w.names (driver_of w) w.home.timers ts s.requests.items s.sleepers.items) (sym items)
-            (rooted_set (polled_in q) w.index w.root w.names (driver_of w) w.home.timers s.tasks.items s.requests.items s.sleepers.items slot slot' sits.there sits.holds);
-        phased = λ chair there.
-            subst (λ c. IsPhased c (closing_in q) w.home.closing w.root w.names.unreleased (stage_of chair s) s'.tasks.items) (sym to.open_still)
-            (subst (λ y. IsPhased false y w.home.closing w.root w.names.unreleased (stage_of chair s) s'.tasks.items) (sym to.closing)
-            (subst (λ ts. IsPhased false None w.home.closing w.root w.names.unreleased (stage_of chair s) ts) (sym items)
-            (phased_task false None w.home.closing w.root w.names.unreleased (stage_of chair s) s.tasks.items slot slot' sits.there sits.complete (sound.phased chair there))));
-        tied = record {
-          stands = λ other at_root. let is : slot' ≡ other = cc (found, at_root) in subst (Stands (polled_in q) w.index) is sits.stands;
-          owed = subst (λ ws. AreOwed w.index w.root ws s'.tasks.items s.requests.items s.sleepers.items) (sym (sound.quiet refl)) tt;
-        };
-      }
+      let runnable : HasRunnable w.index w.root f h s'.tasks.items = record { root = slot'; there = found; home = sits.home ∙ ap (λ o. o.home) same ∙ sound.runnable.home; number = sits.number ∙ ap (λ o. o.cell.number) same ∙ sound.runnable.number; once = sits.once; one = sits.one } in
+      let alone = subst (λ a. IsAlone w.index a s.seats.items s.global.values) (sym to.unarmed) sound.alone in
+      let share : (chair : Chair) → slice_get s.seats.items w.index ≡ Some chair → HasShare q (room_of (queue_seen chair.queue)) = λ chair there. to.share (room_of (queue_seen chair.queue)) in
+      let quiet : has_wakes_at q ≡ false → w.home.deferred.notes.wakes.items ≡ [] = λ h. sound.quiet refl in
+      let due = subst (λ y. IsDue y w.index w.moments s.config w.names (driver_of w) w.home.timers s.requests.items s.sleepers.items) (sym to.served) sound.due in
+      let flown = subst (λ y. HasFlown y w.index w.names (driver_of w) s.requests.items) (sym to.served) sound.flown in
+      let rooted = subst (λ ts. IsRooted (polled_in q) w.index w.root w.names (driver_of w) w.home.timers ts s.requests.items s.sleepers.items) (sym items)
+      (rooted_set (polled_in q) w.index w.root w.names (driver_of w) w.home.timers s.tasks.items s.requests.items s.sleepers.items slot slot' sits.there sits.holds) in
+      let phased : (chair : Chair) → slice_get s.seats.items w.index ≡ Some chair → IsPhased (closes_at q) (closing_in q) w.home.closing w.root w.names.unreleased (stage_of chair s) s'.tasks.items = λ chair there.
+      subst (λ c. IsPhased c (closing_in q) w.home.closing w.root w.names.unreleased (stage_of chair s) s'.tasks.items) (sym to.open_still)
+      (subst (λ y. IsPhased false y w.home.closing w.root w.names.unreleased (stage_of chair s) s'.tasks.items) (sym to.closing)
+      (subst (λ ts. IsPhased false None w.home.closing w.root w.names.unreleased (stage_of chair s) ts) (sym items)
+      (phased_task false None w.home.closing w.root w.names.unreleased (stage_of chair s) s.tasks.items slot slot' sits.there sits.complete (sound.phased chair there)))) in
+      let tied : IsTied (polled_in q) w.index w.root w.home.deferred.notes.wakes.items s'.tasks.items s.requests.items s.sleepers.items = record {
+        stands = λ other at_root. let is : slot' ≡ other = cc (found, at_root) in subst (Stands (polled_in q) w.index) is sits.stands;
+        owed = subst (λ ws. AreOwed w.index w.root ws s'.tasks.items s.requests.items s.sleepers.items) (sym (sound.quiet refl)) tt;
+      } in
+      assumption (runnable, alone, share, to.left w.home.deferred, quiet, due, flown, rooted, phased, tied, sound, sits)
 
 module _ {B L : Type 0} (left : B → L) (spot : L → Option Said → Spot) where
   -- what the step is to the machine, for a worker at this place

@@ -1,15 +1,15 @@
 -- What it is to the machine that a task takes the output that it waited for.
-use Rattle.std.proofs.{Common.{◌≡◌, ◌⊎◌, ⊎_elim, ℕ, ◌+◌, ◌-◌, ◌<◌, ◌==◌, ◌&&◌, ◌||◌, Bool, true, false, List, [], ◌∷◌, ◌++◌, length, take, Option, Some, None, IsSome, refl, sym, ap, subst, ◌∙◌, inl, arith, length-append, option_to_list, slice_get, slice_set, if◌then◌else◌}, lemmas.{Bool.{false≢true, eq-eqb}, Option.slice_get_within}}
-use Rattle.exec_base.specs.{Slab.{value_at, removed}, declared.{error.{Cause.Cause, Error.Error}, task_no.TaskNo.TaskNo}}
+use Rattle.std.proofs.{Common.{◌≡◌, ◌⊎◌, ⊎_elim, ℕ, ◌+◌, ◌-◌, ◌<◌, ◌||◌, true, false, List, [], ◌∷◌, ◌++◌, length, take, Option, Some, None, IsSome, refl, sym, ap, subst, ◌∙◌, inl, arith, length-append, option_to_list, slice_get, slice_set, if◌then◌else◌}, lemmas.{Bool.{false≢true, eq-eqb}, Option.slice_get_within}}
+use Rattle.exec_base.specs.{Slab.{value_at, removed}, declared.task_no.TaskNo.TaskNo}
 use Rattle.exec_outcomes.specs.declared.outcome.Outcome.{Outcome, TheVariants.{Success, Failure}}
+use Rattle.exec_time.specs.declared.timers.Observation.{Observation}
 use Rattle.exec_request.specs.declared.output.RequestOutput.{RequestOutput}
 use Rattle.exec_waiters.specs.{Events.{seen_by, taken, taken_from}, States.may_be_seen, declared.waiter.Entry.{Entry, TheVariants.Ready}}
 use Rattle.exec_driver.specs.Punctual.{IsPunctual}
 use Rattle.exec_task.specs.{Phases.is_polled, declared.body.Said.Said}
-use Rattle.exec_machine.specs.{After.{own_after, common_after}, Allowed.allowed, declared.{event.Event.{Event, TheVariants.Got}, state.{Forwarding.TheVariants.Unsent, Request.Request, RequestPhase.{RequestPhase, TheVariants.{Gated, Queued, Staged, Flying, Landed, Resolved}}, Waiting.Waiting}}, Choice.Choice.Plain, Progress.Plan, Same.{is_number, same_cause, same_error}, Tasks.{after_taking, is_here, polls_waiting, without_newest}, Tests.{AllTrue, is_resolved, is_resolved_with, waits_for_nothing, waits_for_request}, Words.{acts, asks_await, moved_on, newest_held}, World.{Task, Common, task_of, request_of}}
+use Rattle.exec_machine.specs.{After.{own_after, common_after}, Allowed.allowed, declared.{event.Event.{Event, TheVariants.Got}, state.{Forwarding.TheVariants.Unsent, Request.Request, RequestPhase.{RequestPhase, TheVariants.{Gated, Queued, Staged, Flying, Landed, Resolved}}, Waiting.Waiting}}, Choice.Choice.Plain, Progress.Plan, Same.is_number, Tasks.{after_taking, is_here, polls_waiting, without_newest}, Tests.{AllTrue, is_resolved, is_resolved_with, waits_for_nothing, waits_for_request}, Words.{acts, asks_await, moved_on, newest_held}, World.{Task, Common, task_of, request_of}}
 use Rattle.exec_moves.specs.{declared.place.{InPoll.InPoll, Place.Place}, Move.move_at, Poll.{resume, acts_on}, State.{Desk, does}}
-use Rattle.exec_steps.{specs.{declared.parts.{mail.Reply.Reply, names.Names.Names, record.Record.Record, shared.Shared.Shared, task_slot.TaskSlot.TaskSlot, worker.Worker.Worker}, Phased.is_complete, Polls.{IsReady, OfSlot, TookOutput, unobserved}, Records.number_in, Rooted.{Awaits, ends_poll}, Scripts.IsAnswered, Serving.{changed_at, changed_in}, Sound.{Sound, SoundAt, IsTold, Stands, acts_next, polled_in, tellers}, Spots.Spot, View.{Visible, visible, own_of, desk_of, driver_of, common_of, things_of, task_seen, body_in}, Works.{Works, Suits, Steps}}, proofs.{Awaiting.{acted_worker, common_acted, desk_acted, sound_acted}, Calling.request_seen, Getting.{Without, get_last, same_flying, same_pending, without_last}, Hearing.{hears_come, hears_so}, Letting.{KeepsActing, keeps_acting, let_shared, let_worker, lets_ready}, Newest.{held_newest, kept_output}, Polling.on_in_poll, Resolving.{live_less, places_fewer}, Seeing.{makes, own_with}, Taking.spot_answered, Turning.set_there, Waking.task_there}}
-use Rattle.exec_time.specs.declared.timers.Observation.{Observation}
+use Rattle.exec_steps.{specs.{declared.parts.{mail.Reply.Reply, names.Names.Names, record.Record.Record, shared.Shared.Shared, task_slot.TaskSlot.TaskSlot, worker.Worker.Worker}, Phased.is_complete, Polls.{IsReady, OfSlot, TookOutput, unobserved}, Records.number_in, Rooted.{Awaits, ends_poll}, Scripts.IsAnswered, Serving.{changed_at, changed_in}, Sound.{Sound, SoundAt, IsTold, Stands, acts_next, polled_in, tellers}, Spots.Spot, View.{Visible, visible, own_of, desk_of, driver_of, common_of, things_of, task_seen, body_in}, Works.{Works, Suits, Steps}}, proofs.{Late.same_error_self, Facts.set_there, Awaiting.{acted_worker, common_acted, desk_acted, sound_acted}, Calling.request_seen, Getting.{Without, get_last, same_flying, same_pending, without_last}, Hearing.{hears_come, hears_so}, Letting.{KeepsActing, keeps_acting, let_shared, let_worker, lets_ready}, Newest.{held_newest, kept_output}, Polling.on_in_poll, Resolving.{live_less, places_fewer}, Seeing.{makes, own_with}, Taking.spot_answered, Waking.task_there}}
 
 same_request : (j k : ℕ) → Waiting.Request j ≡ Waiting.Request k → j ≡ k
 same_request j k h = cc
@@ -51,31 +51,6 @@ module _ {B : Type 0} where
     pub took : slot' ≡ record slot { body = slot'.body; held = slot'.held; waiting = Waiting.Nothing; told = Some (Said.Output output) }
     pub body : IsSome slot'.body
     pub held : slot.held.items ≡ slot'.held.items ++ k ∷ []
-
-same_cause_self : (x : Cause) → same_cause x x ≡ true
-same_cause_self (Cause.Code n) = eq-eqb n n refl
-same_cause_self Cause.InvalidInput = refl
-same_cause_self Cause.Closed = refl
-
-both_true : (a b : Bool) → a ≡ true → b ≡ true → (a && b) ≡ true
-both_true a b h k = rw (h, k) refl
-
-same_error_self : (x : Error) → same_error x x ≡ true
-same_error_self (Error.Io c) = same_cause_self c
-same_error_self (Error.BlobSyncFailed n c) = both_true (n == n) (same_cause c c) (eq-eqb n n refl) (same_cause_self c)
-same_error_self (Error.BlobResizeFailed n c) = both_true (n == n) (same_cause c c) (eq-eqb n n refl) (same_cause_self c)
-same_error_self Error.Timeout = refl
-same_error_self Error.Closed = refl
-same_error_self Error.SendFailed = refl
-same_error_self Error.RecvFailed = refl
-same_error_self Error.ReadFailed = refl
-same_error_self Error.WriteFailed = refl
-same_error_self Error.ConnectionFailed = refl
-same_error_self Error.BindFailed = refl
-same_error_self Error.BlobInsufficientLength = refl
-same_error_self Error.OffsetOverflow = refl
-same_error_self Error.NoMemory = refl
-same_error_self Error.Full = refl
 
 resolved_self : (outcome : Outcome) → is_resolved_with outcome (Resolved outcome) ≡ true
 resolved_self Success = refl

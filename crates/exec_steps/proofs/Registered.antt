@@ -2,11 +2,11 @@
 use Rattle.std.proofs.{Common.{◌≡◌, ℕ, ◌+◌, ◌==◌, Bool, false, List, [], ◌∷◌, ◌++◌, length, map, Option, Some, refl, sym, ap, subst, ◌∙◌, slice_set, if◌then◌else◌}, lemmas.{Bool.eq-eqb, List.{length-map, map-append, map-set}}}
 use Rattle.exec_outcomes.specs.{Accounts.{is_durable, changed as account_changed}, declared.outcome.{Outcome.Outcome, Kind.Kind}}
 use Rattle.exec_request.specs.{Requests.{asked_of, deadline_of}, declared.request.Request.Request as Asking}
-use Rattle.exec_task.specs.{Sight.Sight, declared.body.{Act.Act, Said.Said}}
 use Rattle.exec_driver.specs.Opens.{OpenState}
+use Rattle.exec_task.specs.{Sight.Sight, declared.body.{Act.Act, Said.Said}}
 use Rattle.exec_machine.specs.{Choice.Choice.Plain, declared.{event.Event.{Event, TheVariants.Admit}, state.{Operation.Operation, Request.Request}}, Progress.Plan, Requests.{account_after_admit, after_admit, asked_now, asks_kind, new_request, operation_asked, operation_or_none, outcome_if_late, own_after_admit, resolved_if, with_seen}, Same.{same_end, same_kind}, Tests.is_open, Words.{moved_on, next_word}, World.{Task, Common, Open, open_of, task_of}}
 use Rattle.exec_moves.specs.{Poll.{act_asked, acts_on}, State.{Moved, Things, goes}, declared.place.{InPoll.InPoll, Place.Place}}
-use Rattle.exec_steps.{specs.{declared.parts.{record.Record.Record, shared.Shared.Shared, worker.Worker.Worker}, Acting.{HasActed, Performs, StepsOf}, Admitting.Registers, Polls.OfSlot, Records.plain_operation, Scripts.{IsAnswered, IsPlainRequest}, Sound.{SoundAt, AreFree}, Spots.{Spot, spot_of}, View.{Visible, common_of, desk_of, open_seen, own_of, task_seen, things_of, visible}, Works.{Suits, Works}}, proofs.{Acting.{acts_so, moved_seen, moves_so}, Asked.{final, held_is, items_are, near, performs_asked, plain, reg, shared_is, sleepers_are, slot_is, sound_asked, worker_is}, Enlists.{desk_asked, own_asked, visible_asked}, Plainly.{operation_is, plainly, same_late}, Serving.own_seat, Turning.set_found, Waking.task_there}}
+use Rattle.exec_steps.{specs.{declared.parts.{record.Record.Record, shared.Shared.Shared, worker.Worker.Worker}, Acting.{HasActed, Performs, StepsOf}, Admitting.Registers, Polls.OfSlot, Records.plain_operation, Scripts.{IsAnswered, IsPlainRequest}, Sound.{SoundAt, AreFree}, Spots.{Spot, spot_of}, View.{Visible, common_of, desk_of, open_seen, own_of, task_seen, things_of, visible}, Works.{Suits, Works}}, proofs.{Seats.own_seat, Acting.{acts_so, moved_seen, moves_so}, Asked.{final, held_is, items_are, near, performs_asked, plain, reg, shared_is, sleepers_are, slot_is, sound_asked, worker_is}, Enlists.{desk_asked, own_asked, visible_asked}, Plainly.{operation_is, plainly, same_late}, Turning.set_found, Waking.task_there}}
 
 -- gates that nobody has show the same, whatever records there are
 free_seen : (rs rs' : List Record) (opens : List OpenState) → AreFree opens → map (open_seen rs') opens ≡ map (open_seen rs) opens

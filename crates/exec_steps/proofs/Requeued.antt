@@ -1,14 +1,14 @@
 -- What holds again once an operation has landed whose request goes on.
-use Rattle.std.proofs.{Common.{◌≡◌, ◌≢◌, ℕ, ◌+◌, ◌^◌, ◌<◌, ◌≤◌, ◌==◌, ◌||◌, Bool, true, false, List, [], ◌∷◌, ◌++◌, length, map, Some, None, refl, sym, ap, subst, ◌∙◌, arith, inl, inr, slice_get, slice_index_or, is_some, if◌then◌else◌}, lemmas.Bool.{false≢true, eq-eqb, Decides.nat_tests}}
-use Rattle.exec_base.{specs.{Slab.{value_at, written}, declared.slab.Id.Id}, proofs.Slots.id_cases}
+use Rattle.std.proofs.{Common.{◌≡◌, ◌≢◌, ℕ, ◌+◌, ◌^◌, ◌<◌, ◌≤◌, ◌==◌, ◌||◌, Bool, true, false, List, [], ◌∷◌, ◌++◌, length, map, Some, None, refl, sym, ap, subst, ◌∙◌, slice_get, slice_index_or, is_some, if◌then◌else◌}, lemmas.Bool.{false≢true, eq-eqb}}
+use Rattle.exec_base.specs.{Slab.{value_at, written}, declared.slab.Id.Id}
 use Rattle.exec_outcomes.specs.{Lawful.{is_lawful, window_in, window_of}, Outcomes.{HasCome, bytes_of, counted_for, first_length, first_part, moves_on, part_now, second_part, moves_bytes}, declared.outcome.{Kind.Kind, OpResult.OpResult}}
 use Rattle.exec_request.specs.{Judging.{Judges, judged_as}, Kept.kept_of, Requests.{asked_of, cursor_of, deadline_of, hinted_of}, declared.request.Request.Request as Asking}
 use Rattle.exec_ring.specs.{Completions.result_in, declared.completion.Completion.Completion}
-use Rattle.exec_waiters.{proofs.Changes.entry_of, specs.{States.{waiter_at, takes_tick}, declared.waiter.{Entry.TheVariants.Pending, Waiter.Waiter}}}
+use Rattle.exec_waiters.{specs.{States.{waiter_at, takes_tick}, declared.waiter.{Entry.TheVariants.Pending, Waiter.Waiter}}, proofs.Changes.entry_of}
 use Rattle.exec_driver.specs.{Driving.Driving, Lists.{is_among, with_queued}, Punctual.IsPunctual}
 use Rattle.exec_machine.specs.{declared.state.{Request.Request, RequestPhase.TheVariants.Landed}, Requests.{judged_of, reaped, went_on, asked_of as asked_in, cursor_of as cursor_in}, Tests.is_staged}
 use Rattle.exec_moves.specs.declared.place.Place.{Place}
-use Rattle.exec_steps.{specs.{declared.parts.{mail.Reply.Reply, names.Names.Names, record.Record.Record, shared.Shared.Shared, worker.Worker.Worker}, Carried.{IsCarried, those_of}, Due.{IsWheelAt, may_be_due, wheel_moment}, Flown.{AreLanded, HasFlown, HasLanded, IsPlain, IsUpTo, longest, passes_permit}, Records.number_in, Serving.{changed_at, is_one_of, cancels_in, AreTagged}, Sound.{SoundAt, IsAlike, IsSubmitted, served_in}, View.{driver_of, number_told}, Ordered.{IsOrdered, went_round}}, proofs.{Changing.{OneGoesOn, all_go_one, changes_one, keeps_one, apart_number}, Conveying.{carried_judged, carried_ring}, Flown.FliesOn, Judging.{bytes_fit, cancel_decides, first_still, given_is, moved_is, stays_first, switched_is, total_fits}, Marking.{mark_if, marked, was_marked}, Serving.{Follows, KeepsBy}, Staging.known_then, Starting.simple, Trailing.RingAfter, Whole.whole_kept, Orders.{Eases, IsPartOf, TurnsAlike, alike_self, eased, eases_written, part_self}}}
+use Rattle.exec_steps.{specs.{declared.parts.{mail.Reply.Reply, names.Names.Names, record.Record.Record, shared.Shared.Shared, worker.Worker.Worker}, Carried.{IsCarried, those_of}, Due.{IsWheelAt, may_be_due, wheel_moment}, Flown.{AreLanded, HasFlown, HasLanded, IsPlain, IsUpTo, longest, passes_permit}, Records.number_in, Serving.{changed_at, is_one_of, cancels_in, AreTagged}, Sound.{SoundAt, IsAlike, IsSubmitted, served_in}, View.{driver_of, number_told}, Ordered.{IsOrdered, went_round}}, proofs.{Going.{ours_on, owning_on}, Facts.{by_name, same_number, not_same}, Marking.{mark_kept, mark_if, marked, was_marked}, Changing.{OneGoesOn, all_go_one, changes_one, keeps_one, apart_number}, Conveying.{carried_judged, carried_ring}, Flown.FliesOn, Judging.{bytes_fit, cancel_decides, first_still, given_is, moved_is, stays_first, switched_is, total_fits}, Serving.{Follows, KeepsBy}, Staging.known_then, Starting.simple, Trailing.RingAfter, Whole.whole_kept, Orders.{Eases, IsPartOf, TurnsAlike, alike_self, eased, eases_written, part_self}}}
 
 -- THE OTHERS THAT HAVE LANDED have other numbers
 
@@ -64,24 +64,6 @@ pub record GoesBack {B : Type 0} (w : Worker) (s : Shared B) (d' : Driving Reply
 abbrev pub goes_back : OpResult → Record → Record
 goes_back given r = record r { shown = reaped given None r.shown }
 
-back_worker : (given : OpResult) (b : Bool) (r : Record) → (mark_if (goes_back given) b r).shown.worker ≡ r.shown.worker
-back_worker given true r = refl
-back_worker given false r = refl
-
-back_cancel : (given : OpResult) (b : Bool) (r : Record) → (mark_if (goes_back given) b r).shown.cancel_staged ≡ r.shown.cancel_staged
-back_cancel given true r = refl
-back_cancel given false r = refl
-
-same_number : (a b : ℕ) → (a == b) ≡ true → a ≡ b
-same_number a b h = grind (arith, nat_tests)
-
-pub not_same : (k j : ℕ) → (k ≡ j → ⊥) → (k == j) ≡ false
-not_same k j apart = by (k == j) refl
-  where
-    by : (b : Bool) → (k == j) ≡ b → (k == j) ≡ false
-    by true is = absurd (apart (same_number k j is))
-    by false is = is
-
 -- its bytes stay within its length
 pub lawful_shown : (start tick : ℕ) (it : Waiter Reply Reply) (r : Request) (given : OpResult) → IsAlike start tick it r → is_lawful (window_of (asked_of it.request) (cursor_of it.request)) given ≡ true → is_lawful (window_of (asked_in r.operation) (cursor_in r.operation)) given ≡ true
 lawful_shown start tick it r given a lawful =
@@ -130,9 +112,6 @@ total_shown r given p lawful =
     total_fits o.kind o.length o.moved given p.bounded p.moved fits
 
 module _ {B : Type 0} (q q' : Place) (w : Worker) (s : Shared B) (sound : SoundAt q w s) (d' : Driving Reply Reply) (c : Completion) (cs : List Completion) (back : GoesBack w s d' c cs) where
-  abbrev pub back_number : ℕ
-  back_number = number_in w.names.requests.items back.h.id
-
   abbrev pub back_waiter : Waiter Reply Reply
   back_waiter = record back.h.it { in_flight = false; request = back.request }
 
@@ -226,10 +205,10 @@ module _ {B : Type 0} (q q' : Place) (w : Worker) (s : Shared B) (sound : SoundA
         tagged = subst AreTagged (sym back.ring.staged) sub.tagged;
         cancels = ap cancels_in back.ring.staged ∙ sub.cancels;
         known = known_then w.names.staged.items rs k f sub.known;
-        own = λ j x h found. let old = was_marked f rs k j x found in ap (λ y. y.shown.worker) old.2 ∙ back_worker given (k == j) old.0 ∙ sub.own j old.0 h old.1;
+        own = λ j x h found. let old = was_marked f rs k j x found in ap (λ y. y.shown.worker) old.2 ∙ mark_kept ℕ (λ x. x.shown.worker) (goes_back given) (λ x. refl) (k == j) old.0 ∙ sub.own j old.0 h old.1;
         all = λ j x found mine staged.
             let old = was_marked f rs k j x found in
-            sub.all j old.0 old.1 (sym (back_worker given (k == j) old.0) ∙ sym (ap (λ y. y.shown.worker) old.2) ∙ mine) (staged_by j (k == j) old.0 (sym (ap (λ y. is_staged y.shown.phase) old.2) ∙ staged));
+            sub.all j old.0 old.1 (sym (mark_kept ℕ (λ x. x.shown.worker) (goes_back given) (λ x. refl) (k == j) old.0) ∙ sym (ap (λ y. y.shown.worker) old.2) ∙ mine) (staged_by j (k == j) old.0 (sym (ap (λ y. is_staged y.shown.phase) old.2) ∙ staged));
         unraised = back.ring.raised ∙ sub.unraised;
       }
 
@@ -252,13 +231,14 @@ module _ {B : Type 0} (q q' : Place) (w : Worker) (s : Shared B) (sound : SoundA
       let changed = changes_one d.requests back.h.id it it' back.h.live in
       let waiters : (other : Id) → waiter_at d'.requests other ≡ waiter_at (written d.requests back.h.id (Pending it')) other = λ other. ap (λ x. waiter_at x other) back.requests in
       let once : is_one_of k (map (number_told w.names.requests.items) cs) ≡ false = ap (λ j. is_one_of j (map (number_told w.names.requests.items) cs)) (sym (number_landed w.names d rs c back.h)) ∙ back.once in
+      let all = all_go_one rs k f back.h.r back.h.there one_back.on in
       record {
         ending = flown.ending;
         staging = rw back.ring.size flown.staging;
         telling = rw back.ring.size flown.telling;
         entries = rw back.ring.staged flown.entries;
         permits = permits;
-        ours = λ j x found. let old = was_marked f rs k j x found in ap (λ y. y.shown.worker) old.2 ∙ back_worker given (k == j) old.0 ∙ flown.ours j old.0 old.1;
+        ours = ours_on rs back_records all w.index flown.ours;
         plain = λ j x found mine.
             let old = was_marked f rs k j x found in
             subst (λ y. IsPlain y.shown) (sym old.2) (plain_by j (k == j) old.0 refl old.1);
@@ -269,26 +249,21 @@ module _ {B : Type 0} (q q' : Place) (w : Worker) (s : Shared B) (sound : SoundA
             let differs : other ≢ back.h.id = λ e. apart (ap (number_in w.names.requests.items) (sym e)) in
             record { it' = x; r' = r; live = waiters other ∙ changed.others other differs ∙ live; flies = refl; same = refl; number = refl; there = marked f rs k j r found ∙ ap (λ b. Some (mark_if f b r)) (not_same k j apart); phase = refl }));
         acks = back.ring.acks;
-        owning = λ j x found unresolved.
-            let old = (all_go_one rs k f back.h.r back.h.there one_back.on).was j x found in
-            ap (λ y. y.shown.released) old.on.same ∙ flown.owning j old.r old.there (sym old.on.over ∙ unresolved);
+        owning = owning_on rs back_records all flown.owning;
         enrolling = λ other x live takes some.
             let listed : is_among other d.lists.enrolments ≡ true =
             let differs : other.0 ≢ back.h.id → is_among other d.lists.enrolments ≡ true = λ apart. flown.enrolling other x (sym (changed.others other.0 apart) ∙ sym (waiters other.0) ∙ live) takes some in
-            elim (id_cases other.0 back.h.id) [
-              | inl i ↦ differs (λ e. i (ap (λ (y : Id). y.index) e))
-              | inr (inl e) ↦ differs (λ y. e.1 (ap (λ (z : Id). z.generation) y))
-              | inr (inr eq) ↦
-                  let here : waiter_at (written d.requests back.h.id (Pending it')) other.0 ≡ Some x = sym (waiters other.0) ∙ live in
-                  let is_it : x ≡ it' = cc (here, eq, changed.is_at) in
-                  flown.enrolling other it (ap (waiter_at d.requests) eq ∙ back.h.live) (ap (λ y. takes_tick y.state) (sym is_it) ∙ takes)
-                  (ap (λ y. is_some y.deadline) (sym back.kept) ∙ ap (λ y. is_some (deadline_of y.request)) (sym is_it) ∙ some)
-            ] in
+            by_name other.0 back.h.id differs
+            (λ eq.
+            let here : waiter_at (written d.requests back.h.id (Pending it')) other.0 ≡ Some x = sym (waiters other.0) ∙ live in
+            let is_it : x ≡ it' = cc (here, eq, changed.is_at) in
+            flown.enrolling other it (ap (waiter_at d.requests) eq ∙ back.h.live) (ap (λ y. takes_tick y.state) (sym is_it) ∙ takes)
+            (ap (λ y. is_some y.deadline) (sym back.kept) ∙ ap (λ y. is_some (deadline_of y.request)) (sym is_it) ∙ some)) in
             ap (λ l. is_among other l.enrolments) back.lists ∙ listed;
         uncancelled = λ other x among found.
             let j = number_in w.names.requests.items other.0 in
             let old = was_marked f rs k j x found in
-            ap (λ y. y.shown.cancel_staged) old.2 ∙ back_cancel given (k == j) old.0 ∙ flown.uncancelled other old.0 (ap (λ l. is_among other l.cancels) (sym back.lists) ∙ among) old.1;
+            ap (λ y. y.shown.cancel_staged) old.2 ∙ mark_kept Bool (λ x. x.shown.cancel_staged) (goes_back given) (λ x. refl) (k == j) old.0 ∙ flown.uncancelled other old.0 (ap (λ l. is_among other l.cancels) (sym back.lists) ∙ among) old.1;
       }
 
   carried_back : IsCarried w.names.requests.items d'.requests d'.ring back_records s.store

@@ -1,19 +1,15 @@
 -- A request is over: its driver lets go of it, and what its end leaves is told.
-use Rattle.std.proofs.{Common.{◌≡◌, ◌≢◌, ℕ, ◌+◌, ◌^◌, ◌<◌, ◌≤◌, ◌||◌, Bool, true, false, List, [], ◌∷◌, ◌++◌, length, Option, Some, None, IsSome, refl, sym, ap, ◌∙◌, arith, inl, inr, is_some, nat_lt, if◌then◌else◌}, lemmas.{Bool.false≢true, List.{length-append, length-set}}}
+use Rattle.std.proofs.{Common.{◌≡◌, ◌≢◌, ℕ, ◌+◌, ◌^◌, ◌<◌, ◌≤◌, true, false, List, [], ◌∷◌, ◌++◌, length, Option, Some, None, IsSome, refl, sym, ap, ◌∙◌, arith, inl, inr, is_some, nat_lt, if◌then◌else◌}, lemmas.{Bool.false≢true, List.{length-append, length-set}}}
 use Rattle.exec_base.{specs.{Slab.{Slab, IsPast, value_at, written, removed, freed, is_live, live_count}, declared.{slab.{Slot.TheVariants.{Live, Vacant, Retired}, Id.Id}, task_no.TaskNo.TaskNo}}, proofs.Slots.{Changed-set, IsLiveAt-from_value, Updates-free, Updates-write, count-set, live_within, was_live}}
 use Rattle.exec_outcomes.specs.Accounts.{Account}
-use Rattle.exec_request.specs.{Requests.output_of, States.Ended, declared.output.RequestOutput.RequestOutput}
 use Rattle.exec_time.specs.Wheel.{Wheel, removed as unticked}
-use Rattle.exec_waiters.{proofs.Changes.entry_of, specs.{Events.{finished, finished_for, output_told, told_by_finish}, States.{waiter_at, pending_count}, Told.{Told, Tells, tasks_of}, declared.{deferred.{Deferred.Deferred, Retired.Retired as Let}, observer.Observer.{Observer, TheVariants.{Local, Orphaned}}, waiter.{Entry.{Entry, TheVariants.Ready}, Waiter.Waiter}, waiter_id.WaiterId.WaiterId}}}
+use Rattle.exec_request.specs.{Requests.output_of, States.Ended, declared.output.RequestOutput.RequestOutput}
+use Rattle.exec_waiters.{specs.{Events.{finished, finished_for, output_told, told_by_finish}, States.{waiter_at, pending_count}, Told.{Told, Tells, tasks_of}, declared.{deferred.{Deferred.Deferred, Retired.Retired as Let}, observer.Observer.{Observer, TheVariants.{Local, Orphaned}}, waiter.{Entry.{Entry, TheVariants.Ready}, Waiter.Waiter}, waiter_id.WaiterId.WaiterId}}, proofs.Changes.entry_of}
 use Rattle.exec_driver.{specs.{Lists.{is_among, is_same, without}, Steps.{ended, unscheduled}}, proofs.{Counting.pending_is, Endings.one_finished, Names.same_tells}}
 use Rattle.exec_machine.specs.declared.config.Configuration.{Configuration}
-use Rattle.exec_steps.{specs.{declared.parts.mail.Reply.Reply, Due.IsWheelAt, Rooted.IsNear, Sound.IsTold}, proofs.Orders.{past_removed, past_written}}
+use Rattle.exec_steps.{specs.{declared.parts.mail.Reply.Reply, Due.IsWheelAt, Rooted.IsNear, Sound.IsTold}, proofs.{Facts.or_right, Orders.{past_removed, past_written}}}
 
 -- THE LISTS
-
-or_right : (a b : Bool) → b ≡ true → (a || b) ≡ true
-or_right true b h = refl
-or_right false b h = h
 
 left_step : (other id x : WaiterId) (ids : List WaiterId) → (is_among other (without id ids) ≡ true → (is_among other ids ≡ true) × (other.0 ≢ id.0)) → is_among other (without id (x ∷ ids)) ≡ true
     → (is_among other (x ∷ ids) ≡ true) × (other.0 ≢ id.0)

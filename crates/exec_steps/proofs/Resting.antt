@@ -4,7 +4,7 @@ use Rattle.exec_base.specs.declared.limits.TheConstants.{LAST_MOMENT}
 use Rattle.exec_words.specs.Queue.{room_of}
 use Rattle.exec_machine.specs.declared.state.Rest.{Rest}
 use Rattle.exec_moves.specs.declared.place.Place.{Place}
-use Rattle.exec_steps.{specs.{declared.parts.{seat.Seat.Seat as Chair, shared.Shared.Shared, worker.Worker.Worker}, Phased.{IsPhased, TurnsChair, stage_of, closes_at, closing_in}, Records.{rest_at, reached, roused}, Sound.{Sound, SoundAt, HasShare}, View.queue_seen}, proofs.Phased.same_thing}
+use Rattle.exec_steps.{specs.{Sound.{IsAlone, is_armed_at, IsInTime, Sound, SoundAt, HasShare}, declared.parts.{seat.Seat.Seat as Chair, shared.Shared.Shared, worker.Worker.Worker}, Phased.{IsPhased, TurnsChair, stage_of, closes_at, closing_in}, Records.{rest_at, reached, roused}, View.queue_seen}, proofs.Facts.same_thing}
 
 abbrev pub rested : Rest → Chair → Chair
 rested x chair = record chair { rest = x }
@@ -57,48 +57,28 @@ module _ {B : Type 0} where
       let is : (chair : Chair) → slice_get t.seats.items w.index ≡ Some chair → rested mine.0 seat ≡ chair = λ chair there. same_thing (rested mine.0 seat) chair (sym mine.1 ∙ there) in
       let slept : (o : Option ℕ) → IfSome o (λ moment. moment ≤ s.clock) → IfSome o (λ moment. moment ≤ t.clock) = λ o.
       elim o as (λ x. IfSome x (λ moment. moment ≤ s.clock) → IfSome x (λ moment. moment ≤ t.clock)) [ None ↦ λ h. h | Some moment ↦ λ h. omega (arith, h, later) ] in
-      record {
-        here = sound.here;
-        config = sound.config;
-        gates = sound.gates;
-        index = sound.index;
-        time = record {
-          begun = sound.time.begun;
-          ordered = sound.time.ordered;
-          not_after = omega (arith, sound.time.not_after, later);
-          read = omega (arith, sound.time.read, later);
-          asleep = slept w.slept sound.time.asleep;
-          bounded = bounded;
-        };
-        told = sound.told;
-        named = sound.named;
-        runnable = sound.runnable;
-        alone = record {
-          only = rests.many ∙ sound.alone.only;
-          seat = rested mine.0 seat;
-          there = mine.1;
-          run_queue = sound.alone.run_queue;
-          whole = sound.alone.whole;
-          inbox = sound.alone.inbox;
-          unarmed = sound.alone.unarmed;
-          elsewhere = sound.alone.elsewhere;
-        };
-        share = λ chair there. subst (λ c. HasShare q (room_of (queue_seen c.queue))) (is chair there) (sound.share seat sound.alone.there);
-        sized = sound.sized;
-        processed = sound.processed;
-        hand = sound.hand;
-        left = sound.left;
-        over = sound.over;
-        batch = sound.batch;
-        quiet = sound.quiet;
-        due = sound.due;
-        flown = sound.flown;
-        carried = sound.carried;
-        rooted = sound.rooted;
-        phased = λ chair there.
-            subst (λ c. IsPhased (closes_at q) (closing_in q) w.home.closing w.root w.names.unreleased (stage_of c s) s.tasks.items) (is chair there) (sound.phased seat sound.alone.there);
-        tied = sound.tied;
-      }
+      let time : IsInTime w.moments w.slept t.clock = record {
+        begun = sound.time.begun;
+        ordered = sound.time.ordered;
+        not_after = omega (arith, sound.time.not_after, later);
+        read = omega (arith, sound.time.read, later);
+        asleep = slept w.slept sound.time.asleep;
+        bounded = bounded;
+      } in
+      let alone : IsAlone w.index (is_armed_at q) t.seats.items s.global.values = record {
+        only = rests.many ∙ sound.alone.only;
+        seat = rested mine.0 seat;
+        there = mine.1;
+        run_queue = sound.alone.run_queue;
+        whole = sound.alone.whole;
+        inbox = sound.alone.inbox;
+        unarmed = sound.alone.unarmed;
+        elsewhere = sound.alone.elsewhere;
+      } in
+      let share : (chair : Chair) → slice_get t.seats.items w.index ≡ Some chair → HasShare q (room_of (queue_seen chair.queue)) = λ chair there. subst (λ c. HasShare q (room_of (queue_seen c.queue))) (is chair there) (sound.share seat sound.alone.there) in
+      let phased : (chair : Chair) → slice_get t.seats.items w.index ≡ Some chair → IsPhased (closes_at q) (closing_in q) w.home.closing w.root w.names.unreleased (stage_of chair s) s.tasks.items = λ chair there.
+      subst (λ c. IsPhased (closes_at q) (closing_in q) w.home.closing w.root w.names.unreleased (stage_of c s) s.tasks.items) (is chair there) (sound.phased seat sound.alone.there) in
+      assumption (time, alone, share, phased, sound)
 
   pub clock_kept : (w : Worker) (s s' : Shared B) (by : ℕ) → s.clock + by ≤ LAST_MOMENT → s'.seats.items ≡ map (reached (s.clock + by)) s.seats.items
       → s' ≡ record s { clock = s.clock + by; seats = s'.seats } → Sound w s → Sound w s'

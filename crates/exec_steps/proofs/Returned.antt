@@ -1,12 +1,12 @@
 -- An operation that has landed, whose request goes on: a step.
 use Rattle.std.proofs.{Common.{◌≡◌, ℕ, ◌+◌, ◌-◌, true, false, List, [], ◌∷◌, ◌++◌, length, map, Option, None, refl, sym, ap, subst, ◌∙◌, arith}, lemmas.List.append-nil}
 use Rattle.exec_ring.specs.{Completions.result_in, Rings.completions, declared.completion.Completion.Completion}
-use Rattle.exec_task.specs.declared.body.Said.{Said}
-use Rattle.exec_waiters.{proofs.Changes.one_if, specs.{States.flying_count, Told.{Tells, nothing_told}, declared.waiter_id.WaiterId.WaiterId}}
+use Rattle.exec_waiters.{specs.{States.flying_count, Told.{Tells, nothing_told}, declared.waiter_id.WaiterId.WaiterId}, proofs.Changes.one_if}
 use Rattle.exec_driver.specs.{Driving.Driving, Punctual.IsPunctual}
+use Rattle.exec_task.specs.declared.body.Said.{Said}
 use Rattle.exec_machine.specs.{declared.event.Event.{Event, TheVariants.Reap}, Requests.outcome_given}
 use Rattle.exec_moves.specs.{Move.aside, Seen.serves_at, Serve.{after_permit, back_from_reap, others_after_reap}, State.Desk, declared.place.{Place.Place, Reaping.Reaping, Service.Service, InService.InService}}
-use Rattle.exec_steps.{specs.{declared.parts.{mail.Reply.Reply, shared.Shared.Shared, worker.Worker.Worker}, Due.may_be_due, Flown.operations, Phased.closes_at, Records.number_in, Serving.changed_at, Sound.{SoundAt, served_in, is_armed_at}, Spots.Spot, View.{visible, own_of, desk_of, driver_of, things_of, number_told, numbers_of, trailing}, Works.Steps}, proofs.{Changing.flying_after, Judging.given_is, Requeued.{GoesBack, back_alike, goes_back, keeps_back}, Seeing.{desk_with, makes, own_with, served, shows}, Serving.{Follows, Keeps, KeepsBy, Serves, is_calm}, Sweeping.follows_reap, Timed.keeps_untold, Trailing.others_left, Viewed.{common_seen, may_seen, moves_seen}}}
+use Rattle.exec_steps.{specs.{declared.parts.{mail.Reply.Reply, shared.Shared.Shared, worker.Worker.Worker}, Due.may_be_due, Flown.operations, Records.number_in, Serving.changed_at, Sound.{SoundAt, served_in}, Spots.Spot, View.{visible, own_of, desk_of, driver_of, things_of, number_told, numbers_of, trailing}, Works.Steps}, proofs.{Serving.{serves_to, IsServed, OthersKept, keeps_home, Follows, Keeps, KeepsBy, Serves}, Changing.flying_after, Judging.given_is, Requeued.{GoesBack, back_alike, goes_back, keeps_back}, Seeing.{desk_with, makes, own_with, served, shows}, Sweeping.follows_reap, Timed.keeps_untold, Trailing.others_left, Viewed.{common_seen, may_seen, moves_seen}}}
 
 -- WHERE IT LEADS
 
@@ -73,21 +73,10 @@ module _ {B L : Type 0} (left : B → L) (spot : L → Option Said → Spot) (rp
       let kept : KeepsBy (record w { place = q' }) d' w.home.timers (changed_at rs k (goes_back given)) s.sleepers.items s =
       keeps_back q q' w s sound d' c cs back follows punctual (λ h. ap (λ l. l.due) back.lists ∙ sound.due.told (not_due rp v)) in
       let w1 : Worker = record w { place = q'; home = record w.home { deferred = deferred } } in
-      let w2 : Worker = record w1 { home = record w1.home { driver = w'.home.driver } } in
       let untold : KeepsBy w1 d' w.home.timers (changed_at rs k (goes_back given)) s.sleepers.items s = keeps_untold (record w { place = q' }) d' w.home.timers (changed_at rs k (goes_back given)) s.sleepers.items s deferred tells kept in
-      let by_records : KeepsBy w1 d' w.home.timers s'.requests.items s.sleepers.items s = subst (λ x. KeepsBy w1 d' w.home.timers x s.sleepers.items s) (sym records) untold in
-      let by_home : KeepsBy w2 d' w.home.timers s'.requests.items s.sleepers.items s = assumption by_records in
-      let by_worker : KeepsBy w' d' w'.home.timers s'.requests.items s.sleepers.items s = subst (λ x. KeepsBy x d' x.home.timers s'.requests.items s.sleepers.items s) (sym same) by_home in
-      let keeps : Keeps w' s' = subst (λ y. KeepsBy w' d' w'.home.timers s'.requests.items y.sleepers.items y) (sym shared) (assumption by_worker) in
+      let keeps : Keeps w' s' = keeps_home w1 w' s s' (changed_at rs k (goes_back given)) d' same shared refl records untold in
       let there : w'.place ≡ q' = ap (λ x. x.place) same in
-      let serves : Serves q w w' s s' = record {
-        worker = subst (λ x. x ≡ record w { place = x.place; home = record w.home { driver = x.home.driver; timers = x.home.timers; deferred = x.home.deferred }; names = record w.names { ended = x.names.ended; staged = x.names.staged; untold = x.names.untold }; put_off = x.put_off }) (sym same) refl;
-        shared = subst (λ z. z ≡ record s { requests = z.requests; sleepers = z.sleepers }) (sym shared) refl;
-        from = refl;
-        to = ap is_calm there ∙ follows.to;
-        armed = ap is_armed_at there ∙ follows.armed;
-        closes = ap closes_at there ∙ follows.closes;
-      } in
+      let serves : Serves q w w' s s' = serves_to q q' w w' s s' (subst (IsServed w) (sym same) refl) (subst (OthersKept s) (sym shared) refl) there refl follows.to follows.armed follows.closes in
       let show = shows q w w' s s' d' serves refl in
       let wakes : deferred.notes.wakes.items ≡ w.home.deferred.notes.wakes.items = tells.notes.wakes_added ∙ append-nil w.home.deferred.notes.wakes.items in
       let outputs : deferred.outputs.items ≡ w.home.deferred.outputs.items = tells.outputs_added ∙ append-nil w.home.deferred.outputs.items in

@@ -1,19 +1,13 @@
 -- What the root holds and waits for, as records, the driver, sleepers and the root's slot change.
-use Rattle.std.proofs.{Common.{◌≡◌, ◌⊎◌, ⊎_elim, ℕ, suc, ◌+◌, ◌-◌, ◌==◌, ◌&&◌, Bool, true, false, not, cond, List, [], ◌∷◌, length, Option, Some, IsSome, refl, sym, ap, subst, ◌∙◌, arith, slice_get, slice_set, count_by}, lemmas.{Bool.{false≢true, eq-eqb, Decides.nat_tests}, List.Recursion.is_count_by, Option.get_or_from_slice_get}}
+use Rattle.std.proofs.{Common.{◌≡◌, ◌⊎◌, ⊎_elim, ℕ, suc, ◌+◌, ◌-◌, ◌==◌, ◌&&◌, Bool, true, false, not, cond, List, [], ◌∷◌, length, Option, Some, IsSome, refl, sym, ap, subst, ◌∙◌, slice_get, slice_set, count_by}, lemmas.{Bool.{false≢true, eq-eqb}, List.Recursion.is_count_by, Option.get_or_from_slice_get}}
 use Rattle.exec_base.specs.{Slab.{Slab, value_at, live_count, is_live}, declared.slab.{Id.Id, Slot.{Slot, TheVariants.{Live, Vacant, Retired}}}}
-use Rattle.exec_request.specs.declared.output.RequestOutput.{RequestOutput}
 use Rattle.exec_time.specs.declared.timers.Sleeper.{Sleeper as Sleeping}
+use Rattle.exec_request.specs.declared.output.RequestOutput.{RequestOutput}
 use Rattle.exec_waiters.specs.declared.waiter.Entry.TheVariants.{Ready}
 use Rattle.exec_driver.specs.Driving.{Driving}
 use Rattle.exec_machine.specs.{declared.state.Waiting.Waiting, Tests.is_resolved}
 use Rattle.exec_moves.specs.declared.place.InPoll.{InPoll}
-use Rattle.exec_steps.{specs.{declared.parts.{mail.Reply.Reply, names.Names.Names, record.Record.Record, sleeping.SleeperRecord.SleeperRecord, task_slot.TaskSlot.TaskSlot}, Calls.sleeper_paying, Phased.{is_complete, HoldsNothing}, Records.number_in, Rooted.{IsRooted, Holds, IsHeld, IsKept, Awaits, AwaitsTimer, ends_poll}, Serving.{changed_at, is_one_of}}, proofs.{Marking.{mark_if, marked, was_marked, slept_before}, Turning.set_there}}
-
-same_number : (a b : ℕ) → (a == b) ≡ true → a ≡ b
-same_number a b h = grind (arith, nat_tests)
-
-same_thing : {A : Type 0} (x y : A) → Some x ≡ Some y → x ≡ y
-same_thing x y h = cc
+use Rattle.exec_steps.{specs.{declared.parts.{mail.Reply.Reply, names.Names.Names, record.Record.Record, sleeping.SleeperRecord.SleeperRecord, task_slot.TaskSlot.TaskSlot}, Calls.sleeper_paying, Phased.{is_complete, HoldsNothing}, Records.number_in, Rooted.{IsRooted, Holds, IsHeld, IsKept, Awaits, AwaitsTimer, ends_poll}, Serving.{changed_at, is_one_of}}, proofs.{Facts.{set_there, same_thing, same_number, never_true}, Marking.{mark_if, marked, was_marked, slept_before}}}
 
 -- THE ROOT'S SLOT
 
@@ -56,10 +50,6 @@ none_asleep true true removed h = refl
 none_asleep true false true h = refl
 none_asleep true false false h = absurd (h refl refl refl)
 
-not_seen : (b : Bool) → (b ≡ true → ⊥) → b ≡ false
-not_seen true h = absurd (h refl)
-not_seen false h = refl
-
 module _ {B : Type 0} where
   pub holds_nothing : (x : Option InPoll) (i t : ℕ) (n : Names) (d : Driving Reply Reply) (zs : Slab (Sleeping Reply)) (tasks : List (TaskSlot B)) (rs : List Record) (ss : List SleeperRecord) (slot : TaskSlot B)
       → slice_get tasks t ≡ Some slot → is_complete slot.cell.phase ≡ true → IsRooted x i t n d zs tasks rs ss → HoldsNothing i n zs rs ss
@@ -69,7 +59,7 @@ module _ {B : Type 0} where
       record {
         held = h.counted ∙ ap (λ xs. length xs) none.0;
         timers = none_live (Sleeping Reply) zs (λ id it live. let never : Waiting.Nothing ≡ Waiting.Timer (number_in n.timers.items id) = sym none.1 ∙ (h.sleeping id it live).1 in absurd (cc));
-        unobserved = λ k r found mine. not_seen r.shown.observed (λ seen. false≢true (subst (λ xs. is_one_of k xs ≡ true) none.0 (h.all k r found mine seen)));
+        unobserved = λ k r found mine. never_true r.shown.observed (λ seen. false≢true (subst (λ xs. is_one_of k xs ≡ true) none.0 (h.all k r found mine seen)));
         awake = λ k z found. none_asleep (z.shown.worker == i) z.shown.fired z.shown.removed (λ mine fired removed.
             let never : Waiting.Nothing ≡ Waiting.Timer k = sym none.1 ∙ h.asleep k z found (same_number z.shown.worker i mine) fired removed in absurd (cc));
       }
@@ -96,7 +86,7 @@ module _ (f : Record → Record) (q : ℕ) (n n' : Names) (d d' : Driving Reply 
   was k r there false is = refl
 
   over_before : (k : ℕ) (r : Record) → slice_get rs k ≡ Some r → (b : Bool) → (q == k) ≡ b → is_resolved (mark_if f b r).shown.phase ≡ false → is_resolved r.shown.phase ≡ false
-  over_before k r there true is unresolved = not_seen (is_resolved r.shown.phase) (λ over.
+  over_before k r there true is unresolved = never_true (is_resolved r.shown.phase) (λ over.
       false≢true (sym unresolved ∙ ap is_resolved (by.stays r (ap (slice_get rs) (same_number q k is) ∙ there) over) ∙ over))
   over_before k r there false is unresolved = unresolved
 

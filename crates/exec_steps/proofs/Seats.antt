@@ -5,7 +5,7 @@ use Rattle.exec_machine.specs.{Progress.Plan, World.{Seat, seat_of, no_seat}}
 use Rattle.exec_steps.specs.{declared.parts.{seat.Seat.Seat as Chair, shared.Shared.Shared, worker.Worker.Worker}, Spots.Spot, View.{Visible, visible, common_of, seats_seen, seat_seen}, Works.Suits}
 
 -- what is seen of one chair
-seat_there : (vs : List Visible) (seats : List Chair) (i : ℕ) (v : Visible) (chair : Chair) → slice_get vs i ≡ Some v → slice_get seats i ≡ Some chair
+pub seat_there : (vs : List Visible) (seats : List Chair) (i : ℕ) (v : Visible) (chair : Chair) → slice_get vs i ≡ Some v → slice_get seats i ≡ Some chair
     → slice_get (seats_seen vs seats) i ≡ Some (seat_seen v chair)
 seat_there [] seats i v chair seen there = absurd (cc)
 seat_there (x ∷ vs) [] i v chair seen there = absurd (cc)

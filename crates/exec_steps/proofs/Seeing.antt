@@ -2,8 +2,8 @@
 use Rattle.std.proofs.Common.{◌≡◌, ℕ, List, length, map, Option, Some, sym, ap, subst, ◌∙◌, slice_get, slice_set}
 use Rattle.exec_ring.specs.Rings.{RingState, completions}
 use Rattle.exec_waiters.specs.{States.flying_count, declared.deferred.Deferred.Deferred}
-use Rattle.exec_task.specs.declared.body.Said.{Said}
 use Rattle.exec_driver.specs.Driving.{Driving}
+use Rattle.exec_task.specs.declared.body.Said.{Said}
 use Rattle.exec_machine.specs.{declared.event.Event.Event, Allowed.allowed, After.{own_after, common_after}, Choice.Choice.Plain, Progress.Plan, Tests.AllTrue, World.Own}
 use Rattle.exec_moves.specs.{declared.place.Place.Place, Move.move_at, Seen.{polls_at, next_at, serves_at}, State.{Desk, Things, Moved}}
 use Rattle.exec_steps.{specs.{declared.parts.{mail.Reply.Reply, record.Record.Record, shared.Shared.Shared, worker.{PutOff.PutOff, Worker.Worker}}, Flown.operations, Serving.changed_at, Sound.SoundAt, Spots.Spot, View.{Visible, visible, own_of, desk_of, driver_of, common_of, things_of, open_seen, numbers_of, number_told, trailing}, Works.{Works, Suits, Steps}}, proofs.{Hearing.unheard, Calling.shown_changed, Keys.{name_in, same_opens, names_kept}, Serving.{Serves, Keeps, sound_again}, Turning.set_found}}

@@ -1,14 +1,14 @@
 -- Steps of a service: what they keep.
-use Rattle.std.proofs.{Common.{◌≡◌, ℕ, zero, suc, Bool, true, false, List, [], ◌∷◌, length, Option, Some, None, refl, sym, ap, subst, ◌∙◌, arith, slice_get, slice_set}, lemmas.{Bool.false≢true, Option.{slice_get_within, slice_get-get_or, get_or_from_slice_get}, List.{get_or-set_same, length-set}}}
+use Rattle.std.proofs.{Common.{◌≡◌, ℕ, zero, suc, Bool, true, false, List, [], ◌∷◌, length, Option, Some, None, refl, sym, ap, subst, ◌∙◌, arith, slice_get, slice_set}, lemmas.{Bool.false≢true, List.length-set}}
 use Rattle.exec_base.specs.Slab.{Slab}
-use Rattle.exec_waiters.specs.{States.pending_count, declared.deferred.Deferred.Deferred}
-use Rattle.exec_time.specs.declared.timers.Sleeper.{Sleeper as Sleeping}
-use Rattle.exec_driver.specs.Driving.{Driving, seen}
 use Rattle.exec_words.specs.{Queue.room_of, declared.word.{PureWord.PureWord, WaitTarget.WaitTarget}}
+use Rattle.exec_time.specs.declared.timers.Sleeper.{Sleeper as Sleeping}
+use Rattle.exec_waiters.specs.{States.pending_count, declared.deferred.Deferred.Deferred}
+use Rattle.exec_driver.specs.Driving.{Driving, seen}
 use Rattle.exec_task.specs.declared.{body.Said.Said, runnable.Runnable.Runnable}
-use Rattle.exec_machine.specs.{declared.{event.Event.{Event, TheVariants.Serve}, state.Next.Next}, Choice.Choice.Plain, Progress.Plan, Ranges.ring_size, World.{seat_of, no_seat}}
+use Rattle.exec_machine.specs.{declared.{event.Event.{Event, TheVariants.Serve}, state.Next.Next}, Choice.Choice.Plain, Progress.Plan, Ranges.ring_size}
 use Rattle.exec_moves.specs.{declared.place.{InService.InService, Service.Service, Place.Place, InCallbacks.InCallbacks, InMail.InMail, Reaping.Reaping}, Seen.{polls_at, next_at, serves_at}, Serve.{sample, unlatched}}
-use Rattle.exec_steps.{specs.{declared.parts.{mail.Reply.Reply, record.Record.Record, sleeping.SleeperRecord.SleeperRecord, seat.Seat.Seat as Chair, shared.Shared.Shared, task_slot.TaskSlot.TaskSlot, worker.{Worker.Worker, Moments.Moments}}, Carried.IsCarried, Due.{IsDue, wheel_moment}, Flown.{HasFlown, passes_permit}, Phased.{IsPhased, closes_at, closing_in, stage_of}, Rooted.IsRooted, Sound.{tellers, SoundAt, IsAlone, IsTold, IsNamed, AreOver, AreOwed, Stands, InHand, HasShare, HasLeft, has_wakes_at, served_in, polled_in, is_armed_at}, Spots.Spot, View.{Visible, visible, desk_of, driver_of, common_of, things_of, seats_seen, seat_seen, queue_seen}, Works.{Makes, TurnsWord, Works, Suits, Steps}}, proofs.{Hearing.unheard, Turning.set_found, Orders.unordered}}
+use Rattle.exec_steps.{specs.{Sound.{IsInTime, IsTied, tellers, SoundAt, IsAlone, IsTold, IsNamed, AreOver, AreOwed, Stands, InHand, HasShare, HasLeft, has_wakes_at, served_in, polled_in, is_armed_at}, declared.parts.{mail.Reply.Reply, record.Record.Record, sleeping.SleeperRecord.SleeperRecord, seat.Seat.Seat as Chair, shared.Shared.Shared, task_slot.TaskSlot.TaskSlot, worker.{Worker.Worker, Moments.Moments}}, Carried.IsCarried, Due.{IsDue, wheel_moment}, Flown.{HasFlown, passes_permit}, Phased.{IsPhased, closes_at, closing_in, stage_of}, Rooted.IsRooted, Spots.Spot, View.{Visible, visible, desk_of, driver_of, common_of, things_of, seats_seen, seat_seen, queue_seen}, Works.{Makes, TurnsWord, Works, Suits, Steps}}, proofs.{Facts.set_there, Hearing.unheard, Turning.set_found, Orders.unordered}}
 
 -- PLACES
 
@@ -48,11 +48,6 @@ calm _ h = absurd (false≢true h)
 abbrev pub worded : PureWord → Chair → Chair
 worded x chair = record chair { mailbox = record chair.mailbox { waker = x } }
 
-pub set_there : {A : Type 0} (xs : List A) (i : ℕ) (x y : A) → slice_get xs i ≡ Some y → slice_get (slice_set xs i x) i ≡ Some x
-set_there xs i x y there =
-    let within = slice_get_within xs i y there in
-    slice_get-get_or (slice_set xs i x) i x (rw length-set within) ∙ ap (λ z. Some z) (get_or-set_same xs i x x within)
-
 -- The machine doesn't see the wake word.
 pub word_unseen : (vs : List Visible) (seats : List Chair) (i : ℕ) (chair : Chair) (x : PureWord) → slice_get seats i ≡ Some chair
     → seats_seen vs (slice_set seats i (worded x chair)) ≡ seats_seen vs seats
@@ -63,17 +58,6 @@ word_unseen (v ∷ vs) (seat ∷ seats) zero chair x there =
     ap (λ c. seat_seen v c ∷ seats_seen vs seats) same
 word_unseen (v ∷ vs) (seat ∷ seats) (suc i) chair x there = ap (λ xs. seat_seen v seat ∷ xs) (word_unseen vs seats i chair x there)
 
--- what is seen of one chair
-pub seat_there : (vs : List Visible) (seats : List Chair) (i : ℕ) (v : Visible) (chair : Chair) → slice_get vs i ≡ Some v → slice_get seats i ≡ Some chair
-    → slice_get (seats_seen vs seats) i ≡ Some (seat_seen v chair)
-seat_there [] seats i v chair seen there = absurd (cc)
-seat_there (x ∷ vs) [] i v chair seen there = absurd (cc)
-seat_there (x ∷ vs) (seat ∷ seats) zero v chair seen there =
-    let one : x ≡ v = cc in
-    let two : seat ≡ chair = cc in
-    rw (one, two) refl
-seat_there (x ∷ vs) (seat ∷ seats) (suc i) v chair seen there = seat_there vs seats i v chair seen there
-
 pub seats_set : (vs : List Visible) (seats : List Chair) (i : ℕ) (v : Visible) (chair : Chair) → slice_get seats i ≡ Some chair
     → seats_seen (slice_set vs i v) seats ≡ slice_set (seats_seen vs seats) i (seat_seen v chair)
 seats_set [] seats i v chair there = refl
@@ -83,23 +67,32 @@ seats_set (x ∷ vs) (seat ∷ seats) zero v chair there =
     ap (λ c. seat_seen v c ∷ seats_seen vs seats) same
 seats_set (x ∷ vs) (seat ∷ seats) (suc i) v chair there = ap (λ xs. seat_seen x seat ∷ xs) (seats_set vs seats i v chair there)
 
-module _ {B L : Type 0} (left : B → L) (spot : L → Option Said → Spot) where
-  pub own_seat : (p : Plan) (vs : List Visible) (w : Worker) (s : Shared B) (chair : Chair) → Suits p vs w s → slice_get s.seats.items w.index ≡ Some chair
-      → seat_of (common_of left spot p vs s) w.index ≡ seat_seen (visible w) chair
-  own_seat p vs w s chair suits there =
-      get_or_from_slice_get (seats_seen vs s.seats.items) w.index (seat_seen (visible w) chair) no_seat (seat_there vs s.seats.items w.index (visible w) chair suits.seen there)
-
 -- WHAT HOLDS AGAIN
+
+-- what of a worker a service changes
+abbrev pub IsServed : Worker → Worker → Type 0
+IsServed w v =
+    v ≡ record w { place = v.place; home = record w.home { driver = v.home.driver; timers = v.home.timers; deferred = v.home.deferred }; names = record w.names { ended = v.names.ended; staged = v.names.staged; untold = v.names.untold }; put_off = v.put_off }
+
+-- and what of that which is shared
+abbrev pub OthersKept : {B : Type 0} → Shared B → Shared B → Type 0
+OthersKept s t = t ≡ record s { requests = t.requests; sleepers = t.sleepers }
 
 -- A step of a service leads from a calm place to one. Of the worker its driver, its sleepers, what is left to be told, its
 -- numbers and what it put off may change, and of what is shared the records.
 pub record Serves {B : Type 0} (q : Place) (w w' : Worker) (s s' : Shared B) : Type 0 where
-  pub worker : w' ≡ record w { place = w'.place; home = record w.home { driver = w'.home.driver; timers = w'.home.timers; deferred = w'.home.deferred }; names = record w.names { ended = w'.names.ended; staged = w'.names.staged; untold = w'.names.untold }; put_off = w'.put_off }
-  pub shared : s' ≡ record s { requests = s'.requests; sleepers = s'.sleepers }
+  pub worker : IsServed w w'
+  pub shared : OthersKept s s'
   pub from : is_calm q ≡ true
   pub to : is_calm w'.place ≡ true
   pub armed : is_armed_at w'.place ≡ is_armed_at q
   pub closes : closes_at w'.place ≡ closes_at q
+
+-- by where the worker is then
+pub serves_to : {B : Type 0} (q q' : Place) (w w' : Worker) (s s' : Shared B) → IsServed w w' → OthersKept s s' → w'.place ≡ q' → is_calm q ≡ true → is_calm q' ≡ true
+    → is_armed_at q' ≡ is_armed_at q → closes_at q' ≡ closes_at q → Serves q w w' s s'
+serves_to q q' w w' s s' worker shared there from to armed closes =
+    record { worker = worker; shared = shared; from = from; to = ap is_calm there ∙ to; armed = ap is_armed_at there ∙ armed; closes = ap closes_at there ∙ closes }
 
 -- what a step leads to where nothing is polled, and neither the closing nor a wait on a word begins or ends
 pub record Follows (q q' : Place) : Type 0 where
@@ -128,19 +121,26 @@ pub record KeepsBy {B : Type 0} (w : Worker) (d : Driving Reply Reply) (zs : Sla
 abbrev pub Keeps : {B : Type 0} → Worker → Shared B → Type 0
 Keeps w s = KeepsBy w (driver_of w) w.home.timers s.requests.items s.sleepers.items s
 
--- by what a worker without its driver, a driver and records are
+-- by what a worker with another driver was, and by a driver and records
+pub keeps_home : {B : Type 0} (w1 w' : Worker) (s s' : Shared B) (rs : List Record) (d : Driving Reply Reply)
+    → w' ≡ record w1 { home = record w1.home { driver = w'.home.driver } } → s' ≡ record s { requests = s'.requests } → driver_of w' ≡ d → s'.requests.items ≡ rs
+    → KeepsBy w1 d w1.home.timers rs s.sleepers.items s → Keeps w' s'
+keeps_home w1 w' s s' rs d worker shared driver records keeps =
+    let w2 : Worker = record w1 { home = record w1.home { driver = w'.home.driver } } in
+    let zs = w1.home.timers in
+    let by_records : KeepsBy w1 d zs s'.requests.items s.sleepers.items s = subst (λ x. KeepsBy w1 d zs x s.sleepers.items s) (sym records) keeps in
+    let by_driver : KeepsBy w1 (driver_of w') zs s'.requests.items s.sleepers.items s = subst (λ x. KeepsBy w1 x zs s'.requests.items s.sleepers.items s) (sym driver) by_records in
+    let by_home : KeepsBy w2 (driver_of w') zs s'.requests.items s.sleepers.items s = assumption by_driver in
+    let by_worker : KeepsBy w' (driver_of w') w'.home.timers s'.requests.items s.sleepers.items s =
+    subst (λ x. KeepsBy x (driver_of w') x.home.timers s'.requests.items s.sleepers.items s) (sym worker) by_home in
+    subst (λ y. KeepsBy w' (driver_of w') w'.home.timers s'.requests.items y.sleepers.items y) (sym shared) (assumption by_worker)
+
+-- the same where the worker's place, what it put off and some of its numbers have changed
 pub keeps_all : {B : Type 0} (w w' : Worker) (s s' : Shared B) (rs : List Record) (d : Driving Reply Reply) →
     let w1 : Worker = record w { place = w'.place; put_off = w'.put_off; names = record w.names { staged = w'.names.staged; untold = w'.names.untold } } in
     w' ≡ record w1 { home = record w.home { driver = w'.home.driver } } → s' ≡ record s { requests = s'.requests } → driver_of w' ≡ d → s'.requests.items ≡ rs
     → KeepsBy w1 d w.home.timers rs s.sleepers.items s → Keeps w' s'
-keeps_all w w' s s' rs d worker shared driver records keeps =
-    let w1 : Worker = record w { place = w'.place; put_off = w'.put_off; names = record w.names { staged = w'.names.staged; untold = w'.names.untold } } in
-    let w2 : Worker = record w1 { home = record w.home { driver = w'.home.driver } } in
-    let by_records : KeepsBy w1 d w.home.timers s'.requests.items s.sleepers.items s = subst (λ x. KeepsBy w1 d w.home.timers x s.sleepers.items s) (sym records) keeps in
-    let by_driver : KeepsBy w1 (driver_of w') w.home.timers s'.requests.items s.sleepers.items s = subst (λ x. KeepsBy w1 x w.home.timers s'.requests.items s.sleepers.items s) (sym driver) by_records in
-    let by_home : KeepsBy w2 (driver_of w') w.home.timers s'.requests.items s.sleepers.items s = assumption by_driver in
-    let by_worker : KeepsBy w' (driver_of w') w'.home.timers s'.requests.items s.sleepers.items s = subst (λ x. KeepsBy x (driver_of w') x.home.timers s'.requests.items s.sleepers.items s) (sym worker) by_home in
-    subst (λ y. KeepsBy w' (driver_of w') w'.home.timers s'.requests.items y.sleepers.items y) (sym shared) (assumption by_worker)
+keeps_all w w' s s' rs d = keeps_home (record w { place = w'.place; put_off = w'.put_off; names = record w.names { staged = w'.names.staged; untold = w'.names.untold } }) w' s s' rs d
 
 module _ {B : Type 0} where
   -- what holds at a calm place, of those
@@ -164,36 +164,17 @@ module _ {B : Type 0} where
       let s1 : Shared B = record s { requests = t.requests; sleepers = t.sleepers } in
       Keeps w1 s1 → SoundAt v.place w1 s1
   sound_parts q w v s t sound from to armed closes keeps =
-      record {
-        here = refl;
-        config = sound.config;
-        gates = sound.gates;
-        index = sound.index;
-        time = sound.time;
-        told = keeps.told;
-        named = keeps.named;
-        runnable = sound.runnable;
-        alone = subst (λ a. IsAlone w.index a s.seats.items s.global.values) (sym armed) sound.alone;
-        share = λ chair there. to.share (room_of (queue_seen chair.queue));
-        sized = keeps.sized;
-        processed = sound.processed;
-        hand = to.hands w.root w.hand (from.empty w.root w.hand sound.hand);
-        left = to.left v.home.deferred;
-        over = keeps.over;
-        batch = sound.batch;
-        quiet = keeps.quiet;
-        due = keeps.due;
-        flown = keeps.flown;
-        carried = keeps.carried;
-        rooted = subst (λ x. IsRooted x w.index w.root (record w.names { ended = v.names.ended; staged = v.names.staged; untold = v.names.untold }) (seen v.home.driver) v.home.timers s.tasks.items t.requests.items t.sleepers.items) (sym to.stands) keeps.rooted;
-        phased = λ chair there.
-            subst (λ c. IsPhased c (closing_in v.place) w.home.closing w.root w.names.unreleased (stage_of chair s) s.tasks.items) (sym closes)
-            (subst (λ x. IsPhased (closes_at q) x w.home.closing w.root w.names.unreleased (stage_of chair s) s.tasks.items) (from.closing ∙ sym to.closing) (sound.phased chair there));
-        tied = record {
-          stands = subst (λ x. (slot : TaskSlot B) → slice_get s.tasks.items w.root ≡ Some slot → Stands x w.index slot) (from.stands ∙ sym to.stands) sound.tied.stands;
-          owed = keeps.owed;
-        };
-      }
+      let alone = subst (λ a. IsAlone w.index a s.seats.items s.global.values) (sym armed) sound.alone in
+      let share : (chair : Chair) → slice_get s.seats.items w.index ≡ Some chair → HasShare v.place (room_of (queue_seen chair.queue)) = λ chair there. to.share (room_of (queue_seen chair.queue)) in
+      let rooted = subst (λ x. IsRooted x w.index w.root (record w.names { ended = v.names.ended; staged = v.names.staged; untold = v.names.untold }) (seen v.home.driver) v.home.timers s.tasks.items t.requests.items t.sleepers.items) (sym to.stands) keeps.rooted in
+      let phased : (chair : Chair) → slice_get s.seats.items w.index ≡ Some chair → IsPhased (closes_at v.place) (closing_in v.place) w.home.closing w.root w.names.unreleased (stage_of chair s) s.tasks.items = λ chair there.
+      subst (λ c. IsPhased c (closing_in v.place) w.home.closing w.root w.names.unreleased (stage_of chair s) s.tasks.items) (sym closes)
+      (subst (λ x. IsPhased (closes_at q) x w.home.closing w.root w.names.unreleased (stage_of chair s) s.tasks.items) (from.closing ∙ sym to.closing) (sound.phased chair there)) in
+      let tied : IsTied (polled_in v.place) w.index w.root v.home.deferred.notes.wakes.items s.tasks.items t.requests.items t.sleepers.items = record {
+        stands = subst (λ x. (slot : TaskSlot B) → slice_get s.tasks.items w.root ≡ Some slot → Stands x w.index slot) (from.stands ∙ sym to.stands) sound.tied.stands;
+        owed = keeps.owed;
+      } in
+      assumption (alone, share, to.hands w.root w.hand (from.empty w.root w.hand sound.hand), to.left v.home.deferred, rooted, phased, tied, sound, keeps)
 
   pub sound_again : (q : Place) (w w' : Worker) (s s' : Shared B) → SoundAt q w s → Serves q w w' s s' → Keeps w' s' → SoundAt w'.place w' s'
   sound_again q w w' s s' sound serves keeps =
@@ -257,33 +238,15 @@ module _ {B L : Type 0} (left : B → L) (spot : L → Option Said → Spot) whe
       let there : slice_get s'.seats.items w.index ≡ Some now = rw (turns.seats seat sound.alone.there) (set_there s.seats.items w.index now seat sound.alone.there) in
       let due = sound.due in
       let flown = sound.flown in
-      record {
-        here = refl;
-        config = sound.config;
-        gates = sound.gates;
-        index = sound.index;
-        time = record { begun = omega (arith, sound.time.begun, sound.time.ordered); ordered = sound.time.not_after; not_after = omega arith; read = sound.time.read; asleep = sound.time.asleep; bounded = sound.time.bounded };
-        told = sound.told;
-        named = sound.named;
-        runnable = sound.runnable;
-        alone = alone_again w.index false false s s' word sound.alone turns (λ h. rw sound.alone.there (sound.alone.unarmed refl));
-        share = λ chair found. tt;
-        sized = sound.sized;
-        processed = sound.processed;
-        hand = sound.hand;
-        left = tt;
-        over = sound.over;
-        batch = sound.batch;
-        quiet = λ h. absurd (false≢true (sym h));
-        due = record { punctual = due.punctual; told = λ h. due.told refl; wheel = due.wheel; timed = due.timed; asleep = due.asleep; order = unordered (due.told refl) due.order };
-        flown = record { ending = flown.ending; staging = flown.staging; telling = flown.telling; entries = flown.entries; permits = refl; ours = flown.ours; plain = flown.plain; enrolling = flown.enrolling; acks = flown.acks; owning = flown.owning; landed = flown.landed; uncancelled = flown.uncancelled };
-        carried = sound.carried;
-        rooted = sound.rooted;
-        phased = λ chair found.
-            let same : now ≡ chair = cc (there, found) in
-            subst (λ c. IsPhased (closes_at (Place.Service InService.Sample v)) None w.home.closing w.root w.names.unreleased (stage_of c s) s.tasks.items) same (sound.phased seat sound.alone.there);
-        tied = record { stands = sound.tied.stands; owed = sound.tied.owed };
-      }
+      let time : IsInTime (record w.moments { before = w.moments.sampled; sampled = s.clock }) w.slept s.clock = record { begun = omega (arith, sound.time.begun, sound.time.ordered); ordered = sound.time.not_after; not_after = omega arith; read = sound.time.read; asleep = sound.time.asleep; bounded = sound.time.bounded } in
+      let alone = alone_again w.index false false s s' word sound.alone turns (λ h. rw sound.alone.there (sound.alone.unarmed refl)) in
+      let quiet : true ≡ false → w.home.deferred.notes.wakes.items ≡ [] = λ h. absurd (false≢true (sym h)) in
+      let due : IsDue (Some (InService.Reap Reaping.First)) w.index (record w.moments { before = w.moments.sampled; sampled = s.clock }) s.config w.names (driver_of w) w.home.timers s.requests.items s.sleepers.items = record { punctual = due.punctual; told = λ h. due.told refl; wheel = due.wheel; timed = due.timed; asleep = due.asleep; order = unordered (due.told refl) due.order } in
+      let flown : HasFlown (Some (InService.Reap Reaping.First)) w.index w.names (driver_of w) s.requests.items = record { ending = flown.ending; staging = flown.staging; telling = flown.telling; entries = flown.entries; permits = refl; ours = flown.ours; plain = flown.plain; enrolling = flown.enrolling; acks = flown.acks; owning = flown.owning; landed = flown.landed; uncancelled = flown.uncancelled } in
+      let phased : (chair : Chair) → slice_get s'.seats.items w.index ≡ Some chair → IsPhased (closes_at (Place.Service InService.Sample v)) None w.home.closing w.root w.names.unreleased (stage_of chair s) s.tasks.items = λ chair found.
+      let same : now ≡ chair = cc (there, found) in
+      subst (λ c. IsPhased (closes_at (Place.Service InService.Sample v)) None w.home.closing w.root w.names.unreleased (stage_of c s) s.tasks.items) same (sound.phased seat sound.alone.there) in
+      assumption (time, alone, quiet, due, flown, phased, sound)
 
   pub sampled : (v : Service) (w w' : Worker) (s s' : Shared B) (e : Event) → SoundAt (Place.Service InService.Sample v) w s
       → Makes (sample v (desk_of w) (things_of w.index s).word) e w'

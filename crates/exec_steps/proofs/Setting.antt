@@ -24,48 +24,22 @@ module _ {B : Type 0} where
       let due' : IsDue (served_in q) w.index w.moments s.config w.names d' w.home.timers rs ss =
       record { punctual = record { ahead = due.punctual.ahead }; told = due.told; wheel = due.wheel; timed = due.timed; asleep = due.asleep; order = due.order } in
       let flown = sound.flown in
-      let flown' : HasFlown (served_in q) w.index w.names d' rs = record {
-        ending = flown.ending;
-        staging = flown.staging;
-        telling = flown.telling;
-        entries = flown.entries;
-        permits = flown.permits;
-        enrolling = flown.enrolling;
-        acks = flown.acks;
-        owning = flown.owning;
-        ours = flown.ours;
-        plain = flown.plain;
-        landed = landed_as w.names d d' rs (operations d.ring) refl flown.landed;
-        uncancelled = flown.uncancelled;
-      } in
+      let flown' : HasFlown (served_in q) w.index w.names d' rs =
+      let landed = landed_as w.names d d' rs (operations d.ring) refl flown.landed in
+      assumption (landed, flown) in
       let rooted' : IsRooted (polled_in q) w.index w.root w.names d' w.home.timers s.tasks.items rs ss =
       rooted_on rs rs (all_still rs) (polled_in q) w.index w.root w.names w.names d d' w.home.timers s.tasks.items ss sound.rooted refl refl refl (λ id h. h) (λ id told h. h) in
       let w1 : Worker = record w { home = record w.home { driver = w'.home.driver } } in
-      let again : SoundAt q w1 s = record {
-        here = sound.here;
-        config = sound.config;
-        gates = sound.gates;
-        index = sound.index;
-        time = sound.time;
-        told = subst (λ x. IsTold w.names.ended.items w.home.deferred (tellers x.requests w.home.timers)) (sym driver) sound.told;
-        named = subst (λ x. IsNamed w.index w.names x w.home.timers rs ss) (sym driver) named';
-        runnable = sound.runnable;
-        alone = sound.alone;
-        share = sound.share;
-        sized = subst (λ (x : Driving Reply Reply). x.ring.size ≡ ring_size s.config) (sym driver) sound.sized;
-        processed = sound.processed;
-        hand = sound.hand;
-        left = sound.left;
-        over = subst (λ x. AreOver w.index w.names.ended.items w.names.unreleased (pending_count x.requests) rs) (sym driver) sound.over;
-        batch = sound.batch;
-        quiet = sound.quiet;
-        due = subst (λ x. IsDue (served_in q) w.index w.moments s.config w.names x w.home.timers rs ss) (sym driver) due';
-        flown = subst (λ x. HasFlown (served_in q) w.index w.names x rs) (sym driver) flown';
-        carried = subst (λ (x : Driving Reply Reply). IsCarried w.names.requests.items x.requests x.ring rs s.store) (sym driver) (carried_ring w.names.requests.items d.requests d.ring rs s.store sound.carried d'.ring (λ v small. refl) (λ v small. refl));
-        rooted = subst (λ x. IsRooted (polled_in q) w.index w.root w.names x w.home.timers s.tasks.items rs ss) (sym driver) rooted';
-        phased = sound.phased;
-        tied = sound.tied;
-      } in
+      let again : SoundAt q w1 s =
+      let told = subst (λ (x : Driving Reply Reply). IsTold w.names.ended.items w.home.deferred (tellers x.requests w.home.timers)) (sym driver) sound.told in
+      let named = subst (λ x. IsNamed w.index w.names x w.home.timers rs ss) (sym driver) named' in
+      let sized = subst (λ (x : Driving Reply Reply). x.ring.size ≡ ring_size s.config) (sym driver) sound.sized in
+      let over = subst (λ (x : Driving Reply Reply). AreOver w.index w.names.ended.items w.names.unreleased (pending_count x.requests) rs) (sym driver) sound.over in
+      let due = subst (λ x. IsDue (served_in q) w.index w.moments s.config w.names x w.home.timers rs ss) (sym driver) due' in
+      let flown = subst (λ x. HasFlown (served_in q) w.index w.names x rs) (sym driver) flown' in
+      let carried = subst (λ (x : Driving Reply Reply). IsCarried w.names.requests.items x.requests x.ring rs s.store) (sym driver) (carried_ring w.names.requests.items d.requests d.ring rs s.store sound.carried d'.ring (λ v small. refl) (λ v small. refl)) in
+      let rooted = subst (λ x. IsRooted (polled_in q) w.index w.root w.names x w.home.timers s.tasks.items rs ss) (sym driver) rooted' in
+      assumption (told, named, sized, over, due, flown, carried, rooted, sound) in
       subst (λ x. SoundAt q x s) (sym same) again
 
   pub set_sound : (w w' : Worker) (s : Shared B) (busy last : Bool) → Sound w s → driver_of w' ≡ record (driver_of w) { ring = record (driver_of w).ring { busy = busy; last = last } }

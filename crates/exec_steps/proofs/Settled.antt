@@ -2,8 +2,8 @@
 use Rattle.std.{proofs.Common.{◌≡◌, ℕ, Bool, true, false, not, List, [], ◌∷◌, ◌++◌, map, Option, Some, None, refl, sym, ap, ◌∙◌, is_some}, specs.VecDeque.deque_capacity}
 use Rattle.exec_request.specs.States.{Ended, as_answer, as_outcome}
 use Rattle.exec_ring.specs.{Completions.result_in, Kernels.is_quiet}
-use Rattle.exec_task.specs.declared.body.Said.{Said}
 use Rattle.exec_driver.specs.{Opens.OpenState, Placed.ListsRequests, Punctual.IsPunctual, Steps.ReapsNext, declared.driver.reaping.Reaped.Reaped}
+use Rattle.exec_task.specs.declared.body.Said.{Said}
 use Rattle.exec_machine.specs.{declared.event.Event.{Event, TheVariants.Reap}, Requests.{joined_if, reaped}}
 use Rattle.exec_moves.specs.{Serve.{after_permit, back_from_reap}, declared.place.{AfterPermit.AfterPermit, Place.Place, Reaping.Reaping, Service.Service, InService.InService}}
 use Rattle.exec_steps.{specs.{declared.parts.{names.Names.Names, shared.Shared.Shared, worker.Worker.Worker}, Flown.HasLanded, Records.number_in, Serving.changed_at, Sound.SoundAt, Spots.Spot, Submitting.after_giving_up, View.{driver_of, number_told}, Works.Steps}, proofs.{Finished.goes_over, Gone.reaped_over, Reaped.{TellsOf, tells_of}, Requeued.goes_back, Returned.reaped_back, Turned.{back_has, back_turned, ended_turned, opens_turned, over_has, over_tells, permit_turned, tells_turned, turned_back, turned_over}}}

@@ -1,11 +1,11 @@
 -- What a closing keeps, and what the machine sees of it.
 use Rattle.std.{proofs.{Common.{◌≡◌, ℕ, suc, ◌<◌, ◌-◌, ◌==◌, ◌&&◌, ◌||◌, Bool, true, false, not, List, [], ◌∷◌, length, map, Option, Some, None, refl, sym, ap, subst, ◌∙◌, arith, slice_get, slice_set, slice_index_or, option_map, if◌then◌else◌}, lemmas.{Bool.{false≢true, Decides.nat_tests}, List.length-set, Option.{slice_get-map, slice_get-get_or, get_or_from_slice_get}}}, specs.List.list_all}
-use Rattle.exec_task.specs.{TaskSet.{Set, shard_at}, declared.{drain.Drain.Drain, body.Said.Said, runnable.Runnable.Runnable, task.Phase.Phase}}
+use Rattle.exec_words.specs.{declared.inbox.Message.Message, Global.Global, Inbox.shut, Queue.room_of, Reserved.Reserved}
 use Rattle.exec_waiters.specs.declared.deferred.Deferred.{Deferred}
-use Rattle.exec_words.specs.{Global.Global, Inbox.shut, Queue.room_of, Reserved.Reserved, declared.inbox.Message.Message}
+use Rattle.exec_task.specs.{TaskSet.{Set, shard_at}, declared.{drain.Drain.Drain, body.Said.Said, runnable.Runnable.Runnable, task.Phase.Phase}}
 use Rattle.exec_machine.specs.{declared.{event.Event.Event, state.{Request.Request, Sleeper.Sleeper, WorkerPhase.WorkerPhase, Next.Next}}, Closing.gone_with, Progress.Plan, Tasks.removed, Tests.{is_open, is_closing, has_ended, is_done, is_asleep}, World.{task_of, no_task}}
 use Rattle.exec_moves.specs.{declared.place.{InClosing.InClosing, Place.Place, AfterCallbacks.AfterCallbacks, InCallbacks.InCallbacks}, Close.{after_visit, is_held_here}, Seen.next_in_closing, Serve.first_numbered}
-use Rattle.exec_steps.{specs.{declared.parts.{mail.{Reply.Reply, Subject.Subject}, seat.Seat.Seat as Chair, shared.Shared.Shared, task_slot.TaskSlot.TaskSlot, worker.Worker.Worker}, Phased.{IsPhased, IsPrepared, IsGoing, HoldsNothing, Stage, stage_of, closes_at, closing_in, root_over, has_stopped, has_left, has_shut, is_complete}, Sound.{SoundAt, IsAlone, InHand, HasShare, HasLeft, has_wakes_at, is_armed_at, polled_in, served_in}, Spots.Spot, View.{Visible, visible, driver_of, common_of, queue_seen, task_seen, phase_seen, seats_seen, seat_seen}, Works.{Suits, Steps}}, proofs.{Phased.{set_there, same_thing}, Rooted.holds_nothing, Turning.set_found, Seats.chair_set}}
+use Rattle.exec_steps.{specs.{Rooted.IsRooted, Flown.HasFlown, Sound.{IsTied, SoundAt, IsAlone, InHand, HasShare, HasLeft, has_wakes_at, is_armed_at, polled_in, served_in}, Due.IsDue, declared.parts.{mail.{Reply.Reply, Subject.Subject}, seat.Seat.Seat as Chair, shared.Shared.Shared, task_slot.TaskSlot.TaskSlot, worker.Worker.Worker}, Phased.{IsPhased, IsPrepared, IsGoing, HoldsNothing, Stage, stage_of, closes_at, closing_in, root_over, has_stopped, has_left, has_shut, is_complete}, Spots.Spot, View.{Visible, visible, driver_of, common_of, queue_seen, task_seen, phase_seen, seats_seen, seat_seen}, Works.{Suits, Steps}}, proofs.{Facts.{set_there, same_thing, same_number}, Rooted.holds_nothing, Turning.set_found, Seats.chair_set}}
 
 -- LISTS
 
@@ -55,9 +55,6 @@ over_closing _ = refl
 
 over_both : (x : InClosing) (y : Option InClosing) → root_over true (Some x) ≡ root_over true y
 over_both x y = over_closing (Some x) ∙ sym (over_closing y)
-
-same_number : (a b : ℕ) → (a == b) ≡ true → a ≡ b
-same_number a b h = grind (arith, nat_tests)
 
 pub unheld : (i : ℕ) (r : Request) → (r.worker ≡ i → r.observed ≡ false) → is_held_here i r ≡ false
 unheld i r h =
@@ -124,31 +121,14 @@ module _ {B : Type 0} where
       → SoundAt q (record w { place = q; batch = batch; home = record w.home { closing = told } }) (record s { seats = t.seats; set = t.set; global = t.global; barrier_open = t.barrier_open; stopped = t.stopped })
   sound_on x q w batch told s t sound leads none alone phased =
       let there = there_by q leads in
-      record {
-        here = refl;
-        config = sound.config;
-        gates = sound.gates;
-        index = sound.index;
-        time = sound.time;
-        told = sound.told;
-        named = sound.named;
-        runnable = sound.runnable;
-        alone = rw there.armed alone;
-        share = λ chair found. there.share (room_of (queue_seen chair.queue));
-        sized = sound.sized;
-        processed = sound.processed;
-        hand = there.hand w.root w.hand sound.hand;
-        left = there.left w.home.deferred;
-        over = sound.over;
-        batch = none;
-        quiet = λ h. absurd (false≢true (sym h ∙ there.wakes));
-        due = rw there.served sound.due;
-        flown = rw there.served sound.flown;
-        carried = sound.carried;
-        rooted = rw there.polled sound.rooted;
-        phased = phased;
-        tied = rw there.polled sound.tied;
-      }
+      let alone : IsAlone w.index (is_armed_at q) t.seats.items t.global.values = rw there.armed alone in
+      let share : (chair : Chair) → slice_get t.seats.items w.index ≡ Some chair → HasShare q (room_of (queue_seen chair.queue)) = λ chair found. there.share (room_of (queue_seen chair.queue)) in
+      let quiet : has_wakes_at q ≡ false → w.home.deferred.notes.wakes.items ≡ [] = λ h. absurd (false≢true (sym h ∙ there.wakes)) in
+      let due : IsDue (served_in q) w.index w.moments s.config w.names (driver_of w) w.home.timers s.requests.items s.sleepers.items = rw there.served sound.due in
+      let flown : HasFlown (served_in q) w.index w.names (driver_of w) s.requests.items = rw there.served sound.flown in
+      let rooted : IsRooted (polled_in q) w.index w.root w.names (driver_of w) w.home.timers s.tasks.items s.requests.items s.sleepers.items = rw there.polled sound.rooted in
+      let tied : IsTied (polled_in q) w.index w.root w.home.deferred.notes.wakes.items s.tasks.items s.requests.items s.sleepers.items = rw there.polled sound.tied in
+      assumption (alone, share, there.hand w.root w.hand sound.hand, there.left w.home.deferred, none, quiet, due, flown, rooted, phased, tied, sound)
 
   -- what holds of the chair that was set, of each that is found there
   pub phased_on : (closes : Bool) (x : Option InClosing) (told : Bool) (t n i : ℕ) (s : Shared B) (chair' : Chair) (tasks : List (TaskSlot B)) → slice_get s.seats.items i ≡ Some chair'
@@ -170,20 +150,9 @@ module _ {B : Type 0} where
   pub onward : (x : InClosing) (y : Option InClosing) (told : Bool) (t n : ℕ) (st : Stage) (stops goes shuts : Bool) (tasks : List (TaskSlot B)) → IsPhased true (Some x) told t n st tasks → has_ended st.phase ≡ false
       → stops ≡ has_stopped true y → goes ≡ has_left true y → shuts ≡ has_shut true y → IsPrepared y n st.set → IsPhased true y told t n (record st { stopped = stops; left = goes; shut = shuts }) tasks
   onward x y told t n st stops goes shuts tasks phased going stopped left shut prepared =
-      record {
-        told = phased.told;
-        opened = phased.opened;
-        ended = λ h. absurd (false≢true (sym going ∙ h));
-        root = λ slot there. phased.root slot there ∙ over_both x y;
-        lone = phased.lone;
-        pool = phased.pool;
-        stopped = stopped;
-        left = left;
-        shut = shut;
-        set = phased.set;
-        empty = phased.empty;
-        prepared = prepared;
-      }
+      let ended : has_ended st.phase ≡ true → y ≡ Some InClosing.End = λ h. absurd (false≢true (sym going ∙ h)) in
+      let root : (slot : TaskSlot B) → slice_get tasks t ≡ Some slot → is_complete slot.cell.phase ≡ root_over true y = λ slot there. phased.root slot there ∙ over_both x y in
+      assumption (ended, root, stopped, left, shut, prepared, phased)
 
   -- Nothing of the worker's chair changes.
   pub stays : (x y : InClosing) (w : Worker) (s : Shared B) (global : Global Runnable) (barrier stops : Bool) → SoundAt (Place.Closing x) w s → closes_at (Place.Closing x) ≡ true → closes_at (Place.Closing y) ≡ true → IsGoing w.index s.seats.items

@@ -1,12 +1,12 @@
 -- What a sleep is to the machine: until the next moment at which something is due, or a turn where that has come.
 use Rattle.std.{proofs.{Common.{◌≡◌, ℕ, zero, suc, ◌≤◌, ◌==◌, ◌&&◌, ◌||◌, Bool, true, false, not, List, [], ◌∷◌, ◌++◌, map, filter, Option, Some, None, refl, sym, ap, subst, ◌∙◌, arith, slice_get, slice_set, IfSome, nat_lt, replicate, if◌then◌else◌}, lemmas.{Bool.{false≢true, eq-eqb, Decides.nat_tests}, List.append_assoc}}, specs.List.flat_map}
+use Rattle.exec_words.specs.Word.{is_idle_at}
 use Rattle.exec_ring.specs.{Completions.wake_completion, Kernels.{has_none, is_quiet as is_ring_quiet}, Rings.{RingState, completions, spelled}, declared.completion.{Completion.Completion, Posted.Posted}}
 use Rattle.exec_driver.specs.Steps.{is_control}
-use Rattle.exec_words.specs.Word.{is_idle_at}
 use Rattle.exec_task.specs.declared.body.Said.{Said}
 use Rattle.exec_machine.specs.{declared.event.Event.{Event, TheVariants.{Turn, Sleep}}, Choice.Choice.Plain, Deadlines.{next_due, rest_until, is_after}, Progress.Plan, Same.same_number, Tests.is_empty, World.{Seat, seat_of}}
 use Rattle.exec_moves.specs.{declared.place.{Stay.Stay, Place.Place, AfterWait.AfterWait, InRingWait.InRingWait, InWordWait.InWordWait}, Load.has_come, Move.{aside, move_at, with_word}, State.{Desk, Things, Moved, does}, Wait.{has_completion, noting_sleep}}
-use Rattle.exec_steps.{specs.{declared.parts.{seat.Seat.Seat as Chair, shared.Shared.Shared, worker.Worker.Worker}, Sound.{SoundAt, is_armed_at}, Phased.closes_at, Spots.Spot, Tests.{IsNextIn, IsNextMoment, slept_after}, View.{Visible, visible, driver_of, own_of, desk_of, common_of, things_of, seats_seen, queue_at, word_at, trailing, number_told}, Waits.Sleeps, Works.{HasChair, Suits, Steps}}, proofs.{Hearing.unheard, NextDue.moment_seen, Seats.{chair_set, own_seat}, Turning.{IsPlain, Reaches, between, plain_between, quiet, is_quiet, reaches, reaches_with, set_found, set_there, sound_on, turned}}}
+use Rattle.exec_steps.{specs.{declared.parts.{seat.Seat.Seat as Chair, shared.Shared.Shared, worker.Worker.Worker}, Sound.{SoundAt, is_armed_at}, Phased.closes_at, Spots.Spot, Tests.{IsNextIn, IsNextMoment, slept_after}, View.{Visible, visible, driver_of, own_of, desk_of, common_of, things_of, seats_seen, queue_at, word_at, trailing, number_told}, Waits.Sleeps, Works.{HasChair, Suits, Steps}}, proofs.{Facts.{zero_false, set_there}, Hearing.unheard, NextDue.moment_seen, Seats.{chair_set, own_seat}, Turning.{IsPlain, Reaches, between, plain_between, quiet, is_quiet, reaches, reaches_with, set_found, sound_on, turned}}}
 
 same_itself : (o : Option ℕ) → same_number o o ≡ true
 same_itself None = refl
@@ -46,9 +46,6 @@ or_false false = refl
 is_positive : (n : ℕ) → nat_lt 0 (suc n) ≡ true
 is_positive n = grind (arith, nat_tests)
 
-not_zero : (n : ℕ) → (suc n == 0) ≡ false
-not_zero n = grind (arith, nat_tests)
-
 -- what completions there are, some are of operations or stand behind the last of those
 some_there : (f : Completion → ℕ) (n : ℕ) (cs : List Completion) → (not (is_empty (map f (filter (λ c. not (is_control c)) cs))) || nat_lt 0 (trailing n cs)) ≡ (nat_lt 0 n || not (is_empty cs))
 some_there f n [] = sym (or_false (nat_lt 0 n))
@@ -65,7 +62,7 @@ some_spelled (suc n) w c rest = refl
 
 none_spelled : (ps : List Posted) (n : ℕ) → is_empty (flat_map spelled ps ++ replicate n (wake_completion true)) ≡ (has_none ps && (n == 0))
 none_spelled [] zero = refl
-none_spelled [] (suc n) = sym (not_zero n)
+none_spelled [] (suc n) = sym (zero_false n)
 none_spelled (p ∷ ps) n =
     ap is_empty (append_assoc (spelled p) (flat_map spelled ps) (replicate n (wake_completion true)))
     ∙ some_spelled p.wakes (wake_completion true) p.completion (flat_map spelled ps ++ replicate n (wake_completion true))

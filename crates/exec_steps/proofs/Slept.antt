@@ -1,12 +1,12 @@
 -- The act by which the root sleeps is a step.
 use Rattle.std.{proofs.{Common.{◌≡◌, ◌≢◌, ℕ, suc, ◌+◌, ◌≤◌, ◌==◌, true, false, List, [], ◌∷◌, ◌++◌, length, map, Option, Some, None, refl, sym, ap, subst, ◌∙◌, arith, inl, inr, min, slice_get, slice_set}, lemmas.{Bool.{false≢true, eq-eqb}, List.{append-nil, length-map, map-append, map-set, set-set}, Option.slice_get_within}}, specs.VecDeque.deque_capacity}
 use Rattle.exec_base.specs.{Slab.{Slab, inserted, is_live, live_count, next_id, IsPast, TakesId}, declared.{limits.TheConstants.LONGEST_TIMEOUT, task_no.TaskNo.TaskNo}}
-use Rattle.exec_task.specs.{Phases.is_polled, Sight.Sight, declared.body.{Act.Act, Said.Said}}
 use Rattle.exec_time.specs.declared.timers.{Sleeper.Sleeper as Sleeping, Observer.Observer}
 use Rattle.exec_driver.specs.Driving.{seen}
+use Rattle.exec_task.specs.{Phases.is_polled, Sight.Sight, declared.body.{Act.Act, Said.Said}}
 use Rattle.exec_machine.specs.{Choice.Choice.Plain, declared.{event.Event.{Event, TheVariants.Timer}, config.ScriptWord.ScriptWord, state.Waiting.Waiting}, Deadlines.new_sleeper, Progress.Plan, Same.is_number, Words.{moved_on, sleep_asked}, World.{Task, Common, task_of}}
-use Rattle.exec_steps.{specs.{declared.parts.{mail.Reply.Reply, names.Names.Names, shared.Shared.Shared, task_slot.TaskSlot.TaskSlot, worker.Worker.Worker}, Acting.{ActsAs, HasActed, Performs, StepsOf}, Admitting.{Sleeps, most_told}, Hearing.{CanHear, held_once_come}, Phased.is_complete, Polls.OfSlot, Rooted.{Holds, IsRooted}, Scripts.{IsAnswer, held_after}, Sound.{SoundAt, IsTold, Stands, tellers}, Spots.Spot, View.{Visible, body_in, common_of, desk_of, driver_of, landed_in, open_seen, own_of, task_seen, things_of, visible}, Works.{Suits, Works}}, proofs.{Acting.{acts_so, moved_seen, moves_so}, Dozing.{OneDozes, asleep_dozes, carried_dozes, flown_dozes, holds_dozes, named_dozes, order_dozes, over_dozes, timed_dozes}, Growing.{Grown, Grows, desk_by, desk_same, few_tellers, own_by, sound_grown, told_same}, Performing.{going_on, in_poll, performs_on, still_performs}, Polling.on_in_poll, Resolving.places_fewer, Rooted.rooted_set, Taken.takes_inserted, Turning.{set_found, set_there}, Waking.task_there}}
 use Rattle.exec_moves.specs.declared.place.{InPoll.InPoll, Place.Place}
+use Rattle.exec_steps.{specs.{declared.parts.{mail.Reply.Reply, names.Names.Names, shared.Shared.Shared, task_slot.TaskSlot.TaskSlot, worker.Worker.Worker}, Acting.{ActsAs, HasActed, Performs, StepsOf}, Admitting.{Sleeps, most_told}, Hearing.{CanHear, held_once_come}, Phased.is_complete, Polls.OfSlot, Rooted.{Holds, IsRooted}, Scripts.{IsAnswer, held_after}, Sound.{SoundAt, IsTold, Stands, tellers}, Spots.Spot, View.{Visible, body_in, common_of, desk_of, driver_of, landed_in, open_seen, own_of, task_seen, things_of, visible}, Works.{Suits, Works}}, proofs.{Facts.set_there, Acting.{acts_so, moved_seen, moves_so}, Dozing.{OneDozes, asleep_dozes, carried_dozes, flown_dozes, holds_dozes, named_dozes, order_dozes, over_dozes, timed_dozes}, Growing.{Grown, Grows, desk_by, desk_same, few_tellers, own_by, sound_grown, told_same}, Performing.{going_on, in_poll, performs_on, still_performs}, Polling.on_in_poll, Resolving.places_fewer, Rooted.rooted_set, Taken.takes_inserted, Turning.set_found, Waking.task_there}}
 
 -- what it is, by what the act was made of
 module _ {B : Type 0} (w w' : Worker) (s sx s' : Shared B) (until : ℕ) (e : Event) (slot slot' : TaskSlot B) (sound : SoundAt (Place.Poll w.root InPoll.Act) w s) (z : Sleeps w.root until w w' (record s { tasks = sx.tasks }) s' e)

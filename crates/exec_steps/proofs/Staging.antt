@@ -2,14 +2,14 @@
 use Rattle.std.{proofs.{Common.{◌≡◌, ◌⊎◌, ℕ, ◌+◌, ◌<◌, ◌≤◌, ◌==◌, ◌&&◌, ◌||◌, Bool, true, false, not, List, [], ◌∷◌, ◌++◌, length, map, Option, Some, None, IsSome, refl, sym, ap, subst, ◌∙◌, arith, inl, inr, slice_get, slice_set, nat_lt}, lemmas.{Bool.{false≢true, eq-eqb, Decides.nat_tests}, List.length-append, Option.slice_get_within}}, specs.Vec.vec_capacity}
 use Rattle.exec_base.specs.Slab.{Slab, value_at}
 use Rattle.exec_time.specs.declared.timers.Sleeper.{Sleeper as Sleeping}
-use Rattle.exec_ring.specs.declared.completion.Submission.{Submission}
-use Rattle.exec_waiters.{proofs.Changes.entry_of, specs.{States.{waiter_at, flying_count}, declared.{waiter.{Entry.TheVariants.Pending, Waiter.Waiter}, waiter_id.WaiterId.WaiterId}}}
-use Rattle.exec_task.specs.declared.body.Said.{Said}
 use Rattle.exec_request.specs.States.{asks_cancel}
+use Rattle.exec_ring.specs.declared.completion.Submission.{Submission}
+use Rattle.exec_waiters.{specs.{States.{waiter_at, flying_count}, declared.{waiter.{Entry.TheVariants.Pending, Waiter.Waiter}, waiter_id.WaiterId.WaiterId}}, proofs.Changes.entry_of}
 use Rattle.exec_driver.{specs.{Driving.{Driving, request_at, is_cancelled, is_queued, is_full as is_ring_full, may_stage_one}, Lists.{has_first, first_of, rest_of, is_among}, Punctual.IsPunctual, Steps.{cancel_entry, cancel_staged}}, proofs.Counting.same_written}
+use Rattle.exec_task.specs.declared.body.Said.{Said}
 use Rattle.exec_machine.specs.{declared.{config.Configuration.Configuration, event.Event.{Event, TheVariants.Cancel}}, Progress.Plan, Ranges.ring_size, Same.is_number, Tests.{is_empty, is_in_flight, is_staged}, World.request_of}
 use Rattle.exec_moves.specs.{Callback.is_full, Load.may_stage, Move.move_submit, Submit.{due_next, staging_due, first_due, Due.Cancels}, declared.place.{Service.Service, Place.Place, InService.InService}}
-use Rattle.exec_steps.{specs.{declared.parts.{mail.Reply.Reply, names.Names.Names, record.Record.Record, sleeping.SleeperRecord.SleeperRecord, shared.Shared.Shared, worker.Worker.Worker}, Flown.{HasFlown, IsPlain, operations}, Phased.closes_at, Records.number_in, Serving.{AreKnown, AreTagged, cancels_in, changed_at}, Sound.{SoundAt, IsAlike, IsNamed, IsSubmitted, served_in, is_armed_at}, Spots.Spot, Submitting.{AreNamed, IsIdle, StagesCancel, must_flush}, View.{Visible, visible, own_of, desk_of, driver_of, common_of, things_of, numbers_of}, Works.{Suits, Steps}}, proofs.{Calling.request_seen, Carries.carried_marked, Changing.{OneGoesOn, keeps_one, others_there, all_go_one}, Conveying.carried_beside, Flown.landed_on, Going.{GoesOn, same_worker}, Idling.{comes_to_staging, none_due, none_gated}, Marking.{mark_if, marked, was_marked, marked_length}, Seeing.{makes, shows, served, common_changed}, Serving.{is_calm, Follows, Serves, Keeps, KeepsBy, keeps_all}, Turning.set_found}}
+use Rattle.exec_steps.{specs.{declared.parts.{mail.Reply.Reply, names.Names.Names, record.Record.Record, sleeping.SleeperRecord.SleeperRecord, shared.Shared.Shared, worker.Worker.Worker}, Flown.{HasFlown, IsPlain, operations}, Records.number_in, Serving.{AreKnown, AreTagged, cancels_in, changed_at}, Sound.{SoundAt, IsAlike, IsNamed, IsSubmitted, served_in}, Spots.Spot, Submitting.{AreNamed, IsIdle, StagesCancel, must_flush}, View.{Visible, visible, own_of, desk_of, driver_of, common_of, things_of, numbers_of}, Works.{Suits, Steps}}, proofs.{Going.{ours_on, owning_on, GoesOn, same_worker}, Marking.{plain_kept, mark_if, marked, was_marked, marked_length}, Serving.{serves_to, IsServed, OthersKept, Follows, Serves, Keeps, KeepsBy, keeps_all}, Facts.by_not_not, Calling.request_seen, Carries.carried_marked, Changing.{OneGoesOn, keeps_one, others_there, all_go_one}, Conveying.carried_beside, Flown.landed_on, Idling.{comes_to_staging, none_due, none_gated}, Seeing.{makes, shows, served, common_changed}, Turning.set_found}}
 
 -- WHAT IS SEEN
 
@@ -73,9 +73,8 @@ marks_phase : (b : Bool) (r : Record) → (mark_if marks_cancel b r).shown.phase
 marks_phase true r = refl
 marks_phase false r = refl
 
-marks_plain : (b : Bool) (r : Record) → IsPlain r.shown → IsPlain (mark_if marks_cancel b r).shown
-marks_plain true r p = record { bounded = p.bounded; moved = p.moved; first_part = p.first_part; unhinted = p.unhinted; ungated = p.ungated; deadline = p.deadline }
-marks_plain false r p = p
+marks_plain : (r : Record) → IsPlain r.shown → IsPlain (marks_cancel r).shown
+marks_plain r p = record { bounded = p.bounded; moved = p.moved; first_part = p.first_part; unhinted = p.unhinted; ungated = p.ungated; deadline = p.deadline }
 
 pub known_then : (ks : List ℕ) (rs : List Record) (k : ℕ) (f : Record → Record) → AreKnown ks rs → AreKnown ks (changed_at rs k f)
 known_then [] rs k f known = tt
@@ -130,10 +129,6 @@ pub rooms_there : (n m e size cap : ℕ) → n + m ≤ e → nat_lt e size ≡ t
 rooms_there n m e size cap few less room =
     let below : e < size = grind (arith, nat_tests) in
     (omega (arith, few, below, room), omega (arith, few, below, room))
-
-full_not : (b : Bool) → not b ≡ false → b ≡ true
-full_not true h = refl
-full_not false h = absurd (false≢true (sym h))
 
 module _ {B : Type 0} (v : Service) (w : Worker) (s : Shared B) (idle : IsIdle v w s) (id : WaiterId) (first : first_of (driver_of w).lists.cancels ≡ Some id) where
   -- the request that asks for it
@@ -194,7 +189,7 @@ module _ {B : Type 0} (v : Service) (w : Worker) (s : Shared B) (idle : IsIdle v
   has_places some =
       let d = driver_of w in
       let f = idle.sound.flown in
-      let below : nat_lt (length d.ring.staged) d.ring.size ≡ true = full_not (nat_lt (length d.ring.staged) d.ring.size) (has_room some) in (
+      let below : nat_lt (length d.ring.staged) d.ring.size ≡ true = by_not_not (nat_lt (length d.ring.staged) d.ring.size) (has_room some) in (
         (rooms_there (length w.names.staged.items) (length w.names.untold.items) (length d.ring.staged) d.ring.size (vec_capacity w.names.staged) f.entries below f.staging).0,
         (rooms_there (length w.names.staged.items) (length w.names.untold.items) (length d.ring.staged) d.ring.size (vec_capacity w.names.untold) f.entries below f.telling).1,
       )
@@ -278,21 +273,15 @@ module _ {B L : Type 0} (left : B → L) (spot : L → Option Said → Spot) whe
         telling = rw room flown.telling;
         entries = rw (unchanged, untold_more, entries_more) (omega (arith, flown.entries));
         permits = refl;
-        ours = λ j x found.
-            let old = was_marked marks_cancel rs k j x found in
-            ap (λ y. y.shown.worker) old.2 ∙ marks_worker (k == j) old.0 ∙ flown.ours j old.0 old.1;
-        plain = λ j x found mine.
-            let old = was_marked marks_cancel rs k j x found in
-            subst (λ y. IsPlain y.shown) (sym old.2) (marks_plain (k == j) old.0 (flown.plain j old.0 old.1 (sym (marks_worker (k == j) old.0) ∙ sym (ap (λ y. y.shown.worker) old.2) ∙ mine)));
+        ours = ours_on rs rs' all w.index flown.ours;
+        plain = plain_kept marks_cancel rs k marks_plain w.index flown.ours flown.plain;
         landed = landed_on w.names (record w.names { staged = w'.names.staged; untold = w'.names.untold }) d d' rs rs' (operations d.ring) flown.landed
             (λ other x r given live flies found landed.
             let j = number_in w.names.requests.items other in
             record { it' = x; r' = mark_if marks_cancel (k == j) r; live = live; flies = refl; same = refl; number = refl; there = marked marks_cancel rs k j r found; phase = marks_phase (k == j) r });
         enrolling = flown.enrolling;
         acks = flown.acks;
-        owning = λ j x found unresolved.
-            let old = all.was j x found in
-            ap (λ y. y.shown.released) old.on.same ∙ flown.owning j old.r old.there (sym old.on.over ∙ unresolved);
+        owning = owning_on rs rs' all flown.owning;
         uncancelled = named_apart;
       } in
       let keeps : Keeps w' s' =
@@ -300,14 +289,7 @@ module _ {B L : Type 0} (left : B → L) (spot : L → Option Said → Spot) whe
       (subst (λ y. KeepsBy (record w { place = y; put_off = w'.put_off; names = record w.names { staged = w'.names.staged; untold = w'.names.untold } }) d' w.home.timers rs' s.sleepers.items s) (sym there)
       (keeps_one q q w'.put_off w'.names w s d' id.0 ask.it ask.it ask.r marks_cancel sound (stages_again idle.gate v) one (subst IsPunctual it.driver punctual) (λ h. idle.due) sound.due.order sound.due.wheel refl submitted flown_then
       (carried_beside w.names.requests.items d.requests d.ring rs' s.store (carried_marked w.names.requests.items d.requests d.ring rs s.store sound.carried k marks_cancel (λ r at. refl) (λ r at. refl)) (cancel_entry id).window 4294967295 (λ h. omega (arith, h))))) in
-      let serves : Serves q w w' s s' = record {
-        worker = subst (λ x. x ≡ record w { place = x.place; home = record w.home { driver = x.home.driver; timers = x.home.timers; deferred = x.home.deferred }; names = record w.names { ended = x.names.ended; staged = x.names.staged; untold = x.names.untold }; put_off = x.put_off }) (sym it.worker) refl;
-        shared = subst (λ t. t ≡ record s { requests = t.requests; sleepers = t.sleepers }) (sym it.shared) refl;
-        from = refl;
-        to = ap is_calm there;
-        armed = ap is_armed_at there;
-        closes = ap closes_at there;
-      } in
+      let serves : Serves q w w' s s' = serves_to q q w w' s s' (subst (IsServed w) (sym it.worker) refl) (subst (OthersKept s) (sym it.shared) refl) there refl refl refl refl in
       let show = shows q w w' s s' d' serves it.driver in
       subst (λ x. Steps left spot w s x w' s') (sym it.event)
       (served left spot q w w' s s' (Cancel k) sound serves keeps

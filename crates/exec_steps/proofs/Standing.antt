@@ -6,7 +6,7 @@ use Rattle.exec_waiters.specs.{States.{waiter_at, waiter_of, counts_pending, pen
 use Rattle.exec_driver.specs.{Driving.{Driving, has_pending}, Lists.has_first}
 use Rattle.exec_machine.specs.{declared.{config.Configuration.Configuration, state.Request.Request}, Ranges.ring_size, Tests.{is_empty, is_resolved}}
 use Rattle.exec_moves.specs.Load.{has_submissions}
-use Rattle.exec_steps.specs.{declared.parts.{mail.Reply.Reply, names.Names.Names, record.Record.Record, sleeping.SleeperRecord.SleeperRecord, worker.Worker.Worker}, Records.number_in, Sound.IsNamed, View.{own_of, driver_of}}
+use Rattle.exec_steps.{specs.{declared.parts.{mail.Reply.Reply, names.Names.Names, record.Record.Record, sleeping.SleeperRecord.SleeperRecord, worker.Worker.Worker}, Records.number_in, Sound.IsNamed, View.{own_of, driver_of}}, proofs.Facts.{same_number, or_right, by_not}}
 
 -- TESTS OVER LISTS
 
@@ -16,20 +16,9 @@ bool_same true false to from = sym (to refl)
 bool_same false true to from = from refl
 bool_same false false to from = refl
 
-or_right : (a b : Bool) → b ≡ true → (a || b) ≡ true
-or_right true b h = refl
-or_right false b h = h
-
 and_both : (a b : Bool) → (a && b) ≡ true → (a ≡ true) × (b ≡ true)
 and_both true b h = (refl, h)
 and_both false b h = absurd (false≢true h)
-
-not_true : (b : Bool) → not b ≡ true → b ≡ false
-not_true true h = absurd (false≢true h)
-not_true false h = refl
-
-same_number : (a b : ℕ) → (a == b) ≡ true → a ≡ b
-same_number a b h = grind (arith, nat_tests)
 
 positive : (n : ℕ) → true ≡ not (1 + n == 0)
 positive n = grind (arith, nat_tests)
@@ -114,7 +103,7 @@ requests_seen i n d zs records sleepers named =
     let two = and_both (f.1.shown.worker == i) (not (is_resolved f.1.shown.phase)) f.3 in
     let at_driver : (o : Option (Waiter Reply Reply)) → waiter_at d.requests f.1.id.0 ≡ o → list_any counts_pending slots ≡ true = λ o.
     elim o as (λ x. waiter_at d.requests f.1.id.0 ≡ x → list_any counts_pending slots ≡ true) [
-      | None ↦ λ is. absurd (false≢true (sym (not_true (is_resolved f.1.shown.phase) two.1) ∙ named.over f.0 f.1 f.2 (same_number f.1.shown.worker i two.0) is))
+      | None ↦ λ is. absurd (false≢true (sym (by_not (is_resolved f.1.shown.phase) two.1) ∙ named.over f.0 f.1 f.2 (same_number f.1.shown.worker i two.0) is))
       | Some it ↦ λ is. any_or counts_pending slots f.1.id.0.index (Vacant d.requests.first) refl (asks (slot_at d.requests f.1.id.0.index) f.1.id.0.generation it is)
     ] in
     at_driver (waiter_at d.requests f.1.id.0) refl in

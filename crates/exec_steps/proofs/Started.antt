@@ -1,25 +1,18 @@
 -- The staging of a request's operation is a step.
-use Rattle.std.{proofs.{Common.{◌≡◌, ◌≢◌, ℕ, ◌+◌, ◌-◌, ◌<◌, ◌==◌, ◌&&◌, ◌||◌, Bool, true, false, not, List, [], ◌∷◌, ◌++◌, length, map, Option, Some, refl, sym, ap, subst, ◌∙◌, arith, inl, inr, slice_get, slice_set, nat_lt, is_some}, lemmas.{Bool.{false≢true, eq-eqb, Decides.nat_tests}, List.{length-append, Folds.list_any-append}, Option.slice_get_within}}, specs.Vec.vec_capacity}
-use Rattle.exec_base.{specs.{Slab.{value_at, written}, declared.slab.Id.Id}, proofs.Slots.id_cases}
+use Rattle.std.{proofs.{Common.{◌≡◌, ◌≢◌, ℕ, ◌+◌, ◌-◌, ◌<◌, ◌==◌, ◌&&◌, ◌||◌, Bool, true, false, not, List, [], ◌∷◌, ◌++◌, length, map, Option, Some, refl, sym, ap, subst, ◌∙◌, arith, slice_get, slice_set, nat_lt, is_some}, lemmas.{Bool.{false≢true, eq-eqb}, List.{length-append, Folds.list_any-append}, Option.slice_get_within}}, specs.Vec.vec_capacity}
+use Rattle.exec_base.specs.Slab.{value_at, written}
 use Rattle.exec_request.specs.Requests.{deadline_of}
 use Rattle.exec_ring.specs.{Kernels.with_entry, Rings.RingState}
-use Rattle.exec_waiters.{proofs.Changes.{entry_of, one_if}, specs.{States.{waiter_at, takes_tick, flying_count, file_of}, declared.{waiter.{Entry.TheVariants.Pending, Waiter.Waiter}, waiter_id.WaiterId.WaiterId}}}
-use Rattle.exec_task.specs.declared.body.Said.{Said}
+use Rattle.exec_waiters.{specs.{States.{waiter_at, takes_tick, flying_count, file_of}, declared.{waiter.{Entry.TheVariants.Pending, Waiter.Waiter}, waiter_id.WaiterId.WaiterId}}, proofs.Changes.{entry_of, one_if}}
 use Rattle.exec_driver.specs.{Driving.{Driving, may_stage_one}, Lists.{has_first, first_of, rest_of, is_among, after_queued}, Opens.account_in, Punctual.IsPunctual, Steps.{StagesOne, with_staged}}
+use Rattle.exec_task.specs.declared.body.Said.{Said}
 use Rattle.exec_machine.specs.{declared.{event.Event.{Event, TheVariants.Stage}, state.{Request.Request, RequestPhase.RequestPhase}}, Ranges.ring_size, Requests.{asks_hint, is_enrolled, staged}, Same.is_number, Tests.{is_queued as is_phase_queued, is_resolved, is_staged}, World.request_of}
 use Rattle.exec_moves.specs.{Move.move_submit, Submit.{staging_due, Due.Stages}, declared.place.{Service.Service, Place.Place, InService.InService}}
-use Rattle.exec_steps.{specs.{declared.parts.{mail.Reply.Reply, names.Names.Names, record.Record.Record, shared.Shared.Shared, worker.Worker.Worker}, Carried.IsCarried, Flown.{HasFlown, IsPlain, IsUpTo, longest, operations}, Phased.closes_at, Records.number_in, Serving.{changed_at, is_cancel, is_one_of}, Sound.{IsSubmitted, served_in, is_armed_at}, Spots.Spot, Submitting.{IsIdle, StagesRequest, must_flush}, View.{visible, own_of, desk_of, driver_of, common_of, things_of, numbers_of}, Works.Steps, Ordered.{IsOrdered, went_round}}, proofs.{Calling.request_seen, Changing.{OneGoesOn, changes_one, flying_after, keeps_one, apart_number, all_go_one}, Conveying.carried_staged, Flown.landed_on, Marking.{mark_if, marked, was_marked, marked_length}, Seeing.{makes, shows, served, common_changed}, Serving.{is_calm, Serves, Keeps, KeepsBy, keeps_all}, Staging.{flush_seen, idle_at, known_then, split_first, staging_next, stages_again, suits_at}, Starting.{starts_first, starts, starts_on, starts_alike, starts_if_worker, starts_if_cancel, starts_if_plain, simple, came_on, known_and, no_hint, tagged_by, cancels_by}, Turning.set_found, Whole.whole_kept, Orders.{alike_self, eased, eases_written, part_self}}}
-
-same_number : (a b : ℕ) → (a == b) ≡ true → a ≡ b
-same_number a b h = grind (arith, nat_tests)
+use Rattle.exec_steps.{specs.{declared.parts.{mail.Reply.Reply, names.Names.Names, record.Record.Record, shared.Shared.Shared, worker.Worker.Worker}, Carried.IsCarried, Flown.{HasFlown, IsUpTo, longest, operations}, Records.number_in, Serving.{changed_at, is_cancel, is_one_of}, Sound.{IsSubmitted, served_in}, Spots.Spot, Submitting.{IsIdle, StagesRequest, must_flush}, View.{visible, own_of, desk_of, driver_of, common_of, things_of, numbers_of}, Works.Steps, Ordered.{IsOrdered, went_round}}, proofs.{Going.{ours_on, owning_on}, Marking.{plain_kept, mark_if, marked, was_marked, marked_length}, Facts.{by_name, or_left, not_same, and_right}, Serving.{serves_to, IsServed, OthersKept, Serves, Keeps, KeepsBy, keeps_all}, Calling.request_seen, Changing.{OneGoesOn, changes_one, flying_after, keeps_one, apart_number, all_go_one}, Conveying.carried_staged, Flown.landed_on, Seeing.{makes, shows, served, common_changed}, Staging.{flush_seen, idle_at, known_then, split_first, staging_next, stages_again, suits_at}, Starting.{starts_first, starts, starts_on, starts_alike, starts_if_worker, starts_if_cancel, starts_plain, simple, came_on, known_and, no_hint, tagged_by, cancels_by}, Turning.set_found, Whole.whole_kept, Orders.{alike_self, eased, eases_written, part_self}}}
 
 -- among the numbers that are staged it is the last
 one_of_last : (k j : ℕ) (ks : List ℕ) → is_one_of j (ks ++ k ∷ []) ≡ (is_one_of j ks || ((k == j) || false))
 one_of_last k j ks = list_any-append (λ q. q == j) ks (k ∷ [])
-
-or_left : (a b : Bool) → a ≡ true → (a || b) ≡ true
-or_left true b h = refl
-or_left false b h = absurd (false≢true h)
 
 or_last : (a b : Bool) → b ≡ true → (a || (b || false)) ≡ true
 or_last true b h = refl
@@ -33,17 +26,6 @@ staged_then i ks rs k sub j x false is found staged mine =
     let old = was_marked starts rs k j x found in
     let same : x ≡ old.0 = old.2 ∙ ap (λ b. mark_if starts b old.0) is in
     or_left (is_one_of j ks) ((k == j) || false) (sub.all j old.0 old.1 (ap (λ y. y.shown.worker) (sym same) ∙ mine) (ap (λ y. is_staged y.shown.phase) (sym same) ∙ staged))
-
-not_same : (k j : ℕ) → (k ≡ j → ⊥) → (k == j) ≡ false
-not_same k j apart = by (k == j) refl
-  where
-    by : (b : Bool) → (k == j) ≡ b → (k == j) ≡ false
-    by true is = absurd (apart (same_number k j is))
-    by false is = is
-
-few_of : (a b : Bool) → (a && b) ≡ true → b ≡ true
-few_of true b h = h
-few_of false b h = absurd (false≢true h)
 
 hint_none : (r : Request) → asks_hint r.operation ≡ false → (stands : Bool) → (asks_hint r.operation && r.operation.unrefused && stands) ≡ false
 hint_none r none stands = rw none refl
@@ -107,18 +89,15 @@ module _ {B L : Type 0} (left : B → L) (spot : L → Option Said → Spot) whe
       let entries_more : length d'.ring.staged ≡ length d.ring.staged + 1 = length-append d.ring.staged (by_driver.entry ∷ []) in
       let staged_more : length w'.names.staged.items ≡ length w.names.staged.items + 1 = ap length by.staged ∙ length-append w.names.staged.items (k ∷ []) in
       let changed = changes_one d.requests id.0 it it' who.live in
+      let all = all_go_one rs k starts who.r who.there on in
       let flown_then : HasFlown (served_in q) w.index names_then d' rs' = record {
         ending = flown.ending;
         staging = rw room flown.staging;
         telling = rw untold flown.telling;
         entries = rw (untold, staged_more, entries_more) (omega (arith, flown.entries));
         permits = refl;
-        ours = λ j x found.
-            let old = was_marked starts rs k j x found in
-            ap (λ y. y.shown.worker) old.2 ∙ starts_if_worker (k == j) old.0 ∙ flown.ours j old.0 old.1;
-        plain = λ j x found mine.
-            let old = was_marked starts rs k j x found in
-            subst (λ y. IsPlain y.shown) (sym old.2) (starts_if_plain (k == j) old.0 (flown.plain j old.0 old.1 (flown.ours j old.0 old.1)));
+        ours = ours_on rs rs' all w.index flown.ours;
+        plain = plain_kept starts rs k starts_plain w.index flown.ours flown.plain;
         landed = landed_on w.names names_then d d' rs rs' (operations d.ring) flown.landed
             (λ other x r given live flies found landed.
             let j = number_in w.names.requests.items other in
@@ -128,19 +107,14 @@ module _ {B L : Type 0} (left : B → L) (spot : L → Option Said → Spot) whe
             let apart_k = apart_number w.index w.names names_then d d' w.home.timers rs s.sleepers.items id.0 it it' who.r starts one sound.named other (rw (entry_of (value_at d.requests other) x live) refl) apart in
             record { it' = x; r' = r; live = changed.others other apart ∙ live; flies = refl; same = refl; number = refl; there = marked starts rs k j r found ∙ ap (λ b. Some (mark_if starts b r)) (not_same k j apart_k); phase = refl });
         acks = flown.acks;
-        owning = λ j x found unresolved.
-            let old = (all_go_one rs k starts who.r who.there on).was j x found in
-            ap (λ y. y.shown.released) old.on.same ∙ flown.owning j old.r old.there (sym old.on.over ∙ unresolved);
+        owning = owning_on rs rs' all flown.owning;
         enrolling = λ other x live takes some.
             let differs : other.0 ≢ id.0 → is_among other d.lists.enrolments ≡ true = λ apart. flown.enrolling other x (sym (changed.others other.0 apart) ∙ live) takes some in
-            elim (id_cases other.0 id.0) [
-              | inl i ↦ differs (λ e. i (ap (λ (y : Id). y.index) e))
-              | inr (inl e) ↦ differs (λ y. e.1 (ap (λ (z : Id). z.generation) y))
-              | inr (inr eq) ↦
-                  let is_it : x ≡ it' = cc (live, eq, changed.is_at) in
-                  flown.enrolling other it (ap (waiter_at d.requests) eq ∙ who.live) (ap (λ y. takes_tick y.state) (sym is_it) ∙ takes)
-                  (ap is_some (sym cursor.deadline) ∙ ap (λ y. is_some (deadline_of y.request)) (sym is_it) ∙ some)
-            ];
+            by_name other.0 id.0 differs
+            (λ eq.
+            let is_it : x ≡ it' = cc (live, eq, changed.is_at) in
+            flown.enrolling other it (ap (waiter_at d.requests) eq ∙ who.live) (ap (λ y. takes_tick y.state) (sym is_it) ∙ takes)
+            (ap is_some (sym cursor.deadline) ∙ ap (λ y. is_some (deadline_of y.request)) (sym is_it) ∙ some));
         uncancelled = λ other x among found.
             let j = number_in w.names.requests.items other.0 in
             let old = was_marked starts rs k j x found in
@@ -157,14 +131,7 @@ module _ {B L : Type 0} (left : B → L) (spot : L → Option Said → Spot) whe
       keeps_all w w' s s' rs' d' same by.shared by_driver.driver by.records
       (subst (λ y. KeepsBy (record w { place = y; put_off = w'.put_off; names = names_then }) d' w.home.timers rs' s.sleepers.items s) (sym there)
       (keeps_one q q w'.put_off w'.names w s d' id.0 it it' who.r starts sound (stages_again idle.gate v) one (subst IsPunctual by_driver.driver punctual) (λ h. idle.due) order sound.due.wheel refl submitted flown_then carried)) in
-      let serves : Serves q w w' s s' = record {
-        worker = subst (λ x. x ≡ record w { place = x.place; home = record w.home { driver = x.home.driver; timers = x.home.timers; deferred = x.home.deferred }; names = record w.names { ended = x.names.ended; staged = x.names.staged; untold = x.names.untold }; put_off = x.put_off }) (sym by.worker) refl;
-        shared = subst (λ t. t ≡ record s { requests = t.requests; sleepers = t.sleepers }) (sym by.shared) refl;
-        from = refl;
-        to = ap is_calm there;
-        armed = ap is_armed_at there;
-        closes = ap closes_at there;
-      } in
+      let serves : Serves q w w' s s' = serves_to q q w w' s s' (subst (IsServed w) (sym by.worker) refl) (subst (OthersKept s) (sym by.shared) refl) there refl refl refl refl in
       let show = shows q w w' s s' d' serves by_driver.driver in
       let w0 : Worker = record w { place = q } in
       let flying : flying_count d'.requests ≡ flying_count d.requests + 1 =
@@ -178,7 +145,7 @@ module _ {B L : Type 0} (left : B → L) (spot : L → Option Said → Spot) whe
       let sized : d.ring.size ≡ ring_size c = sound.sized ∙ ap ring_size suits.config in
       let request : request_of all k ≡ who.r.shown = request_seen rs k who.r who.there in
       let numbers : numbers_of w.names.requests.items d.lists.queued ≡ k ∷ numbers_of w.names.requests.items (rest_of d.lists.queued) = ap (numbers_of w.names.requests.items) (split_first id d.lists.queued first) in
-      let few : nat_lt (flying_count d.requests) (ring_size c) ≡ true = ap (nat_lt (flying_count d.requests)) (sym sized) ∙ few_of (has_first d.lists.queued) (nat_lt (flying_count d.requests) d.ring.size) may in
+      let few : nat_lt (flying_count d.requests) (ring_size c) ≡ true = ap (nat_lt (flying_count d.requests)) (sym sized) ∙ and_right (has_first d.lists.queued) (nat_lt (flying_count d.requests) d.ring.size) may in
       let due : staging_due c (own_of w0) (desk_of w0) ≡ Stages k =
       rw (flush_seen c w0 sized, unflushed, none, few, numbers) refl in
       record {

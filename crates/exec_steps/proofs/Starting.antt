@@ -1,14 +1,14 @@
 -- What the staging of a request's operation is to the machine.
-use Rattle.std.{proofs.{Common.{◌≡◌, ◌≢◌, ℕ, ◌+◌, ◌*◌, ◌<◌, ◌==◌, ◌&&◌, ◌||◌, Bool, true, false, not, List, [], ◌∷◌, ◌++◌, length, Option, Some, None, refl, sym, ap, ◌∙◌, arith, slice_get, is_some, if◌then◌else◌}, lemmas.Bool.{false≢true, Decides.nat_tests}}, specs.Option.option_map}
+use Rattle.std.{proofs.{Common.{◌≡◌, ◌≢◌, ℕ, ◌+◌, ◌*◌, ◌<◌, ◌&&◌, ◌||◌, Bool, true, false, not, List, [], ◌∷◌, ◌++◌, length, Option, Some, None, refl, sym, ap, ◌∙◌, slice_get, is_some, if◌then◌else◌}, lemmas.Bool.false≢true}, specs.Option.option_map}
 use Rattle.exec_base.specs.Slab.{value_at}
 use Rattle.exec_outcomes.specs.{declared.outcome.{Judged.Judged, Kind.Kind}, Outcomes.{HasCome, stop_of, present, moved_by}}
 use Rattle.exec_request.specs.{Kept.kept_of, Requests.{asked_of, cursor_of, hinted_of, deadline_of, window_by}, States.asks_cancel, Syncing.write_kind, Ways.asked_by, declared.{request.Request.Request as Asking, results.WaiterState.{WaiterState, TheVariants.{Active, CancelRequested}}, way.Way.Way, write_at.WriteAtState.WriteAtState}}
 use Rattle.exec_ring.specs.declared.completion.Submission.{Submission}
-use Rattle.exec_waiters.{proofs.Changes.entry_of, specs.{States.{waiter_at, takes_tick, tick_in, needs_permit}, declared.{waiter.Waiter.Waiter, waiter_id.WaiterId.WaiterId}}}
+use Rattle.exec_waiters.{specs.{States.{waiter_at, takes_tick, tick_in, needs_permit}, declared.{waiter.Waiter.Waiter, waiter_id.WaiterId.WaiterId}}, proofs.Changes.entry_of}
 use Rattle.exec_driver.specs.{Driving.{request_at, is_queued}, Lists.{first_of, is_among}}
 use Rattle.exec_machine.specs.{declared.state.{Request.Request, RequestPhase.RequestPhase}, Requests.{asks_hint, is_enrolled}, Same.{is_none, same_kind}, Tests.{is_gated, is_in_flight, is_resolved}}
-use Rattle.exec_steps.{specs.{declared.parts.{mail.Reply.Reply, record.Record.Record, shared.Shared.Shared, worker.Worker.Worker}, Flown.{IsPlain, IsUpTo, longest}, Records.number_in, Serving.{AreKnown, AreTagged, cancels_in, is_cancel}, Sound.IsAlike, Submitting.IsIdle, View.driver_of}, proofs.{Going.GoesOn, Marking.mark_if, Staging.among_first}}
 use Rattle.exec_moves.specs.declared.place.Service.{Service}
+use Rattle.exec_steps.{specs.{declared.parts.{mail.Reply.Reply, record.Record.Record, shared.Shared.Shared, worker.Worker.Worker}, Flown.{IsPlain, IsUpTo, longest}, Records.number_in, Serving.{AreKnown, AreTagged, cancels_in, is_cancel}, Sound.IsAlike, Submitting.IsIdle, View.driver_of}, proofs.{Going.GoesOn, Marking.mark_if, Staging.among_first}}
 
 -- A REQUEST OF THE FIRST KINDS
 
@@ -106,24 +106,8 @@ starts_on r unresolved = record { same = refl; over = sym unresolved; ended = λ
 pub starts_alike : (start tick : ℕ) (it : Waiter Reply Reply) (q : Asking) (r : Record) → IsAlike start tick it r.shown → SameCursor it.request q → IsSimple q → asks_cancel it.state ≡ false
     → IsAlike start tick (record it { in_flight = true; request = q }) (starts r).shown
 starts_alike start tick it q r a same plain unasked =
-    record {
-      asked = a.asked ∙ sym same.asked;
-      moved = a.moved ∙ sym same.moved;
-      switched = a.switched ∙ sym same.switched;
-      come = same.come;
-      hinted = sym plain.unhinted;
-      deadline = a.deadline ∙ sym same.deadline;
-      cancelled = a.cancelled;
-      timer = a.timer;
-      observed = a.observed;
-      waiter = a.waiter;
-      flying = refl;
-      permit = λ h. absurd (false≢true h);
-      open_still = refl;
-      near = a.near;
-      going = λ h. refl;
-      told_once = a.told_once;
-    }
+    let permit : false ≡ true → it.permit ≡ false = λ h. absurd (false≢true h) in
+    assumption (a.asked ∙ sym same.asked, a.moved ∙ sym same.moved, a.switched ∙ sym same.switched, sym plain.unhinted, a.deadline ∙ sym same.deadline, permit, same, a)
 
 -- A STEP
 
@@ -131,9 +115,6 @@ queued_parts : (a b c : Bool) → (not a && not b && not c) ≡ true → (a ≡ 
 queued_parts true b c h = absurd (false≢true h)
 queued_parts false true c h = absurd (false≢true h)
 queued_parts false false c h = (refl, refl)
-
-same_number : (a b : ℕ) → (a == b) ≡ true → a ≡ b
-same_number a b h = grind (arith, nat_tests)
 
 pub starts_if_worker : (b : Bool) (r : Record) → (mark_if starts b r).shown.worker ≡ r.shown.worker
 starts_if_worker true r = refl
@@ -143,9 +124,8 @@ pub starts_if_cancel : (b : Bool) (r : Record) → (mark_if starts b r).shown.ca
 starts_if_cancel true r = refl
 starts_if_cancel false r = refl
 
-pub starts_if_plain : (b : Bool) (r : Record) → IsPlain r.shown → IsPlain (mark_if starts b r).shown
-starts_if_plain true r p = record { bounded = p.bounded; moved = p.moved; first_part = p.first_part; unhinted = refl; ungated = refl; deadline = p.deadline }
-starts_if_plain false r p = p
+pub starts_plain : (r : Record) → IsPlain r.shown → IsPlain (starts r).shown
+starts_plain r p = record { bounded = p.bounded; moved = p.moved; first_part = p.first_part; unhinted = refl; ungated = refl; deadline = p.deadline }
 
 pub known_and : (ks : List ℕ) (k : ℕ) (rs : List Record) → AreKnown ks rs → k < length rs → AreKnown (ks ++ k ∷ []) rs
 known_and [] k rs known more = (more, tt)

@@ -1,11 +1,11 @@
 -- A reaping that finds no operation which has landed.
 use Rattle.std.proofs.Common.{◌≡◌, ℕ, true, false, [], length, map, Option, refl, sym, ap, subst, ◌∙◌, arith}
 use Rattle.exec_ring.specs.Rings.{completions}
-use Rattle.exec_task.specs.declared.body.Said.{Said}
 use Rattle.exec_driver.specs.{Driving.Driving, Steps.swept}
+use Rattle.exec_task.specs.declared.body.Said.{Said}
 use Rattle.exec_machine.specs.{declared.event.Event.{Event, TheVariants.Serve}, World.seat_of}
 use Rattle.exec_moves.specs.{Seen.serves_at, Serve.after_permit, declared.place.{Reaping.Reaping, Service.Service, Place.Place, AfterPermit.AfterPermit, InService.InService}}
-use Rattle.exec_steps.{specs.{declared.parts.{mail.Reply.Reply, shared.Shared.Shared, worker.Worker.Worker}, Carried.those_of, Flown.operations, Due.may_be_due, Phased.closes_at, Serving.{AreTagged, cancels_in}, Sound.{SoundAt, served_in, is_armed_at}, Spots.Spot, View.{visible, own_of, desk_of, driver_of, common_of, things_of, number_told, trailing}, Works.Steps}, proofs.{Ceasing.{SameButRing, keeps_ring}, Seeing.{makes, own_with, desk_with, visible_with, served, common_same}, Serving.{is_calm, Follows, Serves, Keeps, KeepsBy, own_seat}, Swept.{SweepsTo, sweeps, operations_posted, told_in, trails_none}}}
+use Rattle.exec_steps.{specs.{declared.parts.{mail.Reply.Reply, shared.Shared.Shared, worker.Worker.Worker}, Carried.those_of, Flown.operations, Due.may_be_due, Serving.{AreTagged, cancels_in}, Sound.{SoundAt, served_in}, Spots.Spot, View.{visible, own_of, desk_of, driver_of, common_of, things_of, number_told, trailing}, Works.Steps}, proofs.{Serving.{serves_to, IsServed, Follows, Serves, Keeps, KeepsBy}, Seats.own_seat, Ceasing.{SameButRing, keeps_ring}, Seeing.{makes, own_with, desk_with, visible_with, served, common_same}, Swept.{SweepsTo, sweeps, operations_posted, told_in, trails_none}}}
 
 pub sweeps_alike : (d d' : Driving Reply Reply) → SweepsTo d.ring.posted d d' → SameButRing d d'
 sweeps_alike d d' to =
@@ -41,14 +41,7 @@ module _ {B L : Type 0} (left : B → L) (spot : L → Option Said → Spot) whe
       let like : SameButRing d d' = record { requests = like0.requests; lists = like0.lists; wheel = like0.wheel; size = like0.size; landed = like0.landed; raised = like0.raised; acks = like0.acks; cancels = like0.cancels; tagged = like0.tagged; entries = like0.entries; flies = like0.flies; stages = like0.stages } in
       let follows = follows_reap r v in
       let w2 : Worker = record w { place = q'; home = record w.home { driver = w'.home.driver } } in
-      let serves : Serves q w w' s s = record {
-        worker = subst (λ x. x ≡ record w { place = x.place; home = record w.home { driver = x.home.driver; timers = x.home.timers; deferred = x.home.deferred }; names = record w.names { ended = x.names.ended; staged = x.names.staged; untold = x.names.untold }; put_off = x.put_off }) (sym same) refl;
-        shared = refl;
-        from = refl;
-        to = ap (λ x. is_calm x.place) same ∙ follows.to;
-        armed = ap (λ x. is_armed_at x.place) same ∙ follows.armed;
-        closes = ap (λ x. closes_at x.place) same ∙ follows.closes;
-      } in
+      let serves : Serves q w w' s s = serves_to q q' w w' s s (subst (IsServed w) (sym same) refl) refl (ap (λ x. x.place) same) refl follows.to follows.armed follows.closes in
       let by : KeepsBy (record w { place = q'; put_off = w.put_off }) d' w.home.timers s.requests.items s.sleepers.items s =
       keeps_ring q q' w.put_off w s d' sound follows like (λ h. sound.due.told (not_due r)) in
       let keeps : Keeps w' s =

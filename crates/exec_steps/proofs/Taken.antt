@@ -1,9 +1,9 @@
 -- A slot that takes a value, a list with one more at its end, and the number of what took the slot.
-use Rattle.std.{proofs.{Common.{◌≡◌, ◌≢◌, ◌⊎◌, ℕ, zero, suc, ◌+◌, ◌<◌, ◌≤◌, ◌==◌, ◌||◌, Bool, true, false, cond, count_by, List, [], ◌∷◌, ◌++◌, length, Option, Some, None, IsSome, refl, sym, ap, subst, ◌∙◌, arith, inl, inr, is_some, slice_get, slice_index_or, slice_set}, lemmas.{Bool.{false≢true, eq-eqb, Decides.eqb_tells}, List.{get_or_past, length-append, length-set, set_past, Folds.list_any-append, Sums.{sum_by-set, sum_by_push}}, Option.{get_or_from_slice_get, unwrap_or-slice_get}}}, specs.{List.AllByRecursion, Prelude.unwrap_or}}
+use Rattle.std.{proofs.{Common.{◌≡◌, ◌≢◌, ◌⊎◌, ℕ, zero, suc, ◌+◌, ◌<◌, ◌≤◌, ◌==◌, Bool, true, false, cond, count_by, List, [], ◌∷◌, ◌++◌, length, Option, Some, None, IsSome, refl, sym, ap, subst, ◌∙◌, arith, inl, inr, is_some, slice_get, slice_index_or, slice_set}, lemmas.{Bool.{false≢true, eq-eqb, Decides.eqb_tells}, List.{get_or_past, length-append, length-set, set_past, Folds.list_any-append, Sums.{sum_by-set, sum_by_push}}, Option.{get_or_from_slice_get, unwrap_or-slice_get}}}, specs.{List.AllByRecursion, Prelude.unwrap_or}}
 use Rattle.exec_base.{specs.{Slab.{Slab, slot_at, value_at, value_in, generation_of, next_generation, filled, inserted, next_id, IsPast, TakesId}, declared.slab.{Id.Id, Slot.{Slot, TheVariants.{Live, Vacant, Retired}}}}, proofs.Slots.{Changed, Changed-push, Changed-set, NextIs, id_cases, ltb_tells, some_of_if}}
 use Rattle.exec_waiters.specs.declared.waiter_id.WaiterId.{WaiterId}
 use Rattle.exec_driver.specs.{Driving.Driving, Lists.{is_among, is_same}}
-use Rattle.exec_steps.specs.{declared.parts.{mail.Reply.Reply, record.Record.Record}, Records.number_in, Serving.{AreKnown, is_one_of}}
+use Rattle.exec_steps.{specs.{declared.parts.{mail.Reply.Reply, record.Record.Record}, Records.number_in, Serving.{AreKnown, is_one_of}}, proofs.Facts.{same_self, or_right, or_left}}
 
 -- LISTS
 
@@ -23,50 +23,31 @@ module _ {A : Type 0} where
   was_got (z ∷ xs) y x zero there = inl there
   was_got (z ∷ xs) y x (suc k) there = elim (was_got xs y x k there) [ inl old ↦ inl old | inr last ↦ inr (ap suc last.0, last.1) ]
 
-pub apart_or_same : {P : Type 0} (a b : Id) → (a ≢ b → P) → (a ≡ b → P) → P
-apart_or_same a b apart same =
-    elim (id_cases a b) [
-      | inl i ↦ apart (λ e. i (ap (λ (q : Id). q.index) e))
-      | inr (inl e) ↦ apart (λ q. e.1 (ap (λ (y : Id). y.generation) q))
-      | inr (inr is) ↦ same is
-    ]
-
 -- the enrolments, with one more where that has a deadline
 abbrev pub enrolled_if : Option ℕ → WaiterId → List WaiterId → List WaiterId
 enrolled_if None id ids = ids
 enrolled_if (Some deadline) id ids = ids ++ id ∷ []
 
-pub or_first : (a b : Bool) → a ≡ true → (a || b) ≡ true
-or_first true b h = refl
-or_first false b h = absurd (false≢true h)
-
-pub or_last : (a b : Bool) → b ≡ true → (a || b) ≡ true
-or_last true b h = refl
-or_last false b h = h
-
-pub same_self : (id : WaiterId) → is_same id id ≡ true
-same_self id = rw (eq-eqb id.0.index id.0.index refl, eq-eqb id.0.generation id.0.generation refl) refl
-
 -- one that comes is among them, and those that were are still
 pub among_before : (x id : WaiterId) (o : Option ℕ) (ids : List WaiterId) → is_among x ids ≡ true → is_among x (enrolled_if o id ids) ≡ true
 among_before x id None ids h = h
-among_before x id (Some m) ids h = list_any-append (λ other. is_same other x) ids (id ∷ []) ∙ or_first (is_among x ids) (is_among x (id ∷ [])) h
+among_before x id (Some m) ids h = list_any-append (λ other. is_same other x) ids (id ∷ []) ∙ or_left (is_among x ids) (is_among x (id ∷ [])) h
 
 pub among_now : (id : WaiterId) (o : Option ℕ) (ids : List WaiterId) → is_some o ≡ true → is_among id (enrolled_if o id ids) ≡ true
 among_now id None ids h = absurd (false≢true h)
 among_now id (Some m) ids h =
     list_any-append (λ other. is_same other id) ids (id ∷ [])
-    ∙ or_last (is_among id ids) (is_among id (id ∷ [])) (or_first (is_same id id) false (same_self id))
+    ∙ or_right (is_among id ids) (is_among id (id ∷ [])) (or_left (is_same id id) false (same_self id))
 
 pub one_before : (k j : ℕ) (ks : List ℕ) → is_one_of j ks ≡ true → is_one_of j (ks ++ k ∷ []) ≡ true
-one_before k j ks h = list_any-append (λ q. q == j) ks (k ∷ []) ∙ or_first (is_one_of j ks) (is_one_of j (k ∷ [])) h
+one_before k j ks h = list_any-append (λ q. q == j) ks (k ∷ []) ∙ or_left (is_one_of j ks) (is_one_of j (k ∷ [])) h
 
 pub one_now : (k : ℕ) (ks : List ℕ) → is_one_of k (ks ++ k ∷ []) ≡ true
-one_now k ks = list_any-append (λ q. q == k) ks (k ∷ []) ∙ or_last (is_one_of k ks) (is_one_of k (k ∷ [])) (or_first (k == k) false (eq-eqb k k refl))
+one_now k ks = list_any-append (λ q. q == k) ks (k ∷ []) ∙ or_right (is_one_of k ks) (is_one_of k (k ∷ [])) (or_left (k == k) false (eq-eqb k k refl))
 
 pub all_listed : (d : Driving Reply Reply) (ids : List WaiterId) → ((x : WaiterId) → is_among x ids ≡ true → IsSome (value_at d.requests x.0)) → AllByRecursion (λ e. IsSome (value_at d.requests e.0)) ids
 all_listed d [] h = tt
-all_listed d (x ∷ ids) h = (h x (or_first (is_same x x) (is_among x ids) (same_self x)), all_listed d ids (λ y among. h y (or_last (is_same x y) (is_among y ids) among)))
+all_listed d (x ∷ ids) h = (h x (or_left (is_same x x) (is_among x ids) (same_self x)), all_listed d ids (λ y among. h y (or_right (is_same x y) (is_among y ids) among)))
 
 pub known_more : (ks : List ℕ) (rs : List Record) (r : Record) → AreKnown ks rs → AreKnown ks (rs ++ r ∷ [])
 known_more [] rs r known = tt

@@ -1,12 +1,12 @@
 -- What a polled task takes that changes its slot alone: a wake, and the end of a sleep.
-use Rattle.exec_machine.specs.{declared.{state.{Forwarding.TheVariants.Unsent, Waiting.Waiting, Request.Request, RequestPhase.RequestPhase}, event.Event.{Event, TheVariants.{Pass, GotTimer, Pend}}}, Choice.Choice.Plain, Progress.Plan, Tasks.{after_taken, after_taking, is_here, may_stop}, Tests.{is_resolved, is_unsent, is_woken, waits_for_nothing, waits_for_timer}, Words.{acts, asks_no_sleep, moved_on}, World.{Task, Common, task_of, request_of}}
 use Rattle.std.proofs.{lemmas.{Option.slice_get_within, Bool.{false≢true, eq-eqb}}, Common.{◌⊎◌, ⊎_elim, ◌≡◌, ℕ, ◌||◌, Bool, true, false, List, [], Option, Some, None, refl, sym, ap, subst, ◌∙◌, ◌&&◌, ◌<◌, ◌==◌, not, length, ◌-◌, slice_get, slice_set, if◌then◌else◌}}
 use Rattle.exec_base.specs.{Slab.{Slab, value_at}, declared.{slab.Id.Id, error.Error.TheVariants.NoMemory}}
 use Rattle.exec_time.specs.declared.timers.{Sleeper.Sleeper as Sleeping, Observer.Observer}
 use Rattle.exec_driver.specs.Driving.{Driving}
 use Rattle.exec_task.specs.{Phases.pend_answer, declared.{body.Said.Said, runnable.Runnable.Runnable}}
-use Rattle.exec_steps.{proofs.{Hearing.hears_come, Calling.request_seen, Paying.sleeper_seen, Pending.{asleep_there, at_resume, poll_ended, open_there}, Polling.{IsEvent, Sits, on_in_poll, polled}, Waking.task_there}, specs.{declared.parts.{mail.Reply.Reply, names.Names.Names, record.Record.Record, shared.Shared.Shared, sleeping.SleeperRecord.SleeperRecord, task_slot.TaskSlot.TaskSlot, worker.Worker.Worker}, Phased.is_complete, Polls.{flag_after, passed_slot, pended_slot, slept_slot}, Records.number_in, Rooted.{Holds, Awaits}, Scripts.IsAnswered, Sound.{SoundAt, IsRunnable, acts_next, one_of, may_resume}, Spots.Spot, View.{Visible, own_of, desk_of, driver_of, common_of, things_of, task_seen, spot_by, body_in}, Works.{TurnsSlot, Steps}}}
+use Rattle.exec_machine.specs.{declared.{state.{Forwarding.TheVariants.Unsent, Waiting.Waiting, Request.Request, RequestPhase.RequestPhase}, event.Event.{Event, TheVariants.{Pass, GotTimer, Pend}}}, Choice.Choice.Plain, Progress.Plan, Tasks.{after_taken, after_taking, is_here, may_stop}, Tests.{is_resolved, is_unsent, is_woken, waits_for_nothing, waits_for_timer}, Words.{acts, asks_no_sleep, moved_on}, World.{Task, Common, task_of, request_of}}
 use Rattle.exec_moves.specs.{declared.place.{InPoll.InPoll, AfterCallbacks.AfterCallbacks, InCallbacks.InCallbacks, Place.Place}, Poll.{resume, pend, acts_on}, State.{Moved, Things, does, Desk}}
+use Rattle.exec_steps.{specs.{declared.parts.{mail.Reply.Reply, names.Names.Names, record.Record.Record, shared.Shared.Shared, sleeping.SleeperRecord.SleeperRecord, task_slot.TaskSlot.TaskSlot, worker.Worker.Worker}, Phased.is_complete, Polls.{flag_after, passed_slot, pended_slot, slept_slot}, Records.number_in, Rooted.{Holds, Awaits}, Scripts.IsAnswered, Sound.{SoundAt, IsRunnable, acts_next, one_of, may_resume}, Spots.Spot, View.{Visible, own_of, desk_of, driver_of, common_of, things_of, task_seen, spot_by, body_in}, Works.{TurnsSlot, Steps}}, proofs.{Hearing.hears_come, Calling.request_seen, Paying.sleeper_seen, Pending.{asleep_there, at_resume, poll_ended, open_there}, Polling.{IsEvent, Sits, on_in_poll, polled}, Waking.task_there}}
 
 -- WHAT IT HOLDS THEN: what it waited for is none that is still to come
 

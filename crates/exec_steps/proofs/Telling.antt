@@ -1,12 +1,12 @@
 -- A sleeper that is told at the end of a service is the one that the machine tells.
 use Rattle.std.{proofs.{Common.{◌≡◌, ◌≢◌, ℕ, ◌+◌, ◌^◌, ◌<◌, ◌≤◌, ◌==◌, ◌&&◌, ◌||◌, Bool, true, false, not, List, [], ◌∷◌, ◌++◌, length, map, Option, Some, None, IsSome, refl, sym, ap, subst, ◌∙◌, arith, slice_get, slice_set, nat_le, nat_lt, is_some, Ok, if◌then◌else◌}, lemmas.{Bool.{false≢true, eq-eqb}, List.{map-set, length-set}, Option.{slice_get-map, slice_get_within, get_or_from_slice_get}}}, specs.Option.option_map}
-use Rattle.exec_base.{proofs.Slots.{IsLiveAt-from_value, count-set, live_within}, specs.{Slab.{Slab, value_at, live_count, removed, freed, is_live}, declared.{slab.{Slot.TheVariants.{Vacant, Retired}, Id.Id}, task_no.TaskNo.TaskNo}}}
+use Rattle.exec_base.{specs.{Slab.{Slab, value_at, live_count, removed, freed, is_live}, declared.{slab.{Slot.TheVariants.{Vacant, Retired}, Id.Id}, task_no.TaskNo.TaskNo}}, proofs.Slots.{IsLiveAt-from_value, count-set, live_within}}
 use Rattle.exec_time.specs.{Notes.{Adds, HasRoom}, declared.{notes.Notes.Notes, timers.Sleeper.Sleeper as Sleeping}, Sleepers.{Ends, IsFirst, completions_of, deadline_at, wakes_of}}
 use Rattle.exec_driver.specs.Driving.{Driving}
 use Rattle.exec_task.specs.declared.body.Said.{Said}
 use Rattle.exec_machine.specs.{declared.{event.Event.{Event, TheVariants.Fire}, state.{Sleeper.Sleeper, Waiting.Waiting}}, Deadlines.is_none_earlier, Tests.{is_asleep, is_open}, World.{seat_of, sleeper_of, no_sleeper}}
 use Rattle.exec_moves.specs.{Serve.first_to_fire, declared.place.{Service.Service, Place.Place, InService.InService}}
-use Rattle.exec_steps.{specs.{declared.parts.{mail.Reply.Reply, names.Names.Names, shared.Shared.Shared, record.Record.Record, sleeping.SleeperRecord.SleeperRecord, task_slot.TaskSlot.TaskSlot, worker.Worker.Worker}, Due.IsDue, Flown.HasFlown, Phased.{closes_at, is_complete}, Records.number_in, Sound.{SoundAt, IsNamed, IsTold, AreOwed, OwesWake, tellers, has_wakes_at, served_in, is_armed_at}, Rooted.{Awaits, AwaitsTimer, Holds, ends_poll}, Spots.Spot, View.{visible, own_of, desk_of, driver_of, common_of, things_of}, Works.Steps}, proofs.{Fired.{fires, first_found, all_by, le_self, le_is, same_number, same_timer, fired_there, other_there, told_fired, asleep_still, holds_fired}, Firing.slept_there, Seeing.{makes, served}, Serving.{is_calm, Serves, Keeps, KeepsBy, own_seat}, Turning.set_found}}
+use Rattle.exec_steps.{specs.{declared.parts.{mail.Reply.Reply, names.Names.Names, shared.Shared.Shared, record.Record.Record, sleeping.SleeperRecord.SleeperRecord, task_slot.TaskSlot.TaskSlot, worker.Worker.Worker}, Due.IsDue, Flown.HasFlown, Phased.{closes_at, is_complete}, Records.number_in, Sound.{SoundAt, IsNamed, IsTold, AreOwed, OwesWake, tellers, has_wakes_at, served_in}, Rooted.{Awaits, AwaitsTimer, Holds, ends_poll}, Spots.Spot, View.{visible, own_of, desk_of, driver_of, common_of, things_of}, Works.Steps}, proofs.{Serving.{serves_to, IsServed, OthersKept, Serves, Keeps, KeepsBy}, Seats.own_seat, Facts.{same_number, never_true}, Fired.{fires, first_found, all_by, le_self, le_is, same_timer, fired_there, other_there, told_fired, asleep_still, holds_fired}, Firing.slept_there, Seeing.{makes, served}, Turning.set_found}}
 
 -- A SLEEPER IS TOLD
 
@@ -74,10 +74,6 @@ apart_timer : (n : Names) (ss : List SleeperRecord) (k : ℕ) (id other : Id) (z
 apart_timer n ss k id other z y there found named also apart same =
     let both : z ≡ y = cc (there, found, same) in
     apart (sym also ∙ ap (λ x. x.id.0) (sym both) ∙ named)
-
-not_closing : (b : Bool) → (b ≡ true → ⊥) → b ≡ false
-not_closing true h = absurd (h refl)
-not_closing false h = refl
 
 never_nothing : (what : Waiting) (k : ℕ) → what ≡ Waiting.Timer k → what ≡ Waiting.Nothing → ⊥
 never_nothing what k a b = by (sym a ∙ b)
@@ -194,14 +190,7 @@ module _ {B L : Type 0} (left : B → L) (spot : L → Option Said → Spot) whe
       (subst (λ xs. KeepsBy w1 d w'.home.timers s.requests.items xs s) (sym items) by) in
       let keeps : Keeps w' s' = subst (λ y. KeepsBy w' (driver_of w') w'.home.timers y.requests.items y.sleepers.items y) (sym it.shared) (assumption by_worker) in
       let there : w'.place ≡ q = ap (λ x. x.place) it.worker ∙ sound.here in
-      let serves : Serves q w w' s s' = record {
-        worker = subst (λ x. x ≡ record w { place = x.place; home = record w.home { driver = x.home.driver; timers = x.home.timers; deferred = x.home.deferred }; names = record w.names { ended = x.names.ended; staged = x.names.staged; untold = x.names.untold }; put_off = x.put_off }) (sym it.worker) refl;
-        shared = subst (λ y. y ≡ record s { requests = y.requests; sleepers = y.sleepers }) (sym it.shared) refl;
-        from = refl;
-        to = ap is_calm there;
-        armed = ap is_armed_at there;
-        closes = ap closes_at there;
-      } in
+      let serves : Serves q w w' s s' = serves_to q q w w' s s' (subst (IsServed w) (sym it.worker) refl) (subst (OthersKept s) (sym it.shared) refl) there refl refl refl refl in
       let w0 : Worker = record w { place = q } in
       let here : w ≡ w0 = ap (λ x. record w { place = x }) sound.here in
       subst (λ x. Steps left spot w s x w' s') (sym event)
@@ -213,7 +202,7 @@ module _ {B L : Type 0} (left : B → L) (spot : L → Option Said → Spot) whe
       let chair = sound.alone.seat in
       let seat = own_seat left spot p vs w s chair suits sound.alone.there in
       let phased = sound.phased chair sound.alone.there in
-      let going : closes_at q ≡ false = not_closing (closes_at q) (λ closes.
+      let going : closes_at q ≡ false = never_true (closes_at q) (λ closes.
       let done : is_complete slot.cell.phase ≡ true = phased.root slot sound.runnable.there ∙ closes in
       never_nothing slot.waiting k what (holds.over done).1) in
       let opened : is_open (seat_of all i).phase ≡ true = ap (λ x. is_open x.phase) seat ∙ phased.opened ∙ ap not going in

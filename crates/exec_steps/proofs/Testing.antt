@@ -1,14 +1,14 @@
 -- What the test before a wait on the ring is to the machine: the worker serves, or goes on with its wake poll.
 use Rattle.std.proofs.{Common.{◌≡◌, ◌⊎◌, ℕ, ◌+◌, ◌<◌, ◌≤◌, ◌&&◌, ◌||◌, Bool, true, false, not, List, [], ◌∷◌, ◌++◌, length, Option, refl, sym, ap, subst, ◌∙◌, inl, inr, arith, slice_set, nat_lt, if◌then◌else◌}, lemmas.List.length-append}
 use Rattle.exec_base.specs.Slab.{Slab}
-use Rattle.exec_ring.specs.{Kernels.Landing, Rings.{RingState, completions}, declared.completion.Submission.Submission}
 use Rattle.exec_time.specs.declared.timers.Sleeper.{Sleeper as Sleeping}
+use Rattle.exec_ring.specs.{Kernels.Landing, Rings.{RingState, completions}, declared.completion.Submission.Submission}
 use Rattle.exec_waiters.specs.{Ids.index_in, States.{flying_count, pending_count}}
 use Rattle.exec_driver.specs.{Driving.{Driving, Parts, seen, has_pending, is_full}, Punctual.IsPunctual, Steps.{poll_staged, wake_entry}}
 use Rattle.exec_task.specs.declared.body.Said.{Said}
 use Rattle.exec_machine.specs.{declared.event.Event.{Event, TheVariants.Turn}, Choice.Choice.Plain, Progress.Plan, Ranges.ring_size, World.Own as Books}
 use Rattle.exec_moves.specs.{declared.place.{InPoll.InPoll, Stay.Stay, Place.Place, AfterWait.AfterWait, InRingWait.InRingWait}, Move.{aside, move_at}, State.{Desk, Moved, Things, does, turns}, Load.has_submissions, Seen.{polls_at, next_at, serves_at}, Submit.one_more, Wait.after_wait}
-use Rattle.exec_steps.{specs.{declared.parts.{mail.Reply.Reply, names.Names.Names, record.Record.Record, shared.Shared.Shared, sleeping.SleeperRecord.SleeperRecord, task_slot.TaskSlot.TaskSlot, worker.Worker.Worker}, Carried.{IsCarried, those_of}, Due.{IsWheelAt, wheel_moment}, Flown.{HasFlown, operations}, Phased.closes_at, Rooted.IsRooted, Serving.{AreTagged, cancels_in, is_cancel}, Sound.{tellers, SoundAt, IsNamed, IsSubmitted, IsTold, AreOver, served_in, polled_in}, Spots.Spot, Tests.{TestsRing, is_unready}, View.{Visible, visible, driver_of, own_of, desk_of, common_of, things_of, numbers_of, landed_in, trailing}, Works.{Suits, Steps, Works}, Ordered.{IsOrdered, went_round}}, proofs.{Conveying.{carried_ring, control_entry}, Hearing.unheard, Entering.named_beside, Flown.landed_as, Standing.submissions_seen, Turning.{IsPlain, between, plain_between, quiet, reaches, set_found, sound_on}}}
+use Rattle.exec_steps.{specs.{Due.{IsDue, may_be_due, IsWheelAt, wheel_moment}, declared.parts.{mail.Reply.Reply, names.Names.Names, record.Record.Record, shared.Shared.Shared, sleeping.SleeperRecord.SleeperRecord, task_slot.TaskSlot.TaskSlot, worker.Worker.Worker}, Carried.{IsCarried, those_of}, Flown.{HasFlown, operations}, Phased.closes_at, Rooted.IsRooted, Serving.{AreTagged, cancels_in, is_cancel}, Sound.{tellers, SoundAt, IsNamed, IsSubmitted, IsTold, AreOver, served_in, polled_in}, Spots.Spot, Tests.{TestsRing, is_unready}, View.{Visible, visible, driver_of, own_of, desk_of, common_of, things_of, numbers_of, landed_in, trailing}, Works.{Suits, Steps, Works}, Ordered.{IsOrdered, went_round}}, proofs.{Conveying.{carried_ring, control_entry}, Hearing.unheard, Entering.named_beside, Flown.landed_as, Standing.submissions_seen, Turning.{IsPlain, between, plain_between, reaches, set_found, sound_on}}}
 
 -- BY THE THREE TESTS: something is to be submitted, the wake poll is there, and the submission queue is full
 
@@ -102,55 +102,25 @@ module _ {B : Type 0} where
       → seen parts ≡ with_entries (driver_of w) es armed l → MayHavePoll (driver_of w).ring.staged es → IsPunctual (seen parts) → SoundAt q (record w { home = record w.home { driver = parts } }) s
   sound_polled q w s parts es armed l sound is more punctual =
       let d' = with_entries (driver_of w) es armed l in
-      record {
-        here = sound.here;
-        config = sound.config;
-        gates = sound.gates;
-        index = sound.index;
-        time = sound.time;
-        told = subst (λ d. IsTold w.names.ended.items w.home.deferred (tellers d.requests w.home.timers)) (sym is) sound.told;
-        named = subst (λ d. IsNamed w.index w.names d w.home.timers s.requests.items s.sleepers.items) (sym is)
-            (assumption (named_beside w.index w.names (driver_of w) w.home.timers s.requests.items s.sleepers.items sound.named w.names d'.ring l refl refl
-            (submitted_by w.index w.names.staged.items w.names.untold.items (driver_of w).ring es s.requests.items more sound.named.submitted)));
-        runnable = sound.runnable;
-        alone = sound.alone;
-        share = sound.share;
-        sized = ap (λ d. d.ring.size) is ∙ sound.sized;
-        processed = sound.processed;
-        hand = sound.hand;
-        left = sound.left;
-        over = subst (λ d. AreOver w.index w.names.ended.items w.names.unreleased (pending_count d.requests) s.requests.items) (sym is) sound.over;
-        batch = sound.batch;
-        quiet = sound.quiet;
-        due = record {
-          punctual = punctual;
-          told = λ h. ap (λ d. d.lists.due) is ∙ sound.due.told h;
-          wheel = subst (λ d. IsWheelAt s.config w.moments.start (wheel_moment (served_in q) w.moments) d.wheel) (sym is) sound.due.wheel;
-          timed = sound.due.timed;
-          asleep = sound.due.asleep;
-          order = subst (λ d. IsOrdered (went_round s.config w.moments) w.names.requests.items d.requests d.wheel d.lists.enrolments d.lists.due) (sym is) sound.due.order;
-        };
-        flown = subst (λ d. HasFlown (served_in q) w.index w.names d s.requests.items) (sym is)
-            (record {
-              ending = sound.flown.ending;
-              staging = sound.flown.staging;
-              telling = sound.flown.telling;
-              entries = omega (arith, sound.flown.entries, no_fewer (driver_of w).ring.staged es more);
-              permits = sound.flown.permits;
-              ours = sound.flown.ours;
-              plain = sound.flown.plain;
-              landed = landed_as w.names (driver_of w) d' s.requests.items (operations (driver_of w).ring) refl sound.flown.landed;
-              enrolling = sound.flown.enrolling;
-              acks = sound.flown.acks;
-              owning = sound.flown.owning;
-              uncancelled = sound.flown.uncancelled;
-            });
-        carried = subst (λ d. IsCarried w.names.requests.items d.requests d.ring s.requests.items s.store) (sym is)
-            (carried_ring w.names.requests.items (driver_of w).requests (driver_of w).ring s.requests.items s.store sound.carried d'.ring (λ v small. refl) (λ v small. those_still v (driver_of w).ring es small more));
-        rooted = rooted_as (polled_in q) w.index w.root w.names (driver_of w) (seen parts) w.home.timers s.tasks.items s.requests.items s.sleepers.items (ap (λ d. d.requests) is) sound.rooted;
-        phased = sound.phased;
-        tied = sound.tied;
-      }
+      let told = subst (λ (d : Driving Reply Reply). IsTold w.names.ended.items w.home.deferred (tellers d.requests w.home.timers)) (sym is) sound.told in
+      let named = subst (λ d. IsNamed w.index w.names d w.home.timers s.requests.items s.sleepers.items) (sym is)
+      (assumption (named_beside w.index w.names (driver_of w) w.home.timers s.requests.items s.sleepers.items sound.named w.names d'.ring l refl refl
+      (submitted_by w.index w.names.staged.items w.names.untold.items (driver_of w).ring es s.requests.items more sound.named.submitted))) in
+      let over = subst (λ (d : Driving Reply Reply). AreOver w.index w.names.ended.items w.names.unreleased (pending_count d.requests) s.requests.items) (sym is) sound.over in
+      let due : IsDue (served_in q) w.index w.moments s.config w.names (seen parts) w.home.timers s.requests.items s.sleepers.items =
+      let told : may_be_due (served_in q) ≡ false → (seen parts).lists.due ≡ [] = λ h. ap (λ d. d.lists.due) is ∙ sound.due.told h in
+      let wheel = subst (λ (d : Driving Reply Reply). IsWheelAt s.config w.moments.start (wheel_moment (served_in q) w.moments) d.wheel) (sym is) sound.due.wheel in
+      let order = subst (λ (d : Driving Reply Reply). IsOrdered (went_round s.config w.moments) w.names.requests.items d.requests d.wheel d.lists.enrolments d.lists.due) (sym is) sound.due.order in
+      assumption (punctual, told, wheel, order, sound.due) in
+      let flown = subst (λ d. HasFlown (served_in q) w.index w.names d s.requests.items) (sym is)
+      (
+      let entries : length w.names.staged.items + length w.names.untold.items ≤ length es = omega (arith, sound.flown.entries, no_fewer (driver_of w).ring.staged es more) in
+      let landed = landed_as w.names (driver_of w) d' s.requests.items (operations (driver_of w).ring) refl sound.flown.landed in
+      assumption (entries, landed, sound.flown)) in
+      let carried = subst (λ (d : Driving Reply Reply). IsCarried w.names.requests.items d.requests d.ring s.requests.items s.store) (sym is)
+      (carried_ring w.names.requests.items (driver_of w).requests (driver_of w).ring s.requests.items s.store sound.carried d'.ring (λ v small. refl) (λ v small. those_still v (driver_of w).ring es small more)) in
+      let rooted = rooted_as (polled_in q) w.index w.root w.names (driver_of w) (seen parts) w.home.timers s.tasks.items s.requests.items s.sleepers.items (ap (λ d. d.requests) is) sound.rooted in
+      assumption (told, named, ap (λ (d : Driving Reply Reply). d.ring.size) is ∙ sound.sized, over, due, flown, carried, rooted, sound)
 
 -- what stands on the desk of a worker at this place with this driver
 abbrev desk_with : Worker → Place → Driving Reply Reply → Desk

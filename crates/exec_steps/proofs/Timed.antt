@@ -1,14 +1,14 @@
 -- What holds again once a deadline is on the wheel.
-use Rattle.std.{proofs.{Common.{◌≡◌, ◌≢◌, ℕ, ◌+◌, ◌-◌, ◌^◌, ◌<◌, ◌≤◌, ◌==◌, Bool, true, false, List, [], length, Option, Some, None, IfSome, refl, sym, ap, subst, ◌∙◌, arith, inl, inr, slice_get, Ok}, lemmas.{Bool.{false≢true, Decides.nat_tests}, List.append-nil}}, specs.Prelude.unwrap_or}
-use Rattle.exec_base.{specs.{Slab.{Slab, written}, declared.{error.Error.Error, slab.Id.Id}}, proofs.Slots.id_cases}
+use Rattle.std.{proofs.{Common.{◌≡◌, ◌≢◌, ℕ, ◌+◌, ◌-◌, ◌^◌, ◌<◌, ◌≤◌, ◌==◌, Bool, true, false, List, [], length, Option, Some, None, IfSome, refl, sym, ap, subst, ◌∙◌, arith, inl, inr, slice_get, Ok}, lemmas.{Bool.false≢true, List.append-nil}}, specs.Prelude.unwrap_or}
+use Rattle.exec_base.specs.{Slab.{Slab, written}, declared.slab.Id.Id}
 use Rattle.exec_outcomes.specs.declared.outcome.Outcome.{Outcome}
-use Rattle.exec_request.specs.{States.asks_cancel, declared.results.WaiterState.{WaiterState, TheVariants.{Active, CancelRequested}}}
 use Rattle.exec_time.specs.{Wheel.{Wheel, scheduled}, declared.timers.Sleeper.Sleeper as Sleeping}
+use Rattle.exec_request.specs.{States.asks_cancel, declared.results.WaiterState.{WaiterState, TheVariants.{Active, CancelRequested}}}
 use Rattle.exec_waiters.specs.{Events.with_tick, States.{takes_tick, tick_in}, Told.{Tells, nothing_told}, declared.{deferred.Deferred.Deferred, waiter.{Entry.TheVariants.Pending, Waiter.Waiter}, waiter_id.WaiterId.WaiterId}}
 use Rattle.exec_driver.{specs.{Driving.Driving, Lists.{first_of, rest_of, is_among, after_enrolment}, Punctual.IsPunctual, Steps.tick_for}, proofs.{Names.same_tells, Expiring.tick_tells}}
-use Rattle.exec_machine.specs.{declared.{config.Configuration.Configuration, event.Event.TheVariants.Enrol}, Tests.{is_resolved, is_staged}, World.{Own, Common, request_of}}
+use Rattle.exec_machine.specs.{declared.{state.RequestPhase.RequestPhase, config.Configuration.Configuration, event.Event.TheVariants.Enrol}, Tests.is_staged, World.{Own, Common, request_of}}
 use Rattle.exec_moves.specs.{Callback.told_if_ended, State.{Desk, Moved, Things}, Submit.{due_next, first_due, submits, Due.Enrols}, declared.place.{Service.Service, Place.Place, InService.InService}}
-use Rattle.exec_steps.{specs.{declared.parts.{mail.Reply.Reply, record.Record.Record, shared.Shared.Shared, sleeping.SleeperRecord.SleeperRecord, worker.Worker.Worker}, Due.IsWheelAt, Flown.{HasFlown, IsPlain, operations}, Records.number_in, Serving.{changed_at, first_tick, outcome_of_error}, Sound.{AreOwed, IsSubmitted, IsTold, served_in}, Submitting.IsNewIn, View.{own_of, driver_of}, Ordered.{IsOrdered, went_round}}, proofs.{Carries.carried_still, Changing.{OneGoesOn, changes_one, keeps_one}, Enrolled.new_first, Enrolling.enrolled_at, Flown.landed_on, Going.GoesOn, Marking.{mark_if, marked, was_marked}, Seeing.makes, Serving.KeepsBy, Staging.{known_then, split_first, stages_again}, Orders.ticks_so}}
+use Rattle.exec_steps.{specs.{Sound.{has_wakes_at, AreOwed, IsSubmitted, IsTold, served_in}, declared.parts.{mail.Reply.Reply, record.Record.Record, shared.Shared.Shared, sleeping.SleeperRecord.SleeperRecord, worker.Worker.Worker}, Due.IsWheelAt, Flown.{HasFlown, IsPlain, operations}, Records.number_in, Serving.{changed_at, first_tick}, Submitting.IsNewIn, View.{own_of, driver_of}, Ordered.{IsOrdered, went_round}}, proofs.{Changing.{all_go_one, OneGoesOn, changes_one, keeps_one}, Going.{ours_on, owning_on, GoesOn}, Marking.{plain_kept, mark_kept, mark_if, marked, was_marked}, Facts.by_name, Carries.carried_still, Enrolled.new_first, Enrolling.enrolled_at, Flown.landed_on, Seeing.makes, Serving.KeepsBy, Staging.{known_then, split_first, stages_again}, Orders.ticks_so}}
 
 -- WHERE NOTHING IS TOLD
 
@@ -39,18 +39,10 @@ pub keeps_untold : {B : Type 0} (w : Worker) (d : Driving Reply Reply) (zs : Sla
     → KeepsBy (record w { home = record w.home { deferred = left } }) d zs rs ss s
 keeps_untold w d zs rs ss s left tells keeps =
     let wakes : left.notes.wakes.items ≡ w.home.deferred.notes.wakes.items = tells.notes.wakes_added ∙ append-nil w.home.deferred.notes.wakes.items in
-    record {
-      told = told_still w.names.ended.items _ w.home.deferred left tells keeps.told;
-      named = keeps.named;
-      sized = keeps.sized;
-      over = keeps.over;
-      quiet = λ h. wakes ∙ keeps.quiet h;
-      due = keeps.due;
-      flown = keeps.flown;
-      carried = keeps.carried;
-      rooted = keeps.rooted;
-      owed = subst (λ ws. AreOwed w.index w.root ws s.tasks.items rs ss) (sym wakes) keeps.owed;
-    }
+    let told = told_still w.names.ended.items _ w.home.deferred left tells keeps.told in
+    let quiet : has_wakes_at w.place ≡ false → left.notes.wakes.items ≡ [] = λ h. wakes ∙ keeps.quiet h in
+    let owed = subst (λ ws. AreOwed w.index w.root ws s.tasks.items rs ss) (sym wakes) keeps.owed in
+    assumption (told, quiet, owed, keeps)
 
 -- THE WHEEL
 
@@ -71,25 +63,8 @@ same_tick w id t = refl
 abbrev pub times : ℕ → ℕ → Record → Record
 times start tick r = record r { shown = record r.shown { timer = Some (first_tick start tick (unwrap_or r.shown.operation.deadline 0)) } }
 
-times_worker : (start tick : ℕ) (b : Bool) (r : Record) → (mark_if (times start tick) b r).shown.worker ≡ r.shown.worker
-times_worker start tick true r = refl
-times_worker start tick false r = refl
-
-times_phase : (start tick : ℕ) (b : Bool) (r : Record) → (mark_if (times start tick) b r).shown.phase ≡ r.shown.phase
-times_phase start tick true r = refl
-times_phase start tick false r = refl
-
-times_cancel : (start tick : ℕ) (b : Bool) (r : Record) → (mark_if (times start tick) b r).shown.cancel_staged ≡ r.shown.cancel_staged
-times_cancel start tick true r = refl
-times_cancel start tick false r = refl
-
-times_released : (start tick : ℕ) (b : Bool) (r : Record) → (mark_if (times start tick) b r).shown.released ≡ r.shown.released
-times_released start tick true r = refl
-times_released start tick false r = refl
-
-times_plain : (start tick : ℕ) (b : Bool) (r : Record) → IsPlain r.shown → IsPlain (mark_if (times start tick) b r).shown
-times_plain start tick true r p = record { bounded = p.bounded; moved = p.moved; first_part = p.first_part; unhinted = p.unhinted; ungated = p.ungated; deadline = p.deadline }
-times_plain start tick false r p = p
+times_plain : (start tick : ℕ) (r : Record) → IsPlain r.shown → IsPlain (times start tick r).shown
+times_plain start tick r p = record { bounded = p.bounded; moved = p.moved; first_part = p.first_part; unhinted = p.unhinted; ungated = p.ungated; deadline = p.deadline }
 
 -- no tick was set, and nobody asked for its cancel
 pub unset : (x : WaiterState) → takes_tick x ≡ true → (tick_in x ≡ None) × (asks_cancel x ≡ false)
@@ -111,19 +86,9 @@ among_rest other id ids first among apart =
 pub comes_to_new : (c : Configuration) (i gate k : ℕ) (me : Own) (s : Common) (d : Desk) → first_due c i me s ≡ None → slice_get me.unenrolled 0 ≡ Some k → due_next c i gate me s d ≡ Enrols k
 comes_to_new c i gate k me s d none new = rw (none, new) refl
 
-not_same : (k j : ℕ) → (k ≡ j → ⊥) → (k == j) ≡ false
-not_same k j apart = by (k == j) refl
-  where
-    by : (b : Bool) → (k == j) ≡ b → (k == j) ≡ false
-    by true is = absurd (apart (grind (arith, nat_tests)))
-    by false is = is
-
 -- the move, by what comes of it
 abbrev pub move_enrol : Configuration → ℕ → Own → Common → Desk → Things → ℕ → Service → ℕ → Option Outcome → Moved Things
 move_enrol c i me s d x gate v k outcome = makes (Enrol k outcome) (submits v gate (told_if_ended outcome (request_of s k) d)) x
-
-pub no_error : (o : Option Error) → o ≡ None → outcome_of_error o ≡ None
-no_error o is = rw is refl
 
 -- WHAT HOLDS AGAIN
 
@@ -152,11 +117,11 @@ module _ {B : Type 0} (w : Worker) (s : Shared B) (new : IsNewIn w s) (id : Wait
         tagged = sub.tagged;
         cancels = sub.cancels;
         known = known_then w.names.staged.items rs k f sub.known;
-        own = λ j x h found. let old = was_marked f rs k j x found in ap (λ y. y.shown.worker) old.2 ∙ times_worker start c.tick (k == j) old.0 ∙ sub.own j old.0 h old.1;
+        own = λ j x h found. let old = was_marked f rs k j x found in ap (λ y. y.shown.worker) old.2 ∙ mark_kept ℕ (λ x. x.shown.worker) (times start c.tick) (λ x. refl) (k == j) old.0 ∙ sub.own j old.0 h old.1;
         all = λ j x found mine staged.
             let old = was_marked f rs k j x found in
-            sub.all j old.0 old.1 (sym (times_worker start c.tick (k == j) old.0) ∙ sym (ap (λ y. y.shown.worker) old.2) ∙ mine)
-            (sym (ap is_staged (times_phase start c.tick (k == j) old.0)) ∙ sym (ap (λ y. is_staged y.shown.phase) old.2) ∙ staged);
+            sub.all j old.0 old.1 (sym (mark_kept ℕ (λ x. x.shown.worker) (times start c.tick) (λ x. refl) (k == j) old.0) ∙ sym (ap (λ y. y.shown.worker) old.2) ∙ mine)
+            (sym (ap is_staged (mark_kept RequestPhase (λ x. x.shown.phase) (times start c.tick) (λ x. refl) (k == j) old.0)) ∙ sym (ap (λ y. is_staged y.shown.phase) old.2) ∙ staged);
         unraised = sub.unraised;
       }
 
@@ -175,42 +140,35 @@ module _ {B : Type 0} (w : Worker) (s : Shared B) (new : IsNewIn w s) (id : Wait
       let rs' = timed_records in
       let flown = new.submits.sound.flown in
       let changed = changes_one d.requests id.0 it it' who.live in
+      let all = all_go_one rs k f who.r who.there (record { same = refl; over = refl; ended = λ h. refl }) in
       record {
         ending = flown.ending;
         staging = flown.staging;
         telling = flown.telling;
         entries = flown.entries;
         permits = refl;
-        ours = λ j x found. let old = was_marked f rs k j x found in ap (λ y. y.shown.worker) old.2 ∙ times_worker start c.tick (k == j) old.0 ∙ flown.ours j old.0 old.1;
-        plain = λ j x found mine.
-            let old = was_marked f rs k j x found in
-            subst (λ y. IsPlain y.shown) (sym old.2) (times_plain start c.tick (k == j) old.0 (flown.plain j old.0 old.1 (flown.ours j old.0 old.1)));
+        ours = ours_on rs rs' all w.index flown.ours;
+        plain = plain_kept f rs k (times_plain start c.tick) w.index flown.ours flown.plain;
         landed = landed_on w.names w.names d d' rs rs' (operations d.ring) flown.landed
             (λ other x r given live flies found landed.
             let j = number_in w.names.requests.items other in
             let apart : other ≢ id.0 = λ same.
             let both : x ≡ it = cc (live, who.live, same) in
             false≢true (sym who.idle ∙ ap (λ y. y.in_flight) (sym both) ∙ flies) in
-            record { it' = x; r' = mark_if f (k == j) r; live = changed.others other apart ∙ live; flies = refl; same = refl; number = refl; there = marked f rs k j r found; phase = times_phase start c.tick (k == j) r });
+            record { it' = x; r' = mark_if f (k == j) r; live = changed.others other apart ∙ live; flies = refl; same = refl; number = refl; there = marked f rs k j r found; phase = mark_kept RequestPhase (λ x. x.shown.phase) (times start c.tick) (λ x. refl) (k == j) r });
         acks = flown.acks;
-        owning = λ j x found unresolved.
-            let old = was_marked f rs k j x found in
-            ap (λ y. y.shown.released) old.2 ∙ times_released start c.tick (k == j) old.0
-            ∙ flown.owning j old.0 old.1 (sym (ap is_resolved (times_phase start c.tick (k == j) old.0)) ∙ sym (ap (λ y. is_resolved y.shown.phase) old.2) ∙ unresolved);
+        owning = owning_on rs rs' all flown.owning;
         enrolling = λ other x live takes some.
             let differs : other.0 ≢ id.0 → is_among other (rest_of d.lists.enrolments) ≡ true = λ apart.
             among_rest other id d.lists.enrolments first (flown.enrolling other x (sym (changed.others other.0 apart) ∙ live) takes some) apart in
-            elim (id_cases other.0 id.0) [
-              | inl i ↦ differs (λ e. i (ap (λ (y : Id). y.index) e))
-              | inr (inl e) ↦ differs (λ y. e.1 (ap (λ (z : Id). z.generation) y))
-              | inr (inr eq) ↦
-                  let is_it : x ≡ it' = cc (live, eq, changed.is_at) in
-                  absurd (false≢true (ap (λ y. takes_tick y.state) (sym is_it) ∙ takes))
-            ];
+            by_name other.0 id.0 differs
+            (λ eq.
+            let is_it : x ≡ it' = cc (live, eq, changed.is_at) in
+            absurd (false≢true (ap (λ y. takes_tick y.state) (sym is_it) ∙ takes)));
         uncancelled = λ other x among found.
             let j = number_in w.names.requests.items other.0 in
             let old = was_marked f rs k j x found in
-            ap (λ y. y.shown.cancel_staged) old.2 ∙ times_cancel start c.tick (k == j) old.0 ∙ flown.uncancelled other old.0 among old.1;
+            ap (λ y. y.shown.cancel_staged) old.2 ∙ mark_kept Bool (λ x. x.shown.cancel_staged) (times start c.tick) (λ x. refl) (k == j) old.0 ∙ flown.uncancelled other old.0 among old.1;
       }
 
   pub keeps_timed : (t : ℕ) → id.0.generation < 2 ^ 64 → tick_for (driver_of w).wheel (new_first w s new id first).deadline w.moments.sampled ≡ Ok t → IsPunctual (timed_driver t)
@@ -243,24 +201,10 @@ module _ {B : Type 0} (w : Worker) (s : Shared B) (new : IsNewIn w s) (id : Wait
         there = who.there;
         slab = refl;
         on = on;
-        alike = record {
-          asked = a.asked;
-          moved = a.moved;
-          switched = a.switched;
-          come = a.come;
-          hinted = a.hinted;
-          deadline = a.deadline;
-          cancelled = a.cancelled ∙ free.1;
-          timer = ap (λ x. Some (first_tick start c.tick (unwrap_or x 0))) who.told ∙ ap (λ x. Some x) (sym place.0);
-          observed = a.observed;
-          waiter = a.waiter;
-          flying = a.flying;
-          permit = a.permit;
-          open_still = a.open_still;
-          near = a.near;
-          going = λ h. absurd (false≢true h);
-          told_once = a.told_once;
-        };
+        alike =
+            let timer = ap (λ (o : Option ℕ). Some (first_tick start c.tick (unwrap_or o 0))) who.told ∙ ap (λ (n : ℕ). Some n) (sym place.0) in
+            let going : false ≡ true → it.in_flight ≡ true = λ h. absurd (false≢true h) in
+            assumption (a.cancelled ∙ free.1, timer, going, a);
         start = same_start d.wheel id.0 t;
         tick = same_tick d.wheel id.0 t;
         requests = refl;

@@ -1,11 +1,11 @@
 -- What the driver did with an operation that has landed: its request goes on, or is over.
 use Rattle.std.proofs.Common.{◌≡◌, ℕ, Bool, true, false, not, List, [], ◌∷◌, length, map, Option, Some, None, refl, sym, ap, subst, ◌∙◌}
+use Rattle.exec_base.specs.Slab.{written}
 use Rattle.exec_outcomes.specs.{Accounts.Account, declared.outcome.OpResult.OpResult}
 use Rattle.exec_request.specs.{Judging.{Judges, judged_as}, Requests.{asked_of, cursor_of, hinted_of, gate_of, record_after}, States.{Ended, as_answer}, declared.request.Request.Request as Asking}
 use Rattle.exec_ring.specs.{Completions.result_in, Kernels.{is_quiet, reaped as ring_reaped}, declared.completion.Completion.Completion}
 use Rattle.exec_waiters.specs.{States.{file_of, tick_in}, Told.Tells, declared.{deferred.Deferred.Deferred, waiter.{Waiter.Waiter, Entry.TheVariants.Pending}, waiter_id.WaiterId.WaiterId}, Events.{finished, told_by_finish}}
 use Rattle.exec_driver.specs.{Driving.Driving, Opens.{OpenState, account_in, with_account}, Steps.{judged_as_over, landed_at, open_after, opens_after_end, permit_after, swept, taken_out, told_as, told_by_end, with_landings, unscheduled}, declared.driver.reaping.Reaped.Reaped, Lists.{with_queued, withdrawn}}
-use Rattle.exec_base.specs.Slab.{written}
 use Rattle.exec_moves.specs.{Serve.back_from_reap, declared.place.{AfterPermit.AfterPermit, Reaping.Reaping, Place.Place}}
 use Rattle.exec_steps.{specs.{declared.parts.{mail.Reply.Reply, shared.Shared.Shared, worker.Worker.Worker}, Flown.{IsPlain, IsUpTo, longest, operations}, Records.number_in, Sound.{SoundAt, IsAlike}, View.driver_of}, proofs.{Finished.GoesOver, Reaped.TellsOf, Requeued.GoesBack, Starting.{fills, reads, simple, writes_bytes}, Swept.{some_quiet, none_next, sweeps, told_in, operations_posted}, Trailing.{RingAfter, ring_after}}}
 

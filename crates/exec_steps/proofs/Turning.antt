@@ -1,14 +1,14 @@
 -- Steps that are a plain turn to the machine: the worker goes on, and only what stands beside the machine changes.
-use Rattle.std.proofs.{Common.{◌≡◌, ℕ, ◌≤◌, Bool, true, false, not, List, length, Option, Some, None, refl, sym, ap, subst, ◌∙◌, slice_get, slice_set, IfSome, if◌then◌else◌}, lemmas.{Bool.false≢true, List.{set-get_or, get_or-set_same, length-set}, Option.{get_or_from_slice_get, slice_get_within, slice_get-get_or}}}
+use Rattle.std.proofs.{Common.{[], ◌≡◌, ℕ, ◌≤◌, Bool, true, false, not, List, length, Option, Some, None, refl, sym, ap, subst, ◌∙◌, slice_get, slice_set, IfSome, if◌then◌else◌}, lemmas.{Bool.false≢true, List.{set-get_or, length-set}, Option.get_or_from_slice_get}}
 use Rattle.exec_base.specs.{Slab.Slab, Spinner.Spinner}
-use Rattle.exec_time.specs.declared.timers.Sleeper.{Sleeper as Sleeping}
-use Rattle.exec_driver.specs.Driving.{Driving}
 use Rattle.exec_words.specs.{Queue.room_of, declared.word.{PureWord.PureWord, WaitTarget.WaitTarget}}
+use Rattle.exec_time.specs.declared.timers.Sleeper.{Sleeper as Sleeping}
+use Rattle.exec_waiters.specs.declared.deferred.Deferred.{Deferred}
+use Rattle.exec_driver.specs.Driving.{Driving}
 use Rattle.exec_task.specs.declared.{body.Said.Said, runnable.Runnable.Runnable}
 use Rattle.exec_machine.specs.{declared.{config.Configuration.Configuration, event.Event.{Event, TheVariants.Turn}, state.{Rest.Rest, Next.Next}}, Choice.Choice.Plain, Progress.Plan}
 use Rattle.exec_moves.specs.{declared.place.{Place.Place, InService.InService, Service.Service, InPick.InPick, InCallbacks.InCallbacks, InMail.InMail, Reaping.Reaping}, State.Moved, Move.move_at, Seen.{polls_at, next_at, serves_at}}
-use Rattle.exec_waiters.specs.declared.deferred.Deferred.{Deferred}
-use Rattle.exec_steps.{specs.{declared.parts.{mail.Reply.Reply, names.Names.Names, record.Record.Record, seat.Seat.Seat as Chair, sleeping.SleeperRecord.SleeperRecord, shared.Shared.Shared, worker.{Worker.Worker, Moments.Moments}}, Due.{IsDue, IsWheelAt, wheel_moment}, Flown.HasFlown, Phased.{IsPhased, closes_at, closing_in, stage_of}, Rooted.IsRooted, Sound.{Sound, SoundAt, IsAlone, IsInTime, IsTied, InHand, HasShare, HasLeft, has_wakes_at, polled_in, served_in, is_armed_at}, Spots.Spot, View.{Visible, visible, driver_of, own_of, desk_of, common_of, queue_seen, queue_at, word_at, things_of, seats_seen}, Works.{Makes, Goes, SameShared, Suits, Steps}}, proofs.Hearing.unheard}
+use Rattle.exec_steps.{specs.{declared.parts.{mail.Reply.Reply, names.Names.Names, record.Record.Record, seat.Seat.Seat as Chair, sleeping.SleeperRecord.SleeperRecord, shared.Shared.Shared, worker.{Worker.Worker, Moments.Moments}}, Due.{IsDue, IsWheelAt, wheel_moment}, Flown.HasFlown, Phased.{IsPhased, closes_at, closing_in, stage_of}, Rooted.IsRooted, Sound.{Sound, SoundAt, IsAlone, IsInTime, IsTied, InHand, HasShare, HasLeft, has_wakes_at, polled_in, served_in, is_armed_at}, Spots.Spot, View.{Visible, visible, driver_of, own_of, desk_of, common_of, queue_seen, queue_at, word_at, things_of, seats_seen}, Works.{Makes, Goes, SameShared, Suits, Steps}}, proofs.{Facts.{set_there, by_not}, Hearing.unheard}}
 
 -- nothing is polled or served there, and nothing is owed
 abbrev pub is_between : Place → Bool
@@ -28,10 +28,6 @@ is_quiet q = not (has_wakes_at q)
 abbrev pub is_plain : Place → Bool
 is_plain (Place.Pick (InPick.TakeShare first room held)) = false
 is_plain q = is_between q
-
-by_not : (b : Bool) → not b ≡ true → b ≡ false
-by_not true h = absurd (false≢true h)
-by_not false h = refl
 
 pub record IsBetween (q : Place) : Type 0 where
   pub polls : polls_at q ≡ None
@@ -133,11 +129,6 @@ by_spinner w w' clock time same = subst (λ v. GoesOn w v clock) (sym same) (rec
 pub set_found : {A : Type 0} (xs : List A) (i : ℕ) (x : A) → slice_get xs i ≡ Some x → slice_set xs i x ≡ xs
 set_found xs i x found = ap (λ y. slice_set xs i y) (sym (get_or_from_slice_get xs i x x found)) ∙ set-get_or xs i x
 
-pub set_there : {A : Type 0} (xs : List A) (i : ℕ) (x y : A) → slice_get xs i ≡ Some y → slice_get (slice_set xs i x) i ≡ Some x
-set_there xs i x y there =
-    let within = slice_get_within xs i y there in
-    slice_get-get_or (slice_set xs i x) i x (rw length-set within) ∙ ap (λ z. Some z) (get_or-set_same xs i x x within)
-
 -- there is room for its share there
 pub has_space : (q : Place) (i : ℕ) (seats : List Chair) → is_plain q ≡ true → (chair : Chair) → slice_get seats i ≡ Some chair → HasShare q (room_of (queue_seen chair.queue))
 has_space (Place.Pick (InPick.TakeShare first room held)) i seats h = absurd (false≢true h)
@@ -216,32 +207,15 @@ module _ {B : Type 0} where
       let here = between q (quiet q from).0 in
       let served : served_in q ≡ served_in q' = here.served ∙ sym there.served in
       let polled : polled_in q ≡ polled_in q' = here.stands ∙ sym there.stands in
-      record {
-        here = refl;
-        config = sound.config;
-        gates = sound.gates;
-        index = sound.index;
-        time = record { begun = sound.time.begun; ordered = sound.time.ordered; not_after = sound.time.not_after; read = read; asleep = asleep; bounded = sound.time.bounded };
-        told = sound.told;
-        named = sound.named;
-        runnable = sound.runnable;
-        alone = to.alone;
-        sized = sound.sized;
-        processed = sound.processed;
-        share = to.share;
-        hand = there.hands w.root w.hand (here.empty w.root w.hand sound.hand);
-        left = there.left w.home.deferred;
-        over = sound.over;
-        quiet = λ h. sound.quiet (quiet q from).1;
-        batch = sound.batch;
-        due = due_read r (served_in q') w.index w.moments s.config w.names (driver_of w) w.home.timers s.requests.items s.sleepers.items
-            (subst (λ x. IsDue x w.index w.moments s.config w.names (driver_of w) w.home.timers s.requests.items s.sleepers.items) served sound.due);
-        flown = subst (λ x. HasFlown x w.index w.names (driver_of w) s.requests.items) served sound.flown;
-        carried = sound.carried;
-        rooted = subst (λ x. IsRooted x w.index w.root w.names (driver_of w) w.home.timers s.tasks.items s.requests.items s.sleepers.items) polled sound.rooted;
-        phased = to.phased;
-        tied = subst (λ x. IsTied x w.index w.root w.home.deferred.notes.wakes.items s.tasks.items s.requests.items s.sleepers.items) polled sound.tied;
-      }
+      let time : IsInTime (with_read r w.moments) m s.clock = record { begun = sound.time.begun; ordered = sound.time.ordered; not_after = sound.time.not_after; read = read; asleep = asleep; bounded = sound.time.bounded } in
+      let hand = there.hands w.root w.hand (here.empty w.root w.hand sound.hand) in
+      let quiet : has_wakes_at q' ≡ false → w.home.deferred.notes.wakes.items ≡ [] = λ h. sound.quiet (quiet q from).1 in
+      let due = due_read r (served_in q') w.index w.moments s.config w.names (driver_of w) w.home.timers s.requests.items s.sleepers.items
+      (subst (λ x. IsDue x w.index w.moments s.config w.names (driver_of w) w.home.timers s.requests.items s.sleepers.items) served sound.due) in
+      let flown = subst (λ x. HasFlown x w.index w.names (driver_of w) s.requests.items) served sound.flown in
+      let rooted = subst (λ x. IsRooted x w.index w.root w.names (driver_of w) w.home.timers s.tasks.items s.requests.items s.sleepers.items) polled sound.rooted in
+      let tied = subst (λ x. IsTied x w.index w.root w.home.deferred.notes.wakes.items s.tasks.items s.requests.items s.sleepers.items) polled sound.tied in
+      assumption (time, hand, there.left w.home.deferred, quiet, due, flown, rooted, tied, sound, to)
 
 module _ {B L : Type 0} (left : B → L) (spot : L → Option Said → Spot) where
   -- The worker goes on, and of what is shared the idle set may change, and of the seats what the machine doesn't see.

@@ -5,7 +5,7 @@ use Rattle.exec_ring.specs.{Completions.result_in, declared.completion.Completio
 use Rattle.exec_task.specs.declared.body.Said.{Said}
 use Rattle.exec_machine.specs.{declared.{event.Event.TheVariants.Reap, state.Request.Request}, Progress.Plan, Requests.{account_of_open, after_reap as common_reaped, common_after_refusal, judged_of, may_reap, opens_after_end, outcome_given, outcome_shown, reaped}, Same.{is_number, same_end, same_result}, Tests.{is_at_large, is_landed_with, is_of_file, set_open, AllTrue}, World.{Common, Open, Own, Seat, open_of, request_of, seat_of}}
 use Rattle.exec_moves.specs.{Callback.told_if_ended, Serve.{after_permit, after_reap, back_from_reap, others_after_reap, reap, result_in as result_of}, State.{Desk, Moved, does}, declared.place.{AfterPermit.AfterPermit, Place.Place, Reaping.Reaping, Service.Service, InService.InService}}
-use Rattle.exec_steps.{specs.{declared.parts.{record.Record.Record, shared.Shared.Shared, worker.Worker.Worker}, Flown.{HasLanded, IsPlain, IsUpTo, longest, operations}, Records.number_in, Serving.changed_at, Sound.SoundAt, Spots.Spot, View.{Visible, visible, driver_of, common_of, number_told, seat_seen, seats_seen}, Works.Suits}, proofs.{Calling.request_seen, Idling.plain_kind, Keys.name_in, Late.same_error_self, Requeued.number_landed, Seeing.common_changed, Serving.{own_seat, seats_set}}}
+use Rattle.exec_steps.{specs.{declared.parts.{record.Record.Record, shared.Shared.Shared, worker.Worker.Worker}, Flown.{HasLanded, IsPlain, IsUpTo, longest, operations}, Records.number_in, Serving.changed_at, Sound.SoundAt, Spots.Spot, View.{Visible, visible, driver_of, common_of, number_told, seat_seen, seats_seen}, Works.Suits}, proofs.{Seats.own_seat, Calling.request_seen, Idling.plain_kind, Keys.name_in, Late.same_error_self, Requeued.number_landed, Seeing.common_changed, Serving.seats_set}}
 
 same_result_self : (x : OpResult) → same_result x x ≡ true
 same_result_self (Count n) = eq-eqb n n refl

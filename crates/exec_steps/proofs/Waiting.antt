@@ -4,7 +4,7 @@ use Rattle.exec_words.specs.{Word.is_idle_at, declared.word.{PureWord.PureWord, 
 use Rattle.exec_task.specs.declared.body.Said.{Said}
 use Rattle.exec_machine.specs.{declared.event.Event.{Event, TheVariants.Turn}, Choice.Choice.Plain, Progress.Plan}
 use Rattle.exec_moves.specs.{declared.place.{AfterWait.AfterWait, InRingWait.InRingWait, InWordWait.InWordWait, Stay.Stay, Place.Place}, Load.has_mail, Move.move_at, State.{Desk, Moved, turns}, Wait.{after_wait, arm_ring, disarm_ring, disarmed, spin_on_batch, spin_on_latch, hit, missed, take_latch, arm_word, after_sleep}}
-use Rattle.exec_steps.{specs.{declared.parts.{seat.Seat.Seat as Chair, shared.Shared.Shared, worker.Worker.Worker}, Sound.{SoundAt, is_armed_at, is_armed_on_word, is_armed_on_ring}, Phased.closes_at, Spots.Spot, View.{Visible, own_of, desk_of, common_of, word_at, things_of, seats_seen, seat_seen}, Works.{Makes, Goes, TurnsWord, Suits, Steps}}, proofs.Turning.{GoesOn, IsPlain, Reaches, reaches_with, set_there, is_quiet, by_place, by_spinner, same_shared, turned_by, turned_here}}
+use Rattle.exec_steps.{specs.{declared.parts.{seat.Seat.Seat as Chair, shared.Shared.Shared, worker.Worker.Worker}, Sound.{SoundAt, is_armed_at, is_armed_on_word, is_armed_on_ring}, Phased.closes_at, Spots.Spot, View.{Visible, own_of, desk_of, common_of, word_at, things_of, seats_seen, seat_seen}, Works.{Makes, Goes, TurnsWord, Suits, Steps}}, proofs.{Facts.set_there, Turning.{GoesOn, IsPlain, Reaches, reaches_with, is_quiet, by_place, by_spinner, same_shared, turned_by, turned_here}}}
 
 -- the chair with another wake word
 abbrev with_word : PureWord → Chair → Chair

@@ -5,7 +5,7 @@ use Rattle.exec_waiters.specs.States.{pending_count}
 use Rattle.exec_task.specs.{Phases.{is_polled, woken as cell_woken, runnable_of, is_idle as is_cell_idle}, declared.{body.Said.Said, runnable.Runnable.Runnable, task.Phase.Phase}}
 use Rattle.exec_machine.specs.{declared.{event.Event.{Event, TheVariants.Wake}, state.{TaskPhase.TaskPhase, Waiting.Waiting}}, After.common_after, Progress.Plan, Ranges.ring_size, Tasks.{may_wake, woken, woken_phase}, Tests.{AllTrue, is_idle}, World.{Task, Common, task_of, no_task, Own as Books}}
 use Rattle.exec_moves.specs.{declared.place.{AfterCallbacks.AfterCallbacks, Place.Place, InCallbacks.InCallbacks}, Callback.{call_back, goes_on, flagged_by, payer_of}, Move.{move_at, first_woken}, State.Desk}
-use Rattle.exec_steps.{specs.{declared.parts.{record.Record.Record, shared.Shared.Shared, sleeping.SleeperRecord.SleeperRecord, task_slot.TaskSlot.TaskSlot, worker.Worker.Worker}, Calls.{KeepsRoom, IsUnpaid, awake, records_paid, sleepers_paid}, Carried.IsCarried, Due.IsDue, Flown.HasFlown, Phased.{IsPhased, is_complete, closes_at, stage_of}, Rooted.{IsRooted, Holds}, Sound.{tellers, SoundAt, IsNamed, IsRunnable, IsTold, AreOver, AreOwed, OwesWake, Stands, one_of, is_told}, Spots.Spot, Tests.next_callback_of, View.{Visible, visible, own_of, desk_of, driver_of, common_of, things_of, body_in, spot_by, phase_seen, task_seen}, Works.{Suits, Steps}}, proofs.{Hearing.hears_so, Calling.{settled, from_batch, own_led}, Leading.{placed, leads, Follows, follows, unchanged}, Phased.phased_task, Rooted.rooted_set, Turning.{set_found, set_there}}}
+use Rattle.exec_steps.{specs.{declared.parts.{record.Record.Record, shared.Shared.Shared, sleeping.SleeperRecord.SleeperRecord, task_slot.TaskSlot.TaskSlot, worker.Worker.Worker}, Calls.{KeepsRoom, IsUnpaid, awake, records_paid, sleepers_paid}, Carried.IsCarried, Due.IsDue, Flown.HasFlown, Phased.{IsPhased, is_complete, closes_at, stage_of}, Rooted.{IsRooted, Holds}, Sound.{tellers, SoundAt, IsNamed, IsRunnable, IsTold, AreOver, AreOwed, OwesWake, Stands, one_of, is_told}, Spots.Spot, Tests.next_callback_of, View.{Visible, visible, own_of, desk_of, driver_of, common_of, things_of, body_in, spot_by, phase_seen, task_seen}, Works.{Suits, Steps}}, proofs.{Facts.set_there, Hearing.hears_so, Calling.{settled, from_batch, own_led}, Leading.{placed, leads, Follows, follows, unchanged}, Phased.phased_task, Rooted.rooted_set, Turning.set_found}}
 
 module _ {B : Type 0} where
   -- The root is woken, and what it waited for has paid for that; no other wake is left.

@@ -1,17 +1,14 @@
 -- Who waits for a request changes, or nobody does any more, by which it may be cancelled: what that leaves as it was.
-use Rattle.std.proofs.{Common.{◌≡◌, ◌≢◌, ◌⊎◌, ⊎_elim, ℕ, ◌==◌, Bool, true, false, List, [], length, Option, Some, None, IsSome, refl, sym, ap, subst, ◌∙◌, arith, inl, inr, slice_get, is_some}, lemmas.{Bool.{false≢true, eq-eqb, Decides.nat_tests}, List.length-set}}
-use Rattle.exec_base.{specs.{Slab.{Slab, value_at, written}, declared.slab.{Id.Id, Slot.TheVariants.Live}}, proofs.Slots.{id_cases, Updates-write}}
-use Rattle.exec_request.specs.{declared.output.RequestOutput.RequestOutput, Requests.deadline_of}
+use Rattle.std.proofs.{Common.{◌≡◌, ◌≢◌, ◌⊎◌, ⊎_elim, ℕ, ◌==◌, Bool, true, false, List, [], length, Option, Some, None, IsSome, refl, sym, ap, subst, ◌∙◌, slice_get, is_some}, lemmas.{Bool.{false≢true, eq-eqb}, List.length-set}}
+use Rattle.exec_base.{specs.{Slab.{Slab, value_at, written}, declared.slab.{Id.Id, Slot.TheVariants.Live}}, proofs.Slots.Updates-write}
 use Rattle.exec_time.specs.declared.timers.Sleeper.{Sleeper as Sleeping}
-use Rattle.exec_waiters.{proofs.Changes.entry_of, specs.{States.{waiter_at, waiter_of, takes_tick, tick_in}, declared.{waiter.{Waiter.Waiter, Entry.{Entry, TheVariants.{Pending, Ready}}}, waiter_id.WaiterId.WaiterId}}}
+use Rattle.exec_request.specs.{declared.output.RequestOutput.RequestOutput, Requests.deadline_of}
+use Rattle.exec_ring.specs.declared.store.Store.{Store}
+use Rattle.exec_waiters.{specs.{States.{waiter_at, waiter_of, takes_tick, tick_in}, declared.{waiter.{Waiter.Waiter, Entry.{Entry, TheVariants.{Pending, Ready}}}, waiter_id.WaiterId.WaiterId}}, proofs.Changes.entry_of}
 use Rattle.exec_driver.specs.{Driving.Driving, Lists.is_among, Punctual.IsPunctual}
 use Rattle.exec_machine.specs.{declared.config.Configuration.Configuration, Tests.{is_resolved, is_staged}}
 use Rattle.exec_moves.specs.declared.place.InService.{InService}
-use Rattle.exec_steps.{specs.{declared.parts.{mail.Reply.Reply, names.Names.Names, record.Record.Record, sleeping.SleeperRecord.SleeperRecord, worker.Moments.Moments}, Due.{IsDue, IsWheelAt, AreTimed}, Flown.{AreLanded, IsPlain, HasFlown, operations}, Records.number_in, Serving.{AreKnown, changed_at}, Sound.{IsNamed, IsAlike, IsSubmitted, AreOver}, Carried.IsCarried}, proofs.{Flown.{FliesOn, landed_on}, Marking.{mark_if, marked, was_marked}, Staging.known_then, Orders.{Eases, eases_written, IsPartOf, TurnsAlike, eased, part_none, part_self}, Carries.{carried_marked, carried_slab, carried_waiter}, Changing.changes_one}}
-use Rattle.exec_ring.specs.declared.store.Store.{Store}
-
-same_number : (a b : ℕ) → (a == b) ≡ true → a ≡ b
-same_number a b h = grind (arith, nat_tests)
+use Rattle.exec_steps.{specs.{declared.parts.{mail.Reply.Reply, names.Names.Names, record.Record.Record, sleeping.SleeperRecord.SleeperRecord, worker.Moments.Moments}, Due.{IsDue, IsWheelAt, AreTimed}, Flown.{AreLanded, IsPlain, HasFlown, operations}, Records.number_in, Serving.{AreKnown, changed_at}, Sound.{IsNamed, IsAlike, IsSubmitted, AreOver}, Carried.IsCarried}, proofs.{Facts.{by_name, same_number}, Flown.{FliesOn, landed_on}, Marking.{mark_if, marked, was_marked}, Staging.known_then, Orders.{Eases, eases_written, IsPartOf, TurnsAlike, eased, part_none, part_self}, Carries.{carried_marked, carried_slab, carried_waiter}, Changing.changes_one}}
 
 -- a request that isn't over stays so, in flight or not, with no deadline to be enrolled that it hadn't
 abbrev pub Rewatched : Option (Waiter Reply Reply) → Option (Waiter Reply Reply) → Type 0
@@ -45,15 +42,6 @@ pub record WasThere (rs : List Record) (j : ℕ) (x : Record) : Type 0 where
   pub at : slice_get rs j ≡ Some o
   pub is : x ≡ record o { shown = record o.shown { timer = x.shown.timer; observed = x.shown.observed; cancelled = x.shown.cancelled; waiter = x.shown.waiter } }
   pub timer : is_resolved o.shown.phase ≡ true → x.shown.timer ≡ o.shown.timer
-
--- by whether a name is another
-pub by_name : {P : Type 0} (x id : Id) → (x ≢ id → P) → (x ≡ id → P) → P
-by_name x id other same =
-    elim (id_cases x id) [
-      | inl i ↦ other (λ e. i (ap (λ (y : Id). y.index) e))
-      | inr (inl e) ↦ other (λ q. e.1 (ap (λ (y : Id). y.generation) q))
-      | inr (inr is) ↦ same is
-    ]
 
 module _ (i : ℕ) (n : Names) (h : ℕ) (d d' : Driving Reply Reply) (zs : Slab (Sleeping Reply)) (rs rs' : List Record) (ss : List SleeperRecord) (id : Id) (r : Record) (f : Record → Record) (by : Watched n d d' rs rs' id r f) where
   was_if : (j : ℕ) (b : Bool) (o : Record) → (number_in n.requests.items id == j) ≡ b → slice_get rs j ≡ Some o → mark_if f b o ≡ record o { shown = record o.shown { timer = (mark_if f b o).shown.timer; observed = (mark_if f b o).shown.observed; cancelled = (mark_if f b o).shown.cancelled; waiter = (mark_if f b o).shown.waiter } }

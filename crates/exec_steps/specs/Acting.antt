@@ -2,8 +2,8 @@
 use Rattle.std.specs.Prelude.{◌≡◌, ℕ, false, List, Option, Some, None, if◌then◌else◌}
 use Rattle.exec_task.specs.{Sight.Sight, declared.body.{Act.Act, Said.Said}}
 use Rattle.exec_machine.specs.{declared.event.Event.Event, Progress.Plan, Words.{next_word, moved_on}, World.Common}
-use Rattle.exec_steps.specs.{declared.parts.{shared.Shared.Shared, task_slot.TaskSlot.TaskSlot, worker.Worker.Worker}, Hearing.{CanHear, held_once_come}, Polls.{MadeAct, OfSlot}, Scripts.{Asks, GoesOn, is_last}, Sound.{Sound, SoundAt}, Spots.{Spot, spot_of}, View.{Visible, common_of, task_seen, body_in}, Works.{Suits, Works}}
 use Rattle.exec_moves.specs.declared.place.{InPoll.InPoll, Place.Place}
+use Rattle.exec_steps.specs.{declared.parts.{shared.Shared.Shared, task_slot.TaskSlot.TaskSlot, worker.Worker.Worker}, Hearing.{CanHear, held_once_come}, Polls.{MadeAct, OfSlot}, Scripts.{Asks, GoesOn, is_last}, Sound.{Sound, SoundAt}, Spots.{Spot, spot_of}, View.{Visible, common_of, task_seen, body_in}, Works.{Suits, Works}}
 
 module _ {B L : Type 0} (left : B → L) (runs : L → Plan → Type 0) (holds : L → Option Said → List ℕ) where
   -- The body of a task that can still be told something runs the plan, and then knows what its task holds.

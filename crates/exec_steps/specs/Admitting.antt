@@ -1,16 +1,15 @@
 -- What an act makes that needs memory: a request or a sleeper; and what is left where there is none.
-use Rattle.std.specs.{Prelude.{◌≡◌, ◌≢◌, ℕ, ◌+◌, ◌*◌, ◌^◌, ◌<◌, ◌≤◌, false, Bool, List, [], ◌∷◌, ◌++◌, length, Option, Some, None, is_some, slice_get, slice_set, if◌then◌else◌}, Vec.vec_capacity, VecDeque.deque_capacity}
+use Rattle.std.specs.{Prelude.{◌≡◌, ◌≢◌, ℕ, ◌+◌, ◌*◌, ◌^◌, ◌<◌, ◌≤◌, false, Bool, [], ◌∷◌, ◌++◌, length, Option, Some, None, is_some, slice_get, slice_set, if◌then◌else◌}, Vec.vec_capacity, VecDeque.deque_capacity}
 use Rattle.exec_base.specs.{Slab.{live_count, next_id, inserted, IsPast, TakesId}, declared.{error.Error.TheVariants.NoMemory, task_no.TaskNo.TaskNo}}
+use Rattle.exec_time.specs.declared.timers.{TimerId.TimerId, Observer.Observer}
 use Rattle.exec_request.specs.{Requests.{asked_of, deadline_of}, declared.request.Request.Request as Asking}
 use Rattle.exec_ring.specs.Stores.{Reserves}
-use Rattle.exec_time.specs.declared.timers.TimerId.{TimerId}
 use Rattle.exec_waiters.specs.{Told.{HasPlaces, Tells, nothing_told}, declared.{observer.Observer.TheVariants.Local, waiter_id.WaiterId.WaiterId}}
 use Rattle.exec_driver.specs.{Admission.{Admits, with_rooms}, Placed.ListsRequests, Punctual.IsPunctual, Steps.{footprint_of, newcomer, told_at_admission}}
 use Rattle.exec_task.specs.declared.body.Said.{Said}
 use Rattle.exec_machine.specs.{declared.{event.Event.{Event, TheVariants.{Admit, Timer}}, state.Waiting.Waiting}, Deadlines.new_sleeper, Requests.{new_request, outcome_if_late, resolved_if}}
-use Rattle.exec_steps.specs.{declared.parts.{names.Names.Names, record.Record.Record, shared.Shared.Shared, sleeping.SleeperRecord.SleeperRecord, task_slot.TaskSlot.TaskSlot, worker.Worker.Worker}, Records.{HasRequestRoom, HasTimerRoom, SameNames, plain_operation}, View.driver_of}
 use Rattle.exec_moves.specs.declared.place.{InPoll.InPoll, Place.Place}
-use Rattle.exec_time.specs.declared.timers.Observer.TheVariants as sleep
+use Rattle.exec_steps.specs.{declared.parts.{names.Names.Names, record.Record.Record, shared.Shared.Shared, sleeping.SleeperRecord.SleeperRecord, task_slot.TaskSlot.TaskSlot, worker.Worker.Worker}, Records.{HasRequestRoom, HasTimerRoom, SameNames, plain_operation}, View.driver_of}
 
 -- What its worker needs: each slot that once had something has a number, and what is over isn't released.
 pub record MayMake (w : Worker) : Type 0 where
@@ -71,11 +70,6 @@ module _ {B : Type 0} where
     pub worker : w' ≡ record mid { home = record mid.home { driver = w'.home.driver; deferred = w'.home.deferred } }
     pub shared : s' ≡ record all { opens = s'.opens; store = s'.store }
 
--- the numbers of those that are over, with one more where that has an outcome
-abbrev pub ended_if : {A : Type 0} → Option A → ℕ → List ℕ → List ℕ
-ended_if None k ended = ended
-ended_if (Some outcome) k ended = ended ++ k ∷ []
-
 -- a request has the next number, under its name
 pub record NamesOne (id : WaiterId) (number : ℕ) (late : Bool) (n n' : Names) : Type 0 where
   pub number_is : slice_get n'.requests.items id.0.index ≡ Some number
@@ -120,7 +114,7 @@ module _ {B : Type 0} where
     pub driver : mid.home.driver ≡ w.home.driver
     pub store : s'.store ≡ s.store
     pub next : next_id mid.home.timers ≡ Some id.0
-    pub timers : w'.home.timers ≡ record (inserted mid.home.timers (record { deadline = until; observer = sleep.Local waker })) { room = w'.home.timers.room }
+    pub timers : w'.home.timers ≡ record (inserted mid.home.timers (record { deadline = until; observer = Observer.Local waker })) { room = w'.home.timers.room }
     pub unnamed : IsPast mid.home.timers id.0 → ⊥
     pub past : TakesId mid.home.timers w'.home.timers id.0
     pub worker : w' ≡ record mid { home = record mid.home { timers = w'.home.timers } }
@@ -136,7 +130,7 @@ module _ {B : Type 0} where
     pub made : SleeperRecord
     pub shown : made.shown ≡ new_sleeper until w.index t
     pub next : next_id mid.home.timers ≡ Some made.id.0
-    pub timers : w'.home.timers ≡ record (inserted mid.home.timers (record { deadline = until; observer = sleep.Local rooms.slot.cell.number })) { room = w'.home.timers.room }
+    pub timers : w'.home.timers ≡ record (inserted mid.home.timers (record { deadline = until; observer = Observer.Local rooms.slot.cell.number })) { room = w'.home.timers.room }
     pub unnamed : IsPast mid.home.timers made.id.0 → ⊥
     pub past : TakesId mid.home.timers w'.home.timers made.id.0
     pub number_is : slice_get w'.names.timers.items made.id.0.index ≡ Some (length s.sleepers.items)

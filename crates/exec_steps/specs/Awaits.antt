@@ -3,10 +3,10 @@ use Rattle.std.specs.{Prelude.{◌≡◌, ℕ, ◌-◌, ◌++◌, ◌<◌, true,
 use Rattle.exec_base.specs.Slab.{value_at}
 use Rattle.exec_waiters.specs.{Events.{changed, with_waker, told_by_orphan}, States.is_observed_here, Told.{HasPlaces, Tells}}
 use Rattle.exec_driver.specs.{Driving.request_at, Placed.ListsRequests, Punctual.IsPunctual, Steps.{let_go, told_by_let_go}}
-use Rattle.exec_machine.specs.{declared.{event.Event.{Event, TheVariants.{Wait, Drop}}, state.Waiting.Waiting}, Requests.{dropped, ends_by_drop, joined_if}, Tests.is_resolved}
-use Rattle.exec_steps.specs.{declared.parts.{record.Record.Record, shared.Shared.Shared, task_slot.TaskSlot.TaskSlot, worker.Worker.Worker}, Polls.{IsReady, OfSlot, TookOutput}, View.driver_of, Works.TurnsSlot}
 use Rattle.exec_task.specs.declared.body.Said.{Said}
+use Rattle.exec_machine.specs.{declared.{event.Event.{Event, TheVariants.{Wait, Drop}}, state.Waiting.Waiting}, Requests.{dropped, ends_by_drop, joined_if}, Tests.is_resolved}
 use Rattle.exec_moves.specs.declared.place.{InPoll.InPoll, Place.Place}
+use Rattle.exec_steps.specs.{declared.parts.{record.Record.Record, shared.Shared.Shared, task_slot.TaskSlot.TaskSlot, worker.Worker.Worker}, Polls.{IsReady, OfSlot, TookOutput}, View.driver_of, Works.TurnsSlot}
 
 -- task t waits for it; nobody holds it any more
 abbrev pub awaited_by : ℕ → Record → Record

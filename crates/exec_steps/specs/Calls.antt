@@ -1,8 +1,8 @@
 -- What a callback does to a worker and to what all share.
 use Rattle.std.specs.Prelude.{◌≡◌, ℕ, ◌+◌, true, false, List, slice_get, slice_set, Option, Some, None}
+use Rattle.exec_waiters.specs.declared.deferred.Deferred.{Deferred}
 use Rattle.exec_task.specs.Phases.{woken}
 use Rattle.exec_machine.specs.declared.state.Waiting.{Waiting}
-use Rattle.exec_waiters.specs.declared.deferred.Deferred.{Deferred}
 use Rattle.exec_steps.specs.{declared.parts.{mail.Reply.Reply, record.Record.Record, sleeping.SleeperRecord.SleeperRecord, task_slot.TaskSlot.TaskSlot}, Serving.changed_at, Sound.IsTold}
 
 -- one more wake is paid, and what the request owned is let go

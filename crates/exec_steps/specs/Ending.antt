@@ -1,8 +1,8 @@
 -- A task ends: it lets go of all that it holds, the oldest first.
 use Rattle.std.specs.Prelude.{◌≡◌, ℕ, ◌<◌, List, [], ◌∷◌, length, slice_get, slice_set, Some, IsTrue}
 use Rattle.exec_task.specs.Phases.{is_polled, over}
-use Rattle.exec_steps.specs.{declared.parts.{record.Record.Record, shared.Shared.Shared, task_slot.TaskSlot.TaskSlot, worker.Worker.Worker}, Awaits.{LetsGo, MayLetGo}, Polls.OfSlot}
 use Rattle.exec_moves.specs.declared.place.{InClosing.InClosing, Place.Place}
+use Rattle.exec_steps.specs.{declared.parts.{record.Record.Record, shared.Shared.Shared, task_slot.TaskSlot.TaskSlot, worker.Worker.Worker}, Awaits.{LetsGo, MayLetGo}, Polls.OfSlot}
 
 -- each of these can be let go of, one after another
 abbrev pub MayLetGoAll : List ℕ → List Record → Worker → Type 0

@@ -2,9 +2,9 @@
 use Rattle.std.specs.{Prelude.{◌≡◌, ℕ, ◌+◌, ◌<◌, ◌≤◌, ◌^◌, Bool, true, false, List, [], length, nat_le, slice_index_or, Option, Some, None, if◌then◌else◌}, Vec.vec_capacity, VecDeque.deque_capacity}
 use Rattle.exec_base.specs.declared.slab.Id.{Id}
 use Rattle.exec_outcomes.specs.declared.outcome.{Kind.{Kind, TheVariants.{Direct, Many}}, Outcome.Outcome}
+use Rattle.exec_words.specs.{Inbox.without_mail, declared.word.WaitTarget.WaitTarget}
 use Rattle.exec_request.specs.{Requests.{asked_of, deadline_of, target_of}, declared.{request.Request.Request as Asking, way.Way.Way}}
 use Rattle.exec_machine.specs.{World.no_operation, declared.state.{Operation.Operation, RequestPhase.{RequestPhase, TheVariants.Resolved}, Rest.Rest, WorkerPhase.WorkerPhase}}
-use Rattle.exec_words.specs.{Inbox.without_mail, declared.word.WaitTarget.WaitTarget}
 use Rattle.exec_steps.specs.declared.parts.{names.Names.Names, seat.Seat.Seat}
 
 -- how it ended, where it is over

@@ -2,8 +2,8 @@
 use Rattle.std.specs.Prelude.{◌≡◌, ℕ, ◌-◌, Bool, true, false, List, [], length, Option, Some, Result, Ok, Err, IsSome, slice_get}
 use Rattle.exec_base.specs.{Slab.{Slab, value_at}, declared.{error.Error.Error, slab.Id.Id}}
 use Rattle.exec_outcomes.specs.declared.outcome.Outcome.{Outcome, TheVariants.{Success, Failure}}
-use Rattle.exec_request.specs.{States.as_outcome, declared.output.RequestOutput.RequestOutput}
 use Rattle.exec_time.specs.declared.timers.Sleeper.{Sleeper as Sleeping}
+use Rattle.exec_request.specs.{States.as_outcome, declared.output.RequestOutput.RequestOutput}
 use Rattle.exec_waiters.specs.declared.{observer.Observer.{Observer, TheVariants.{Local, Orphaned}}, waiter.Entry.TheVariants.Ready}
 use Rattle.exec_driver.specs.Driving.{Driving}
 use Rattle.exec_machine.specs.{declared.state.{Forwarding.TheVariants.Unsent, RequestPhase.TheVariants.Resolved, Waiting.Waiting}, Tests.is_resolved}

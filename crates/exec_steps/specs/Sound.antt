@@ -4,13 +4,13 @@
 use Rattle.std.specs.{Prelude.{◌≡◌, ◌≢◌, ℕ, Bool, true, false, not, ◌+◌, ◌*◌, ◌^◌, ◌<◌, ◌≤◌, ◌||◌, List, [], ◌∷◌, length, slice_get, Option, Some, None, is_some, IsSome, IfSome}, Option.option_map}
 use Rattle.exec_base.specs.{Slab.{Slab, value_at, live_count}, declared.{slab.Id.Id, task_no.TaskNo.TaskNo}}
 use Rattle.exec_outcomes.specs.{Outcomes.HasCome, declared.outcome.Judged.Judged}
+use Rattle.exec_words.specs.{Queue.room_of, declared.word.WaitTarget.WaitTarget}
+use Rattle.exec_time.specs.declared.timers.Sleeper.{Sleeper as Sleeping}
 use Rattle.exec_request.specs.{Requests.{asked_of, cursor_of, hinted_of, deadline_of}, States.asks_cancel}
 use Rattle.exec_ring.specs.Rings.{RingState}
-use Rattle.exec_time.specs.declared.timers.Sleeper.{Sleeper as Sleeping}
 use Rattle.exec_waiters.specs.{Events.waker_in, States.{waiter_at, is_held_by, tick_in, pending_count}, Told.{HasPlaces, is_untold}, declared.{deferred.Deferred.Deferred, waiter.{Entry.Entry, Waiter.Waiter}}}
 use Rattle.exec_driver.specs.{Driving.Driving, Opens.OpenState}
 use Rattle.exec_task.specs.{Phases.{runnable_of, is_polled}, declared.{runnable.Runnable.Runnable, task.Phase.Phase}}
-use Rattle.exec_words.specs.{Queue.room_of, declared.word.WaitTarget.WaitTarget}
 use Rattle.exec_machine.specs.{declared.{config.Configuration.Configuration, state.{Request.Request, Waiting.Waiting}}, Ranges.ring_size, Requests.asked_of as asked_in, Tests.{is_gated, is_staged, is_in_flight, is_resolved}}
 use Rattle.exec_moves.specs.declared.place.{Place.Place, InPoll.InPoll, InService.InService, InRingWait.InRingWait, InWordWait.InWordWait, InPick.InPick, InCallbacks.InCallbacks, InMail.InMail}
 use Rattle.exec_steps.specs.{declared.parts.{mail.Reply.Reply, names.Names.Names, record.Record.Record, seat.Seat.Seat as Chair, shared.Shared.Shared, sleeping.SleeperRecord.SleeperRecord, task_slot.TaskSlot.TaskSlot, worker.{Worker.Worker, Moments.Moments}}, Carried.Carried, View.{driver_of, queue_seen}, Records.number_in, Serving.{AreKnown, AreTagged, cancels_in, is_one_of}, Due.IsDue, Flown.HasFlown, Phased.{IsPhased, closes_at, closing_in, is_complete, stage_of}, Rooted.{IsNear, IsRooted}}

@@ -1,9 +1,9 @@
 -- What the stagings of a service do to a worker and to the records of its requests, and where a request that is over leads.
 use Rattle.std.specs.Prelude.{◌≡◌, ◌≢◌, ℕ, ◌<◌, ◌&&◌, ◌||◌, Bool, true, false, not, List, [], ◌∷◌, ◌++◌, length, map, Option, Some, None, if◌then◌else◌}
+use Rattle.exec_waiters.specs.{States.file_of, declared.{waiter.Waiter.Waiter, waiter_id.WaiterId.WaiterId}}
+use Rattle.exec_driver.specs.{Driving.{Driving, request_at, is_full, may_stage_one}, Lists.{first_of, has_first}, Opens.account_in, Placed.ListsRequests, Steps.{cancel_staged, poll_staged, StagesOne}}
 use Rattle.exec_machine.specs.{declared.{event.Event.{Event, TheVariants.{Cancel, Stage}}, state.RequestPhase.RequestPhase}, Deadlines.is_first_due}
 use Rattle.exec_moves.specs.{Serve.{after_permit, first_numbered}, declared.place.{AfterPermit.AfterPermit, InService.InService, Service.Service, Place.Place}}
-use Rattle.exec_driver.specs.{Driving.{Driving, request_at, is_full, may_stage_one}, Lists.{first_of, has_first}, Opens.account_in, Placed.ListsRequests, Steps.{cancel_staged, poll_staged, StagesOne}}
-use Rattle.exec_waiters.specs.{States.file_of, declared.{waiter.Waiter.Waiter, waiter_id.WaiterId.WaiterId}}
 use Rattle.exec_steps.specs.{declared.parts.{mail.Reply.Reply, record.Record.Record, shared.Shared.Shared, worker.Worker.Worker}, Records.number_in, Serving.{changed_at, with_staging_ended}, Sound.SoundAt, View.{driver_of, own_of}}
 
 -- a request that gives a permit up, and one that doesn't

@@ -1,10 +1,10 @@
 -- What a worker, and what all share, shows: of the abstract machine, and of what stands beside it.
 use Rattle.std.specs.Prelude.{◌≡◌, ℕ, suc, Bool, false, not, ◌==◌, ◌&&◌, if◌then◌else◌, List, [], ◌∷◌, length, map, filter, replicate, slice_get, slice_index_or, is_some, Option, Some, None}
 use Rattle.exec_outcomes.specs.Accounts.{Account, fresh_account}
+use Rattle.exec_words.specs.{declared.{inbox.Message.Message as Letter, word.{PureWord.PureWord, WaitTarget.WaitTarget}}, Queue.Queue}
 use Rattle.exec_ring.specs.{Rings.{RingState, completions}, declared.completion.Completion.Completion}
 use Rattle.exec_waiters.specs.{Ids.index_in, States.flying_count, declared.waiter_id.WaiterId.WaiterId}
 use Rattle.exec_driver.specs.{Driving.{Driving, seen}, Opens.OpenState, Steps.is_control, declared.opens.WaiterKey.WaiterKey}
-use Rattle.exec_words.specs.{declared.{inbox.Message.Message as Letter, word.{PureWord.PureWord, WaitTarget.WaitTarget}}, Queue.Queue}
 use Rattle.exec_task.specs.declared.{body.Said.Said, runnable.Runnable.Runnable, task.Phase.Phase}
 use Rattle.exec_machine.specs.{declared.state.{MailMessage.MailMessage, Request.Request, TaskPhase.TaskPhase, Call.Call}, World.{Own, Seat, Task, Open, Common}, Progress.Plan}
 use Rattle.exec_moves.specs.{State.{Desk, Things}, Seen.{polls_at, next_at, serves_at}}

@@ -1,7 +1,7 @@
 //! The record of a sleeper.
 
 ghost use Rattle.std.specs.Prelude.{◌≡◌};
-ghost use Rattle.exec_machine.specs.{Deadlines.new_sleeper, Tasks.removed};
+ghost use Rattle.exec_machine.specs.Deadlines.{new_sleeper};
 ghost use Rattle.exec_steps.specs.Calls.{sleeper_paying};
 
 use exec_machine::state::{Forwarding, Sleeper};
@@ -42,13 +42,5 @@ impl SleeperRecord {
         ensures { self.new ≡ sleeper_paying self.old }
     {
         self.shown.wakes_paid += 1;
-    }
-
-    /// It was taken away, unless its moment was told before.
-    pub fn remove(&mut self)
-        ensures shown { self.new.shown ≡ removed self.old.shown }
-        ensures id { self.new.id ≡ self.old.id }
-    {
-        self.shown.removed = self.shown.removed || !self.shown.fired;
     }
 }

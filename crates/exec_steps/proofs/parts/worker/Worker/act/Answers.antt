@@ -1,7 +1,7 @@
 use Rattle.std.proofs.Common.{◌≡◌, [], arith, refl, sym, subst}
-use Rattle.exec_steps.{specs.Ending.MayEndTask, proofs.{Acting.{passed_by, yielded_by}, Acts.{acted_at, acted_within, err_so, kept_any, may_act, never_made, ok_so, slept_at, unmade}, Awaited.{await_steps, newest_acted}, Dropped.{drop_steps, drops_some}, Ended.{failed_by, finished_by, may_end_task}, Growing.{may_make, refused_by}, Registered.registered_by}}
 use Rattle.exec_task.specs.declared.body.Act.{Act}
 use Rattle.exec_moves.specs.declared.place.{InPoll.InPoll, Place.Place}
+use Rattle.exec_steps.{specs.Ending.MayEndTask, proofs.{Acting.{passed_by, yielded_by}, Acts.{acted_at, acted_within, err_so, kept_any, may_act, never_made, ok_so, slept_at, unmade}, Awaited.{await_steps, newest_acted}, Dropped.{drop_steps, drops_some}, Ended.{failed_by, finished_by, may_end_task}, Growing.{may_make, refused_by}, Registered.registered_by}}
 use Rattle.exec_steps.proofs.parts.worker.Worker.act.Goals as goal
 
 pub next_act-requires : goal.next_act-requires

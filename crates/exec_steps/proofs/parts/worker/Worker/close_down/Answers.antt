@@ -1,6 +1,6 @@
 use Rattle.std.proofs.Common.{◌≡◌, ⊎_elim}
-use Rattle.exec_steps.proofs.{Shutting.{stage_there, shard_empty}, Closes.{closing_began, queue_closed, barrier_opened, pool_stopped, queue_emptied, shard_visited, barrier_left, mailbox_closed, worker_ended}}
 use Rattle.exec_moves.specs.declared.place.InClosing.{InClosing}
+use Rattle.exec_steps.proofs.{Shutting.{stage_there, shard_empty}, Closes.{closing_began, queue_closed, barrier_opened, pool_stopped, queue_emptied, shard_visited, barrier_left, mailbox_closed, worker_ended}}
 use Rattle.exec_steps.proofs.parts.worker.Worker.close_down.Goals as goal
 
 pub returns-in-Close : goal.returns-in-Close

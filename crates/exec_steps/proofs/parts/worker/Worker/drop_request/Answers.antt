@@ -1,6 +1,6 @@
 use Rattle.std.proofs.{Common.{◌≡◌, ◌++◌, Some, refl, sym, ap, subst, ◌∙◌, option_to_list}, lemmas.Option.slice_get-get_or}
-use Rattle.exec_steps.specs.{Awaits.LetsGo, declared.parts.task_slot.TaskSlot.TaskSlot}
 use Rattle.exec_task.specs.declared.body.Said.{Said}
+use Rattle.exec_steps.specs.{Awaits.LetsGo, declared.parts.task_slot.TaskSlot.TaskSlot}
 use Rattle.exec_steps.proofs.parts.worker.Worker.drop_request.Goals as goal
 
 pub orphan_request-requires : goal.orphan_request-requires

@@ -1,6 +1,6 @@
 use Rattle.std.proofs.Common.{◌≡◌, refl}
-use Rattle.exec_steps.proofs.{Looking.{published, mirror_looked, count_looked}, NextDue.told_due}
 use Rattle.exec_moves.specs.declared.place.{InLook.InLook, Place.Place}
+use Rattle.exec_steps.proofs.{Looking.{published, mirror_looked, count_looked}, NextDue.told_due}
 use Rattle.exec_steps.proofs.parts.worker.Worker.look.Goals as goal
 
 pub returns-in-Publish : goal.returns-in-Publish

@@ -1,5 +1,5 @@
 use Rattle.std.{proofs.{Common.{◌≡◌, ◌^◌, ◌<◌, length, arith, Some, refl, sym, ap, subst, ◌∙◌}, lemmas.{Bool.Decides.nat_tests, Option.slice_get-get_or}}, specs.Vec.vec_capacity}
-use Rattle.exec_steps.{specs.{Records.{HasRequestRoom, SameNames}, declared.parts.worker.Worker.Worker}, proofs.{Turning.set_there, Growing.{okay_if, reserved_worker, rooms_kept, rooms_slot, same_names, untold_self}}}
+use Rattle.exec_steps.{specs.{Records.{HasRequestRoom, SameNames}, declared.parts.worker.Worker.Worker}, proofs.{Facts.set_there, Growing.{okay_if, reserved_worker, rooms_kept, rooms_slot, same_names, untold_self}}}
 use Rattle.exec_steps.proofs.parts.worker.Worker.make_room.Goals as goal
 
 pub returns-then-len-clause-kept : goal.returns-then-len-clause-kept

@@ -1,6 +1,6 @@
 use Rattle.std.proofs.Common.{◌≡◌}
-use Rattle.exec_steps.{specs.Sound.SoundAt, proofs.{Acts.steps_of, Pending.{at_end, at_pend, poll_pended}, Polling.{at_start, never_joins, poll_begun}}}
 use Rattle.exec_moves.specs.declared.place.{InPoll.InPoll, Place.Place}
+use Rattle.exec_steps.{specs.Sound.SoundAt, proofs.{Acts.steps_of, Pending.{at_end, at_pend, poll_pended}, Polling.{at_start, never_joins, poll_begun}}}
 use Rattle.exec_steps.proofs.parts.worker.Worker.poll.Goals as goal
 
 pub begin_poll-requires : goal.begin_poll-requires

@@ -1,8 +1,8 @@
 use Rattle.std.{proofs.{Common.{◌≡◌, ◌<◌, true, false, not, length, [], Some, None, refl, sym, ap, subst, ◌∙◌, is_some, slice_get}, lemmas.Bool.false≢true}, specs.Vec.with_item}
 use Rattle.exec_request.specs.States.{as_answer}
+use Rattle.exec_driver.specs.Steps.{ReapsNext}
 use Rattle.exec_machine.specs.{Requests.{joined_if, reaped}, declared.event.Event.TheVariants.{Reap, Serve}}
 use Rattle.exec_moves.specs.{Serve.after_permit, declared.place.{AfterPermit.AfterPermit, InService.InService, Place.Place}}
-use Rattle.exec_driver.specs.Steps.{ReapsNext}
 use Rattle.exec_steps.{specs.{declared.parts.{names.Names.Names, record.Record.Record, worker.Worker.Worker}, Records.number_in, Submitting.after_giving_up, Flown.operations, View.driver_of, Works.Steps}, proofs.{Dating.set_changes, Settled.judged_steps, Reaped.{reaps_none, reaps_quiet, tells_none}, Reporting.{none_of, of_it, reaped_lawful, reaped_one_part, reaped_plain, reaped_room, reaped_within}, Sweeping.none_reaped, parts.worker.Worker.reap.Goals.{then-has_completion, else-has_completion}}}
 use Rattle.exec_steps.proofs.parts.worker.Worker.reap.Goals as goal
 

@@ -1,9 +1,9 @@
 use Rattle.std.proofs.{Common.{◌≡◌, ◌++◌, ◌∷◌, [], length, Some, refl, sym, ap, subst, ◌∙◌, arith, is_some, slice_set}, lemmas.{List.set-set, Option.slice_get-get_or}}
 use Rattle.exec_request.specs.Requests.{asked_of, deadline_of}
-use Rattle.exec_machine.specs.{declared.event.Event.TheVariants.Admit, Requests.{outcome_if_late, new_request, resolved_if}}
-use Rattle.exec_steps.{specs.{Admitting.NamesOne, Records.{outcome_in, plain_operation}, declared.parts.{shared.Shared.Shared, task_slot.TaskSlot.TaskSlot, worker.Worker.Worker}}, proofs.{Enlisting.{ended_within, few_records, named_room, named_within, outcome_shown, plain_range, records_room, records_same, slot_is, slot_room, slot_within}, Growing.{refuses_by, rooms_within}}}
 use Rattle.exec_task.specs.declared.body.Said.{Said}
+use Rattle.exec_machine.specs.{declared.event.Event.TheVariants.Admit, Requests.{outcome_if_late, new_request, resolved_if}}
 use Rattle.exec_moves.specs.declared.place.{InPoll.InPoll, Place.Place}
+use Rattle.exec_steps.{specs.{Admitting.NamesOne, Records.{outcome_in, plain_operation}, declared.parts.{shared.Shared.Shared, task_slot.TaskSlot.TaskSlot, worker.Worker.Worker}}, proofs.{Enlisting.{ended_within, few_records, named_room, named_within, outcome_shown, plain_range, records_room, records_same, slot_is, slot_room, slot_within}, Growing.{refuses_by, rooms_within}}}
 use Rattle.exec_steps.proofs.parts.worker.Worker.register.Goals as goal
 
 pub operation_of-operation-requires : goal.operation_of-operation-requires

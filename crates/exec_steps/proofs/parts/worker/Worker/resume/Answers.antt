@@ -1,6 +1,6 @@
 use Rattle.std.proofs.{Common.{◌≡◌, Some, sym, ap, ◌∙◌, slice_get}, lemmas.Option.slice_get-get_or}
-use Rattle.exec_steps.{specs.Sound.may_resume, proofs.Taking.{never_resumes, polled_there, request_there, timer_there, wake_resumed}}
 use Rattle.exec_moves.specs.declared.place.InPoll.{InPoll}
+use Rattle.exec_steps.{specs.Sound.may_resume, proofs.Taking.{never_resumes, polled_there, request_there, timer_there, wake_resumed}}
 use Rattle.exec_steps.proofs.parts.worker.Worker.resume.Goals as goal
 
 pub take_wake-requires : goal.take_wake-requires

@@ -1,6 +1,6 @@
 use Rattle.std.proofs.{Common.{◌≡◌, Some, sym, ap, ◌∙◌, slice_get}, lemmas.Option.{slice_get-get_or, slice_get_within}}
-use Rattle.exec_steps.proofs.{Pending.{at_end, at_resume}, Receiving.{output_ready, output_taken}, Taking.request_awaited}
 use Rattle.exec_moves.specs.declared.place.InPoll.{InPoll}
+use Rattle.exec_steps.proofs.{Pending.{at_end, at_resume}, Receiving.{output_ready, output_taken}, Taking.request_awaited}
 use Rattle.exec_steps.proofs.parts.worker.Worker.resume_request.Goals as goal
 
 pub take_output-requires : goal.take_output-requires

@@ -1,6 +1,6 @@
 use Rattle.std.proofs.{Common.{◌≡◌, Some, sym, ap, ◌∙◌, slice_get}, lemmas.Option.slice_get-get_or}
-use Rattle.exec_steps.proofs.{Pending.{at_end, at_resume}, Taking.{timer_awaited, timer_resumed}}
 use Rattle.exec_moves.specs.declared.place.InPoll.{InPoll}
+use Rattle.exec_steps.proofs.{Pending.{at_end, at_resume}, Taking.{timer_awaited, timer_resumed}}
 use Rattle.exec_steps.proofs.parts.worker.Worker.resume_timer.Goals as goal
 
 pub returns-then-index : goal.returns-then-index

@@ -2,8 +2,8 @@ use Rattle.std.proofs.{Common.{◌≡◌, ◌≢◌, ℕ, ◌≤◌, ◌++◌, �
 use Rattle.exec_base.specs.{Slab.{inserted, next_id, IsPast, TakesId}, declared.{limits.TheConstants.LONGEST_TIMEOUT, task_no.TaskNo.TaskNo}}
 use Rattle.exec_time.specs.declared.timers.{TimerId.TimerId, Observer.Observer}
 use Rattle.exec_machine.specs.{declared.{event.Event.TheVariants.Timer, state.Waiting.Waiting}, Deadlines.new_sleeper}
-use Rattle.exec_steps.{specs.declared.parts.{names.Names.Names, task_slot.TaskSlot.TaskSlot, worker.Worker.Worker}, proofs.{Dozing.{bed_names, bed_room, bed_within}, Growing.{refuses_by, rooms_there, rooms_within}}}
 use Rattle.exec_moves.specs.declared.place.{InPoll.InPoll, Place.Place}
+use Rattle.exec_steps.{specs.declared.parts.{names.Names.Names, task_slot.TaskSlot.TaskSlot, worker.Worker.Worker}, proofs.{Dozing.{bed_names, bed_room, bed_within}, Growing.{refuses_by, rooms_there, rooms_within}}}
 use Rattle.exec_steps.proofs.parts.worker.Worker.sleep_for.Goals as goal
 
 pub index_mut-requires : goal.index_mut-requires

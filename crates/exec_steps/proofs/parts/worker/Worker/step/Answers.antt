@@ -1,6 +1,6 @@
 use Rattle.std.proofs.Common.{◌≡◌, refl, arith}
-use Rattle.exec_steps.proofs.{Acts.steps_of, Turning.sound_at, Picks.begun, Flagging.root_flag_taken, Looking.{clock_read, tested, withdrew}, NextDue.told_due}
 use Rattle.exec_moves.specs.declared.place.Place.{Place}
+use Rattle.exec_steps.proofs.{Acts.steps_of, Turning.sound_at, Picks.begun, Flagging.root_flag_taken, Looking.{clock_read, tested, withdrew}, NextDue.told_due}
 use Rattle.exec_steps.proofs.parts.worker.Worker.step.Goals as goal
 
 pub pick-requires : goal.pick-requires

@@ -1,8 +1,8 @@
 use Rattle.std.proofs.{Common.{◌≡◌, ◌++◌, Some, refl, sym, ap, ◌∙◌, option_to_list}, lemmas.Option.slice_get-get_or}
-use Rattle.exec_machine.specs.declared.{event.Event.TheVariants.Got, state.Waiting.Waiting}
-use Rattle.exec_steps.{specs.{Records.outcome_in, declared.parts.task_slot.TaskSlot.TaskSlot}, proofs.Receiving.{may_see, seen_ready}}
 use Rattle.exec_task.specs.declared.body.Said.{Said}
+use Rattle.exec_machine.specs.declared.{event.Event.TheVariants.Got, state.Waiting.Waiting}
 use Rattle.exec_moves.specs.declared.place.{InPoll.InPoll, Place.Place}
+use Rattle.exec_steps.{specs.{Records.outcome_in, declared.parts.task_slot.TaskSlot.TaskSlot}, proofs.Receiving.{may_see, seen_ready}}
 use Rattle.exec_steps.proofs.parts.worker.Worker.take_output.Goals as goal
 
 pub unreachable-requires : goal.unreachable-requires
