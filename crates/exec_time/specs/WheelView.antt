@@ -21,4 +21,4 @@ wheel_of w =
 -- how many entries it can take without memory
 unfoldable pub room_of : TimeoutWheel → ℕ
 room_of w =
-    min (vec_capacity w.entries - vec_len w.entries) (min (vec_capacity w.active - vec_len w.active) (deque_capacity w.ready - deque_len w.ready - vec_len w.entries))
+    min (vec_capacity w.entries - vec_len w.entries) (min (deque_capacity w.active - deque_len w.active) (deque_capacity w.ready - deque_len w.ready - vec_len w.entries))

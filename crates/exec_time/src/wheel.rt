@@ -49,7 +49,7 @@ pub struct TimeoutWheel {
     /// What is scheduled and didn't come out, stale entries too, by slot, and in a slot in order of scheduling.
     entries: Vec<Entry>,
     /// The tick of each active entry, ascending.
-    active: Vec<Tick>,
+    active: VecDeque<Tick>,
     /// The ids that came out and were not handed out yet.
     ready: VecDeque<Id>,
     ghost by_slot: { IsBySlot slots entries.items },
@@ -106,7 +106,7 @@ impl TimeoutWheel {
             slots,
             current: 0,
             entries: Vec::new(alloc),
-            active: Vec::new(alloc),
+            active: VecDeque::new(alloc),
             ready: VecDeque::new(alloc),
         })
     }

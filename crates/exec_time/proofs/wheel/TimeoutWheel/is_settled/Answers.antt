@@ -1,6 +1,6 @@
 use Rattle.std.proofs.Common.{arith, ◌≡◌, ◌<◌, ◌≤◌, length, Some, refl}
 use Rattle.std.proofs.lemmas.Grind.{common_steps}
-use Rattle.exec_time.specs.{Wheel.IsSettled, WheelView.wheel_of}
+use Rattle.exec_time.specs.WheelView.{wheel_of}
 use Rattle.exec_time.proofs.Ranges.{active_few, active_is_among, found_active}
 use Rattle.exec_time.proofs.wheel.TimeoutWheel.is_settled.Goals as goal
 
@@ -9,7 +9,7 @@ unfolding wheel_of
 returns-in-None c = (
   λ _. record {
     ahead = λ t active.
-        let none : length c.args.self.now.active.items ≡ 0 = rw (← c.deref.ensures.value) c.in-None.ensures.none in
+        let none : length c.args.self.now.active.items ≡ 0 = c.in-None.ensures.none in
         absurd (omega (arith, active_few c.args.self.now.active.items t));
   },
   λ _. refl,
@@ -20,9 +20,9 @@ unfolding wheel_of
 returns-in-Some c = (
   λ before. record {
     ahead = λ t active.
-        let least : c.in-Some.tick ≤ t = active_is_among c.args.self.now.active.items c.in-Some.tick t (rw (← c.deref.ensures.value) c.in-Some.ensures.least) active in
+        let least : c.in-Some.tick ≤ t = active_is_among c.args.self.now.active.items c.in-Some.tick t c.in-Some.ensures.least active in
         let less : c.args.self.now.current < c.in-Some.tick = grind (arith, common_steps, before) in
         omega arith;
   },
-  λ settled. grind (arith, common_steps, settled.ahead c.in-Some.tick (found_active (Some c.in-Some.tick) c.args.self.now.active.items (rw (← c.deref.ensures.value) c.in-Some.ensures.among))),
+  λ settled. grind (arith, common_steps, settled.ahead c.in-Some.tick (found_active (Some c.in-Some.tick) c.args.self.now.active.items c.in-Some.ensures.among)),
 )
