@@ -86,6 +86,7 @@ impl Caller {
     }
 
     /// Pushes a value, and answers whether others of the queue can be stolen from then.
+    #[inline(always)]
     fn push<R: Wait>(&mut self, rt: &R, value: u64) -> bool {
         match self.owner.push(value) {
             Push::Settled(answer) => match answer {
@@ -173,6 +174,8 @@ impl Caller {
 }
 
 /// Takes what flows over.
+#[cold]
+#[inline(never)]
 fn drain(overflow: &mut Overflow<'_, u64>)
     ensures same { lender overflow.new ≡ lender overflow.old }
     ensures dry { left_of overflow.new ≡ [] }

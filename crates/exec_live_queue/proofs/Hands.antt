@@ -67,6 +67,17 @@ module _ {T : Type 0} where
   give_carried [] a = refl
   give_carried (x ∷ xs) a = give_carried xs (suc a)
 
+  -- the slots that are carried behind the run stay as they are
+  pub give_first : (xs : List (Option T)) (hs : Homes T) (a : ℕ) (c : List (ℕ × Option T))
+      → homes_after hs (hand a xs ++ c) (give_all xs) ≡ homes_after hs (hand a xs) (give_all xs)
+  give_first [] hs a c = refl
+  give_first (x ∷ xs) hs a c = give_first xs (set hs (a % 256) (some x)) (suc a) c
+
+  pub give_left : (xs : List (Option T)) (a : ℕ) (c : List (ℕ × Option T))
+      → carried_after (hand a xs ++ c) (give_all xs) ≡ c
+  give_left [] a c = refl
+  give_left (x ∷ xs) a c = give_left xs (suc a) c
+
   pub give_length : (xs : List (Option T)) (hs : Homes T) (a : ℕ) → length (homes_after hs (hand a xs) (give_all xs)) ≡ length hs
   give_length [] hs a = refl
   give_length (x ∷ xs) hs a = give_length xs (set hs (a % 256) (some x)) (suc a) ∙ length-set hs (a % 256) (some x)
@@ -86,11 +97,6 @@ module _ {T : Type 0} where
   hand_turn a (x ∷ xs) = let next : suc (a + 256) ≡ suc a + 256 = omega arith in
       ap₂ (λ (n : ℕ) (l : List (ℕ × Option T)). (n, x) ∷ l) (add-mod_right a 256) (ap (λ (n : ℕ). hand n xs) next ∙ hand_turn (suc a) xs)
 
-  -- the second part of a run that is home
-  pub home_behind : (xs ys : List (Option T)) (hs : Homes T) (a : ℕ) → AllHome hs a (xs ++ ys) → AllHome hs (a + length xs) ys
-  home_behind [] ys hs a home = let e : a ≡ a + zero = omega arith in subst (λ (n : ℕ). AllHome hs n ys) e home
-  home_behind (x ∷ xs) ys hs a home = let e : suc a + length xs ≡ a + suc (length xs) = omega arith in subst (λ (n : ℕ). AllHome hs n ys) e (home_behind xs ys hs (suc a) home.1)
-
   -- a run of values that are home
   pub all_full : (ys : List T) (hs : Homes T) (a : ℕ) → ((j : ℕ) (x : T) → get_elem? ys j ≡ some x → HomeAt hs (a + j) (Some x)) → AllHome hs a (map Some ys)
   all_full [] hs a full = tt
@@ -100,20 +106,23 @@ module _ {T : Type 0} where
   )
 
   -- one of a run of values that are home
-  pub some_at : (xs : List T) (ys : List (Option T)) (hs : Homes T) (a l : ℕ) → AllHome hs a (map Some xs ++ ys) → a ≤ l → l < a + length xs → (x : T) × (get_elem? xs (l - a) ≡ some x) × HomeAt hs l (Some x)
-  some_at [] ys hs a l home le lt = absurd (omega arith)
-  some_at (x ∷ xs) ys hs a l home le lt = dite (ℕ_discrete l a)
+  pub some_at : (xs : List T) (hs : Homes T) (a l : ℕ) → AllHome hs a (map Some xs) → a ≤ l → l < a + length xs
+      → (x : T) × (get_elem? xs (l - a) ≡ some x) × HomeAt hs l (Some x)
+  some_at [] hs a l home le lt = absurd (omega arith)
+  some_at (x ∷ xs) hs a l home le lt = dite (ℕ_discrete l a)
       (λ e. let first : 0 ≡ l - a = omega arith in (x, subst (λ (k : ℕ). get_elem? (x ∷ xs) k ≡ some x) first refl, subst (λ (k : ℕ). HomeAt hs k (Some x)) (sym e) home.0))
-      (λ ne. let r = some_at xs ys hs (suc a) l home.1 (omega arith) (omega arith) in let next : suc (l - suc a) ≡ l - a = omega arith in (r.0, subst (λ (k : ℕ). get_elem? (x ∷ xs) k ≡ some r.0) next r.1, r.2))
+      (λ ne. let r = some_at xs hs (suc a) l home.1 (omega arith) (omega arith) in let next : suc (l - suc a) ≡ l - a = omega arith in (r.0, subst (λ (k : ℕ). get_elem? (x ∷ xs) k ≡ some r.0) next r.1, r.2))
 
-  -- the values in the slots of a run, and of empty slots behind it
-  pub no_values : (r a : ℕ) → values_of (hand a (replicate {A = Option T} r None)) ≡ []
-  no_values zero a = refl
-  no_values (suc r) a = no_values r (suc a)
+  -- the values in the slots of two runs, one of which is empty
+  pub values_behind : (xs : List T) (r a b : ℕ) → values_of (hand a (replicate r None) ++ hand b (map Some xs)) ≡ xs
+  values_behind xs (suc r) a b = values_behind xs r (suc a) b
+  values_behind [] zero a b = refl
+  values_behind (x ∷ xs) zero a b = ap (λ (l : List T). x ∷ l) (values_behind xs zero a (suc b))
 
-  pub values_in : (xs : List T) (r a : ℕ) → values_of (hand a (map Some xs ++ replicate r None)) ≡ xs
-  values_in [] r a = no_values r a
-  values_in (x ∷ xs) r a = ap (λ (l : List T). x ∷ l) (values_in xs r (suc a))
+  pub values_before : (xs : List T) (r a b : ℕ) → values_of (hand a (map Some xs) ++ hand b (replicate r None)) ≡ xs
+  values_before [] zero a b = refl
+  values_before [] (suc r) a b = values_before [] r a (suc b)
+  values_before (x ∷ xs) r a b = ap (λ (l : List T). x ∷ l) (values_before xs r (suc a) b)
 
   -- the first of a list, and the rest of it
   pub fronted : (c r : List (ℕ × Option T)) (k : ℕ) (x : Option T) → c ≡ (k, x) ∷ r → c ≡ (k, x) ∷ rest c
@@ -123,10 +132,6 @@ module _ {T : Type 0} where
   hand_snoc : (b : ℕ) (ys : List (Option T)) (y : Option T) → hand b ys ++ ((b + length ys) % 256, y) ∷ [] ≡ hand b (ys ++ y ∷ [])
   hand_snoc b [] y = let e : b + zero ≡ b = omega arith in ap (λ (n : ℕ). (n % 256, y) ∷ []) e
   hand_snoc b (z ∷ ys) y = let e : b + suc (length ys) ≡ suc b + length ys = omega arith in ap (λ (l : List (ℕ × Option T)). (b % 256, z) ∷ l) (ap (λ (n : ℕ). hand (suc b) ys ++ (n % 256, y) ∷ []) e ∙ hand_snoc (suc b) ys y)
-
-  pub hand_append : (a : ℕ) (xs ys : List (Option T)) → hand a xs ++ hand (a + length xs) ys ≡ hand a (xs ++ ys)
-  hand_append a [] ys = let e : a + zero ≡ a = omega arith in ap (λ (n : ℕ). hand n ys) e
-  hand_append a (x ∷ xs) ys = let e : a + suc (length xs) ≡ suc a + length xs = omega arith in ap (λ (l : List (ℕ × Option T)). (a % 256, x) ∷ l) (ap (λ (n : ℕ). hand (suc a) xs ++ hand n ys) e ∙ hand_append (suc a) xs ys)
 
   -- the slot in front is written, and turned behind the others
   pub turned_on : (l : List (ℕ × Option T)) (a b : ℕ) (x y : Option T) (xs ys : List (Option T)) → l ≡ hand a (x ∷ xs) ++ hand b ys → a ≡ b + length ys

@@ -12,6 +12,6 @@ pub mod Rebuild
 pub mod Releases
 pub mod Returns
 pub mod Standing
-pub mod Steals
 pub mod Thieves
+pub mod Tries
 pub mod Words

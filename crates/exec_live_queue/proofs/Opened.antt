@@ -1,10 +1,5 @@
 -- A new queue meets the rule.
-use Rattle.exec_live_queue.proofs.Words.{◌≡◌, ℕ, zero, suc, ◌+◌, ◌-◌, ◌%◌, ◌^◌, ◌<◌, ◌≤◌, List, [], ◌∷◌, map, length, replicate, sym, refl, ap, ◌∙◌, subst, inl, le_refl, mod-lt, arith, length-replicate, some, some-injective, some-ne-none, get_elem?, length-map, Option, None, sum_by, opening, View, head_word, words_of, labels, Knows, AsLogged, LiveQueue, opened}
-
-no_label : (a n : ℕ) (w : ℕ → ℕ) → n ≡ 0 → sum_by w (labels a n) ≡ 0
-unfolding labels
-no_label a zero w e = refl
-no_label a (suc n) w e = absurd (omega arith)
+use Rattle.exec_live_queue.proofs.Words.{◌≡◌, ℕ, zero, suc, ◌+◌, ◌-◌, ◌%◌, ◌^◌, ◌<◌, ◌≤◌, List, [], ◌∷◌, map, length, replicate, sym, refl, ap, ◌∙◌, subst, mod-lt, arith, length-replicate, some, some-injective, some-ne-none, get_elem?, length-map, Option, None, sum_by, opening, View, head_word, words_of, labels, Knows, AsLogged, LiveQueue, opened}
 
 module _ {T : Type 0} where
   home_among : (n k : ℕ) → k < n → get_elem? (map {A = Option T} some (replicate n None)) k ≡ some (some None)
@@ -17,6 +12,7 @@ module _ {T : Type 0} where
   one v (suc j) u e = absurd (some-ne-none u (sym e))
 
   pub opens : (start n : ℕ) (ws : List ℕ) (xs : List (Option T)) → start + 512 ≤ 2 ^ 55 → n ≡ 256 → xs ≡ replicate n None → ws ≡ words_of (head_word start 0) start → LiveQueue start (opening ws xs (opened start))
+  unfolding labels
   opens start n ws xs small wide free words =
       let v : View T = opened start in let len : length (map some xs) ≡ n = length-map xs some ∙ ap length free ∙ length-replicate n None in let level : start - start ≡ 0 = omega arith in
       let only : (j : ℕ) (u : View T) → get_elem? (v ∷ []) j ≡ some u → (j ≡ 0) × (v ≡ u) = one v in record {
@@ -38,6 +34,6 @@ module _ {T : Type 0} where
           each_seat = λ j u e. let is = only j u e in subst (λ (x : View T). Knows start start 0 0 0 j x.theft x.stage) is.1 is.0;
           each_lot = λ j u e. let is = only j u e in subst (λ (x : View T). AsLogged v.own x.theft) is.1 (refl, λ i l nowhere. absurd (some-ne-none l (sym nowhere)));
           held = λ pos. absurd (omega arith);
-          told = λ w. sym (no_label start (start - start) w level);
+          told = λ w. ap (λ (n : ℕ). sum_by w (labels start n)) (sym level);
         };
       }

@@ -1,11 +1,7 @@
 -- What an owner's calls do to its view, step after step.
-use Rattle.exec_live_queue.proofs.{Words.{◌≡◌, ◌≢◌, ℕ, ◌+◌, ◌-◌, ◌*◌, ◌/◌, ◌%◌, ◌^◌, ◌<◌, ◌≤◌, ◌⊎◌, List, [], ◌∷◌, ◌++◌, length, take, map, replicate, sym, refl, ap, ◌∙◌, subst, inl, inr, ⊎_elim, arith, none, some, dite, ℕ_discrete, dec_le, Bool, cond, lt_of_not-le, le-leb, get_elem?, Option, Some, None, step, Own, View, Owns, Sat, room, saw, out, hand, after_pop, laid, returned, Found, popped_view, Popped, values_of, published_view, Overflowed, overflowed_view, restored_view, whole, IsSeen, AtRest, looked, HasLooked, HasPopped, HasPublished, HasOverflowed, fully, AtHand, Fills, AfterSteal, HasKept, Theft, Steal, labels, rest, length-append, length-drop, append_assoc}, Overflows.whole_length}
-use Rattle.std.proofs.{Common.{min, drop, append-nil}, lemmas.{Bool.lt-leb, List.length-take-le}}
-use Rattle.exec_words.specs.Head.{room_at, is_spent}
-use Rattle.exec_words.specs.declared.queue.Steal.TheVariants as steal
-
-pub room_seen : (tail left len : ℕ) → tail < 2 ^ 55 - 512 → len ≤ left → len ≤ cond (is_spent tail) 0 left
-room_seen tail left len lt fits = grind arith
+use Rattle.exec_live_queue.proofs.{Words.{◌≡◌, ◌≢◌, ℕ, ◌+◌, ◌-◌, ◌*◌, ◌/◌, ◌%◌, ◌^◌, ◌<◌, ◌≤◌, List, [], ◌∷◌, ◌++◌, length, take, map, replicate, sym, refl, ap, ◌∙◌, subst, arith, none, Option, Some, None, step, Own, Owns, Sat, room, hand, laid, returned, Found, Popped, values_of, published_view, Overflowed, restored_view, whole, IsSeen, AtRest, looked, HasLooked, HasPopped, HasPublished, HasOverflowed, fully, AtHand, Fills, AfterSteal, HasKept, Theft, Steal, rest, length-append, length-drop, append_assoc}, Hands.values_behind, Overflows.whole_length}
+use Rattle.std.proofs.{Common.{min, drop, append-nil}, lemmas.{List.length-take-le}}
+use Rattle.exec_words.specs.Head.{room_at}
 
 module _ {T : Type 0} where
   -- a look
@@ -51,24 +47,18 @@ module _ {T : Type 0} where
 
   -- a look that took the one free slot that it asked for
   pub took_one : (m m' : Sat T) (n : ℕ) → laid (λ room. min room 1) (step 256 11 0 0 none) m n m' → m.0.own.tail - n / 512 + n % 512 < 256
-      → (m'.0.own.out_at ≡ m.0.own.tail) × (m'.0.own.out_len ≡ 1) × (m'.1 ≡ hand m.0.own.tail (None ∷ []))
-  took_one m m' n l lt = let one : min (room m.0.own.tail (n / 512) (n % 512)) 1 ≡ 1 = grind arith in grind arith
-
-  took_none : (m m' : Sat T) (n : ℕ) → laid (λ room. min room 1) (step 256 11 0 0 none) m n m' → 256 ≤ m.0.own.tail - n / 512 + n % 512 → min (room m.0.own.tail (n / 512) (n % 512)) 1 ≡ 0
-  took_none m m' n l le = let t : ℕ = m.0.own.tail in let b : n / 512 ≤ t = l.0.1.behind in omega arith
+      → (1 ≡ min (room m.0.own.tail (n / 512) (n % 512)) 1) × (m'.1 ≡ hand m.0.own.tail (None ∷ []))
+  took_one m m' n l lt = let one : min (room m.0.own.tail (n / 512) (n % 512)) 1 ≡ 1 = grind arith in
+      (sym one, ap (λ (z : Sat T). z.1) l.1 ∙ ap (λ (k : ℕ). hand m.0.own.tail (replicate {A = Option T} k None)) one)
 
   -- one that found no room
   pub looks_full : (m m' : Sat T) (n : ℕ) → AtRest m → laid (λ room. min room 1) (step 256 11 0 0 none) m n m' → 256 ≤ m.0.own.tail - n / 512 + n % 512 → AtRest m' × HasLooked m.0.own m'.0.own
-  looks_full m m' n r l le = looks_at (λ room. min room 1) m m' n r (took_none m m' n l le) l
+  looks_full m m' n r l le = looks_at (λ room. min room 1) m m' n r
+      (let b : n / 512 ≤ m.0.own.tail = l.0.1.behind in omega arith) l
 
   -- the slot was filled
   pub filled_one : (m m1 : Sat T) (label : ℕ) (x : T) → m.1 ≡ hand label (None ∷ []) → m1 ≡ (m.0, rest m.1 ++ (label % 256, Some x) ∷ []) → m1 ≡ (m.0, hand label (Some x ∷ []))
   filled_one m m1 label x had e = e ∙ ap (λ (l : List (ℕ × Option T)). (m.0, rest l ++ (label % 256, Some x) ∷ [])) had
-
-  -- a value was published after a look
-  pub published_after : (m m1 m2 : Sat T) (xs : List T) → AtRest m → HasLooked m.0.own m1.0.own → m1.0.stage ≡ Owns → m1.0.own.tail + length xs + 256 ≤ 2 ^ 55 → m2 ≡ (published_view m1.0 xs, [])
-      → AtRest m2 × HasPublished m.0.own xs m2.0.own
-  published_after m m1 m2 xs r h owns bound e = grind (arith, length-append)
 
   -- a queue flowed over after a look, and shows again what it kept
   pub overflowed_after : (m m1 m2 m3 : Sat T) → AtRest m → HasLooked m.0.own m1.0.own → m1.0.stage ≡ Owns → m1.0.own.start ≤ m1.0.own.saw_real → m1.0.own.saw_real + 256 ≡ m1.0.own.tail → m.0.own.tail + 512 ≤ 2 ^ 55
@@ -89,16 +79,32 @@ module _ {T : Type 0} where
   pub room_stays : (d : Own T) (n tail len : ℕ) → Found d n → tail ≡ d.tail → d.tail + 256 ≤ 2 ^ 55 → len ≤ room_at record { real = d.saw_real; gap = d.saw_gap } tail → (len ≤ room d.tail (n / 512) (n % 512)) × (len ≤ 256) × (tail + len + 256 ≤ 2 ^ 55)
   room_stays d n tail len f is bound fits = grind arith
 
-  -- all free slots were taken
-  pub took_room : (m m' : Sat T) (n : ℕ) → laid (λ room. room) (step 256 11 0 0 none) m n m' → AtRest m
-      → (m'.0.own.out_at ≡ m.0.own.tail) × (m'.0.own.out_len ≡ room m.0.own.tail (n / 512) (n % 512)) × (m'.0.stage ≡ Owns) × (m'.0.own.aside ≡ 0) × (m'.0.own.tail ≡ m.0.own.tail) × Fills m' m'.0 m.0.own.tail (room m.0.own.tail (n / 512) (n % 512)) []
-  took_room m m' n l r = grind (arith, append-nil)
-
-  -- those that a batch of this length needs, and the others
+  -- all free slots were taken: those that a batch of this length needs, and the others
   pub free_slots : (m m' : Sat T) (n tail len : ℕ) → laid (λ room. room) (step 256 11 0 0 none) m n m' → AtRest m → tail ≡ m.0.own.tail → len ≤ room m.0.own.tail (n / 512) (n % 512)
       → Fills m' m'.0 tail (len + (room m.0.own.tail (n / 512) (n % 512) - len)) []
   free_slots m m' n tail len l r is fits = let all : ℕ = room m.0.own.tail (n / 512) (n % 512) in let split : all ≡ len + (all - len) = omega arith in
-      (took_room m m' n l r).5 ∙ (λ j. (m'.0, hand (sym is j + 0) (replicate {A = Option T} (split j) None) ++ []))
+      let took : Fills m' m'.0 m.0.own.tail all [] = grind (arith, append-nil) in
+      took ∙ (λ j. (m'.0, hand (sym is j + 0) (replicate {A = Option T} (split j) None) ++ []))
+
+  -- they were filled, as far as there are values: these may be shown
+  pub to_publish : (f : ℕ → ℕ) (m m1 m2 : Sat T) (n tail r : ℕ) (xs : List T) → laid f (step 256 11 0 0 none) m n m1
+      → AtRest m → tail ≡ m.0.own.tail → length xs + r ≡ f (room m.0.own.tail (n / 512) (n % 512))
+      → Fills m2 m1.0 tail r xs → (m2.0.stage ≡ Owns) × (m2.0.own.aside ≡ 0) × (m2.0.own.out_at ≡ m2.0.own.tail)
+      × (m2.0.own.out_len ≡ length xs + r)
+      × (m2.1 ≡ hand (m2.0.own.tail + length xs) (replicate r None) ++ hand m2.0.own.tail (map Some xs))
+      × (m2.0.own.tail ≡ tail)
+  to_publish f m m1 m2 n tail r xs l rests is all e = grind arith
+
+  -- and were shown
+  pub published_after : (f : ℕ → ℕ) (m m1 m2 m3 : Sat T) (n tail r : ℕ) (xs : List T)
+      → laid f (step 256 11 0 0 none) m n m1 → AtRest m → m.0.own.tail + length xs + 256 ≤ 2 ^ 55
+      → Fills m2 m1.0 tail r xs → m3 ≡ (published_view m2.0 (values_of m2.1), []) → AtRest m3
+      × HasPublished m.0.own xs m3.0.own
+  published_after f m m1 m2 m3 n tail r xs l rests bound e p = let looked = laid_looked f m m1 n l in
+      let owns : m1.0.stage ≡ Owns = ap (λ (z : Sat T). z.0.stage) l.1 ∙ rests.0 in
+      let shown : m3 ≡ (published_view m1.0 xs, []) = p ∙ ap (λ (z : Sat T). (published_view z.0 (values_of z.1), [])) e
+      ∙ ap (λ (ys : List T). (published_view m1.0 ys, [])) (values_behind xs r (tail + length xs) tail) in
+      grind (arith, length-append)
 
   -- a steal after a look
   pub steals_on : (a b d : Own T) (t t' : Theft T) (answer : Steal) → HasLooked a b → AfterSteal b t d t' answer → AfterSteal a t d t' answer

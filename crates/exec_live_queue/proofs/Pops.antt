@@ -1,5 +1,5 @@
 -- The owner's pops keep the rule: by an exchange, and of a lone value by a store.
-use Rattle.exec_live_queue.proofs.{Words.{◌≡◌, ℕ, ◌+◌, ◌-◌, ◌/◌, ◌%◌, ◌<◌, ◌≤◌, ◌⊎◌, eqb, List, [], ◌∷◌, ◌++◌, set, sym, refl, ap, ◌∙◌, subst, inl, inr, ⊎_elim, le_refl, arith, none, some, get_elem?, either, Option, Some, sum_by, sum_by_push, State, step, carried_after, homes_after, Allows, add-mod_right, popped, View, Owns, head_word, Outside, BesideClaim, words_of, queue_at, labels, Homes, Kept, LiveQueue, Sat, after_pop, hand, popped_view, Popped, pops, pops_last, missed}, Hands.{take_behind, take_length}, Labels.{weigh_runs, weigh_one, window}, Rebuild.{Puts, exchanges, rebuilt, owner_steps}, Looks.{count_of_word, gap_of_word, lays_here}}
+use Rattle.exec_live_queue.proofs.{Words.{◌≡◌, ℕ, ◌+◌, ◌-◌, ◌/◌, ◌%◌, ◌<◌, ◌≤◌, ◌⊎◌, eqb, List, [], ◌∷◌, ◌++◌, sym, refl, ap, ◌∙◌, subst, le_refl, arith, none, some, get_elem?, either, Option, Some, sum_by, sum_by_push, State, step, homes_after, Allows, add-mod_right, popped, View, Owns, head_word, Outside, words_of, queue_at, labels, Kept, LiveQueue, Sat, after_pop, popped_view, Popped, pops, pops_last, missed}, Hands.{take_behind, take_length}, Labels.{weigh_runs, weigh_one, window}, Rebuild.{Puts, exchanges, rebuilt, owner_steps}, Looks.{count_of_word, gap_of_word, lays_here}}
 use Rattle.exec_live_queue.specs.Plays.{take_all}
 
 -- one more label below the front
@@ -13,14 +13,20 @@ module _ {T : Type 0} where
       → queue_at (popped_view v real (after_pop real gap).gap).own (real + 1) (after_pop real gap).gap ≡ popped (queue_at v.own real gap)
   popped_pure v real gap begun any = grind (arith, window)
 
-  -- what a pop gives, where it writes the head after it
-  pops_here : (start : ℕ) (me : Sat T) (s : State (Option T) (View T)) (k : Kept start me.0 s) → get_elem? s.views 0 ≡ some me.0 → me.0.stage ≡ Owns → me.0.own.aside ≡ 0 → me.0.own.out_len ≡ 0 → k.real < me.0.own.tail
-      → Puts start s 11 (head_word (k.real + 1) (after_pop k.real k.gap).gap) (Popped me.0 k.real k.gap) (words_of (head_word k.real k.gap) me.0.own.tail) [] 0
-  pops_here start me s k at owns aside none_out any =
+  -- what a pop gives at the head that the owner saw, where it writes the head after it
+  pops_here : (start : ℕ) (me : Sat T) (new R G : ℕ) (s : State (Option T) (View T)) (k : Kept start me.0 s)
+      → get_elem? s.views 0 ≡ some me.0 → me.0.stage ≡ Owns → me.0.own.aside ≡ 0 → me.0.own.out_len ≡ 0
+      → k.real ≡ R → k.gap ≡ G → R < me.0.own.tail → new ≡ head_word (R + 1) (after_pop R G).gap
+      → Puts start s 11 new (Popped me.0 R G) (words_of (head_word k.real k.gap) me.0.own.tail) [] 0
+  pops_here start me new R G s k at owns aside none_out r g few writes =
       let v : View T = me.0 in let t : ℕ = v.own.tail in let real : ℕ = k.real in let gap : ℕ = k.gap in let o = k.order in
+      let ws : List ℕ = words_of (head_word real gap) t in let any : real < t = omega (arith, r, few) in
       let f = k.full real (le_refl real) (grind arith) in let xs : List (Option T) = Some f.0 ∷ [] in
       let gap' : ℕ = (after_pop real gap).gap in let w : View T = popped_view v real gap' in
-      let wide : ((gap ≡ 0) × (gap' ≡ 0)) ⊎ ((0 < gap) × (gap' ≡ gap + 1)) = grind arith in (
+      let wide : ((gap ≡ 0) × (gap' ≡ 0)) ⊎ ((0 < gap) × (gap' ≡ gap + 1)) = grind arith in
+      subst (λ (x : ℕ). Puts start s 11 x (Popped v R G) ws [] 0) (sym writes)
+      (subst (λ (y : ℕ). Puts start s 11 (head_word (y + 1) (after_pop y G).gap) (Popped v y G) ws [] 0) r
+      (subst (λ (z : ℕ). Puts start s 11 (head_word (real + 1) (after_pop real z).gap) (Popped v real z) ws [] 0) g (
         w,
         take_all real xs,
         (tt, f.2),
@@ -32,7 +38,7 @@ module _ {T : Type 0} where
             take_behind xs s.homes [] real l (grind arith) near ∙ k.free l le near (grind arith) (grind arith))
             refl (λ l y e. e) (λ weigh. let p = popped_weight weigh start real v.own.popped (grind arith) in grind arith),
         (popped_pure v real gap o.begun any, f.0, f.1, ap (λ (n : ℕ). (w, (n, Some f.0) ∷ [])) (sym (add-mod_right real 256))),
-      )
+      )))
 
   pub pops_rule : (start id : ℕ) (me : Sat T) (old new : ℕ) → me.0.stage ≡ Owns → me.0.own.aside ≡ 0 → me.0.own.out_len ≡ 0 → me.1 ≡ []
       → old / 512 ≡ me.0.own.saw_real → old % 512 ≡ me.0.own.saw_gap → me.0.own.saw_real < me.0.own.tail → new ≡ head_word (me.0.own.saw_real + 1) (after_pop me.0.own.saw_real me.0.own.saw_gap).gap
@@ -42,10 +48,7 @@ module _ {T : Type 0} where
       exchanges start s ws [] 0 hw old new (Popped me.0 me.0.own.saw_real me.0.own.saw_gap) (missed (step 256 11 old new none) me hw)
       (λ e. let r : k.real ≡ me.0.own.saw_real = sym (count_of_word k.real k.gap small) ∙ ap (λ (n : ℕ). n / 512) e ∙ sees_real in
       let g : k.gap ≡ me.0.own.saw_gap = sym (gap_of_word k.real k.gap small) ∙ ap (λ (n : ℕ). n % 512) e ∙ sees_gap in
-      let there : k.real < me.0.own.tail = subst (λ (n : ℕ). n < me.0.own.tail) (sym r) any in
-      subst (λ (x : ℕ). Puts start s 11 x (Popped me.0 me.0.own.saw_real me.0.own.saw_gap) ws [] 0) (sym writes)
-      (subst (λ (R : ℕ). Puts start s 11 (head_word (R + 1) (after_pop R me.0.own.saw_gap).gap) (Popped me.0 R me.0.own.saw_gap) ws [] 0) r
-      (subst (λ (G : ℕ). Puts start s 11 (head_word (k.real + 1) (after_pop k.real G).gap) (Popped me.0 k.real G) ws [] 0) g (pops_here start me s k at0 owns aside none_out there))))
+      pops_here start me new me.0.own.saw_real me.0.own.saw_gap s k at0 owns aside none_out r g any writes)
       (λ ne. lays_here start me (λ room. 0) (λ r. omega arith) owns aside none_out s k at0))
 
   -- no thief can take a lone value, so the owner's store finds the head that it saw
@@ -53,8 +56,5 @@ module _ {T : Type 0} where
       → me.0.own.saw_gap ≡ 0 → me.0.own.saw_real + 1 ≡ me.0.own.tail → new ≡ head_word (me.0.own.saw_real + 1) 0
       → Allows (LiveQueue start) 256 id me 11 (λ _. new) (λ _. pops_last (step 256 11 new 0 none) me new)
   pops_last_rule start id me new owns aside none_out empty unclaimed lone writes = owner_steps start id 11 me [] (λ _. new) (λ _. pops_last (step 256 11 new 0 none) me new) owns empty (λ s k at0.
-      let ws : List ℕ = words_of (head_word k.real k.gap) me.0.own.tail in let is = k.order.saw_lone unclaimed (omega arith) in
-      let there : k.real < me.0.own.tail = omega (arith, is.0, lone) in
-      subst (λ (x : ℕ). Puts start s 11 x (Popped me.0 me.0.own.saw_real 0) ws [] 0) (sym writes)
-      (subst (λ (R : ℕ). Puts start s 11 (head_word (R + 1) 0) (Popped me.0 R 0) ws [] 0) is.0
-      (subst (λ (G : ℕ). Puts start s 11 (head_word (k.real + 1) (after_pop k.real G).gap) (Popped me.0 k.real G) ws [] 0) is.1 (pops_here start me s k at0 owns aside none_out there))))
+      let is = k.order.saw_lone unclaimed (omega arith) in
+      pops_here start me new me.0.own.saw_real 0 s k at0 owns aside none_out is.0 is.1 (omega (arith, lone)) writes)

@@ -1,18 +1,11 @@
 -- A thief's release keeps the rule.
-use Rattle.exec_live_queue.proofs.{Words.{◌≡◌, ◌≢◌, ℕ, ◌+◌, ◌%◌, ◌<◌, ◌≤◌, eqb, List, [], length, set, replicate, sym, refl, ap, ◌∙◌, subst, inl, inr, ⊎_elim, lt_of_not-le, arith, length-replicate, none, some, dite, dec_le, get_elem?, either, Option, None, State, keeps, step, homes_after, Allows, set_here, Own, Theft, View, Stage, Owns, Idle, SawHead, SawTail, Claimed, head_word, words_of, released, queue_at, Homes, Knows, LiveQueue, Sat, hand, give_all, Widened, releases}, Hands.{give_before, give_behind, give_here, give_valid, give_carried, give_length, free_at, hand_turn}, Labels.at_within, Rebuild.{Puts, exchanges, thief_steps}, Looks.gap_of_word, Thieves.moved}
-
--- no other seat holds this claim
-others_know : {T : Type 0} (tail real gap claimed holder j : ℕ) (t : Theft T) (st : Stage) → j ≢ holder → Knows tail real gap claimed holder j t st → Knows tail real 0 0 holder j t st
-others_know tail real gap claimed holder j t st ne n = grind arith
+use Rattle.exec_live_queue.proofs.{Words.{◌≡◌, ◌≢◌, ℕ, ◌+◌, ◌%◌, ◌<◌, ◌≤◌, eqb, List, [], length, set, replicate, sym, refl, ap, ◌∙◌, subst, le_refl, lt_of_not-le, arith, length-replicate, none, some, dite, dec_le, get_elem?, either, Option, None, keeps, step, homes_after, Allows, set_here, Own, Theft, View, Stage, Idle, Claimed, head_word, words_of, released, queue_at, Homes, Knows, LiveQueue, Sat, hand, give_all, Widened, releases}, Hands.{give_before, give_behind, give_here, give_valid, give_carried, give_length, free_at, hand_turn}, Labels.at_within, Rebuild.{Puts, exchanges, thief_steps}, Looks.gap_of_word, Thieves.{moved, others_know}}
 
 module _ {T : Type 0} where
-  abbrev Empty : ℕ → List (Option T)
-  Empty n = replicate n None
-
   pub releases_rule : (start id : ℕ) (me : Sat T) (k old new : ℕ) → me.0.stage ≡ Claimed → me.0.theft.upto ≡ me.0.theft.at + k → me.1 ≡ hand me.0.theft.at (replicate k None)
       → old ≡ head_word (me.0.theft.at + me.0.theft.gap) me.0.theft.gap → new ≡ head_word (me.0.theft.at + me.0.theft.gap) 0
       → Allows (LiveQueue start) 256 id me 11 (λ n. either (eqb n old) new n) (releases (step 256 11 old new none) me)
-  releases_rule start id me k old new st many carries sees writes = let c : List (ℕ × Option T) = hand me.0.theft.at (Empty k) in
+  releases_rule start id me k old new st many carries sees writes = let es : List (Option T) = replicate k None in let c : List (ℕ × Option T) = hand me.0.theft.at es in
       thief_steps start id 11 me c (λ n. either (eqb n old) new n) (releases (step 256 11 old new none) me) carries (λ s q at.
       let n = q.kept in let real : ℕ = n.real in let gap : ℕ = n.gap in let d : Own T = q.view.own in let v : View T = me.0 in let t = v.theft in let o = n.order in
       let hw : ℕ = head_word real gap in let ws : List ℕ = words_of hw d.tail in let small : gap < 512 = grind arith in
@@ -22,36 +15,31 @@ module _ {T : Type 0} where
       exchanges start s ws c id hw old new Out (Widened v hw me)
       (λ e. let g : gap ≡ t.gap = sym (gap_of_word real gap small) ∙ ap (λ (x : ℕ). x % 512) (e ∙ sees) ∙ gap_of_word (t.at + t.gap) t.gap (grind arith) in
       let r : t.at + t.gap ≡ real = ap (λ (x : ℕ). t.at + x) (sym g) ∙ knew.2 in
-      let a : ℕ = t.at + 256 in let w : View T = record v { stage = Idle } in let len : length (Empty k) ≡ k = length-replicate k None in
+      let a : ℕ = t.at + 256 in let w : View T = record v { stage = Idle } in let len : length es ≡ k = length-replicate k None in
       let few : n.claimed ≤ gap = grind arith in let z : d.aside ≡ 0 = grind arith in let count : k ≡ n.claimed = grind arith in
-      let homes' : Homes T = homes_after s.homes (hand a (Empty k)) (give_all (Empty k)) in
-      let here = give_here (Empty k) s.homes a (grind arith) n.slots in
+      let homes' : Homes T = homes_after s.homes (hand a es) (give_all es) in
+      let here = give_here es s.homes a (grind arith) n.slots in
       subst (λ (x : ℕ). Puts start s 11 x Out ws c id) (sym (writes ∙ ap (λ (R : ℕ). head_word R 0) r)) (
         w,
-        give_all (Empty k),
-        give_valid (Empty k) s.homes c,
-        rw (← hand_turn t.at (Empty k))
-            (moved start s q id v w (words_of (head_word real 0) d.tail) homes' real 0 0 n.holder at (grind arith) (give_length (Empty k) s.homes a ∙ n.slots) refl
+        give_all es,
+        give_valid es s.homes c,
+        rw (← hand_turn t.at es)
+            (moved start s q id v w (words_of (head_word real 0) d.tail) homes' real 0 0 n.holder at (grind arith) (give_length es s.homes a ∙ n.slots) refl
             (grind arith)
-            (λ l le lt. let f = n.full l le lt in (f.0, f.1, give_before (Empty k) s.homes a l (grind arith) (grind arith) ∙ f.2))
+            (λ l le lt. let f = n.full l le lt in (f.0, f.1, give_before es s.homes a l (grind arith) (grind arith) ∙ f.2))
             (λ l (le : d.tail + d.aside ≤ l) lt beside outside. dite (dec_le a l)
             (λ (ge : a ≤ l). dite (dec_le (a + k) l)
-            (λ (far : a + k ≤ l). give_behind (Empty k) s.homes a l (grind arith) (grind arith) ∙ n.free l le lt (grind arith) outside)
+            (λ (far : a + k ≤ l). give_behind es s.homes a l (grind arith) (grind arith) ∙ n.free l le lt (grind arith) outside)
             (λ ne. free_at k homes' a l here ge (lt_of_not-le ne)))
-            (λ ne. give_before (Empty k) s.homes a l (grind arith) (grind arith) ∙ n.free l le lt (grind arith) outside))
-            (λ j u ne h. others_know d.tail real gap n.claimed n.holder j u.theft u.stage (λ x. ne (x ∙ sym knew.0)) (n.each_seat j u h))
+            (λ ne. give_before es s.homes a l (grind arith) (grind arith) ∙ n.free l le lt (grind arith) outside))
+            (λ j u ne h. others_know d.tail real gap n.claimed n.holder real 0 0 n.holder j u.theft u.stage (le_refl real) (λ _ x. ne (x ∙ sym knew.0)) (n.each_seat j u h))
             tt (n.each_lot id v at) (λ p. absurd (omega arith)) (λ weigh. refl)),
-        ((λ x. refl), ap (λ (h : List (ℕ × Option T)). (w, h)) (give_carried (Empty k) t.at)),
+        ((λ x. refl), ap (λ (h : List (ℕ × Option T)). (w, h)) (give_carried es t.at)),
       ))
       (λ ne. let G : ℕ = hw % 512 in let is : G ≡ gap = gap_of_word real gap small in let w : View T = record v { theft = record t { gap = G } } in
-      let wide : hw ≡ head_word (t.at + G) G = omega arith in let differs : t.gap ≢ gap = λ e. ne (grind arith) in (
-        w,
-        keeps,
-        tt,
-        subst (λ (l : List ℕ). LiveQueue start record { words = l; homes = s.homes; views = set s.views id w }) n.words
-            (moved start s q id v w s.words s.homes real gap n.claimed n.holder at (grind arith) n.slots n.words o n.full n.free (λ j u ne e. n.each_seat j u e)
-            (subst (Knew w.theft) (sym st) (knew.0, knew.1, knew.2, knew.3, (let e : G ≤ gap = omega arith in e))) (n.each_lot id v at)
-            (λ _. subst (λ (j : ℕ). (u : View T) × (get_elem? (set s.views id w) j ≡ some u) × (u.stage ≡ Claimed)) knew.0
-            (w, set_here s.views id w (at_within s.views id v at), st)) (λ weigh. refl)),
-        (ap (λ (h : List (ℕ × Option T)). (w, h)) (sym carries), wide, grind arith, grind arith),
-      )))
+      let wide : hw ≡ head_word (t.at + G) G = omega arith in let differs : t.gap ≢ gap = λ e. ne (grind arith) in
+      let stays = moved start s q id v w ws s.homes real gap n.claimed n.holder at (grind arith) n.slots refl o n.full n.free (λ j u ne e. n.each_seat j u e)
+      (subst (Knew w.theft) (sym st) (knew.0, knew.1, knew.2, knew.3, (let e : G ≤ gap = omega arith in e))) (n.each_lot id v at)
+      (λ _. subst (λ (j : ℕ). (u : View T) × (get_elem? (set s.views id w) j ≡ some u) × (u.stage ≡ Claimed)) knew.0
+      (w, set_here s.views id w (at_within s.views id v at), st)) (λ weigh. refl) in
+      (w, keeps, tt, stays, (ap (λ (h : List (ℕ × Option T)). (w, h)) (sym carries), wide, grind arith, grind arith))))

@@ -1,5 +1,10 @@
 -- The loads of a thief keep the rule, and one lemma for all steps of a thief that leave the head as it is.
-use Rattle.exec_live_queue.proofs.{Words.{◌≡◌, ◌≢◌, ℕ, ◌+◌, ◌-◌, ◌/◌, ◌^◌, ◌<◌, ◌≤◌, List, [], ◌∷◌, length, set, sym, refl, ap, ◌∙◌, subst, ⊎_elim, le_refl, arith, none, some, some-injective, some-ne-none, get_elem?, Option, None, sum_by, ◌++◌, sum_by-append, State, keeps, step, Allows, Splits, at_set, at_snoc, at_longer, set_else, set_again, View, Stage, Owns, SawHead, SawTail, Claimed, head_word, filled, Outside, BesideClaim, InOrder, words_of, labels, Homes, HomeAt, FullAt, weight_of, Knows, AsLogged, LiveQueue, Sat, at_head, saw_head, saw_tail, newcomer}, Looks.count_of_word, Rebuild.{Gives, sum_set, thief_steps}}
+use Rattle.exec_live_queue.proofs.{Words.{◌≡◌, ◌≢◌, ℕ, ◌+◌, ◌-◌, ◌/◌, ◌^◌, ◌<◌, ◌≤◌, List, [], ◌∷◌, length, set, sym, refl, ap, ◌∙◌, subst, ⊎_elim, le_refl, arith, none, some, some-injective, some-ne-none, get_elem?, Option, None, sum_by, ◌++◌, sum_by-append, State, keeps, step, Allows, Splits, at_set, at_snoc, at_longer, set_else, set_again, Theft, View, Stage, Owns, SawHead, SawTail, Claimed, head_word, filled, Outside, BesideClaim, InOrder, words_of, labels, Homes, HomeAt, FullAt, weight_of, Knows, AsLogged, LiveQueue, Sat, at_head, saw_head, saw_tail, newcomer}, Looks.count_of_word, Rebuild.{Gives, sum_set, thief_steps}}
+
+-- what a seat without a claim knows still holds where the front moves on and a claim comes or goes
+pub others_know : {T : Type 0} (tail real gap claimed holder real' gap' claimed' holder' j : ℕ) (t : Theft T) (st : Stage)
+    → real ≤ real' → (0 < gap → j ≢ holder) → Knows tail real gap claimed holder j t st → Knows tail real' gap' claimed' holder' j t st
+others_know tail real gap claimed holder real' gap' claimed' holder' j t st le ne n = grind arith
 
 module _ {T : Type 0} where
   -- the view of a thief becomes v', and what its step must show of the numbers, slots and labels
@@ -31,11 +36,7 @@ module _ {T : Type 0} where
           long = k.long;
           full = full;
           free = free;
-          each_seat = λ j u e. ⊎_elim
-              (λ (is : (j ≡ id) × (v' ≡ u)). subst (λ (x : View T). Knows o.own.tail real gap claimed holder j x.theft x.stage) is.1
-              (subst (λ (i : ℕ). Knows o.own.tail real gap claimed holder i v'.theft v'.stage) (sym is.0) mine))
-              (λ (other : (j ≢ id) × (get_elem? s.views j ≡ some u)). others j u other.0 other.1)
-              (at_set s.views id j v' u e);
+          each_seat = λ j u e. let either = at_set s.views id j v' u e in grind arith;
           each_lot = λ j u e. ⊎_elim
               (λ (is : (j ≡ id) × (v' ≡ u)). subst (λ (x : View T). AsLogged o.own x.theft) is.1 lot)
               (λ (other : (j ≢ id) × (get_elem? s.views j ≡ some u)). k.each_lot j u other.1)
@@ -48,9 +49,9 @@ module _ {T : Type 0} where
   -- a thief without a claim gets another view, and no more happens
   pub stands : (start : ℕ) (s : State (Option T) (View T)) (q : LiveQueue start s) (id : ℕ) (v v' : View T) → get_elem? s.views id ≡ some v → v.stage ≢ Owns → v.stage ≢ Claimed
       → ((w : ℕ → ℕ) → weight_of w v' ≡ weight_of w v) → AsLogged q.view.own v'.theft → Knows q.view.own.tail q.kept.real q.kept.gap q.kept.claimed q.kept.holder id v'.theft v'.stage
-      → LiveQueue start record { words = s.words; homes = s.homes; views = set s.views id v' }
+      → LiveQueue start record { words = words_of (head_word q.kept.real q.kept.gap) q.view.own.tail; homes = s.homes; views = set s.views id v' }
   stands start s q id v v' at thief free weight lot mine = let k = q.kept in
-      moved start s q id v v' s.words s.homes k.real k.gap k.claimed k.holder at thief k.slots k.words k.order k.full k.free (λ j u ne e. k.each_seat j u e) mine lot
+      moved start s q id v v' (words_of (head_word k.real k.gap) q.view.own.tail) s.homes k.real k.gap k.claimed k.holder at thief k.slots refl k.order k.full k.free (λ j u ne e. k.each_seat j u e) mine lot
       (λ pos. let h = k.held pos in
       let ne : k.holder ≢ id = λ e. let same : v ≡ h.0 = some-injective v h.0 (sym at ∙ subst (λ (i : ℕ). get_elem? s.views i ≡ some h.0) e h.1) in free (ap (λ (u : View T). u.stage) same ∙ h.2) in
       (h.0, set_else s.views id k.holder v' ne ∙ h.1, h.2))
@@ -62,13 +63,8 @@ module _ {T : Type 0} where
       → Gives start s 11 (λ n. n) (saw_head (step 256 11 0 0 none) me) (words_of (head_word q.kept.real q.kept.gap) q.view.own.tail) c id
   sees_here start id me c thief free carries s q at =
       let k = q.kept in let real : ℕ = k.real in let gap : ℕ = k.gap in let hw : ℕ = head_word real gap in let small : gap < 512 = grind arith in
-      let w : View T = at_head me.0 hw in let seen : hw / 512 ≤ real = subst (λ (c : ℕ). c ≤ real) (sym (count_of_word real gap small)) (le_refl real) in (
-        w,
-        keeps,
-        tt,
-        subst (λ (ws : List ℕ). LiveQueue start record { words = ws; homes = s.homes; views = set s.views id w }) k.words (stands start s q id me.0 w at thief free (λ _. refl) (k.each_lot id me.0 at) seen),
-        ap (λ (h : List (ℕ × Option T)). (w, h)) (sym carries),
-      )
+      let w : View T = at_head me.0 hw in let seen : hw / 512 ≤ real = subst (λ (c : ℕ). c ≤ real) (sym (count_of_word real gap small)) (le_refl real) in
+      let stays = stands start s q id me.0 w at thief free (λ _. refl) (k.each_lot id me.0 at) seen in (w, keeps, tt, stays, ap (λ (h : List (ℕ × Option T)). (w, h)) (sym carries))
 
   pub sees_head : (start : ℕ) (id : ℕ) (me : Sat T) → me.0.stage ≢ Owns → me.0.stage ≢ Claimed → Allows (LiveQueue start) 256 id me 11 (λ n. n) (saw_head (step 256 11 0 0 none) me)
   sees_head start id me thief free = thief_steps start id 11 me me.1 (λ n. n) (saw_head (step 256 11 0 0 none) me) refl (λ s q at. sees_here start id me me.1 thief free refl s q at)
@@ -79,14 +75,9 @@ module _ {T : Type 0} where
       let k = q.kept in let tail : ℕ = q.view.own.tail in
       let w : View T = record me.0 { stage = SawTail; theft = record me.0.theft { upto = tail } } in
       let knew : me.0.theft.at ≤ k.real = subst (λ (x : Stage). Knows tail k.real k.gap k.claimed k.holder id me.0.theft x) st (k.each_seat id me.0 at) in
-      let thief : me.0.stage ≢ Owns = grind arith in
-      let free : me.0.stage ≢ Claimed = grind arith in (
-        w,
-        keeps,
-        tt,
-        subst (λ (ws : List ℕ). LiveQueue start record { words = ws; homes = s.homes; views = set s.views id w }) k.words (stands start s q id me.0 w at thief free (λ _. refl) (k.each_lot id me.0 at) (knew, le_refl tail)),
-        ((let top : tail + q.view.own.aside + 256 ≤ 2 ^ 55 = k.order.counted in omega arith), refl),
-      ))
+      let thief : me.0.stage ≢ Owns = grind arith in let free : me.0.stage ≢ Claimed = grind arith in
+      let stays = stands start s q id me.0 w at thief free (λ _. refl) (k.each_lot id me.0 at) (knew, le_refl tail) in
+      (w, keeps, tt, stays, ((let top : tail + q.view.own.aside + 256 ≤ 2 ^ 55 = k.order.counted in omega arith), refl)))
 
   -- any seat may be split: the new one is a thief's
   pub splits : (start id : ℕ) (v : View T) → Splits (LiveQueue start) id v v newcomer
@@ -107,8 +98,7 @@ module _ {T : Type 0} where
           long = k.long;
           full = k.full;
           free = k.free;
-          each_seat = λ j u e. ⊎_elim (λ (old : get_elem? s.views j ≡ some u). k.each_seat j u old)
-              (λ (new : newcomer ≡ u). subst (λ (x : View T). Knows q.view.own.tail k.real k.gap k.claimed k.holder j x.theft x.stage) new tt) (at_snoc s.views newcomer u j e);
+          each_seat = λ j u e. let either = at_snoc s.views newcomer u j e in grind arith;
           each_lot = λ j u e. ⊎_elim (λ (old : get_elem? s.views j ≡ some u). k.each_lot j u old)
               (λ (new : newcomer ≡ u). subst (λ (x : View T). AsLogged q.view.own x.theft) new (refl, λ i l none_there. absurd (some-ne-none l (sym none_there)))) (at_snoc s.views newcomer u j e);
           held = λ pos. let h = k.held pos in (h.0, at_longer s.views (newcomer ∷ []) k.holder h.0 h.1, h.2);

@@ -36,7 +36,7 @@ module _ {T P : Type 0} where
   -- it is the owner's, and has filled some of the free slots behind the tail, which are out with it; the tail behind them is this
   abbrev pub HasFilled : Shared (Option T) (View T) ℕ P → Place T → ℕ → Type 0
   HasFilled words seat tail = IsAt words seat × (seat.me.0.stage ≡ Owns) × (seat.me.0.own.aside ≡ 0) × (seat.me.0.own.out_at ≡ seat.me.0.own.tail) × (tail + 256 ≤ 2 ^ 55)
-      × (xs : List T) × (r : ℕ) × (seat.me.0.own.out_len ≡ length xs + r) × (seat.me.1 ≡ hand seat.me.0.own.tail (map Some xs ++ replicate r None)) × (tail ≡ seat.me.0.own.tail + length xs)
+      × (xs : List T) × (r : ℕ) × (seat.me.0.own.out_len ≡ length xs + r) × (seat.me.1 ≡ hand (seat.me.0.own.tail + length xs) (replicate r None) ++ hand seat.me.0.own.tail (map Some xs)) × (tail ≡ seat.me.0.own.tail + length xs)
 
   -- it is the owner's, in the middle of an overflow
   abbrev pub FlowsOver : Shared (Option T) (View T) ℕ P → Place T → Type 0

@@ -1,11 +1,9 @@
 //! The owner's push of a batch, by one store of the tail.
 
-ghost use Rattle.std.specs.Prelude.{◌≡◌, ◌+◌, ◌-◌, ◌^◌, ◌<◌, ◌≤◌, ℕ, List, [], ◌∷◌, ◌++◌, length, replicate, Option, None};
+ghost use Rattle.std.specs.Prelude.{◌≡◌, ◌+◌, ◌^◌, ◌<◌, ◌≤◌, ℕ, [], length};
 ghost use Rattle.exec_words.specs.Head.{room_at};
-ghost use Rattle.exec_live_queue.specs.{Calls.{HasPublished, Fills}, Plays.{hand, published_view}, Seats.{IsAt, Rests, SameSeat}, declared.view.Stage.TheVariants.Owns};
+ghost use Rattle.exec_live_queue.specs.{Calls.{HasPublished, Fills}, Seats.{IsAt, Rests, SameSeat}};
 
-use crate::SLOTS;
-use crate::head::{gap_of, real_of};
 use crate::slots::put;
 use crate::steps::{publish, take_room};
 use crate::view::{Place, Words};
@@ -22,10 +20,9 @@ pub fn push_batch<T>(words: &Words<T>, seat: &mut Place<T>, tail: u64, batch: &m
     ensures taken { batch.new ≡ record batch.old { values = [] } }
 {
     let count = batch.len() as u64;
-    let seen = take_room(words, seat);
-    let free = SLOTS - (tail - real_of(seen)) - gap_of(seen);
+    take_room(words, seat);
     fill(words, seat, tail, batch);
-    show(words, seat, tail, count, free - count);
+    publish(words, seat, tail + count);
 }
 
 // Puts the batch into the free slots behind the tail, from the first one on.
@@ -42,31 +39,5 @@ fn fill<T>(words: &Words<T>, seat: &mut Place<T>, tail: u64, batch: &mut Reserve
             unreachable!();
         };
         put(words, seat, tail + i as u64, value);
-    }
-}
-
-/// Shows the `count` values that were put into the free slots behind the tail, and gives back the
-/// `spare` slots behind them.
-pub fn show<T>(words: &Words<T>, seat: &mut Place<T>, tail: u64, count: u64, spare: u64)
-    requires at { IsAt words.now seat.old }
-    requires owns { (seat.old.me.0.stage ≡ Owns) × (seat.old.me.0.own.aside ≡ 0) }
-    requires out { (seat.old.me.0.own.out_at ≡ tail) × (seat.old.me.0.own.out_len ≡ count + spare) }
-    requires tail { tail ≡ seat.old.me.0.own.tail }
-    requires small { tail + count + 256 ≤ 2 ^ 55 }
-    requires filled { (xs : _) × (length xs ≡ count) × Fills seat.old.me seat.old.me.0 tail spare xs }
-    ensures same { SameSeat seat.old seat.new }
-    ensures shown { (xs : List T) → length xs ≡ count → Fills seat.old.me seat.old.me.0 tail spare xs → seat.new.me ≡ (published_view seat.old.me.0 xs, []) }
-{
-    skip(seat, spare);
-    publish(words, seat, tail + count);
-}
-
-// Turns past so many empty slots.
-fn skip<T>(seat: &mut Place<T>, count: u64)
-    ensures same { SameSeat seat.old seat.new }
-    ensures turned { (b : ℕ) (ys : List (Option T)) → seat.old.me.1 ≡ hand (b + length ys) (replicate count None) ++ hand b ys → seat.new.me ≡ (seat.old.me.0, hand b (ys ++ replicate count None)) }
-{
-    for i in 0..count {
-        seat.turn();
     }
 }

@@ -72,6 +72,7 @@ impl<T> ExclusiveOwner<T> {
     }
 
     /// The front value, or None where the queue is empty.
+    #[inline(always)]
     pub fn pop(&mut self) -> Option<T>
         ensures same { self.new.handed ≡ self.old.handed }
         ensures popped { IfSome result (λ x. TakesFront self.old.queue x self.new.queue) }
@@ -82,6 +83,7 @@ impl<T> ExclusiveOwner<T> {
 
     /// Publishes a value behind the others. After `Overflow` the caller must take the values of the
     /// overflow, by `next_overflowed`, before any other push.
+    #[inline(always)]
     pub fn push(&mut self, value: T) -> PushAnswer<T>
         requires whole { self.old.handed ≡ [] }
         ensures answer { result ≡ push_answer (fit_of self.old.queue) value }

@@ -1,6 +1,6 @@
 //! The head of a queue as one word: the count of the front value, and the gap in the lowest 9 bits.
 
-ghost use Rattle.std.specs.Prelude.{◌≡◌, ◌+◌, ◌^◌, ◌<◌, ◌/◌, ◌%◌, ◌==◌, if◌then◌else◌};
+ghost use Rattle.std.specs.Prelude.{◌≡◌, ◌+◌, ◌^◌, ◌<◌, ◌/◌, ◌%◌};
 ghost use Rattle.exec_live_queue.specs.Numbers.{head_word};
 
 /// How many values of a gap a head can tell apart.
@@ -27,12 +27,4 @@ pub fn gap_of(head: u64) -> u64
     ensures { result ≡ head % 512 }
 {
     head % GAPS
-}
-
-/// The gap after a pop: beside a claim it grows.
-pub fn gap_after_pop(gap: u64) -> u64
-    requires { gap < 512 }
-    ensures { result ≡ (if gap == 0 then 0 else gap + 1) }
-{
-    if gap == 0 { 0 } else { gap + 1 }
 }

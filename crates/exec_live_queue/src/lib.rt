@@ -13,7 +13,7 @@
 //!
 //! - `queue` and `owner`: a queue of either kind with its seats, and its owner.
 //! - `lent`: what a push answers, and what reads an overflow.
-//! - `shared_queue`, `shared_owner` and `exclusive`: these, of one kind.
+//! - `exclusive`: the owner of an exclusive queue.
 //! - `pop`, `push`, `overflow`, `batch` and `steal`: what they do, over the words and a seat.
 //! - `steps` and `thief`: the steps of the owner and of a thief, one function each.
 //! - `slots`: what a seat does with the slots that are out with it.
@@ -33,8 +33,6 @@ pub mod plays;
 pub mod pop;
 pub mod push;
 pub mod queue;
-pub mod shared_owner;
-pub mod shared_queue;
 pub mod slots;
 pub mod steal;
 pub mod steps;

@@ -5,13 +5,24 @@
 
 ghost use Rattle.std.specs.Prelude.{◌≡◌, ◌≤◌, ◌↔◌, [], length, drop, slice_get, IfNone, IfSome, IsTrue};
 ghost use Rattle.exec_words.specs.Queue.{published};
-ghost use Rattle.exec_live_queue.specs.{Calls.{HasPopped, HasPublished}, Alone.TakesFront};
+ghost use Rattle.exec_live_queue.specs.{Calls.{AfterPush, HasPopped, HasPublished, WasEmpty, handed_after}, Alone.TakesFront};
 
+use crate::batch::push_batch;
 use crate::exclusive::ExclusiveOwner;
+use crate::head::{gap_of, real_of};
+use crate::inner::{Inner, words_of};
 use crate::lent::{Overflow, Push, Settled};
-use crate::shared_owner::SharedOwner;
+use crate::overflow::hand_out;
+use crate::pop::pop;
+use crate::push::push;
+use crate::steps::look;
+use crate::view::Place;
+use crate::{HALF, SLOTS, SPENT};
 use exec_words::queue::PushAnswer;
 use exec_words::reserved::Reserved;
+use std::alloc::Global;
+use std::marker::Model;
+use std::sync::Arc;
 
 /// The owner of a queue: only it pushes and pops. None of its calls waits, or takes memory.
 ///
@@ -23,6 +34,60 @@ pub enum Owner<T> {
     Exclusive(ExclusiveOwner<T>),
 }
 
+/// The owner of a shared queue.
+pub struct SharedOwner<T> {
+    pub(crate) inner: Arc<Inner<T>, Global>,
+    pub(crate) seat: Place<T>,
+    pub(crate) tail: u64,
+    // How many values of an overflow are still to be handed out.
+    pub(crate) left: u64,
+}
+
+impl<T> Model for SharedOwner<T> {
+    ghost use Rattle.crossbeam_utils.specs.Padded.{padded_value};
+    ghost use Rattle.exec_live_queue.specs.Handles.{Owned, Stands};
+    ghost use Rattle.exec_live_queue.specs.Plays.{values_of};
+
+    ghost Value = { Owned T };
+
+    ghost view = { λ o. record { table = o.seat.table_id; own = o.seat.me.0.own; handed = values_of o.seat.me.1 } };
+
+    ghost invariant = { λ o. Stands (padded_value o.inner.value).shared o.seat o.tail o.left };
+}
+
+impl<T> SharedOwner<T> {
+    // The front value, or None where the queue was empty at its step.
+    #[inline(always)]
+    fn pop(&mut self) -> Option<T>
+        requires whole { self.old.handed ≡ [] }
+        ensures same { (self.new.table ≡ self.old.table) × (self.new.handed ≡ []) }
+        ensures popped { IfSome result (λ x. HasPopped self.old.own x self.new.own) }
+        ensures empty { IfNone result (WasEmpty self.old.own self.new.own) }
+    {
+        pop(words_of(&self.inner), &mut self.seat, self.tail)
+    }
+
+    // Publishes a value. After `Overflow` the values of the overflow must be taken before any other call.
+    #[inline(always)]
+    fn push(&mut self, value: T) -> PushAnswer<T>
+        requires whole { self.old.handed ≡ [] }
+        ensures same { self.new.table ≡ self.old.table }
+        ensures pushed { AfterPush self.old.own value self.new.own result }
+        ensures handed { self.new.handed ≡ handed_after self.old.own result }
+    {
+        let answer = push(words_of(&self.inner), &mut self.seat, self.tail, value);
+        match &answer {
+            PushAnswer::Pushed(_) => self.tail += 1,
+            PushAnswer::Overflow(_) => {
+                self.tail += HALF;
+                self.left = HALF;
+            }
+            PushAnswer::Claimed(_) | PushAnswer::Spent(_) => {}
+        }
+        answer
+    }
+}
+
 impl<T: Drop> Owner<T> {
     ghost use Rattle.exec_live_queue.specs.Kinds.{IsDrained, handed};
 
@@ -32,7 +97,16 @@ impl<T: Drop> Owner<T> {
         requires whole { handed self ≡ [] }
     {
         match self {
-            Owner::Shared(owner) => owner.leave(),
+            Owner::Shared(owner) => {
+                let SharedOwner {
+                    inner,
+                    seat,
+                    tail: _,
+                    left: _,
+                } = owner;
+                drop(seat);
+                drop(inner);
+            }
             Owner::Exclusive(owner) => owner.leave(),
         }
     }
@@ -51,12 +125,16 @@ impl<T> Owner<T> {
         ensures len { result ≡ count self.new }
     {
         match self {
-            Owner::Shared(owner) => owner.len(),
+            Owner::Shared(owner) => {
+                let seen = look(words_of(&owner.inner), &mut owner.seat);
+                (owner.tail - real_of(seen)) as usize
+            }
             Owner::Exclusive(owner) => owner.len(),
         }
     }
 
     /// The front value, or None where the queue was empty at its step.
+    #[inline(always)]
     pub fn pop(&mut self) -> Option<T>
         requires whole { handed self.old ≡ [] }
         ensures whole { handed self.new ≡ [] }
@@ -77,7 +155,13 @@ impl<T> Owner<T> {
         ensures room { result ≡ room self.new }
     {
         match self {
-            Owner::Shared(owner) => owner.room(),
+            Owner::Shared(owner) => {
+                let seen = look(words_of(&owner.inner), &mut owner.seat);
+                if owner.tail >= SPENT {
+                    return 0;
+                }
+                (SLOTS - (owner.tail - real_of(seen)) - gap_of(seen)) as usize
+            }
             Owner::Exclusive(owner) => owner.room(),
         }
     }
@@ -90,13 +174,15 @@ impl<T> Owner<T> {
         ensures empty { IsTrue result ↔ IsDrained self.new }
     {
         match self {
-            Owner::Shared(owner) => owner.len() == 0,
+            Owner::Shared(owner) => real_of(look(words_of(&owner.inner), &mut owner.seat))
+                == owner.tail,
             Owner::Exclusive(owner) => owner.len() == 0,
         }
     }
 
     /// Publishes a value behind the others. A full queue without a claim flows over: the owner is lent
     /// to what hands its newest half out.
+    #[inline(always)]
     pub fn push<'a>(&'a mut self, value: T) -> Push<'a, T>
         requires whole { handed self.old ≡ [] }
         ensures* rests { sem 𝓛 (pushed_to T.row self.entry self.old value result) }
@@ -111,6 +197,7 @@ impl<T> Owner<T> {
     }
 
     // The same, with what an overflow hands out left with the owner.
+    #[inline(always)]
     #[tactic(auto, using(crate::proofs::Standing::handed_alone))]
     fn publish(&mut self, value: T) -> PushAnswer<T>
         requires whole { handed self.old ≡ [] }
@@ -130,7 +217,15 @@ impl<T> Owner<T> {
         ensures handed { handed self.new ≡ drop 1 (handed self.old) }
     {
         match self {
-            Owner::Shared(owner) => owner.next_overflowed(),
+            Owner::Shared(owner) => {
+                if owner.left == 0 {
+                    return None;
+                }
+                let words = words_of(&owner.inner);
+                let value = hand_out(words, &mut owner.seat, owner.tail, owner.left);
+                owner.left -= 1;
+                Some(value)
+            }
             Owner::Exclusive(owner) => owner.next_overflowed(),
         }
     }
@@ -140,7 +235,7 @@ impl<T> Owner<T> {
         ensures { result ≡ length (handed self.now) }
     {
         match self {
-            Owner::Shared(owner) => owner.left(),
+            Owner::Shared(owner) => owner.left as usize,
             Owner::Exclusive(owner) => owner.left(),
         }
     }
@@ -155,7 +250,11 @@ impl<T> Owner<T> {
         ensures taken { batch.new ≡ record batch.old { values = [] } }
     {
         match self {
-            Owner::Shared(owner) => owner.push_batch(batch),
+            Owner::Shared(owner) => {
+                let count = batch.len() as u64;
+                push_batch(words_of(&owner.inner), &mut owner.seat, owner.tail, batch);
+                owner.tail += count;
+            }
             Owner::Exclusive(owner) => owner.push_batch(batch),
         }
     }

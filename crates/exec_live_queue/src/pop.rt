@@ -26,6 +26,7 @@ fn carry_off<T>(words: &Words<T>, seat: &mut Place<T>, real: u64) -> T
 
 /// The value at the front, or None where the queue was empty at its step. Each time that a thief
 /// was faster, twice the values that are left, and one beside a claim, are fewer than before.
+#[inline(always)]
 pub fn pop<T>(words: &Words<T>, seat: &mut Place<T>, tail: u64) -> Option<T>
     requires rests { Rests words.now seat.old }
     requires tail { tail ≡ seat.old.me.0.own.tail }

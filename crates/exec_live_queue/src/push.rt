@@ -1,7 +1,7 @@
 //! The owner's push of one value.
 
-ghost use Rattle.std.specs.Prelude.{◌≡◌, ◌-◌, ◌^◌, ◌<◌, [], ◌∷◌, None};
-ghost use Rattle.exec_live_queue.specs.{Calls.{AfterPush, AfterTry, PushLeaves}, Plays.{hand, published_view}, Seats.{IsAt, Rests, SameSeat}, declared.view.Stage.TheVariants.Owns};
+ghost use Rattle.std.specs.Prelude.{◌≡◌, ◌-◌, ◌^◌, ◌<◌};
+ghost use Rattle.exec_live_queue.specs.{Calls.{AfterPush, AfterTry, PushLeaves}, Seats.{Rests, SameSeat}};
 
 use crate::head::{gap_of, real_of};
 use crate::slots::put;
@@ -12,6 +12,7 @@ use exec_words::queue::PushAnswer;
 
 /// Publishes a value behind the others, by at most two tries: a head that has changed since the
 /// first leaves room for the value, or has a claim.
+#[inline(always)]
 pub fn push<T>(words: &Words<T>, seat: &mut Place<T>, tail: u64, value: T) -> PushAnswer<T>
     requires rests { Rests words.now seat.old }
     requires tail { tail ≡ seat.old.me.0.own.tail }
@@ -44,7 +45,8 @@ fn try_push<T>(words: &Words<T>, seat: &mut Place<T>, tail: u64, x: T) -> Result
     let len = tail - real_of(seen);
     let gap = gap_of(seen);
     if len + gap < SLOTS {
-        publish_one(words, seat, tail, x);
+        put(words, seat, tail, x);
+        publish(words, seat, tail + 1);
         return Ok(PushAnswer::Pushed((len + 1) as usize));
     }
     if gap > 0 {
@@ -55,18 +57,4 @@ fn try_push<T>(words: &Words<T>, seat: &mut Place<T>, tail: u64, x: T) -> Result
     }
     restore(words, seat, tail + HALF);
     Ok(PushAnswer::Overflow(x))
-}
-
-// Fills the one slot that is out with the owner, and shows it.
-fn publish_one<T>(words: &Words<T>, seat: &mut Place<T>, tail: u64, value: T)
-    requires at { IsAt words.now seat.old }
-    requires owns { (seat.old.me.0.stage ≡ Owns) × (seat.old.me.0.own.aside ≡ 0) }
-    requires tail { tail ≡ seat.old.me.0.own.tail }
-    requires unspent { tail < 2 ^ 55 - 512 }
-    requires out { (seat.old.me.0.own.out_at ≡ tail) × (seat.old.me.0.own.out_len ≡ 1) × (seat.old.me.1 ≡ hand tail (None ∷ [])) }
-    ensures same { SameSeat seat.old seat.new }
-    ensures published { seat.new.me ≡ (published_view seat.old.me.0 (value ∷ []), []) }
-{
-    put(words, seat, tail, value);
-    publish(words, seat, tail + 1);
 }

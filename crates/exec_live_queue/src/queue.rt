@@ -9,13 +9,20 @@ ghost use Rattle.std.specs.Prelude.{◌≡◌, ◌+◌, ◌^◌, ◌≤◌, ◌�
 ghost use Rattle.exec_live_queue.specs.Calls.{HasKept};
 
 use crate::exclusive::ExclusiveOwner;
-use crate::owner::Owner;
-use crate::shared_queue::{SharedQueue, SharedSeat};
-use crate::steal::{NoPause, Pause};
+use crate::head::{gap_of, head_of, real_of};
+use crate::inner::{Inner, words_of};
+use crate::owner::{Owner, SharedOwner};
+use crate::steal::{NoPause, Pause, steal_once, take_aim};
+use crate::thief::{another, see_head};
+use crate::view::Place;
+use crate::{HEAD, SLOTS, TAIL, WORDS};
+use atomic_table::Table;
+use crossbeam_utils::CachePadded;
 use exec_words::head::Head;
 use exec_words::queue::Steal;
 use std::alloc::{AllocError, Global};
-use std::sync::Wait;
+use std::marker::Model;
+use std::sync::{Arc, Wait};
 
 /// A queue.
 #[derive(Drop)]
@@ -41,6 +48,43 @@ pub struct LoneSeat {
     alloc: Global,
 }
 
+/// A queue, from which others steal. Its words and slots lie in one place, which its owner holds too.
+#[derive(Drop)]
+pub struct SharedQueue<T> {
+    inner: Arc<Inner<T>, Global>,
+    start: u64,
+}
+
+impl<T> Model for SharedQueue<T> {
+    ghost use Rattle.std.specs.Prelude.{◌≡◌, ◌+◌, ◌^◌, ◌≤◌};
+    ghost use Rattle.crossbeam_utils.specs.Padded.{padded_value};
+    ghost use Rattle.exec_live_queue.specs.Handles.{Shown};
+
+    ghost Value = { Shown };
+
+    ghost view = { λ q. record { table = (padded_value q.inner.value).shared.table_id; start = q.start } };
+
+    ghost invariant = { λ q. ((padded_value q.inner.value).shared.table_id.words ≡ 24) × ((padded_value q.inner.value).shared.table_id.slots ≡ 256) × (q.start + 512 ≤ 2 ^ 55) };
+}
+
+/// A seat at a shared queue.
+#[derive(Drop)]
+pub struct SharedSeat<T> {
+    place: Place<T>,
+}
+
+impl<T> Model for SharedSeat<T> {
+    ghost use Rattle.std.specs.Prelude.{◌≡◌, ◌≢◌, []};
+    ghost use Rattle.exec_live_queue.specs.Handles.{Seated};
+    ghost use Rattle.exec_live_queue.specs.declared.view.Stage.TheVariants.{Claimed};
+
+    ghost Value = { Seated T };
+
+    ghost view = { λ s. record { table = s.place.table_id; view = s.place.me.0 } };
+
+    ghost invariant = { λ s. (s.place.me.1 ≡ []) × (s.place.me.0.stage ≢ Claimed) };
+}
+
 impl<T> Queue<T> {
     ghost use Rattle.exec_live_queue.specs.Kinds.{IsSeat, IsThief, IsStolen, IsStolenInto, IsNewcomer, StartsAt, begun, first_of, handed, theft};
 
@@ -63,8 +107,13 @@ impl<T> Queue<T> {
         ensures start { IfOk result (λ r. StartsAt start r.0) }
         ensures first { IfOk result (λ r. IsSeat r.0 r.1 × (r.1 ≡ first_of r.0)) }
     {
-        let (queue, first) = SharedQueue::at(alloc, start)?;
-        Ok((Queue::Shared(queue), QueueSeat::Shared(first)))
+        let mut words = [0; WORDS];
+        words[HEAD] = head_of(start, 0);
+        words[TAIL] = start;
+        let (table, place) = Table::vacant(alloc, &words, SLOTS as usize, &start)?;
+        let inner = Arc::new(alloc, CachePadded::new(table))?;
+        let queue = Queue::Shared(SharedQueue { inner, start });
+        Ok((queue, QueueSeat::Shared(SharedSeat { place })))
     }
 
     /// An empty queue that no thief gets at, and its one seat.
@@ -86,7 +135,10 @@ impl<T> Queue<T> {
             unreachable!();
         };
         match from {
-            QueueSeat::Shared(from) => QueueSeat::Shared(queue.seat(from)),
+            QueueSeat::Shared(from) => {
+                let place = another(words_of(&queue.inner), &mut from.place);
+                QueueSeat::Shared(SharedSeat { place })
+            }
             QueueSeat::Exclusive(_) => unreachable!(),
         }
     }
@@ -102,7 +154,12 @@ impl<T> Queue<T> {
     {
         match self {
             Queue::Shared(queue) => match first {
-                QueueSeat::Shared(first) => Ok(Owner::Shared(queue.owner(first)?)),
+                QueueSeat::Shared(SharedSeat { place: seat }) => Ok(Owner::Shared(SharedOwner {
+                    inner: Arc::try_clone(&queue.inner)?,
+                    seat,
+                    tail: queue.start,
+                    left: 0,
+                })),
                 QueueSeat::Exclusive(_) => unreachable!(),
             },
             Queue::Exclusive(alloc) => Ok(Owner::Exclusive(ExclusiveOwner::at(*alloc, 0)?)),
@@ -122,7 +179,7 @@ impl<T> Queue<T> {
             unreachable!();
         };
         match seat {
-            QueueSeat::Shared(seat) => queue.is_stealable(seat),
+            QueueSeat::Shared(seat) => take_aim(words_of(&queue.inner), &mut seat.place).is_some(),
             QueueSeat::Exclusive(_) => unreachable!(),
         }
     }
@@ -138,7 +195,13 @@ impl<T> Queue<T> {
             unreachable!();
         };
         match seat {
-            QueueSeat::Shared(seat) => queue.head(seat),
+            QueueSeat::Shared(seat) => {
+                let seen = see_head(words_of(&queue.inner), &mut seat.place);
+                Head {
+                    real: real_of(seen),
+                    gap: gap_of(seen) as usize,
+                }
+            }
             QueueSeat::Exclusive(_) => unreachable!(),
         }
     }
@@ -171,7 +234,15 @@ impl<T> Queue<T> {
         };
         match seat {
             QueueSeat::Shared(seat) => match into {
-                Owner::Shared(into) => queue.steal_paused(seat, into, pause),
+                Owner::Shared(into) => {
+                    let (source, words) = (words_of(&queue.inner), words_of(&into.inner));
+                    let from = &mut seat.place;
+                    let answer = steal_once(source, from, words, &mut into.seat, into.tail, pause);
+                    if let Steal::Moved(count) = &answer {
+                        into.tail += *count as u64;
+                    }
+                    answer
+                }
                 Owner::Exclusive(_) => Steal::Nothing,
             },
             QueueSeat::Exclusive(_) => unreachable!(),
@@ -185,15 +256,13 @@ impl<T> Queue<T> {
         ensures same { IsThief self.now seat.new × (handed into.new ≡ []) }
         ensures stolen { IsStolenInto into.old (theft seat.old) into.new (theft seat.new) result }
     {
-        let Queue::Shared(queue) = self else {
-            unreachable!();
-        };
-        match seat {
-            QueueSeat::Shared(seat) => match into {
-                Owner::Shared(into) => queue.steal_into(rt, seat, into),
-                Owner::Exclusive(_) => 0,
-            },
-            QueueSeat::Exclusive(_) => unreachable!(),
+        'tries: for _ in rt.forever() {
+            match self.steal_once(seat, into) {
+                Steal::Moved(count) => return count,
+                Steal::Nothing => return 0,
+                Steal::Again(_) => {}
+            }
         }
+        unreachable!()
     }
 }

@@ -1,16 +1,14 @@
 //! One try of a steal: half of the values of another queue move to the end of the thief's own.
 
-ghost use Rattle.std.specs.Prelude.{◌≡◌, ◌+◌, ◌/◌, ◌%◌, ◌^◌, ◌<◌, ◌≤◌, ◌⊎◌, ℕ, List, [], length, IfSome, IfNone};
-ghost use Rattle.exec_words.specs.Head.{room_at};
-ghost use Rattle.exec_live_queue.specs.{Plays.half, Calls.{AfterSteal, HasKept, Fills, Empties}, Seats.{IsAt, IsThief, Rests, SameSeat, MayClaim, MayRelease}, declared.view.Stage.TheVariants.Idle};
+ghost use Rattle.std.specs.Prelude.{◌≡◌, ◌+◌, ◌/◌, ◌%◌, ◌^◌, ◌<◌, ◌≤◌, ◌⊎◌, ℕ, List, [], length, replicate, None, IfSome, IfNone};
+ghost use Rattle.exec_live_queue.specs.{Plays.{half, hand}, Calls.{AfterSteal, HasKept, Fills, Empties}, Seats.{IsAt, IsThief, Rests, SameSeat, MayClaim, MayRelease}, declared.view.Stage.TheVariants.Idle};
 
-use crate::batch::show;
 use crate::head::{gap_of, head_of, real_of};
 use crate::slots::{put, take};
-use crate::steps::{look, take_room};
+use crate::steps::{look, publish, take_room};
 use crate::thief::{claim, release, see_head, see_tail};
 use crate::view::{Place, Words};
-use crate::{HALF, SLOTS, SPENT};
+use crate::{HALF, SPENT};
 use exec_words::head::Head;
 use exec_words::queue::Steal;
 
@@ -32,11 +30,7 @@ pub trait Pause {
 pub struct NoPause;
 
 impl Pause for NoPause {
-    fn at(&mut self, spot: Spot) {
-        match spot {
-            Spot::Claimed => {}
-        }
-    }
+    fn at(&mut self, _spot: Spot) {}
 }
 
 /// What a thief has seen that it may claim.
@@ -72,44 +66,21 @@ pub fn steal_once<T, P: Pause>(
     if tail - real_of(own) + gap_of(own) > HALF {
         return Steal::Nothing;
     }
-    steal_from(source, from, into, seat, tail, pause)
-}
-
-// The same, where the thief has seen 128 places free in its own queue.
-fn steal_from<T, P: Pause>(
-    source: &Words<T>,
-    from: &mut Place<T>,
-    into: &Words<T>,
-    seat: &mut Place<T>,
-    tail: u64,
-    pause: &mut P,
-) -> Steal
-    requires source { (IsAt source.now from.old) × IsThief from.old.me }
-    requires into { Rests into.now seat.old }
-    requires tail { tail ≡ seat.old.me.0.own.tail }
-    requires room { 128 ≤ room_at record { real = seat.old.me.0.own.saw_real; gap = seat.old.me.0.own.saw_gap } tail }
-    ensures same { SameSeat from.old from.new × SameSeat seat.old seat.new }
-    ensures rests { Rests into.now seat.new }
-    ensures thief { IsThief from.new.me }
-    ensures stolen { AfterSteal seat.old.me.0.own from.old.me.0.theft seat.new.me.0.own from.new.me.0.theft result }
-{
     let Some(aim) = take_aim(source, from) else {
         return Steal::Nothing;
     };
     let found = claim(source, from, aim.seen, aim.count);
     if found != aim.seen {
-        return Steal::Again(Head {
-            real: real_of(found),
-            gap: gap_of(found) as usize,
-        });
+        let real = real_of(found);
+        let gap = gap_of(found) as usize;
+        return Steal::Again(Head { real, gap });
     }
     pause.at(Spot::Claimed);
-    let seen = take_room(into, seat);
-    let free = SLOTS - (tail - real_of(seen)) - gap_of(seen);
+    take_room(into, seat);
     let at = real_of(aim.seen);
     carry_over(source, from, into, seat, at, tail, aim.count);
     release_claim(source, from, at, aim.count);
-    show(into, seat, tail, aim.count, free - aim.count);
+    publish(into, seat, tail + aim.count);
     Steal::Moved(aim.count as usize)
 }
 
@@ -130,13 +101,12 @@ pub(crate) fn take_aim<T>(source: &Words<T>, from: &mut Place<T>) -> Option<Aim>
     if tail < real_of(seen) + 2 {
         return None;
     }
-    Some(Aim {
-        seen,
-        count: (tail - real_of(seen)) / 2,
-    })
+    let count = (tail - real_of(seen)) / 2;
+    Some(Aim { seen, count })
 }
 
 // Releases a claim: each failure shows a wider gap, since the owner popped past the claim.
+#[tactic(auto, using(crate::proofs::Looks::gap_of_word))]
 fn release_claim<T>(words: &Words<T>, seat: &mut Place<T>, at: u64, count: u64)
     requires may { MayRelease words.now seat.old }
     requires claimed { (at ≡ seat.old.me.0.theft.at) × (count ≡ seat.old.me.0.theft.gap) }
@@ -157,6 +127,7 @@ fn release_claim<T>(words: &Words<T>, seat: &mut Place<T>, at: u64, count: u64)
 
 /// Moves the values of a claim: from the slots of the other queue to the free slots behind the tail
 /// of the thief's own.
+#[tactic(auto, using(crate::proofs::Moves::carry_start, crate::proofs::Moves::carry_end))]
 fn carry_over<T>(
     source: &Words<T>,
     from: &mut Place<T>,
@@ -172,6 +143,7 @@ fn carry_over<T>(
     requires claimed { (xs : _) × (length xs ≡ count) × Empties from.old.me from.old.me.0 at 0 xs }
     requires free { (r : ℕ) × Fills seat.old.me seat.old.me.0 tail (count + r) [] }
     ensures same { SameSeat from.old from.new × SameSeat seat.old seat.new }
+    ensures emptied { from.new.me ≡ (from.old.me.0, hand at (replicate count None)) }
     ensures moved { (xs : List T) (r : ℕ) → length xs ≡ count → Empties from.old.me from.old.me.0 at 0 xs → Fills seat.old.me seat.old.me.0 tail (count + r) []
         → Empties from.new.me from.old.me.0 at count [] × Fills seat.new.me seat.old.me.0 tail r xs }
 {

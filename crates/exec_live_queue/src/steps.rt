@@ -7,7 +7,7 @@
 ghost use Rattle.std.specs.Prelude.{◌≡◌, ◌+◌, ◌^◌, ◌<◌, ◌≤◌, min};
 ghost use Rattle.exec_live_queue.specs.{Plays.{flows_over, laid, pops, pops_last, publishes, restores, returned}, Seats.{Rests, HasEmptied, HasFilled, FlowsOver, IsSeen, Tells}};
 
-use crate::head::{gap_after_pop, gap_of, head_of, real_of};
+use crate::head::{gap_of, head_of, real_of};
 use crate::plays::{FlowOver, GiveBack, Look, Pop, PopLast, Publish, Restore, TakeOne, TakeRoom};
 use crate::view::{Place, Words};
 use crate::{HEAD, SLOTS, TAIL};
@@ -56,7 +56,9 @@ pub fn pop_exchange<T>(words: &Words<T>, seat: &mut Place<T>, seen: u64) -> u64
     requires value { seat.old.me.0.own.saw_real < seat.old.me.0.own.tail }
     ensures { Tells pops seat.old seen result seat.new }
 {
-    let next = head_of(real_of(seen) + 1, gap_after_pop(gap_of(seen)));
+    let gap = gap_of(seen);
+    // Beside a claim the gap grows.
+    let next = head_of(real_of(seen) + 1, gap + gap.min(1));
     words.compare_exchange::<Pop>(seat, HEAD, seen, next)
 }
 
@@ -73,6 +75,8 @@ pub fn pop_last<T>(words: &Words<T>, seat: &mut Place<T>, seen: u64)
 
 /// Begins an overflow by an exchange of the head that was `seen`, and answers the head that it found: `seen`, where
 /// it began. The caller must have seen a full queue without a claim, which isn't spent.
+#[cold]
+#[inline(never)]
 pub fn flow_over<T>(words: &Words<T>, seat: &mut Place<T>, seen: u64) -> u64
     requires rests { Rests words.now seat.old }
     requires seen { IsSeen seat.old.me.0.own seen }

@@ -1,12 +1,6 @@
-use Rattle.exec_live_queue.proofs.{Words.{◌≡◌, ◌+◌, List, [], length, refl, sym, ap, subst, ◌∙◌, length-drop, arith}, Moves.{Filling, fill_front, fill_step, fill_all}, Looks.nothing_left}
+use Rattle.exec_live_queue.proofs.{Words.{◌≡◌, ◌+◌, List, length, refl, sym, ap, subst, ◌∙◌, length-drop, arith}, Moves.{Filling, fill_front, fill_step, fill_all}, Looks.nothing_left}
 use Rattle.std.proofs.Common.{drop}
 use Rattle.exec_live_queue.proofs.batch.fill.Goals as goal
-
-pub loop-i-init : goal.loop-i-init
-loop-i-init g c = record { same = (refl, refl); places = refl; count = omega arith; filled = λ r f. ([], refl, refl, f) }
-
-pub overflow_add-tail : goal.overflow_add-tail
-overflow_add-tail g c = let v = c.loop-i.invariant in omega (arith, v.count, c.requires.small, c.loop-i-test.true, c.len-i-end.ensures.count)
 
 pub put-requires : goal.put-requires
 put-requires g c = let v = c.loop-i.invariant in let q = c.requires in

@@ -1,15 +1,33 @@
-use Rattle.exec_live_queue.proofs.{Words.{ℕ, ◌+◌, ◌%◌, ap, ◌∙◌}, Moves.{hands_front, handed_one, one_front}}
+use Rattle.exec_live_queue.proofs.{Words.{◌≡◌, ℕ, ◌+◌, ◌-◌, ◌∷◌, List, refl, sym, ap, subst, ◌∙◌, arith, le_refl, View, HasLooked, Stands}, Standing.{front_of, taken_of, stands_back, stands_hands}}
 use Rattle.exec_live_queue.proofs.overflow.hand_out.Goals as goal
 
-pub take-requires : goal.take-requires
-take-requires g c = let h = c.requires.left in record { at = h.2.0; front = (h.0, hands_front c.args.seat.now.me c.args.done (c.args.tail + c.args.done) h.0 h.1 h.2.1 (ap (λ (n : ℕ). n + c.args.done) c.requires.tail.0)) }
+pub take-value-requires : goal.take-value-requires
+take-value-requires g c = let f
+    = front_of c.args.words.now c.args.seat.now c.args.tail c.args.left c.requires.stands c.requires.more in
+    record { at = f.0; front = (f.2, f.3) }
+
+pub returns-then-left-gt1 : goal.returns-then-left-gt1
+returns-then-left-gt1 g c = let W = c.args.words.now in let S = c.args.seat.now in let k = c.take-value in
+    let S1 = k.new.seat in let q = c.requires in let left = c.args.left in
+    let t = taken_of W S S1 c.args.tail left k.result q.stands q.more k.ensures.same k.ensures.swapped in record {
+      same = k.ensures.same;
+      stands = stands_hands W S1 c.args.tail (left - 1) (128 - left + 1) t.0
+          (q.stands.0 ∙ sym (ap (λ (v : View g.row.T.Denot). v.own.tail) t.4)) (omega (arith, q.stands.1)) (omega arith)
+          (omega (arith, t.2)) t.1;
+      looked = subst (λ (v : View g.row.T.Denot). HasLooked S.me.0.own v.own) (sym t.4)
+          (refl, le_refl S.me.0.own.saw_real);
+      value = t.3;
+    }
 
 pub returns : goal.returns
-returns g c = let e = c.take.ensures in let m = c.args.seat.now.me in let m1 = c.take.new.seat.me in let label = c.args.tail + c.args.done in record {
-  same = e.same;
-  kept = ap (λ z. z.0) {x = m1} e.swapped.1;
-  value = λ x xs h. let at = ap (λ (n : ℕ). n + c.args.done) c.requires.tail.0 in (
-    one_front m.1 (label % 256) c.take.result x e.swapped.0 (hands_front m c.args.done label x xs h.1 at),
-    ((e.same.0 ∙ h.0.0, h.0.1, h.0.2), handed_one m m1 c.args.done label x xs h.1 at e.swapped.1),
-  );
-}
+returns g c = let W = c.args.words.now in let S = c.args.seat.now in let k = c.take-value in let S1 = k.new.seat in
+    let e = c.give_back in let q = c.requires in let left = c.args.left in
+    let t = taken_of W S S1 c.args.tail left k.result q.stands q.more k.ensures.same k.ensures.swapped in
+    let tail = q.stands.0 ∙ sym (ap (λ (v : View g.row.T.Denot). v.own.tail) t.4) in
+    let b = stands_back W S1 e.new.seat c.args.tail (128 - left) e.result t.0 t.1
+    (omega (arith, t.2)) tail e.ensures.returned in let none_left : 0 ≡ left - 1 = omega arith in record {
+      same = (e.ensures.returned.0.0 ∙ k.ensures.same.0, e.ensures.returned.0.1 ∙ k.ensures.same.1);
+      stands = subst (λ (n : ℕ). Stands W e.new.seat c.args.tail n) none_left b.0;
+      looked = subst (λ (v : View g.row.T.Denot). HasLooked v.own e.new.seat.me.0.own) t.4 b.1;
+      value = t.3 ∙ ap (λ (xs : List g.row.T.Denot). k.result ∷ xs) b.2;
+    }

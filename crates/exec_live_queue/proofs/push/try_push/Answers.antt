@@ -1,18 +1,14 @@
-use Rattle.exec_live_queue.proofs.{Words.{ℕ, ◌+◌, ◌<◌, [], ◌∷◌, refl, sym, ap, ◌∙◌, arith, None, hand}, Owners.{took_one, looks_full, looks, looks_on, laid_looked, laid_seen, overflowed_after, own_tail, newer}}
+use Rattle.exec_live_queue.proofs.{Words.{ℕ, ◌<◌, [], ◌∷◌, refl, sym, ap, ◌∙◌, arith, None, hand}, Owners.{took_one, filled_one, to_publish, looks_full, looks, looks_on, laid_seen, overflowed_after, own_tail, newer}}
 use Rattle.std.proofs.Common.{min}
 use Rattle.exec_live_queue.proofs.push.try_push.Goals as goal
 
-pub overflow_sub-len : goal.overflow_sub-len
-overflow_sub-len g c = grind (arith, laid_looked)
-
-pub publish_one-requires : goal.publish_one-requires
-publish_one-requires g c = grind (arith, laid_looked, own_tail, took_one)
-
-pub returns-then-gap-gt0 : goal.returns-then-gap-gt0
-returns-then-gap-gt0 g c = grind (arith, looks_full, own_tail)
-
-pub flow_over-requires : goal.flow_over-requires
-flow_over-requires g c = grind (arith, looks_full, own_tail)
+pub publish-requires : goal.publish-requires
+publish-requires g c = let q = c.requires in let s = c.take_one-seen in let m = c.args.seat.now.me in let m1 = s.new.seat.me in let e = c.put.ensures in let m2 = c.put.new.seat.me in
+    let t = took_one m m1 s.result s.ensures.laid.1 (omega (arith, q.tail, c.real_of.ensures, c.gap_of-gap.ensures)) in
+    let f = filled_one m1 m2 c.args.tail c.args.x (t.1 ∙ ap (λ (n : ℕ). hand n (None ∷ [])) (sym q.tail)) e.swapped.1 in
+    let p = to_publish (λ room. min room 1) m m1 m2 s.result c.args.tail 0
+    (c.args.x ∷ []) s.ensures.laid.1 q.rests.1 q.tail t.0 f in
+    ((e.same.0 ∙ s.ensures.laid.0.0 ∙ q.rests.0.0, q.rests.0.1, q.rests.0.2), p.0, p.1, p.2, omega (arith, q.unspent), c.args.x ∷ [], 0, p.3, p.4, omega (arith, p.5))
 
 pub returns-then-flow_over-seen : goal.returns-then-flow_over-seen
 returns-then-flow_over-seen g c = let q = c.requires in let s = c.take_one-seen in let m = c.args.seat.now.me in let m1 = s.new.seat.me in let f = c.flow_over in let m2 = f.new.seat.me in
@@ -28,9 +24,6 @@ returns-then-flow_over-seen g c = let q = c.requires in let s = c.take_one-seen 
         ((f.ensures.0.0 ∙ s.ensures.laid.0.0 ∙ q.rests.0.0, q.rests.0.1, q.rests.0.2), j.0),
       );
     }
-
-pub restore-requires : goal.restore-requires
-restore-requires g c = grind (arith, laid_looked, own_tail)
 
 pub returns : goal.returns
 returns g c = let q = c.requires in let s = c.take_one-seen in let m = c.args.seat.now.me in let m1 = s.new.seat.me in let f = c.flow_over in let m2 = f.new.seat.me in let r = c.restore in let m3 = r.new.seat.me in

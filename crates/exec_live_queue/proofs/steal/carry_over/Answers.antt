@@ -1,11 +1,5 @@
-use Rattle.exec_live_queue.proofs.{Words.{◌+◌, refl, ◌∙◌, arith}, Moves.{carry_start, carry_fronts, carry_more, carry_end}}
+use Rattle.exec_live_queue.proofs.{Words.{◌+◌, refl, ◌∙◌, arith}, Moves.{carry_fronts, carry_more, carry_end}}
 use Rattle.exec_live_queue.proofs.steal.carry_over.Goals as goal
-
-pub loop-i-init : goal.loop-i-init
-loop-i-init g c = let A = c.args in record {
-  same = ((refl, refl), (refl, refl));
-  moved = λ xs r len e f. carry_start A.from.now.me A.from.now.me.0 A.at A.seat.now.me A.seat.now.me.0 A.tail r A.count xs len e f;
-}
 
 pub take-value-requires : goal.take-value-requires
 take-value-requires g c = let A = c.args in let q = c.requires in let v = c.loop-i.invariant in let xs = q.claimed.0 in let len = q.claimed.1 in let i = c.loop-i.i in
@@ -24,8 +18,7 @@ loop-i-preserved g c = let A = c.args in let v = c.loop-i.invariant in let i = c
       (v.moved xs r len e f) (omega (arith, len, c.loop-i-test.true)) refl refl t.swapped.0 t.swapped.1 p.swapped.1;
 }
 
-pub returns : goal.returns
-returns g c = let A = c.args in let v = c.loop-i.invariant in record {
-  same = v.same;
-  moved = λ xs r len e f. carry_end c.loop-i.from.me A.from.now.me.0 A.at c.loop-i.seat.me A.seat.now.me.0 A.tail r c.loop-i.i A.count xs (v.moved xs r len e f) len (omega arith);
-}
+pub returns-clause-emptied : goal.returns-clause-emptied
+returns-clause-emptied g c = let A = c.args in let q = c.requires in let v = c.loop-i.invariant in let xs = q.claimed.0 in let len = q.claimed.1 in
+    let moved = v.moved xs q.free.0 len q.claimed.2 q.free.1 in
+    (carry_end c.loop-i.from.me A.from.now.me.0 A.at c.loop-i.seat.me A.seat.now.me.0 A.tail q.free.0 c.loop-i.i A.count xs moved len (omega arith)).0
