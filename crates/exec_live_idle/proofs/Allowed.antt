@@ -1,5 +1,5 @@
 -- Each step may be made: the rule of the idle set holds after it.
-use Rattle.std.{proofs.Common.{◌≡◌, ◌≢◌, ℕ, ◌+◌, ◌-◌, ◌%◌, ◌^◌, ◌<◌, ◌≤◌, ◌==◌, eqb, Bool, true, false, List, [], ◌∷◌, ◌++◌, set, slice_index, bit_or, bit_and, sym, refl, ap, ◌∙◌, subst, eq-eqb, ne_eqb, arith}, specs.{Prelude.{if◌then◌else◌, Option, Some, None}, Int.{bit_not, trailing_zeros}}}
+use Rattle.std.{proofs.{Common.{◌≡◌, ◌≢◌, ℕ, ◌+◌, ◌-◌, ◌%◌, ◌^◌, ◌<◌, ◌≤◌, eqb, Bool, true, false, List, [], ◌∷◌, set, slice_index, bit_or, bit_and, sym, refl, ap, ◌∙◌, subst, eq-eqb, ne_eqb, arith}, lemmas.Nat.Bits.{bit_at-trailing_zeros}}, specs.{Prelude.{Option, Some, None}, Int.{bit_not, trailing_zeros}}}
 use mathlib.Core.{Logic.{dite}, Option.{none, some}}
 use native.Mathlib.Decide.{ℕ_discrete}
 use prog.Atomic.{either}
@@ -7,143 +7,117 @@ use lib.ListN.{get_elem?}
 use mir.Syntax.{w64}
 use Rattle.atomic_table.specs.Table.{Me, step, opening, Allows, Splits, Joins, keeps}
 use Rattle.exec_words.specs.Idle.{is_in}
-use Rattle.exec_live_idle.{specs.{declared.view.View.View, Words.set_of, Live.{Kept, LiveIdle, next_number, own_number, with_counts, joined, first_view}, Plays.{published, looked, withdrawn, claimed, counted, returned, looks, publishes, withdraws, claims, reads, adds, subtracts, begins}}, proofs.{Sets.{bit_of, in_changed, in_changed_here, set_same, set_with, set_without, lowest_low, lowest_in, in_lowest, none_in}, Keeps.{bounded, counts, held_within, publishes_kept, claims_kept, withdraws_kept, withdraws_claimed, splits, joins, begins as begins_}}}
+use Rattle.exec_live_idle.{specs.{declared.view.View.View, Words.set_of, Live.{Kept, LiveIdle, next_number, own_number, with_counts, joined, first_view}, Plays.{published, looked, withdrawn, claimed, counted, taken, begun, returned, looks, publishes, withdraws, claims, reads, adds, subtracts, begins}}, proofs.{Sets.{bit_of, in_changed_here, set_with, set_without, lowest_in, in_lowest, none_in}, Keeps.{bounded, counts, held_within, publishes_kept, claims_kept, withdraws_kept, splits, joins, begins as begins_}}}
 
 module _ {S : Type 0} (workers slots id : ℕ) (me : Me S View) where
-  on_set : (f : ℕ → ℕ) (told : ℕ → Me S View → Type 0)
-      → ((word count : ℕ) (views : List View) → Kept workers (set_of word) count views → get_elem? views id ≡ some me.0 → word < 2 ^ 64
-      → (w : View) × Kept workers (set_of (f word)) count (set views id w) × told word (w, me.1))
-      → Allows (LiveIdle workers) slots id me 0 f told
-  on_set f told made s q len at small = let here : slice_index s.words 0 ≡ q.set = ap (λ (ws : List ℕ). slice_index ws 0) q.words in
-      let got = made q.set q.count s.views q.kept at (omega (arith, here, small)) in (
-        got.0,
-        keeps,
-        tt,
-        record { set = f q.set; count = q.count; words = ap (λ (ws : List ℕ). set ws 0 (f (slice_index ws 0))) q.words; kept = got.1 },
-        subst (λ (n : ℕ). told n (got.0, me.1)) (sym here) got.2,
-      )
-
-  on_count : (f : ℕ → ℕ) (told : ℕ → Me S View → Type 0)
-      → ((word count : ℕ) (views : List View) → Kept workers (set_of word) count views → get_elem? views id ≡ some me.0
-      → (w : View) × Kept workers (set_of word) (f count) (set views id w) × told count (w, me.1))
-      → Allows (LiveIdle workers) slots id me 1 f told
-  on_count f told made s q len at small = let here : slice_index s.words 1 ≡ q.count = ap (λ (ws : List ℕ). slice_index ws 1) q.words in
-      let got = made q.set q.count s.views q.kept at in (
-        got.0,
-        keeps,
-        tt,
-        record { set = q.set; count = f q.count; words = ap (λ (ws : List ℕ). set ws 1 (f (slice_index ws 1))) q.words; kept = got.1 },
-        subst (λ (n : ℕ). told n (got.0, me.1)) (sym here) got.2,
-      )
+  -- a step that makes of the set a and the count b the set c and the count d, and tells this
+  on_word : (i : ℕ) (f : ℕ → ℕ) (told : ℕ → Me S View → Type 0)
+      → ((a b : ℕ) (views : List View) → Kept workers (set_of a) b views → get_elem? views id ≡ some me.0
+      → (w : View) × (c : ℕ) × (d : ℕ) × (set (a ∷ b ∷ []) i (f (slice_index (a ∷ b ∷ []) i)) ≡ c ∷ d ∷ [])
+      × Kept workers (set_of c) d (set views id w) × told (slice_index (a ∷ b ∷ []) i) (w, me.1))
+      → Allows (LiveIdle workers) slots id me i f told
+  on_word i f told made s q len at small = let got = made q.set q.count s.views q.kept at in
+      let words = ap (λ (ws : List ℕ). set ws i (f (slice_index ws i))) q.words ∙ got.3 in
+      let tells = subst (λ (ws : List ℕ). told (slice_index ws i) (got.0, me.1)) (sym q.words) got.5 in
+      (got.0, keeps, tt, record { set = got.1; count = got.2; words = words; kept = got.4 }, tells)
 
   -- the rule where this seat alone changes its notes
-  noted : (set_ : List Bool) (count : ℕ) (views : List View) (saw : ℕ) (last before : Option ℕ) → me.0.number < me.0.end → Kept workers set_ count views
-      → get_elem? views id ≡ some me.0 → Kept workers set_ count (set views id record me.0 { saw = saw; last = last; before = before })
-  noted set_ count views saw last before live k at = counts workers set_ count views k id me.0 at count me.0.held saw last before live (k.each_seat id me.0 at).held refl
-
-  looked_kept : (seen word count : ℕ) (views : List View) → me.0.number < me.0.end → Kept workers (set_of word) count views → get_elem? views id ≡ some me.0
-      → Kept workers (set_of word) count (set views id (looked me.0 seen))
-  looked_kept seen word count views live k at = noted (set_of word) count views me.0.saw (Some seen) me.0.before live k at
+  noted : (set_ : List Bool) (count : ℕ) (views : List View) (saw : ℕ) (last before : Option ℕ) → me.0.number < me.0.end
+      → Kept workers set_ count views → get_elem? views id ≡ some me.0
+      → Kept workers set_ count (set views id record me.0 { saw = saw; last = last; before = before })
+  noted set_ count views saw last before live k at = let few = (k.each_seat id me.0 at).held in
+      counts workers set_ count views k id me.0 at count me.0.held saw me.0.took last before live few refl
 
   pub look : me.0.number < me.0.end → Allows (LiveIdle workers) slots id me 0 (λ n. n) (looks (step slots 0 0 0 none) me)
-  look live = on_set (λ n. n) (looks (step slots 0 0 0 none) me)
-      (λ word count views k at small. (looked me.0 word, looked_kept word word count views live k at, refl))
+  look live = on_word 0 (λ n. n) (looks (step slots 0 0 0 none) me) (λ a b views k at.
+      let kept = noted (set_of a) b views me.0.saw (Some a) me.0.before live k at in
+      (looked me.0 a, a, b, refl, kept, (refl, refl)))
 
-  pub publish_ : (i : ℕ) → i ≡ me.0.number → me.0.number < me.0.end → i < 64 → i < me.0.workers → me.0.published ≡ false
-      → Allows (LiveIdle workers) slots id me 0 (λ n. bit_or n (bit_of i)) (publishes (step slots 0 (bit_of i) 0 none) me)
-  publish_ i is live low pool down = subst (λ (n : ℕ). Allows (LiveIdle workers) slots id me 0 (λ x. bit_or x (bit_of n)) (publishes (step slots 0 (bit_of n) 0 none) me)) (sym is)
-      (let n : ℕ = me.0.number in on_set (λ x. bit_or x (bit_of n)) (publishes (step slots 0 (bit_of n) 0 none) me)
-      (λ word count views k at small. let with_ = set_with word n (omega (arith, is, low)) in let in_pool : me.0.workers ≡ workers = (k.each_seat id me.0 at).pool live in (
-        published me.0,
-        rw with_ (publishes_kept workers (set_of word) count views k id me.0 at (set (set_of word) n true) live (omega (arith, is, pool, in_pool)) down
-            (in_changed_here word n true (omega (arith, is, low))) (λ j ne. in_changed (set_of word) n j true ne)),
-        ((λ other. rw with_ refl), refl),
-      )))
+  -- the or of the bit i
+  abbrev MayPublish : ℕ → Type 0
+  MayPublish i = Allows (LiveIdle workers) slots id me 0 (λ n. bit_or n (bit_of i))
+      (publishes (step slots 0 (bit_of i) 0 none) me)
 
-  withdrawn_kept : (word count : ℕ) (views : List View) (b : Bool) → Kept workers (set_of word) count views → get_elem? views id ≡ some me.0
-      → me.0.number < 64 → me.0.published ≡ true → me.0.held < 2 → is_in (set_of word) me.0.number ≡ b
-      → Kept workers (set (set_of word) me.0.number false) count (set views id (withdrawn me.0 b))
-  withdrawn_kept word count views false k at low up few is =
-      rw (set_same word me.0.number low is) (withdraws_claimed workers (set_of word) count views k id me.0 at up few is)
-  withdrawn_kept word count views true k at low up few is = let i : ℕ = me.0.number in let none_more : me.0.held + 0 ≡ me.0.held = omega arith in
-      rw none_more (withdraws_kept workers (set_of word) count views k id me.0 at (set (set_of word) i false) up
-      record { more_has = is; less_lacks = in_changed_here word i false low; others = λ j ne. sym (in_changed (set_of word) i j false ne) })
+  pub publish_ : (i : ℕ) → i ≡ me.0.number → me.0.number < me.0.end → me.0.workers ≤ 64 → me.0.number < me.0.workers
+      → me.0.published ≡ false → MayPublish i
+  publish_ i is live most pool down = let n : ℕ = me.0.number in let low : n < 64 = omega arith in
+      subst MayPublish (sym is) (on_word 0 (λ a. bit_or a (bit_of n)) (publishes (step slots 0 (bit_of n) 0 none) me)
+      (λ a b views k at. let e = set_with a n low in let here = in_changed_here a n true low in
+      let in_pool : me.0.workers ≡ workers = (k.each_seat id me.0 at).pool live in
+      let kept = publishes_kept workers (set_of a) b views k id me.0 at live (omega (arith, pool, in_pool)) down here in
+      (published me.0, bit_or a (bit_of n), b, refl, rw e kept, ((λ other. rw e refl), refl))))
 
-  pub withdraw_ : (i : ℕ) → i ≡ me.0.number → i < 64 → me.0.published ≡ true → me.0.held < 2
-      → Allows (LiveIdle workers) slots id me 0 (λ n. bit_and n (bit_not w64 (bit_of i))) (withdraws (step slots 0 (bit_not w64 (bit_of i)) 0 none) me)
-  withdraw_ i is low up few = subst (λ (n : ℕ). Allows (LiveIdle workers) slots id me 0 (λ x. bit_and x (bit_not w64 (bit_of n))) (withdraws (step slots 0 (bit_not w64 (bit_of n)) 0 none) me)) (sym is)
-      (let n : ℕ = me.0.number in on_set (λ x. bit_and x (bit_not w64 (bit_of n))) (withdraws (step slots 0 (bit_not w64 (bit_of n)) 0 none) me)
-      (λ word count views k at small. let out = set_without word n (omega (arith, is, low)) in (
-        withdrawn me.0 (is_in (set_of word) n),
-        rw out (withdrawn_kept word count views (is_in (set_of word) n) k at (omega (arith, is, low)) up few refl),
-        ((λ other. rw out refl), refl),
-      )))
+  -- the and of all bits but i
+  abbrev MayWithdraw : ℕ → Type 0
+  MayWithdraw i = Allows (LiveIdle workers) slots id me 0 (λ n. bit_and n (bit_not w64 (bit_of i)))
+      (withdraws (step slots 0 (bit_not w64 (bit_of i)) 0 none) me)
+
+  pub withdraw_ : (i : ℕ) → i ≡ me.0.number → me.0.number < me.0.end → me.0.workers ≤ 64 → me.0.number < me.0.workers
+      → me.0.published ≡ true → me.0.held < 2 → MayWithdraw i
+  withdraw_ i is live most pool up few = let n : ℕ = me.0.number in let low : n < 64 = omega arith in
+      let mask : ℕ = bit_not w64 (bit_of n) in
+      subst MayWithdraw (sym is) (on_word 0 (λ a. bit_and a mask) (withdraws (step slots 0 mask 0 none) me)
+      (λ a b views k at. let e = set_without a n low in let gone = in_changed_here a n false low in
+      let kept = withdraws_kept workers (set_of a) b views k id me.0 at live up few gone in
+      (withdrawn me.0 (is_in (set_of a) n), bit_and a mask, b, refl, rw e kept, ((λ other. rw e refl), refl))))
 
   -- a claim goes from a set that was seen, which isn't empty
-  claim_hit : (seen count : ℕ) (views : List View) → me.0.number < me.0.end → 0 < seen → seen < 2 ^ 64 → 0 < me.0.held
-      → Kept workers (set_of seen) count views → get_elem? views id ≡ some me.0
-      → let i : ℕ = trailing_zeros w64 seen in let left : ℕ = bit_and seen (bit_not w64 (bit_of i)) in
-      (w : View) × Kept workers (set_of left) count (set views id w) × claims (step slots 0 seen left none) me seen (w, me.1)
-  claim_hit seen count views live some_bit small holds k at = let i : ℕ = trailing_zeros w64 seen in let low = lowest_low seen some_bit small in
-      let out = set_without seen i low in let up = in_lowest seen some_bit small in
-      let pool : me.0.workers ≡ workers = (k.each_seat id me.0 at).pool live in let within = (k.each_bit i up).0 in (
-        claimed me.0 i,
-        rw out (claims_kept workers (set_of seen) count views k id me.0 at (set (set_of seen) i false) i (me.0.claims ++ i ∷ [])
-            record { more_has = up; less_lacks = in_changed_here seen i false low; others = λ j ne. sym (in_changed (set_of seen) i j false ne) } holds),
-        ((λ _. (i, lowest_in seen some_bit small, omega (arith, within, pool), (λ other. rw out refl), refl)), λ ne. absurd (ne refl)),
-      )
-
   pub claim_ : (seen : ℕ) → me.0.number < me.0.end → 0 < seen → seen < 2 ^ 64 → 0 < me.0.held
       → let left : ℕ = bit_and seen (bit_not w64 (bit_of (trailing_zeros w64 seen))) in
       Allows (LiveIdle workers) slots id me 0 (λ n. either (eqb n seen) left n) (claims (step slots 0 seen left none) me)
-  claim_ seen live some_bit small holds = let left : ℕ = bit_and seen (bit_not w64 (bit_of (trailing_zeros w64 seen))) in
-      on_set (λ n. either (eqb n seen) left n) (claims (step slots 0 seen left none) me)
-      (λ word count views k at low. dite (ℕ_discrete word seen)
-      (λ (e : word ≡ seen). rw (eq-eqb word seen e)
-      (subst (λ (n : ℕ). (w : View) × Kept workers (set_of left) count (set views id w) × claims (step slots 0 seen left none) me n (w, me.1)) (sym e)
-      (claim_hit seen count views live some_bit small holds (subst (λ (n : ℕ). Kept workers (set_of n) count views) e k) at)))
-      (λ (ne : word ≢ seen). rw (ne_eqb word seen ne)
-      (looked me.0 word, looked_kept word word count views live k at, ((λ e. absurd (ne e)), λ _. refl))))
+  claim_ seen live some_bit small holds =
+      let i : ℕ = trailing_zeros w64 seen in let left : ℕ = bit_and seen (bit_not w64 (bit_of i)) in
+      let told : ℕ → Me S View → Type 0 = claims (step slots 0 seen left none) me in
+      let low : i < 64 = (bit_at-trailing_zeros w64 seen some_bit small).0 in let up = in_lowest seen some_bit small in
+      let lowest = lowest_in seen some_bit small in let out = set_without seen i low in
+      on_word 0 (λ n. either (eqb n seen) left n) told (λ a b views k at. dite (ℕ_discrete a seen)
+      (λ (e : a ≡ seen). let q = subst (λ (n : ℕ). Kept workers (set_of n) b views) e k in
+      let pool = (q.each_seat id me.0 at).pool live in let gone = in_changed_here seen i false low in
+      let mine : i < me.0.workers = omega (arith, (q.each_bit i up).0, pool) in
+      let kept = claims_kept workers (set_of seen) b views q id me.0 at i live holds up gone in
+      let tells = subst (λ (n : ℕ). told n (claimed me.0 i, me.1)) (sym e)
+      ((λ _. (i, lowest, mine, (λ other. rw out refl), refl)), λ ne. absurd (ne refl)) in
+      (claimed me.0 i, left, b, rw (eq-eqb a seen e) refl, rw out kept, tells))
+      (λ (ne : a ≢ seen). let kept = noted (set_of a) b views me.0.saw (Some a) me.0.before live k at in
+      (looked me.0 a, a, b, rw (ne_eqb a seen ne) refl, kept, ((λ e. absurd (ne e)), λ _. refl))))
 
   pub read_ : me.0.number < me.0.end → Allows (LiveIdle workers) slots id me 1 (λ n. n) (reads (step slots 1 0 0 none) me)
-  read_ live = on_count (λ n. n) (reads (step slots 1 0 0 none) me)
-      (λ word count views k at. (counted me.0 count me.0.held, noted (set_of word) count views count None None live k at, refl))
+  read_ live = on_word 1 (λ n. n) (reads (step slots 1 0 0 none) me) (λ a b views k at.
+      let kept = noted (set_of a) b views b None None live k at in (counted me.0 b, a, b, refl, kept, (refl, refl)))
 
-  pub add_ : me.0.number < me.0.end → me.0.held < 2 → Allows (LiveIdle workers) slots id me 1 (λ n. (n + 1) % 2 ^ 64) (adds (step slots 1 1 0 none) me)
-  add_ live few = on_count (λ n. (n + 1) % 2 ^ 64) (adds (step slots 1 1 0 none) me)
-      (λ word count views k at. let room = bounded workers (set_of word) count views k id me.0 at in let whole : (count + 1) % 2 ^ 64 ≡ count + 1 = omega (arith, room) in (
-        counted me.0 me.0.saw (me.0.held + 1),
-        rw whole (counts workers (set_of word) count views k id me.0 at (count + 1) (me.0.held + 1) me.0.saw None None live (omega (arith, few)) (omega arith)),
-        (room, (λ other. rw whole refl), refl),
-      ))
+  pub add_ : me.0.number < me.0.end → me.0.held < 2
+      → Allows (LiveIdle workers) slots id me 1 (λ n. (n + 1) % 2 ^ 64) (adds (step slots 1 1 0 none) me)
+  add_ live few = on_word 1 (λ n. (n + 1) % 2 ^ 64) (adds (step slots 1 1 0 none) me) (λ a b views k at.
+      let room = bounded workers (set_of a) b views k id me.0 at in
+      let whole : (b + 1) % 2 ^ 64 ≡ b + 1 = omega (arith, room) in
+      let kept = counts workers (set_of a) b views k id me.0 at (b + 1) (me.0.held + 1) me.0.saw (Some b) None None live
+      (omega (arith, few)) (omega arith) in
+      (taken me.0 (Some b), a, b + 1, rw whole refl, kept, (room, (λ other. rw whole refl), refl)))
 
   pub subtract_ : me.0.number < me.0.end → 0 < me.0.held
       → Allows (LiveIdle workers) slots id me 1 (λ n. (n + (2 ^ 64 - 1)) % 2 ^ 64) (subtracts (step slots 1 1 0 none) me)
-  subtract_ live holds = on_count (λ n. (n + (2 ^ 64 - 1)) % 2 ^ 64) (subtracts (step slots 1 1 0 none) me)
-      (λ word count views k at. let room = bounded workers (set_of word) count views k id me.0 at in let enough = held_within workers (set_of word) count views k id me.0 at in
-      let some_count : 0 < count = omega (arith, enough, holds) in let whole : (count + (2 ^ 64 - 1)) % 2 ^ 64 ≡ count - 1 = omega (arith, some_count, room) in (
-        returned me.0 (count - 1),
-        rw whole (counts workers (set_of word) count views k id me.0 at (count - 1) (me.0.held - 1) (count - 1) None me.0.last live
-            (let most = (k.each_seat id me.0 at).held in omega (arith, most)) (omega (arith, some_count, holds))),
-        (some_count, (λ other. rw whole refl), refl),
-      ))
+  subtract_ live holds = on_word 1 (λ n. (n + (2 ^ 64 - 1)) % 2 ^ 64) (subtracts (step slots 1 1 0 none) me)
+      (λ a b views k at. let room = bounded workers (set_of a) b views k id me.0 at in
+      let enough = held_within workers (set_of a) b views k id me.0 at in
+      let most = (k.each_seat id me.0 at).held in
+      let whole : (b + (2 ^ 64 - 1)) % 2 ^ 64 ≡ b - 1 = omega (arith, enough, holds, room) in
+      let kept = counts workers (set_of a) b views k id me.0 at (b - 1) (me.0.held - 1) (b - 1) me.0.took None
+      me.0.last live (omega (arith, most)) (omega (arith, enough, holds)) in
+      let some_count : 0 < b = omega (arith, enough, holds) in
+      (returned me.0 (b - 1), a, b - 1, rw whole refl, kept, (some_count, (λ other. rw whole refl), refl)))
 
-  begin_at : (word count : ℕ) (views : List View) → me.0.number < me.0.end → me.0.held < 2 → Kept workers (set_of word) count views → get_elem? views id ≡ some me.0 → Dec (count ≡ 0)
-      → (w : View) × Kept workers (set_of word) (either (eqb count 0) 1 count) (set views id w) × begins (step slots 1 0 1 none) me count (w, me.1)
-  begin_at word count views live few k at (yes e) = let hit : eqb count 0 ≡ true = eq-eqb count 0 e in (
-    counted me.0 count (me.0.held + 1),
-    rw hit (counts workers (set_of word) count views k id me.0 at 1 (me.0.held + 1) count None None live (omega (arith, few)) (omega (arith, e))),
-    ((λ _ other. rw e refl), rw hit refl),
-  )
-  begin_at word count views live few k at (no ne) = let miss : eqb count 0 ≡ false = ne_eqb count 0 ne in (
-    counted me.0 count me.0.held,
-    rw miss (noted (set_of word) count views count None None live k at),
-    ((λ e. absurd (ne e)), rw miss (ap (λ (h : ℕ). (counted me.0 count h, me.1)) (omega arith))),
-  )
-
-  pub begin_ : me.0.number < me.0.end → me.0.held < 2 → Allows (LiveIdle workers) slots id me 1 (λ n. either (eqb n 0) 1 n) (begins (step slots 1 0 1 none) me)
-  begin_ live few = on_count (λ n. either (eqb n 0) 1 n) (begins (step slots 1 0 1 none) me)
-      (λ word count views k at. begin_at word count views live few k at (ℕ_discrete count 0))
+  pub begin_ : me.0.number < me.0.end → me.0.held < 2
+      → Allows (LiveIdle workers) slots id me 1 (λ n. either (eqb n 0) 1 n) (begins (step slots 1 0 1 none) me)
+  begin_ live few = let told : ℕ → Me S View → Type 0 = begins (step slots 1 0 1 none) me in
+      on_word 1 (λ n. either (eqb n 0) 1 n) told (λ a b views k at. dite (ℕ_discrete b 0)
+      (λ (e : b ≡ 0). let hit = eq-eqb b 0 e in
+      let kept = counts workers (set_of a) b views k id me.0 at 1 (me.0.held + 1) b (Some 0) None None live
+      (omega (arith, few)) (omega (arith, e)) in
+      (begun me.0 b true, a, 1, rw hit refl, kept, ((λ _ other. rw e refl), rw hit refl)))
+      (λ (ne : b ≢ 0). let miss = ne_eqb b 0 ne in
+      let kept = counts workers (set_of a) b views k id me.0 at b (me.0.held + 0) b me.0.took None None live
+      (omega (arith, few)) (omega arith) in
+      (begun me.0 b false, a, b, rw miss refl, kept, ((λ e. absurd (ne e)), rw miss refl))))
 
 module _ {S : Type 0} (workers id : ℕ) (v : View) where
   pub make_ : v.published ≡ false → v.number + 1 < v.end → Splits {S = S} (LiveIdle workers) id v (next_number v) (own_number v)

@@ -1,4 +1,3 @@
 pub mod Sets
 pub mod Keeps
 pub mod Allowed
-pub mod Stands

@@ -83,7 +83,7 @@ pub record LiveIdle {S : Type 0} (workers : ℕ) (s : State S View) : Type 0 whe
 
 -- a seat that has done nothing yet, with the numbers from here to there
 abbrev pub fresh : ℕ → ℕ → ℕ → View
-fresh workers number end = record { workers = workers; number = number; end = end; published = false; held = 0; saw = 0; last = None; before = None; claims = [] }
+fresh workers number end = record { workers = workers; number = number; end = end; published = false; held = 0; saw = 0; took = None; last = None; before = None; claims = [] }
 
 -- the first seat has all numbers
 abbrev pub first_view : ℕ → View

@@ -2,17 +2,17 @@
 use Rattle.std.specs.Prelude.{◌≡◌, ℕ, ◌-◌, ◌<◌, ◌⊎◌, Some, [], ◌∷◌, ◌++◌}
 use Rattle.exec_live_idle.specs.declared.view.View.{View}
 
--- the seat is as before, but for what it saw
+-- the seat is as before, but for what it found
 abbrev pub Saw : View → View → Type 0
-Saw v w = w ≡ record v { saw = w.saw; last = w.last; before = w.before }
+Saw v w = w ≡ record v { saw = w.saw; took = w.took; last = w.last; before = w.before }
 
 -- and claimed
 abbrev pub HoldsStill : View → View → Type 0
-HoldsStill v w = w ≡ record v { saw = w.saw; last = w.last; before = w.before; claims = w.claims }
+HoldsStill v w = w ≡ record v { saw = w.saw; took = w.took; last = w.last; before = w.before; claims = w.claims }
 
--- it holds one count fewer
+-- it holds one count fewer, and took none
 abbrev pub HoldsLess : View → View → Type 0
-HoldsLess v w = HoldsStill (record v { held = v.held - 1 }) w
+HoldsLess v w = HoldsStill (record v { held = v.held - 1 }) w × (w.took ≡ v.took)
 
 -- its last step found no worker
 abbrev pub FoundNone : View → Type 0
@@ -31,10 +31,11 @@ module _ {R : Type 0} (wakes : R → ℕ → R → Type 0) where
   abbrev pub Woke : View → R → View → R → Type 0
   Woke v r w s = (worker : ℕ) × (w.claims ≡ v.claims ++ worker ∷ []) × wakes r worker s
 
-  -- A wake for a backlog in a run queue: it wakes where its exchange found no search count, and nobody where a count
-  -- was there besides, or it found no worker
+  -- A wake for a backlog in a run queue: it wakes where its exchange found no search count, and took one, and nobody
+  -- where a count was there besides, or it found no worker
   abbrev pub Kicked : View → R → View → R → Type 0
-  Kicked v r w s = HoldsStill v w × (((w.saw ≡ 0) × Woke v r w s) ⊎ (WokeNobody v r w s × ((0 < w.saw) ⊎ FoundNone w)))
+  Kicked v r w s = HoldsStill v w
+      × (((w.saw ≡ 0) × (w.took ≡ Some 0) × Woke v r w s) ⊎ (WokeNobody v r w s × ((0 < w.saw) ⊎ FoundNone w)))
 
   -- A wake for the global queue: it wakes nobody only where it found no worker. That a count is there is no reason
   abbrev pub Notified : View → R → View → R → Type 0

@@ -1,5 +1,5 @@
 -- What the calls of a searcher make of its seat's view v and of the backlog b that it reaches: w and d.
-use Rattle.std.specs.Prelude.{◌≡◌, ◌≢◌, ℕ, ◌*◌, ◌/◌, ◌%◌, ◌^◌, ◌<◌, ◌≤◌, ◌⊎◌, Bool, true, false, if◌then◌else◌, None, bit_xor}
+use Rattle.std.specs.Prelude.{◌≡◌, ◌≢◌, ℕ, ◌*◌, ◌/◌, ◌%◌, ◌^◌, ◌<◌, ◌≤◌, ◌⊎◌, Bool, true, false, if◌then◌else◌, Some, None, bit_xor}
 use Rattle.exec_words.specs.declared.idle.Park.{Park, TheVariants.{Wait, Run, Search}}
 use Rattle.exec_live_idle.specs.{declared.view.View.View, Plays.counted, Notify.HoldsStill}
 
@@ -13,11 +13,16 @@ counts_of searching = if searching then 1 else 0
 
 -- it holds a count to search with: it had one, or fewer than half of the workers searched, and it took one
 abbrev pub MaySearch : View → View → Type 0
-MaySearch v w = ((v.held ≡ 1) × (w ≡ v)) ⊎ ((v.held ≡ 0) × (w ≡ counted v w.saw 1) × (2 * w.saw < v.workers))
+MaySearch v w = ((v.held ≡ 1) × (w ≡ v))
+    ⊎ ((v.held ≡ 0) × (w ≡ record (counted v w.saw) { held = 1; took = w.took }) × (2 * w.saw < v.workers))
 
 -- it doesn't search: it is alone, or half of the workers do already
 abbrev pub MayNot : View → View → Type 0
-MayNot v w = ((v.workers ≡ 1) × (w ≡ v)) ⊎ ((v.held ≡ 0) × (w ≡ counted v w.saw 0) × (v.workers ≤ 2 * w.saw))
+MayNot v w = ((v.workers ≡ 1) × (w ≡ v)) ⊎ ((v.held ≡ 0) × (w ≡ counted v w.saw) × (v.workers ≤ 2 * w.saw))
+
+-- its bit is in, and it holds no count
+abbrev pub Shows : View → View → Type 0
+Shows v w = w ≡ record v { published = true; held = 0; saw = w.saw; last = None; before = w.before }
 
 -- the seat is as before, but for its counts, and what it saw and claimed
 abbrev pub StaysUp : View → View → Type 0
@@ -41,7 +46,7 @@ module _ {B : Type 0} where
     -- The last look, after the bit is in and a held count is returned. b is what the look at the global queue left.
     -- Wait: a search count was there, at the load or at the exchange; or no other queue could be stolen from
     abbrev pub Waits : View → B → View → B → Type 0
-    Waits v b w d = (w ≡ record v { published = true; held = 0; saw = w.saw; last = None; before = w.before })
+    Waits v b w d = Shows v w
         × (((0 < w.saw) × (d ≡ b)) ⊎ (peers b false d ⊎ ((0 < w.saw) × peers b true d)))
 
     -- Run: the bit is out again. A claim's count is kept; where none came and the last was returned, it is handed on
@@ -49,9 +54,10 @@ module _ {B : Type 0} where
     Reruns v b w d = StaysUp v w
         × (((d ≡ b) × ((v.held ≡ 0) ⊎ ((w.held ≡ 1) ⊎ (0 < w.saw)))) ⊎ ((v.held ≡ 1) × (w.held ≡ 0) × kicks b d))
 
-    -- Search: the bit is out again, and a count was taken where there was none
+    -- Search: the bit is out again, and a count was taken where the exchange found none
     abbrev pub Finds : View → B → View → B → Type 0
-    Finds v b w d = (w ≡ record v { held = 1; saw = w.saw; last = None; before = w.before }) × peers b true d
+    Finds v b w d = (w ≡ record v { held = 1; saw = w.saw; took = Some 0; last = None; before = w.before })
+        × peers b true d
 
     abbrev pub Parks : View → B → Park → View → B → Type 0
     Parks v b Wait w d = (seen : B) × looks b false seen × Waits v seen w d

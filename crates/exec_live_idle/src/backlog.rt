@@ -57,10 +57,11 @@ pub trait Backlog {
         ensures dry { IsFalse result → Rose (dry self.old) (dry self.new) }
         ensures steals { steals self.old start result self.new };
 
-    /// Wakes a published worker for a backlog, as `Idle::notify` does. The caller's worker must not
-    /// be published, and hold at most one search count.
+    /// Wakes a published worker for a backlog, as `Idle::notify` does. The caller must have found no
+    /// count besides those that it returned. Its worker must not be published, and hold at most one.
     fn kick<R: Wait>(&mut self, rt: &R, idle: &Idle, seat: &mut IdleSeat)
         requires at { IsSeatOf idle.now seat.old }
+        requires last { (knows seat.old).saw ≡ 0 }
         requires room { (knows seat.old).held < 2 }
         requires unpublished { (knows seat.old).published ≡ false }
         requires pool { (knows seat.old).workers ≤ pool self.old }

@@ -6,10 +6,10 @@
 //! of a step (`specs/Plays.antt`) says that it is the transition of the same name of `exec_words`'
 //! `PureIdle`, on the word that it found. Ports the `Idle` of `commonware_runtime`'s `iouring::idle`.
 
-ghost use Rattle.std.specs.Prelude.{◌≡◌, ◌≢◌, ◌+◌, ◌<◌, ◌≤◌, ◌↔◌, if◌then◌else◌, IsTrue, true, false, Some, IfOk, IfErr, IfSome, IfNone};
+ghost use Rattle.std.specs.Prelude.{◌≡◌, ◌≢◌, ◌+◌, ◌<◌, ◌≤◌, ◌↔◌, IsTrue, true, false, Some, IfOk, IfErr, IfSome, IfNone};
 ghost use Rattle.crossbeam_utils.specs.Padded.{padded_value};
 ghost use Rattle.exec_words.specs.Idle.{is_in, lowest_of};
-ghost use Rattle.exec_live_idle.specs.{Idle.{knows, IsSeatOf, IsSame, Becomes}, Live.{first_view, next_number, own_number, with_counts}, Plays.{published, looked, withdrawn, claimed, counted, returned}, Words.set_of};
+ghost use Rattle.exec_live_idle.specs.{Idle.{knows, IsSeatOf, IsSame, Becomes}, Live.{first_view, next_number, own_number, with_counts}, Plays.{published, looked, withdrawn, claimed, counted, taken, begun, returned}, Words.set_of};
 
 use crate::plays::{Add, Begin, Claim, Look, Next, Publish, Read, Subtract, TakeOver, Withdraw};
 use crate::seat::{Idle, IdleSeat};
@@ -150,6 +150,7 @@ impl Idle {
     /// The step of a claim: exchanges the set for one without its lowest worker, and answers that
     /// worker. Err with the set that was found where it isn't `seen`, and nothing changes then. The
     /// caller must have seen a worker, and hold a search count.
+    #[tactic(auto, using(crate::proofs::Allowed::claim_, crate::proofs::Sets::lowest_in))]
     pub fn claim_exchange(&self, seat: &mut IdleSeat, seen: u64) -> Result<usize, u64>
         requires at { IsSeatOf self.now seat.old }
         requires holds { 0 < (knows seat.old).held }
@@ -185,8 +186,7 @@ impl Idle {
     /// Loads the search count.
     pub fn count(&self, seat: &mut IdleSeat) -> u64
         requires { IsSeatOf self.now seat.old }
-        ensures { Becomes seat.old seat.new
-            (counted (knows seat.old) result (knows seat.old).held) }
+        ensures { Becomes seat.old seat.new (counted (knows seat.old) result) }
     {
         self.shared().load::<Read>(&mut seat.place, COUNT)
     }
@@ -195,8 +195,7 @@ impl Idle {
     pub fn add(&self, seat: &mut IdleSeat)
         requires at { IsSeatOf self.now seat.old }
         requires room { (knows seat.old).held < 2 }
-        ensures { Becomes seat.old seat.new
-            (counted (knows seat.old) (knows seat.old).saw ((knows seat.old).held + 1)) }
+        ensures { Becomes seat.old seat.new (taken (knows seat.old) (knows seat.new).took) }
     {
         self.shared().fetch_add::<Add>(&mut seat.place, COUNT, 1);
     }
@@ -221,8 +220,7 @@ impl Idle {
         requires at { IsSeatOf self.now seat.old }
         requires room { (knows seat.old).held < 2 }
         ensures first { IsTrue result ↔ ((knows seat.new).saw ≡ 0) }
-        ensures view { Becomes seat.old seat.new (counted (knows seat.old) (knows seat.new).saw
-            (if result then (knows seat.old).held + 1 else (knows seat.old).held)) }
+        ensures view { Becomes seat.old seat.new (begun (knows seat.old) (knows seat.new).saw result) }
     {
         let found = self
             .shared()

@@ -40,6 +40,23 @@ impl Idle {
         ensures workers { W.workers rouse.new ≡ W.workers rouse.old }
         ensures kicked { Kicked W.wakes (knows seat.old) rouse.old (knows seat.new) rouse.new }
     {
+        if self.count(seat) != 0 || self.look(seat) == 0 {
+            return;
+        }
+        self.kick(rt, seat, rouse);
+    }
+
+    /// The same, where a worker was published a moment ago.
+    #[cold]
+    #[inline(never)]
+    fn kick<R: Wait, W: Rouse>(&self, rt: &R, seat: &mut IdleSeat, rouse: &mut W)
+        requires at { IsSeatOf self.now seat.old }
+        requires room { (knows seat.old).held < 2 }
+        requires workers { (knows seat.old).workers ≤ W.workers rouse.old }
+        ensures same { IsSame seat.old seat.new }
+        ensures workers { W.workers rouse.new ≡ W.workers rouse.old }
+        ensures kicked { Kicked W.wakes (knows seat.old) rouse.old (knows seat.new) rouse.new }
+    {
         for _ in rt.forever() {
             if self.count(seat) != 0 {
                 return;
@@ -80,6 +97,8 @@ impl Idle {
 
     /// Hands a count that was reserved over to a published worker, and wakes it. Where there was
     /// none, the count is returned: true where it was the last, so that the caller has to look again.
+    #[cold]
+    #[inline(never)]
     fn hand_over<R: Wait, W: Rouse>(
         &self,
         rt: &R,

@@ -9,7 +9,7 @@
 //! count finds the backlog, or hands the duty on with its last return.
 
 ghost use Rattle.std.specs.Prelude.{◌≡◌, ◌≢◌, ◌+◌, ◌-◌, ◌<◌, ◌≤◌, ◌⊎◌, true, false, IsTrue, IsFalse, not, ◌↔◌, if◌then◌else◌, None};
-ghost use Rattle.exec_live_idle.specs.{Idle.{knows, IsSame}, Plays.{published, withdrawn, counted}, Notify.HoldsStill, Search.{Leaves, Parks, LooksTo, SearchesTo}};
+ghost use Rattle.exec_live_idle.specs.{Idle.{knows, IsSame}, Plays.{published, withdrawn, counted}, Notify.HoldsStill, Search.{Leaves, Shows, Parks, LooksTo, SearchesTo}};
 ghost use Rattle.exec_words.specs.declared.idle.Park.TheVariants.{Wait, Run};
 
 use crate::backlog::Backlog;
@@ -73,23 +73,22 @@ impl<'a> Searcher<'a> {
             return Park::Wait;
         }
         self.searching = true;
-        self.begin_search();
+        if !self.idle.withdraw(&mut self.seat) {
+            // A claim's count is one too many. It isn't the last, since the worker holds its own.
+            self.idle.subtract(&mut self.seat);
+        }
         Park::Search
     }
 
-    /// Publishes the worker and returns a held count. Answers whether that was the last.
+    /// Publishes the worker, and returns a held count after that: the step before told it nothing of
+    /// the set. Answers whether that was the last.
     fn publish(&mut self) -> bool
         requires unpublished { (knows self.old.seat).published ≡ false }
         ensures idle { self.new.idle ≡ self.old.idle }
         ensures seat { IsSame self.old.seat self.new.seat }
         ensures rng { self.new.rng ≡ self.old.rng }
-        ensures view { knows self.new.seat ≡ record (knows self.old.seat) {
-          published = true;
-          held = 0;
-          saw = (knows self.new.seat).saw;
-          last = None;
-          before = (knows self.new.seat).before;
-        } }
+        ensures view { Shows (knows self.old.seat) (knows self.new.seat) }
+        ensures after { (knows self.old.seat).held ≡ 1 → (knows self.new.seat).before ≡ None }
         ensures last { IsTrue result
             ↔ (((knows self.old.seat).held ≡ 1) × ((knows self.new.seat).saw ≡ 0)) }
     {
@@ -99,26 +98,6 @@ impl<'a> Searcher<'a> {
         }
         self.searching = false;
         self.idle.subtract(&mut self.seat)
-    }
-
-    /// Withdraws a worker that has taken a count. A count that a claim brought besides is returned: it
-    /// isn't the last, since the worker holds its own.
-    fn begin_search(&mut self)
-        requires published { (knows self.old.seat).published ≡ true }
-        requires holds { (knows self.old.seat).held ≡ 1 }
-        ensures idle { self.new.idle ≡ self.old.idle }
-        ensures seat { IsSame self.old.seat self.new.seat }
-        ensures rng { self.new.rng ≡ self.old.rng }
-        ensures view { knows self.new.seat ≡ record (knows self.old.seat) {
-          published = false;
-          saw = (knows self.new.seat).saw;
-          last = None;
-          before = (knows self.new.seat).before;
-        } }
-    {
-        if !self.idle.withdraw(&mut self.seat) {
-            self.idle.subtract(&mut self.seat);
-        }
     }
 
     /// Publishes the worker and looks once more, and searches whenever the look asks for it, until a

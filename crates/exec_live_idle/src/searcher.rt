@@ -106,7 +106,7 @@ impl<'a> Searcher<'a> {
         ensures may { IsTrue result → MaySearch (knows self.old.seat) (knows self.new.seat) }
         ensures may_not { IsFalse result
             → ((knows self.old.seat).held ≡ 0)
-            × (knows self.new.seat ≡ counted (knows self.old.seat) (knows self.new.seat).saw 0)
+            × (knows self.new.seat ≡ counted (knows self.old.seat) (knows self.new.seat).saw)
             × (workers ≤ 2 * (knows self.new.seat).saw) }
     {
         if self.searching {

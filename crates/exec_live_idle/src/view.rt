@@ -15,9 +15,10 @@ pub struct View {
     pub published: bool,
     /// How many search counts the seat holds.
     pub held: u64,
-    /// The search count as its last load, exchange or return of a count left it or found it. To add
-    /// one tells nothing.
+    /// The search count as its last load, exchange or return of a count left it or found it.
     pub saw: u64,
+    /// The search count as it was found where the seat took its last one.
+    pub took: Option<u64>,
     /// The set, where its last step of all found it: by a load, or a lost exchange.
     pub last: Option<u64>,
     /// Where its last step at the count returned one: the set, where the step before found it.

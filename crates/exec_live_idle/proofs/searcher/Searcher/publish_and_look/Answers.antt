@@ -1,20 +1,17 @@
-use Rattle.std.proofs.Common.{◌≡◌, refl, false, None, [], inl, inr, ap, ◌∙◌, subst, ℕ, ⊎_elim, ◌⊎◌}
+use Rattle.std.proofs.Common.{◌≡◌, arith, refl, false, None, [], inl, inr, ap, ◌∙◌, subst, ℕ, ⊎_elim, ◌⊎◌}
 use Rattle.exec_words.specs.declared.idle.Park.{Park, TheVariants.Search}
-use Rattle.exec_live_idle.specs.{declared.view.View.View, Plays.counted, Idle.knows, Search.{MaySearch, MayNot, Scans, Skips, Parks, StaysUp, NoRound, OneMore}}
+use Rattle.exec_live_idle.specs.{declared.view.View.View, Idle.knows, Search.{MaySearch, MayNot, Scans, Skips, Parks, StaysUp, NoRound, OneMore}}
 use Rattle.exec_live_idle.proofs.searcher.Searcher.publish_and_look.Goals as goal
 
 -- a view without what a search, and a look that asks for one, change
 abbrev core : View → View
-core v = record v { held = 0; saw = 0; last = None; before = None; claims = [] }
+core v = record v { held = 0; saw = 0; took = None; last = None; before = None; claims = [] }
 
 up_by : (u w : View) → core w ≡ core u → StaysUp u w
 up_by u w e = λ i. record w { workers = (e i).workers; number = (e i).number; end = (e i).end; published = (e i).published }
 
 searched : (v w : View) → MaySearch v w ⊎ MayNot v w → core w ≡ core v
-searched v w s = ⊎_elim
-    (λ (may : MaySearch v w). ⊎_elim (λ had. ap core had.1) (λ took. ap core took.1) may)
-    (λ (may_not : MayNot v w). ⊎_elim (λ alone. ap core alone.1) (λ capped. ap core capped.1) may_not)
-    s
+searched v w s = grind arith
 
 pub loop-init : goal.loop-init
 loop-init g c = record { idle = refl; seat = (refl, refl); view = refl; pool = refl; rounds = NoRound }

@@ -1,7 +1,6 @@
-use Rattle.std.proofs.Common.{arith}
-use Rattle.exec_live_idle.proofs.{Stands.stands, Allowed.look}
-use Rattle.exec_live_idle.proofs.seat.Idle.look.Goals as goal
+use Rattle.std.proofs.Common.{arith, rules}
+use Rattle.exec_live_idle.proofs.Allowed.{look}
+use Rattle.exec_live_idle.proofs.seat.Idle.look.Goals
 
-pub load-requires : goal.load-requires
-load-requires c = let words = c.shared.result.now in let seat = c.args.seat.now.place in
-    stands 0 c.requires.0 c.shared.ensures.table c.shared.ensures.two (omega arith) (look words.key words.table_id.slots seat.id seat.me c.requires.1)
+pub load-requires : Goals.load-requires
+load-requires c = search (rules, arith, look)
