@@ -1,8 +1,8 @@
 //! The transitions by which the steps are described are those of `exec_words`' `PureIdle`, each by
 //! its name: each law calls it.
 
-ghost use Rattle.std.specs.Prelude.{◌≡◌, ◌+◌, ◌^◌, ◌<◌, ◌↔◌, IsOk, IfOk, OnOk, Some, IsSome};
-ghost use Rattle.exec_words.specs.Idle.{lowest_of};
+ghost use Rattle.std.specs.Prelude.{◌≡◌, ◌+◌, ◌^◌, ◌<◌, ◌↔◌, IsOk, IfOk, OnOk, IfErr, OnErr, Some, IsSome};
+ghost use Rattle.exec_words.specs.Idle.{is_in, lowest_of};
 ghost use Rattle.exec_live_idle.specs.Words.{publish, withdraw, add, subtract};
 
 use exec_words::idle::{PureIdle, WorkerSet};
@@ -16,7 +16,8 @@ pub fn a_publication(idle: &mut PureIdle, worker: usize)
 
 pub fn a_withdrawal(idle: &mut PureIdle, worker: usize) -> bool
     requires { worker < 64 }
-    ensures { idle.new ≡ withdraw worker idle.old }
+    ensures found { result ≡ is_in idle.old.published worker }
+    ensures withdrawn { idle.new ≡ withdraw worker idle.old }
 {
     idle.withdraw(worker)
 }
@@ -27,6 +28,8 @@ pub fn a_claim(idle: &mut PureIdle, seen: &WorkerSet) -> Result<usize, WorkerSet
     ensures same { IsOk result ↔ (idle.old.published ≡ seen.now.has) }
     ensures lowest { IfOk result (λ worker. lowest_of idle.old.published ≡ Some worker) }
     ensures claimed { IfOk result (λ worker. idle.new ≡ withdraw worker idle.old) }
+    ensures found { IfErr result (λ set. set.has ≡ idle.old.published) }
+    ensures kept { OnErr result (idle.new ≡ idle.old) }
 {
     idle.claim_exchange(seen)
 }
@@ -40,7 +43,8 @@ pub fn an_addition(idle: &mut PureIdle)
 
 pub fn a_subtraction(idle: &mut PureIdle) -> usize
     requires { 0 < idle.old.count }
-    ensures { idle.new ≡ subtract idle.old }
+    ensures found { result ≡ idle.old.count }
+    ensures subtracted { idle.new ≡ subtract idle.old }
 {
     idle.subtract()
 }
@@ -49,6 +53,8 @@ pub fn a_subtraction(idle: &mut PureIdle) -> usize
 pub fn an_exchange(idle: &mut PureIdle) -> Result<(), usize>
     ensures none { IsOk result ↔ (idle.old.count ≡ 0) }
     ensures added { OnOk result (idle.new ≡ add idle.old) }
+    ensures found { IfErr result (λ count. count ≡ idle.old.count) }
+    ensures kept { OnErr result (idle.new ≡ idle.old) }
 {
     idle.count_exchange()
 }
