@@ -9,11 +9,14 @@ pub record Listener : Type 0 where
   pub is_bound : Bool
   pub peers : List ℕ
 
--- the sampled moment, the records of the opens, and the listeners, each list by number
+-- the sampled moment, the records of the opens, and the listeners, each list by number; how many tasks there are or were,
+-- and whether the pool is stopped
 pub record Sight : Type 0 where
   pub moment : ℕ
   pub opens : List Account
   pub listeners : List Listener
+  pub tasks : ℕ
+  pub stopped : Bool
 
 abbrev pub open_at : Sight → ℕ → Account
 open_at s file = slice_index_or s.opens file fresh_account

@@ -8,7 +8,7 @@
 //! What a body means is a relation (`gives`) between what it is left to do, what it is told and what it sees, and the
 //! act that it makes and what is left then. Code over any body is proved by that relation alone.
 
-ghost use Rattle.std.specs.Prelude.{◌≡◌, ℕ, Option, IfSome, IfOk, IfErr, OnErr, option_map, slice_get};
+ghost use Rattle.std.specs.Prelude.{◌≡◌, ℕ, Option, IfSome, IfOk, IfErr, OnErr, nat_lt, option_map, slice_get};
 ghost use Rattle.exec_outcomes.specs.Accounts.{is_dirty};
 ghost use Rattle.exec_task.specs.{declared.body.Act.Act, declared.body.Said.Said, Sight.Sight, Sight.WouldGrow, Sight.open_at, Sight.peers_at, Sight.peer_taken, Sight.bind_answer, Sight.bound};
 
@@ -94,6 +94,14 @@ pub trait Around {
     /// How many changes of the file a sync that is made now will cover.
     fn begin_sync(&self, file: u32) -> u64
         ensures { IfSome (sees self.now) (λ s. result ≡ (open_at s file).mutations) };
+
+    /// Whether there is, or was, a task of this number.
+    fn has_task(&self, task: TaskNo) -> bool
+        ensures { IfSome (sees self.now) (λ s. result ≡ nat_lt task.0 s.tasks) };
+
+    /// Whether the pool is stopped.
+    fn is_stopped(&self) -> bool
+        ensures { IfSome (sees self.now) (λ s. result ≡ s.stopped) };
 
     /// Takes the peer that has waited longest at the listener, and answers the number of its
     /// socket. None where none waits.

@@ -70,6 +70,14 @@ impl Around for Hand {
         0
     }
 
+    fn has_task(&self, _task: TaskNo) -> bool {
+        false
+    }
+
+    fn is_stopped(&self) -> bool {
+        false
+    }
+
     fn peer(&mut self, _listener: u32) -> Option<u32> {
         None
     }
