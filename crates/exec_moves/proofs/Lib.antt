@@ -1,1 +1,3 @@
 mod OneLog
+mod OneThing
+mod Tellings

@@ -6,7 +6,7 @@ use Rattle.exec_outcomes.specs.declared.outcome.OpResult.{OpResult, TheVariants.
 use Rattle.exec_machine.specs.{declared.{config.Configuration.Configuration, event.Line.Line, step.{Action.Action, Step.Step}}, Same.same_result, World.own_of, Callers.is_enabled, Run.{same_action, is_refused, after_work, after_steps}, Progress.Plan, Examples.{Told, refuses, lines_of}}
 use Rattle.exec_machine.specs.declared.step.Action.TheVariants as action
 use Rattle.exec_machine.specs.declared.step.Step.TheVariants as step
-use Rattle.exec_moves.specs.{State.{Things, Moved}, Move.move, Plays.{Playing, Played, first_playing, by_move, by_action, by_step, GoesByMoves, Plays, told_with, told_of_work, told_of, log_by_moves}, Departures.{played, Departs}}
+use Rattle.exec_moves.specs.{State.{Things, Moved}, Move.move, Plays.{Playing, Played, first_playing, desk_of, by_move, by_action, by_step, GoesByMoves, Plays, told_with, told_of_work, told_of, log_by_moves}, Departures.{played, Departs}}
 
 -- ACTIONS
 
@@ -103,7 +103,7 @@ work_only c i (suc n) steps rest p (it ∷ told) h g =
     elim (cases_Bool (same_action (action.Work i) it.0.action)) [
       | inl same ↦
           let a : action.Work i ≡ it.0.action = action_is (action.Work i) it.0.action same in
-          work_line c i n steps rest (work_only c i n steps rest) (is_enabled p.world.common (action.Work i)) (move c i (own_of p.world i) p.world.common p.desk p.things) p it told
+          work_line c i n steps rest (work_only c i n steps rest) (is_enabled p.world.common (action.Work i)) (move c i (own_of p.world i) p.world.common (desk_of c p i) p.things) p it told
           (g.0 ∙ ap (λ a. (by_step c p a).told) (sym a)) (subst (λ a. GoesByMoves c (by_step c p a).next told) (sym a) g.1)
           (subst (λ b. option_and_then (after_steps steps) (if b then (if is_refused it.0.said then Some (lines_of told) else after_work i n (lines_of told)) else None) ≡ Some []) same h)
       | inr other ↦ absurd (true≢false (sym (ap is_all

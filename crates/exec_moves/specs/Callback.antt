@@ -3,16 +3,17 @@ use Rattle.std.specs.Prelude.{ℕ, Bool, true, false, not, ◌+◌, ◌-◌, ◌
 use Rattle.std.specs.List.{list_any}
 use Rattle.exec_machine.specs.{declared.{event.Event.TheVariants.{Turn, Wake, Release}, state.{Request.Request, Waiting.Waiting}}, Choice.{Choice, Choice.{Plain, Pays}, Payer.{ByRequest, BySleeper}}, World.{Task, Common, Own as Books}, Tests.{is_empty, is_idle, is_resolved}, Requests.ends_by_drop}
 use Rattle.exec_machine.specs.declared.state.Waiting.TheVariants as waiting
-use Rattle.exec_moves.specs.{declared.place.{AfterCallbacks.AfterCallbacks, AfterService.AfterService, Stay.Stay, Place.Place}, State.{Desk, Moved, Own, turns, does}}
-use Rattle.exec_moves.specs.declared.place.AfterCallbacks.TheVariants as after
+use Rattle.exec_moves.specs.{declared.{handing.AfterCallbacks.AfterCallbacks, idling.Stay.Stay, place.{AfterService.AfterService, Place.Place}}, State.{Desk, Moved, Own, turns, does}}
+use Rattle.exec_moves.specs.declared.handing.AfterCallbacks.TheVariants as after
+use Rattle.exec_moves.specs.declared.handing.AfterLeave.TheVariants as leave
 use Rattle.exec_moves.specs.declared.place.AfterService.TheVariants as back
 use Rattle.exec_moves.specs.declared.place.InCallbacks.TheVariants as callback
 use Rattle.exec_moves.specs.declared.place.InClosing.TheVariants as closing
 use Rattle.exec_moves.specs.declared.place.InLoads.TheVariants as load
-use Rattle.exec_moves.specs.declared.place.InRingWait.TheVariants as ring
+use Rattle.exec_moves.specs.declared.idling.InRingWait.TheVariants as ring
 use Rattle.exec_moves.specs.declared.place.InService.TheVariants as service
 use Rattle.exec_moves.specs.declared.place.Round.TheVariants as round
-use Rattle.exec_moves.specs.declared.place.Stay.TheVariants as stay
+use Rattle.exec_moves.specs.declared.idling.Stay.TheVariants as stay
 use Rattle.exec_moves.specs.declared.place.Place.TheVariants as at
 
 -- WHAT IS LEFT TO BE TOLD
@@ -67,8 +68,10 @@ next_callback size i me s x d = if has_callbacks me d then at.Callbacks callback
 
 -- THE MOVES
 
+-- a held search count is returned before the first item
 abbrev pub take_batch : ℕ → ℕ → Books → Common → AfterCallbacks → Desk → Moved Own
-take_batch size i me s x d = turns (next_callback size i me s x d) d tt
+take_batch size i me s x d =
+    turns (if d.searching && has_callbacks me d then at.LeaveSearch (leave.CallBack x) else next_callback size i me s x d) d tt
 
 -- a wake is paid by what its task waits for
 abbrev pub payer_of : Waiting → Choice

@@ -1,16 +1,21 @@
 -- Moves of a closing, beside its callbacks, services and waits.
-use Rattle.std.specs.Prelude.{ℕ, Bool, true, not, ◌+◌, ◌*◌, ◌%◌, ◌==◌, ◌&&◌, List, [], ◌∷◌, ◌++◌, Option, Some, None, if◌then◌else◌}
-use Rattle.exec_words.specs.Queue.{Queue, popped}
+use Rattle.std.specs.Prelude.{ℕ, Bool, true, not, ◌-◌, ◌==◌, ◌&&◌, List, [], ◌∷◌, ◌++◌, length, take, slice_get, Option, Some, None, if◌then◌else◌}
+use Rattle.exec_words.specs.Word.{next_batch}
 use Rattle.exec_task.specs.{declared.drain.Drain.Drain, TaskSet.passed}
-use Rattle.exec_machine.specs.{declared.{event.Event.TheVariants.{Turn, Close, Stop, Orphan, End}, state.{MailMessage.MailMessage, Request.Request}}, Choice.Choice.Passes, World.{Common, request_of, sleeper_of}, Tests.is_asleep, Requests.outcome_of_drop}
-use Rattle.exec_moves.specs.declared.place.AfterCallbacks.TheVariants as after
+use Rattle.exec_machine.specs.{declared.{config.Configuration.Configuration, event.Event.TheVariants.{Turn, Close, Stop, Clear, Orphan, End}, state.{MailMessage.MailMessage, Request.Request}}, Choice.Choice.Passes, World.{Common, Task, request_of, sleeper_of}, Tests.{is_asleep, is_empty}, Requests.outcome_of_drop}
+use Rattle.exec_moves.specs.declared.handing.AfterCallbacks.TheVariants as after
+use Rattle.exec_moves.specs.declared.handing.AfterPop.TheVariants as pop
 use Rattle.exec_moves.specs.declared.place.InCallbacks.TheVariants as callback
-use Rattle.exec_moves.specs.{declared.place.{InClosing.InClosing, Place.Place}, State.{Desk, Moved, Own, turns, does, goes}, Callback.{told_of_drop, waker_of}, Serve.first_numbered}
+use Rattle.exec_moves.specs.{declared.place.{InClosing.InClosing, Place.Place}, State.{Desk, Moved, Own, turns, does, goes}, Callback.{told_of_drop, waker_of}, Serve.first_numbered, Parts.{first_pop, tells_from}}
 use Rattle.exec_moves.specs.declared.place.InClosing.TheVariants as closing
 use Rattle.exec_moves.specs.declared.place.Place.TheVariants as at
 
-abbrev pub close : Desk → Moved Own
-close d = does Close (goes (at.Closing closing.CloseQueue) d) tt
+-- worker zero closes what is the pool's, and stops it; another worker closes only once it is stopped
+abbrev pub after_close : Configuration → ℕ → Place
+after_close c i = if i == 0 then at.Closing closing.CloseQueue else first_pop c pop.Discard
+
+abbrev pub close : Configuration → ℕ → Desk → Moved Own
+close c i d = does Close (goes (after_close c i) d) tt
 
 -- the global queue is emptied; that it is closed is the machine's `turn`
 abbrev pub close_queue : Desk → List ℕ → Moved (List ℕ)
@@ -20,27 +25,25 @@ close_queue d global = turns (at.Closing closing.OpenBarrier) d []
 abbrev pub open_barrier : Desk → Bool → Moved Bool
 open_barrier d barrier = turns (at.Closing closing.Stop) d true
 
-abbrev pub stop : Desk → Moved Own
-stop d = does Stop (goes (at.Closing closing.Discard) d) tt
+abbrev pub stop : Configuration → Desk → Moved Own
+stop c d = does Stop (goes (tells_from c 1) d) tt
 
--- a drain of so many shards by this worker, before its first visit
-abbrev pub drain_by : ℕ → ℕ → Drain
-drain_by i count = record { at = i * 4 % count; left = count }
-
--- the run queue
-abbrev pub discard : ℕ → ℕ → Desk → Queue ℕ → Moved (Queue ℕ)
-discard i count d q = by_values q.values
-  where
-    by_values : List ℕ → Moved (Queue ℕ)
-    by_values [] = turns (at.Closing (closing.Visit (drain_by i count))) d q
-    by_values (t ∷ ts) = turns (at.Closing closing.Discard) d (popped q)
+-- THE DRAIN
 
 abbrev pub after_visit : Drain → InClosing
 after_visit x = if x.left == 0 then closing.LeaveBarrier else closing.Visit x
 
--- the shard: an empty one is passed
+-- the shard: its newest task is taken out, and an empty one is passed
 abbrev pub visit : ℕ → Drain → Desk → List ℕ → Moved (List ℕ)
-visit count x d shard = turns (at.Closing (after_visit (passed count x))) d shard
+visit count x d shard = visited (slice_get shard (length shard - 1))
+  where
+    visited : Option ℕ → Moved (List ℕ)
+    visited None = turns (at.Closing (after_visit (passed count x))) d shard
+    visited (Some t) = turns (at.Closing (closing.Clear t x)) d (take (length shard - 1) shard)
+
+-- the task that was taken
+abbrev pub clear : ℕ → Drain → Desk → Task → Moved Task
+clear t x d it = does (Clear t) (goes (at.Closing (after_visit x)) d) it
 
 -- the barrier: the worker passes it
 abbrev pub leave_barrier : Desk → Bool → Moved Bool
@@ -68,9 +71,14 @@ abbrev pub after_letting_go : Option ℕ → Option ℕ → Place
 after_letting_go held asleep =
     or_else_at held closing.Orphan (or_else_at asleep closing.CloseSleeper (at.Callbacks callback.TakeBatch after.Drain))
 
--- the inbox: what stands in it, and what was taken and isn't applied, is dropped
+-- The inbox. What stands in it counts as a batch that was taken; that, and what was taken and isn't applied, is dropped.
+abbrev pub batches_closed : List MailMessage → ℕ → ℕ
+batches_closed inbox n = if is_empty inbox then n else next_batch n
+
 abbrev pub close_mailbox : ℕ → Common → Desk → List MailMessage → Moved (List MailMessage)
-close_mailbox i s d inbox = turns (after_letting_go (first_held i s) (first_asleep i s)) (record d { batch = [] }) []
+close_mailbox i s d inbox =
+    turns (after_letting_go (first_held i s) (first_asleep i s))
+    (record d { batch = []; processed = batches_closed inbox d.processed }) []
 
 -- the next request that somebody holds after this one
 abbrev pub held_after : ℕ → ℕ → Common → Option ℕ

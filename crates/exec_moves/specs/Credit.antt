@@ -8,8 +8,8 @@ use Rattle.std.specs.List.{list_any}
 use Rattle.exec_machine.specs.{declared.config.Configuration.Configuration, Ranges.{ring_size, largest_spin}, World.{Common, seat_of, Own as Books}, Tests.{is_empty, is_asleep}, Deadlines.is_due}
 use Rattle.exec_moves.specs.declared.place.AfterPermit.TheVariants as permit
 use Rattle.exec_moves.specs.declared.place.InService.TheVariants as step
-use Rattle.exec_moves.specs.declared.place.InWordWait.TheVariants as word
-use Rattle.exec_moves.specs.{declared.place.Place.Place, State.{Desk, Things}, Callback.{has_callbacks, is_full}, Load.{has_mail, has_submissions}, Submit.waits_at, Wait.has_completion, Heights.{height, level, take_root_flag, callback_after_mail, load_mail_word, apply, sample, reap_last, end_service, submit, made_up}}
+use Rattle.exec_moves.specs.declared.idling.InWordWait.TheVariants as word
+use Rattle.exec_moves.specs.{declared.place.Place.Place, State.{Desk, Things, word_of}, Thing.ring_of, Callback.{has_callbacks, is_full}, Load.{has_mail, has_submissions}, Submit.waits_at, Wait.has_completion, Heights.{height, level, take_root_flag, callback_after_mail, load_mail_word, apply, sample, reap_last, end_service, submit, made_up}}
 use Rattle.exec_moves.specs.declared.place.Place.TheVariants as at
 
 abbrev pub one_if : Bool → ℕ
@@ -83,13 +83,13 @@ signs c i me s d x =
     record {
       flag = d.root_ready;
       callbacks = has_callbacks me d;
-      mail = has_mail d x.word || not (is_empty d.batch);
-      completions = has_completion d (seat_of s i).landed;
+      mail = has_mail d (word_of x i) || not (is_empty d.batch);
+      completions = has_completion d (ring_of s x i);
       submissions = has_submissions c me || not d.polled;
       deadlines = list_any (is_due i s.clock) s.requests;
       sleepers = list_any (λ z. is_asleep i z && nat_le z.until s.clock) s.sleepers;
       stale = nat_lt me.sampled s.clock;
-      latched = x.word.latch;
+      latched = (word_of x i).latch;
       passing = is_passing d.place;
       busy = (seat_of s i).busy;
       cancels = not (is_empty me.untold);

@@ -2,6 +2,8 @@
 use Rattle.std.specs.Prelude.{◌≡◌, List, [], ◌∷◌, ◌++◌}
 use Rattle.exec_machine.specs.{declared.{config.Configuration.Configuration, step.Step.Step}, Progress.Plan, Examples.{Told, usual}}
 use Rattle.exec_machine.specs.declared.config.ScriptWord.TheVariants as word
+use Rattle.exec_machine.specs.declared.step.Action.TheVariants as action
+use Rattle.exec_machine.specs.declared.step.Step.TheVariants as step
 use Rattle.exec_moves.specs.Plays.{Playing, first_playing, by_step, Plays, log_by_moves}
 
 -- where the executor is after these lines
@@ -22,3 +24,7 @@ two_sends =
       scripts = [];
       root = (word.Send 0 10) ∷ (word.Send 0 10) ∷ word.Await ∷ word.Await ∷ word.End ∷ [];
     }
+
+-- the first four steps of a caller that spawns: beside nobody who waits its call is over by them
+abbrev pub a_call : List Step
+a_call = step.One (action.Spawn 0 0) ∷ step.One (action.GoOn 0) ∷ step.One (action.GoOn 0) ∷ step.One (action.GoOn 0) ∷ []

@@ -1,20 +1,24 @@
 -- How far it is from each place to the sleep, if nothing comes between.
 --
--- Each place stands one above the one that follows it, by name: a place that is put in between changes one line here.
-use Rattle.std.specs.Prelude.{ℕ, suc, ◌+◌, ◌-◌, ◌*◌}
-use Rattle.exec_moves.specs.declared.place.{First.First, InPick.InPick, InPoll.InPoll, InCallbacks.InCallbacks, AfterCallbacks.AfterCallbacks, AfterPermit.AfterPermit, AfterService.AfterService, InLoads.InLoads, InLook.InLook, InMail.InMail, InRingWait.InRingWait, InWordWait.InWordWait, InService.InService, Reaping.Reaping, Round.Round, Place.Place}
-use Rattle.exec_moves.specs.declared.place.First.TheVariants as first
+-- Each place stands one above the one that follows it, by name: a place that is put in between changes one line here. A place
+-- at which a worker alone never is, with no callers, stands apart, at 0.
+use Rattle.std.specs.Prelude.{ℕ, suc, Bool, true, false, not, ◌+◌, ◌-◌, ◌*◌}
+use Rattle.exec_moves.specs.declared.{handing.{First.First, AfterCallbacks.AfterCallbacks, AfterPop.AfterPop, InPop.InPop}, idling.{AfterWait.AfterWait, InLook.InLook, InRingWait.InRingWait, InWordWait.InWordWait}, place.{InPick.InPick, InPoll.InPoll, InCallbacks.InCallbacks, AfterPermit.AfterPermit, AfterService.AfterService, InLoads.InLoads, InMail.InMail, InService.InService, Reaping.Reaping, Round.Round, Place.Place}}
+use Rattle.exec_moves.specs.declared.handing.First.TheVariants as first
 use Rattle.exec_moves.specs.declared.place.InPick.TheVariants as pick
 use Rattle.exec_moves.specs.declared.place.InPoll.TheVariants as poll
 use Rattle.exec_moves.specs.declared.place.InCallbacks.TheVariants as callback
-use Rattle.exec_moves.specs.declared.place.AfterCallbacks.TheVariants as after
+use Rattle.exec_moves.specs.declared.handing.AfterCallbacks.TheVariants as after
+use Rattle.exec_moves.specs.declared.handing.AfterPop.TheVariants as popped
+use Rattle.exec_moves.specs.declared.handing.InPop.TheVariants as pops
+use Rattle.exec_moves.specs.declared.idling.AfterWait.TheVariants as next
 use Rattle.exec_moves.specs.declared.place.AfterPermit.TheVariants as permit
 use Rattle.exec_moves.specs.declared.place.AfterService.TheVariants as back
 use Rattle.exec_moves.specs.declared.place.InLoads.TheVariants as load
-use Rattle.exec_moves.specs.declared.place.InLook.TheVariants as look
+use Rattle.exec_moves.specs.declared.idling.InLook.TheVariants as look
 use Rattle.exec_moves.specs.declared.place.InMail.TheVariants as mail
-use Rattle.exec_moves.specs.declared.place.InRingWait.TheVariants as ring
-use Rattle.exec_moves.specs.declared.place.InWordWait.TheVariants as word
+use Rattle.exec_moves.specs.declared.idling.InRingWait.TheVariants as ring
+use Rattle.exec_moves.specs.declared.idling.InWordWait.TheVariants as word
 use Rattle.exec_moves.specs.declared.place.InService.TheVariants as step
 use Rattle.exec_moves.specs.declared.place.Reaping.TheVariants as reaping
 use Rattle.exec_moves.specs.declared.place.Round.TheVariants as round
@@ -186,10 +190,14 @@ below_global first.Global = second_queue
 
 abbrev pub in_pick : InPick → ℕ
 in_pick pick.CountDown = count_down
-in_pick (pick.Pop f) = pop f
 in_pick (pick.LoadMirror f) = look_at_queue (below_global f)
 in_pick (pick.LoadHead f) = load_queue (below_global f)
 in_pick (pick.TakeShare f room held) = share (below_global f)
+
+-- the pop of a worker alone
+abbrev pub in_pop : InPop → AfterPop → ℕ
+in_pop pops.PopAlone (popped.Pick f) = pop f
+in_pop _ _ = 0
 
 abbrev pub in_poll : InPoll → ℕ
 in_poll (poll.JoinGate r) = join_gate
@@ -237,8 +245,9 @@ in_mail (mail.Apply applied taken) = apply
 
 abbrev pub in_look : InLook → ℕ
 in_look look.Publish = publish
-in_look look.LookAtMirror = look_at_mirror
+in_look (look.LookAtMirror last) = look_at_mirror
 in_look look.LookAtCount = look_at_count
+in_look _ = 0
 
 abbrev pub in_ring_wait : InRingWait → ℕ
 in_ring_wait ring.EnterFullRing = full_ring
@@ -271,7 +280,44 @@ height (at.Look x) = in_look x
 height (at.RingWait x y) = in_ring_wait x
 height (at.WordWait x) = in_word_wait x
 height (at.Withdraw n) = withdraw
-height (at.Closing x) = 0
+height (at.Pop x b) = in_pop x b
+height _ = 0
+
+-- WHERE A WORKER ALONE CAN BE, with no callers and no task but its root
+abbrev pub pops_alone : InPop → Bool
+pops_alone pops.PopAlone = true
+pops_alone _ = false
+
+abbrev pub polls_alone : InPoll → Bool
+polls_alone poll.LoadSpawnHead = false
+polls_alone poll.RemoveTask = false
+polls_alone _ = true
+
+abbrev pub looks_alone : InLook → Bool
+looks_alone look.Publish = true
+looks_alone (look.LookAtMirror last) = not last
+looks_alone look.LookAtCount = true
+looks_alone _ = false
+
+abbrev pub withdraws_alone : AfterWait → Bool
+withdraws_alone next.Search = false
+withdraws_alone (next.MakeUp last) = not last
+withdraws_alone _ = true
+
+abbrev pub is_of_one_worker : Place → Bool
+is_of_one_worker (at.Poll t x) = polls_alone x
+is_of_one_worker (at.Search x) = false
+is_of_one_worker (at.Scan x) = false
+is_of_one_worker (at.Look x) = looks_alone x
+is_of_one_worker (at.Withdraw n) = withdraws_alone n
+is_of_one_worker (at.Pop x b) = pops_alone x
+is_of_one_worker (at.LeaveSearch b) = false
+is_of_one_worker (at.Push x b) = false
+is_of_one_worker (at.Global x b) = false
+is_of_one_worker (at.Kick x b) = false
+is_of_one_worker (at.ClaimWorker set b) = false
+is_of_one_worker (at.Signal x j b) = false
+is_of_one_worker _ = true
 
 -- The height that counts for the signs: a permit is given up on the way, so that place is as low as where it leads; a poll
 -- is about to begin where its task was found; and a spin is one stop.

@@ -5,7 +5,10 @@ use Rattle.exec_machine.specs.{declared.config.Configuration.Configuration, Rang
 use Rattle.exec_moves.specs.{declared.place.{Found.Found, Round.Round, Place.Place}, State.{Desk, Moved, Own, turns}, Callback.{has_callbacks, has_requests, serve}}
 use Rattle.exec_moves.specs.declared.place.AfterService.TheVariants as back
 use Rattle.exec_moves.specs.declared.place.InLoads.TheVariants as load
-use Rattle.exec_moves.specs.declared.place.InLook.TheVariants as look
+use Rattle.exec_moves.specs.declared.handing.AfterLeave.TheVariants as leave
+use Rattle.exec_moves.specs.declared.idling.InLook.TheVariants as look
+use Rattle.exec_moves.specs.declared.idling.InScan.TheVariants as scan
+use Rattle.exec_moves.specs.declared.idling.InSearch.TheVariants as search
 use Rattle.exec_moves.specs.declared.place.InService.TheVariants as service
 use Rattle.exec_moves.specs.declared.place.Round.TheVariants as round
 use Rattle.exec_moves.specs.declared.place.Place.TheVariants as at
@@ -51,17 +54,27 @@ abbrev pub next_turn : Configuration → ℕ → Books → Common → Desk → P
 next_turn c i me s d =
     if (d.put_off && has_requests i s) || (d.may_put_off && has_submissions c me) then serve back.Begin else at.BeginTurn
 
+-- the same, once a held search count is returned
+abbrev pub leaves_for_turn : Configuration → ℕ → Books → Common → Desk → Place
+leaves_for_turn c i me s d = if d.searching then at.LeaveSearch leave.Begin else next_turn c i me s d
+
 abbrev pub test_for_work : Configuration → ℕ → Books → Common → Found → Desk → Moved Own
 test_for_work c i me s f d =
-    if is_ready me f d || has_submissions c me then turns (next_turn c i me s d) d tt else turns at.ReadClock d tt
+    if is_ready me f d || has_submissions c me then turns (leaves_for_turn c i me s d) d tt else turns at.ReadClock d tt
 
 -- the moment has come
 abbrev pub has_come : ℕ → Option ℕ → Bool
 has_come clock None = false
 has_come clock (Some moment) = nat_le moment clock
 
+-- a worker that has nothing to do searches for work, unless it is alone
+abbrev pub first_search : Configuration → Desk → Place
+first_search c d =
+    if nat_le c.workers 1 then at.Look look.Publish
+    else if d.searching then at.Scan scan.LoadScanHead else at.Search search.LoadSearchCount
+
 abbrev pub read_clock : Configuration → ℕ → Books → Common → Desk → Moved Own
 read_clock c i me s d =
     if has_come s.clock (next_due s i)
-    then turns (next_turn c i me s d) (record d { read = s.clock }) tt
-    else turns (at.Look look.Publish) (record d { read = s.clock }) tt
+    then turns (leaves_for_turn c i me s d) (record d { read = s.clock }) tt
+    else turns (first_search c d) (record d { read = s.clock }) tt

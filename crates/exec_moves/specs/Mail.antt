@@ -3,7 +3,7 @@ use Rattle.std.specs.Prelude.{ℕ, true, ◌+◌, ◌||◌, List, [], ◌∷◌,
 use Rattle.exec_words.specs.{Word.next_batch, declared.word.PureWord.PureWord}
 use Rattle.exec_machine.specs.{declared.{event.Event.TheVariants.Apply, state.MailMessage.MailMessage}, World.Task, Tests.is_empty}
 use Rattle.exec_machine.specs.declared.state.MailMessage.TheVariants as message
-use Rattle.exec_moves.specs.declared.place.AfterCallbacks.TheVariants as after
+use Rattle.exec_moves.specs.declared.handing.AfterCallbacks.TheVariants as after
 use Rattle.exec_moves.specs.declared.place.InCallbacks.TheVariants as callback
 use Rattle.exec_moves.specs.declared.place.InMail.TheVariants as mail
 use Rattle.exec_moves.specs.{declared.place.Place.Place, State.{Desk, Moved, Own, turns, does}, Load.has_mail, Callback.flagged_by}

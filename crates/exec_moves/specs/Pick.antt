@@ -1,48 +1,40 @@
 -- Moves at the beginning of a turn: the picks from the queues, and the root flag.
 use Rattle.std.specs.Prelude.{ℕ, false, ◌-◌, List, [], ◌∷◌, length, take, drop, nat_le, if◌then◌else◌}
-use Rattle.exec_words.specs.{Queue.{Queue, popped, published, room_of}, Global.share_of}
-use Rattle.exec_moves.specs.{declared.place.{First.First, Place.Place}, State.{Desk, Moved, Own, turns}}
-use Rattle.exec_moves.specs.declared.place.First.TheVariants as first
-use Rattle.exec_moves.specs.declared.place.InPick.TheVariants as pick
-use Rattle.exec_moves.specs.declared.place.InPoll.TheVariants as poll
+use Rattle.exec_words.specs.{Queue.{Queue, published, room_of}, Global.share_of}
+use Rattle.exec_machine.specs.declared.{config.Configuration.Configuration, event.Event.TheVariants.Turn}
+use Rattle.exec_moves.specs.{declared.{handing.First.First, place.Place.Place}, State.{Desk, Moved, Own, does, turns}, Parts.{first_pop, polls}}
+use Rattle.exec_moves.specs.declared.handing.AfterCallbacks.TheVariants as after
+use Rattle.exec_moves.specs.declared.handing.AfterPop.TheVariants as pop
+use Rattle.exec_moves.specs.declared.handing.First.TheVariants as first
 use Rattle.exec_moves.specs.declared.place.InCallbacks.TheVariants as callback
-use Rattle.exec_moves.specs.declared.place.AfterCallbacks.TheVariants as after
+use Rattle.exec_moves.specs.declared.place.InPick.TheVariants as pick
 use Rattle.exec_moves.specs.declared.place.Place.TheVariants as at
 
+-- a turn has so many picks
+abbrev pub picks_of_turn : ℕ
+picks_of_turn = 64
+
 abbrev pub begin_turn : Desk → Moved Own
-begin_turn d = turns (at.Pick pick.CountDown) d tt
+begin_turn d = turns (at.Pick pick.CountDown) (record d { picks = picks_of_turn }) tt
+
+abbrev pub one_pick_less : Desk → Desk
+one_pick_less d = record d { picks = d.picks - 1 }
 
 -- The pick that brings the countdown to 0 looks at the global queue first, and sets it back.
-abbrev pub count_down : ℕ → Desk → Moved Own
-count_down interval d =
+abbrev pub count_down : Configuration → Desk → Moved Own
+count_down c d =
     if nat_le d.countdown 1
-    then turns (at.Pick (pick.LoadMirror first.Global)) (record d { countdown = interval }) tt
-    else turns (at.Pick (pick.Pop first.Own)) (record d { countdown = d.countdown - 1 }) tt
+    then turns (at.Pick (pick.LoadMirror first.Global)) (record (one_pick_less d) { countdown = c.interval }) tt
+    else turns (first_pop c (pop.Pick first.Own)) (record (one_pick_less d) { countdown = d.countdown - 1 }) tt
 
--- a task that came is polled
-abbrev pub polls : ℕ → Place
-polls t = at.Poll t poll.BeginPoll
-
-abbrev pub after_empty_pop : First → Place
-after_empty_pop first.Own = at.Pick (pick.LoadMirror first.Own)
-after_empty_pop first.Global = at.TakeRootFlag
-
-abbrev pub after_empty_look : First → Place
-after_empty_look first.Own = at.TakeRootFlag
-after_empty_look first.Global = at.Pick (pick.Pop first.Global)
-
--- the run queue
-abbrev pub pop : First → Desk → Queue ℕ → Moved (Queue ℕ)
-pop f d q = by_values q.values
-  where
-    by_values : List ℕ → Moved (Queue ℕ)
-    by_values [] = turns (after_empty_pop f) d q
-    by_values (t ∷ ts) = turns (polls t) d (popped q)
+abbrev pub after_empty_look : Configuration → First → Place
+after_empty_look c first.Own = at.TakeRootFlag
+after_empty_look c first.Global = first_pop c (pop.Pick first.Global)
 
 -- the global queue
-abbrev pub load_mirror : First → Desk → List ℕ → Moved (List ℕ)
-load_mirror f d [] = turns (after_empty_look f) d []
-load_mirror f d (t ∷ global) = turns (at.Pick (pick.LoadHead f)) d (t ∷ global)
+abbrev pub load_mirror : Configuration → First → Desk → List ℕ → Moved (List ℕ)
+load_mirror c f d [] = turns (after_empty_look c f) d []
+load_mirror c f d (t ∷ global) = turns (at.Pick (pick.LoadHead f)) d (t ∷ global)
 
 -- the run queue
 abbrev pub load_head : First → Desk → Queue ℕ → Moved (Queue ℕ)
@@ -56,15 +48,15 @@ pub record Queues : Type 0 where
 abbrev pub queues_after_share : ℕ → Queues → Queues
 queues_after_share share q = record { global = drop share q.global; queue = published q.queue (drop 1 (take share q.global)) }
 
-abbrev pub take_share : ℕ → First → ℕ → ℕ → Desk → Queues → Moved Queues
-take_share workers f room held d q = taken q.global
+abbrev pub take_share : Configuration → First → ℕ → ℕ → Desk → Queues → Moved Queues
+take_share c f room held d q = taken q.global
   where
     taken : List ℕ → Moved Queues
-    taken [] = turns (after_empty_look f) d q
-    taken (t ∷ _) = turns (polls t) d (queues_after_share (share_of (length q.global) workers room held) q)
+    taken [] = turns (after_empty_look c f) d q
+    taken (t ∷ _) = does Turn (polls t d) (queues_after_share (share_of (length q.global) c.workers room held) q)
 
 -- the root flag is its own
 abbrev pub take_root_flag : ℕ → Desk → Moved Own
 take_root_flag root d =
-    if d.root_ready then turns (polls root) (record d { root_ready = false }) tt
+    if d.root_ready then does Turn (polls root (record d { root_ready = false })) tt
     else turns (at.Callbacks callback.TakeBatch after.Look) d tt

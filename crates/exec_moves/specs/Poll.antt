@@ -1,15 +1,19 @@
--- Moves of a poll: its beginning, the acts of the task, and its end where it waits.
-use Rattle.std.specs.Prelude.{ℕ, Bool, true, false, ◌||◌, List, [], ◌∷◌, length, Option, Some, None, if◌then◌else◌}
+-- Moves of a poll: its beginning, the acts of the task that concern itself alone, and its end.
+use Rattle.std.specs.Prelude.{ℕ, Bool, true, false, not, ◌==◌, ◌&&◌, ◌||◌, List, [], ◌∷◌, filter, length, Option, Some, None, if◌then◌else◌}
 use Rattle.exec_outcomes.specs.Accounts.{is_durable}
-use Rattle.exec_machine.specs.{declared.{config.{Configuration.Configuration, ScriptWord.ScriptWord}, event.Event.TheVariants.{Turn, Begin, Pend, Done, Fault, Admit, Wait, Got, Drop, Timer, GotTimer, Pass, Wake}, state.{Operation.Operation, RequestPhase.RequestPhase, TaskPhase.TaskPhase, Waiting.Waiting}}, Choice.{Choice.Pays, Payer.ByAct}, World.{Task, Open, Common, request_of, sleeper_of, Own as Books}, Words.{next_word, newest_held, sleep_asked}, Requests.{operation_asked, outcome_if_late}, Tasks.begun_waiting}
+use Rattle.exec_machine.specs.{declared.{config.{Configuration.Configuration, ScriptWord.ScriptWord}, event.Event.TheVariants.{Turn, Begin, Pend, Done, Fault, Admit, Wait, Got, Drop, Timer, GotTimer, Pass, Wake}, state.{Operation.Operation, RequestPhase.RequestPhase, TaskPhase.TaskPhase, Waiting.Waiting}}, Choice.{Choice.Pays, Payer.ByAct}, World.{Task, Open, Common, request_of, sleeper_of, Own as Books}, Tests.is_ready, Words.{next_word, newest_held, sleep_asked}, Requests.{operation_asked, outcome_if_late}, Tasks.begun_waiting}
 use Rattle.exec_machine.specs.declared.config.ScriptWord.TheVariants as word
 use Rattle.exec_machine.specs.declared.state.RequestPhase.TheVariants as phase
 use Rattle.exec_machine.specs.declared.state.TaskPhase.TheVariants as task
 use Rattle.exec_machine.specs.declared.state.Waiting.TheVariants as waiting
-use Rattle.exec_moves.specs.declared.place.AfterCallbacks.TheVariants as after
+use Rattle.exec_words.specs.Queue.{Queue, tail_of}
+use Rattle.exec_moves.specs.declared.handing.AfterCallbacks.TheVariants as after
+use Rattle.exec_moves.specs.declared.handing.AfterPush.TheVariants as push
+use Rattle.exec_moves.specs.declared.handing.InGlobal.TheVariants as global
+use Rattle.exec_moves.specs.declared.handing.InPush.TheVariants as pushes
 use Rattle.exec_moves.specs.declared.place.InCallbacks.TheVariants as callback
 use Rattle.exec_moves.specs.declared.place.InClosing.TheVariants as closing
-use Rattle.exec_moves.specs.{declared.place.InPoll.InPoll, State.{Desk, Moved, does, goes}, Callback.told_of_drop}
+use Rattle.exec_moves.specs.{declared.place.{InPoll.InPoll, Place.Place}, State.{Desk, Moved, does, turns, goes}, Callback.told_of_drop, Parts.{after_poll, next_pick}}
 use Rattle.exec_moves.specs.declared.place.InPoll.TheVariants as poll
 use Rattle.exec_moves.specs.declared.place.Place.TheVariants as at
 
@@ -20,21 +24,34 @@ abbrev pub after_begin : Waiting → InPoll
 after_begin waiting.Nothing = poll.Act
 after_begin _ = poll.Resume
 
--- the task
+-- nothing is in the hand any more
+abbrev pub let_go : Desk → Desk
+let_go d = record d { hand = None }
+
+-- The task. One that was cleared meanwhile isn't polled.
 abbrev pub begin_poll : ℕ → Desk → Task → Moved Task
-begin_poll t d it = does (Begin t) (goes (at.Poll t (after_begin (begun_waiting it.waiting))) d) it
+begin_poll t d it =
+    if is_ready it.phase then does (Begin t) (goes (at.Poll t (after_begin (begun_waiting it.waiting))) (let_go d)) it
+    else turns (after_poll it.home d) (let_go d) it
 
 -- a wake has come in the poll
 abbrev pub is_noted : TaskPhase → Bool
 is_noted (task.Noted i) = true
 is_noted _ = false
 
+-- The runnable of an ordinary task that was woken in its poll goes into the own queue again, unless that is over.
+abbrev pub requeued_if : Bool → ℕ → Desk → Desk
+requeued_if true t d = record d { hand = Some t; place = at.Push pushes.LoadPushHead push.Pick }
+requeued_if false t d = goes (next_pick d) d
+
 -- a root that was woken in its poll has its flag set again
+abbrev pub after_pend : ℕ → Desk → Task → Option ℕ → Desk
+after_pend t d it None = requeued_if (is_noted it.phase && not it.cleared) t d
+after_pend t d it (Some home) =
+    record d { root_ready = d.root_ready || is_noted it.phase; place = at.Callbacks callback.TakeBatch after.Look }
+
 abbrev pub pend : ℕ → Desk → Task → Moved Task
-pend t d it =
-    does (Pend t)
-    (record d { root_ready = d.root_ready || is_noted it.phase; place = at.Callbacks callback.TakeBatch after.Look })
-    it
+pend t d it = does (Pend t) (after_pend t d it it.home) it
 
 -- WHAT A TASK WAITS FOR
 
@@ -65,9 +82,13 @@ abbrev pub told_of_all : Common → List ℕ → Desk → Desk
 told_of_all s [] d = d
 told_of_all s (r ∷ held) d = told_of_all s held (told_of_drop (request_of s r) d)
 
--- a worker whose root is over closes
-abbrev pub ends : Common → Task → Desk → Desk
-ends s it d = goes (at.Closing closing.Close) (told_of_all s it.held d)
+-- a worker whose root is over closes; any other task leaves the set
+abbrev pub after_end : ℕ → Option ℕ → Place
+after_end t None = at.Poll t poll.RemoveTask
+after_end t (Some home) = at.Closing closing.Close
+
+abbrev pub ends : ℕ → Common → Task → Desk → Desk
+ends t s it d = goes (after_end t it.home) (told_of_all s it.held d)
 
 -- the newest held request is taken where it is over, and else waited for
 abbrev pub await : ℕ → Common → Desk → Task → Option ℕ → Moved Task
@@ -98,19 +119,18 @@ abbrev pub drop_newest : ℕ → Common → Desk → Task → Option ℕ → Mov
 drop_newest t s d it None = does Turn d it
 drop_newest t s d it (Some r) = does (Drop r) (acts_on t (told_of_drop (request_of s r) d)) it
 
--- the act by which the task wakes itself or another
-abbrev pub wakes_by_act : ℕ → Desk → Task → Moved Task
-wakes_by_act t d it = record { event = Wake t; choice = Pays ByAct; desk = d; thing = it }
+-- the task wakes itself, and ends its poll
+abbrev pub yield_self : ℕ → Desk → Task → Moved Task
+yield_self t d it = record { event = Wake t; choice = Pays ByAct; desk = stops t d; thing = it }
 
--- What a word asks for that is no request. A spawn comes with ordinary tasks.
+-- What a word asks for that is no request, and no other task.
 abbrev pub act_by : ℕ → Books → Common → Desk → Task → ScriptWord → Moved Task
 act_by t me s d it word.Await = await t s d it (newest_held it)
 act_by t me s d it word.Drop = drop_newest t s d it (newest_held it)
 act_by t me s d it (word.Sleep time) = sleep_for t s d it (sleep_asked me.sampled (word.Sleep time))
-act_by t me s d it word.Yield = wakes_by_act t (stops t d) it
-act_by t me s d it (word.Wake other) = wakes_by_act other (acts_on t d) it
-act_by t me s d it (word.Fault code) = does (Fault t code) (ends s it d) it
-act_by t me s d it word.End = does (Done t) (ends s it d) it
+act_by t me s d it word.Yield = yield_self t d it
+act_by t me s d it (word.Fault code) = does (Fault t code) (ends t s it d) it
+act_by t me s d it word.End = does (Done t) (ends t s it d) it
 act_by t me s d it _ = does Turn d it
 
 abbrev pub act_asked : ℕ → Books → Common → Desk → Task → ScriptWord → Option Operation → Moved Task
@@ -123,3 +143,14 @@ act c t me s d it = act_asked t me s d it (next_word s it) (operation_asked c me
 -- The gate. That the request joins it is the machine's `turn`.
 abbrev pub join_gate : ℕ → Desk → Open → Moved Open
 join_gate t d o = does Turn (acts_on t d) o
+
+-- AFTER A SPAWN AND AN END
+
+-- The own run queue: a new task goes there where it is empty, so that else another worker may begin it.
+abbrev pub load_spawn_head : ℕ → Desk → Queue ℕ → Moved (Queue ℕ)
+load_spawn_head t d q =
+    turns (if tail_of q == q.real then at.Push pushes.LoadPushHead (push.Act t) else at.Global global.Append (push.Act t)) d q
+
+-- a shard: the task leaves it, where a drain hasn't taken it
+abbrev pub remove_task : ℕ → Desk → List ℕ → Moved (List ℕ)
+remove_task t d shard = turns (next_pick d) d (filter (λ n. not (n == t)) shard)

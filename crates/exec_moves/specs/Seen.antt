@@ -1,26 +1,63 @@
 -- What a place says of its worker: what of the machine's own part is read off it.
-use Rattle.std.specs.Prelude.{ℕ, Bool, true, false, not, ◌==◌, ◌&&◌, Option, Some, None}
-use Rattle.exec_machine.specs.declared.state.Next.{Next}
+use Rattle.std.specs.Prelude.{ℕ, Bool, true, false, not, ◌==◌, ◌-◌, ◌&&◌, List, [], Option, Some, None}
+use Rattle.exec_machine.specs.{declared.{config.Configuration.Configuration, state.{Letter.Letter, Next.Next}}, Closing.letters_to_roots}
 use Rattle.exec_machine.specs.declared.state.Next.TheVariants as next
-use Rattle.exec_moves.specs.declared.place.{InPoll.InPoll, InCallbacks.InCallbacks, AfterCallbacks.AfterCallbacks, InService.InService, InMail.InMail, InClosing.InClosing, Place.Place}
+use Rattle.exec_moves.specs.declared.{handing.{AfterCallbacks.AfterCallbacks, AfterClaim.AfterClaim, AfterKick.AfterKick, AfterPush.AfterPush, AfterSend.AfterSend, AfterSignal.AfterSignal, CallPlace.CallPlace}, idling.Stay.Stay, place.{AfterService.AfterService, InPoll.InPoll, InCallbacks.InCallbacks, InService.InService, InMail.InMail, InClosing.InClosing, Place.Place}}
+use Rattle.exec_moves.specs.declared.handing.AfterCallbacks.TheVariants as after
+use Rattle.exec_moves.specs.declared.handing.AfterClaim.TheVariants as claim
+use Rattle.exec_moves.specs.declared.handing.AfterKick.TheVariants as kick
+use Rattle.exec_moves.specs.declared.handing.AfterPush.TheVariants as push
+use Rattle.exec_moves.specs.declared.handing.AfterSend.TheVariants as send
+use Rattle.exec_moves.specs.declared.handing.AfterSignal.TheVariants as signal
+use Rattle.exec_moves.specs.declared.handing.CallPlace.TheVariants as call
+use Rattle.exec_moves.specs.declared.idling.Stay.TheVariants as stay
+use Rattle.exec_moves.specs.declared.place.AfterService.TheVariants as back
 use Rattle.exec_moves.specs.declared.place.InPoll.TheVariants as poll
 use Rattle.exec_moves.specs.declared.place.InCallbacks.TheVariants as callback
-use Rattle.exec_moves.specs.declared.place.AfterCallbacks.TheVariants as after
 use Rattle.exec_moves.specs.declared.place.InService.TheVariants as step
 use Rattle.exec_moves.specs.declared.place.InMail.TheVariants as mail
 use Rattle.exec_moves.specs.declared.place.InClosing.TheVariants as closing
 use Rattle.exec_moves.specs.declared.place.Place.TheVariants as at
 
--- the task that it polls
+-- THE TASK THAT IT POLLS
+
 abbrev pub polls_in : ℕ → InPoll → Option ℕ
 polls_in t poll.BeginPoll = None
+polls_in t poll.RemoveTask = None
 polls_in t _ = Some t
+
+-- a part that hands something on for an act is within the poll
+abbrev pub polls_for : AfterPush → Option ℕ
+polls_for (push.Act t) = Some t
+polls_for push.Pick = None
+
+abbrev pub polls_in_kick : AfterKick → Option ℕ
+polls_in_kick (kick.Leave b) = None
+polls_in_kick (kick.Push b) = polls_for b
+
+abbrev pub polls_in_claim : AfterClaim → Option ℕ
+polls_in_claim (claim.Kick b) = polls_in_kick b
+polls_in_claim (claim.Global b) = polls_for b
+
+abbrev pub polls_in_send : AfterSend → Option ℕ
+polls_in_send (send.Act t) = Some t
+polls_in_send (send.Tell worker) = None
+
+abbrev pub polls_in_signal : AfterSignal → Option ℕ
+polls_in_signal (signal.Claim b) = polls_in_claim b
+polls_in_signal (signal.Send b) = polls_in_send b
 
 abbrev pub polls_at : Place → Option ℕ
 polls_at (at.Poll t x) = polls_in t x
+polls_at (at.Push x b) = polls_for b
+polls_at (at.Global x b) = polls_for b
+polls_at (at.Kick x b) = polls_in_kick b
+polls_at (at.ClaimWorker set b) = polls_in_claim b
+polls_at (at.Signal x j b) = polls_in_signal b
 polls_at _ = None
 
--- what its next line has to do
+-- WHAT ITS NEXT LINE HAS TO DO
+
 abbrev pub next_in_poll : InPoll → Next
 next_in_poll (poll.JoinGate r) = next.Joins r
 next_in_poll _ = next.Free
@@ -35,7 +72,51 @@ next_at (at.Poll t x) = next_in_poll x
 next_at (at.Closing x) = next_in_closing x
 next_at _ = next.Free
 
--- It is within a service: from the first line after the sampling up to the line that follows the service.
+-- WHAT IT HAS TO SEND: the stop, to the roots of all workers from one on
+
+abbrev pub owes_from : Configuration → ℕ → List Letter
+owes_from c worker = letters_to_roots (c.workers - worker) worker
+
+abbrev pub owes_in_signal : Configuration → AfterSignal → List Letter
+owes_in_signal c (signal.Send (send.Tell worker)) = owes_from c worker
+owes_in_signal c _ = []
+
+abbrev pub owes_at : Configuration → Place → List Letter
+owes_at c (at.Closing (closing.TellRoot worker)) = owes_from c worker
+owes_at c (at.Signal x j b) = owes_in_signal c b
+owes_at c _ = []
+
+-- WHETHER IT HAS PASSED THE BARRIER
+
+abbrev pub left_in_closing : InClosing → Bool
+left_in_closing closing.CloseMailbox = true
+left_in_closing closing.Orphan = true
+left_in_closing closing.CloseSleeper = true
+left_in_closing closing.End = true
+left_in_closing _ = false
+
+abbrev pub left_before : AfterCallbacks → Bool
+left_before after.Drain = true
+left_before after.Finish = true
+left_before _ = false
+
+abbrev pub left_in_service : AfterService → Bool
+left_in_service back.Finish = true
+left_in_service _ = false
+
+abbrev pub left_in_wait : Stay → Bool
+left_in_wait stay.Turn = false
+left_in_wait stay.Closing = true
+
+abbrev pub left_at : Place → Bool
+left_at (at.Closing x) = left_in_closing x
+left_at (at.Callbacks x n) = left_before n
+left_at (at.Service x v) = left_in_service v.back
+left_at (at.RingWait x y) = left_in_wait y
+left_at _ = false
+
+-- WHETHER IT IS WITHIN A SERVICE: from the first line after the sampling up to the line that follows the service
+
 abbrev pub serves_in : InService → Bool
 serves_in step.Sample = false
 serves_in _ = true
@@ -55,3 +136,8 @@ serves_at (at.Service x v) = serves_in x
 serves_at (at.Mail x) = serves_in_mail x
 serves_at (at.Callbacks x n) = serves_before x n
 serves_at _ = false
+
+-- OF A CALLER: its call is half done
+abbrev pub is_calling : CallPlace → Bool
+is_calling call.Nothing = false
+is_calling _ = true

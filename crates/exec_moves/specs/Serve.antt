@@ -4,10 +4,10 @@ use Rattle.exec_outcomes.specs.{declared.outcome.{OpResult.{OpResult, TheVariant
 use Rattle.exec_words.specs.declared.word.PureWord.{PureWord}
 use Rattle.exec_machine.specs.{declared.{config.Configuration.Configuration, event.Event.TheVariants.{Enter, Busy, Reap, Fire}, state.{RequestPhase.RequestPhase, Request.Request}}, World.{Common, Open, request_of, sleeper_of, seat_of, Own as Books}, Tests.{is_empty, is_asleep, is_open}, Requests.{outcome_given, outcome_shown, account_of_open}, Deadlines.is_none_earlier}
 use Rattle.exec_machine.specs.declared.state.RequestPhase.TheVariants as phase
-use Rattle.exec_moves.specs.{declared.place.{AfterPermit.AfterPermit, AfterService.AfterService, InService.InService, Reaping.Reaping, Service.Service, Place.Place}, State.{Desk, Moved, Own, does, serves}, Callback.{has_callbacks, has_requests, told_if_ended}, Load.has_submissions}
+use Rattle.exec_moves.specs.{declared.place.{AfterPermit.AfterPermit, AfterService.AfterService, InService.InService, Reaping.Reaping, Service.Service, Place.Place}, State.{WakePoll, Desk, Moved, Own, does, serves, taken_in, others_left, is_dropped, dropped}, Callback.{has_callbacks, has_requests, told_if_ended}, Load.has_submissions}
 use Rattle.exec_moves.specs.declared.place.AfterPermit.TheVariants as permit
 use Rattle.exec_moves.specs.declared.place.AfterService.TheVariants as back
-use Rattle.exec_moves.specs.declared.place.AfterCallbacks.TheVariants as after
+use Rattle.exec_moves.specs.declared.handing.AfterCallbacks.TheVariants as after
 use Rattle.exec_moves.specs.declared.place.InCallbacks.TheVariants as callback
 use Rattle.exec_moves.specs.declared.place.InMail.TheVariants as mail
 use Rattle.exec_moves.specs.declared.place.InService.TheVariants as step
@@ -21,6 +21,12 @@ unlatched w = record w { latch = false }
 -- the wake word; that it samples the clock is the machine's `serve`
 abbrev pub sample : Service → Desk → PureWord → Moved PureWord
 sample v d w = serves (at.Service (step.Reap reaping.First) v) d (unlatched w)
+
+-- THE RING: set busy or not, what has landed there in order, and its wake poll
+pub record Ring : Type 0 where
+  pub busy : Bool
+  pub landed : List ℕ
+  pub wakes : WakePoll
 
 -- COMPLETIONS
 
@@ -41,29 +47,36 @@ abbrev pub after_reap : Request → Option Outcome → AfterPermit → InService
 after_reap it None b = after_permit b
 after_reap it (Some outcome) b = if is_durable it.operation.kind then step.PassPermit it.operation.target b else after_permit b
 
--- What of no operation stands before the next completion of one, or at the end, is dropped.
-abbrev pub others_after_reap : List ℕ → Desk → Desk
-others_after_reap [] d = record d { others = 0 }
-others_after_reap (next ∷ later) d = d
+-- What of no operation stands before the next completion of one, or at the end, is dropped. The completion that ended the
+-- wake poll may be among that.
+abbrev pub others_after_reap : List ℕ → WakePoll → Desk → Desk
+others_after_reap later w d = record d { others = others_left later d.others; polled = d.polled && not (is_dropped later w.ended) }
+
+-- these are left there
+abbrev pub reaped : List ℕ → Ring → Ring
+reaped later x = record x { landed = later; wakes = dropped later x.wakes }
 
 abbrev pub result_in : RequestPhase → OpResult
 result_in (phase.Landed n) = n
 result_in _ = Count 0
 
--- the ring: what has landed there, in order
-abbrev pub reap : ℕ → Service → Reaping → Common → Desk → List ℕ → Moved (List ℕ)
-reap i v r s d [] = serves (at.Service (after_permit (permit.Reaped r)) v) (record d { others = 0 }) []
-reap i v r s d (q ∷ later) = judged (request_of s q) (result_in (request_of s q).phase)
+-- the ring
+abbrev pub reap : ℕ → Service → Reaping → Common → Desk → Ring → Moved Ring
+reap i v r s d x = by_landed x.landed
   where
-    told : Request → OpResult → Option Outcome → Moved (List ℕ)
-    told it n given =
+    told : List ℕ → ℕ → Request → OpResult → Option Outcome → Moved Ring
+    told later q it n given =
         does
         (Reap q n (outcome_shown (account_of_open s it) it.operation.kind given))
-        (record (told_if_ended given it (others_after_reap later d)) { place = at.Service (after_reap it given (back_from_reap r later)) v })
-        later
+        (record (told_if_ended given it (others_after_reap later x.wakes d)) { place = at.Service (after_reap it given (back_from_reap r later)) v })
+        (reaped later x)
 
-    judged : Request → OpResult → Moved (List ℕ)
-    judged it n = told it n (outcome_given it n)
+    judged : List ℕ → ℕ → Request → OpResult → Moved Ring
+    judged later q it n = told later q it n (outcome_given it n)
+
+    by_landed : List ℕ → Moved Ring
+    by_landed [] = serves (at.Service (after_permit (permit.Reaped r)) v) (others_after_reap [] x.wakes d) (reaped [] x)
+    by_landed (q ∷ later) = judged later q (request_of s q) (result_in (request_of s q).phase)
 
 -- PERMITS. The machine passes a permit on as its request ends, so what it has as the holder is whom the gate names now.
 
@@ -104,16 +117,17 @@ after_staging c i v me s d =
 abbrev pub entered : ℕ → Desk → Desk
 entered cancels d = record d { entries = 0; others = d.others + cancels }
 
--- the ring, which was set busy or not
-abbrev pub enter : Books → Desk → Bool → Moved Bool
-enter me d true = does Busy d false
-enter me d false = does Enter (entered (length me.untold) d) false
+-- the ring: a busy one takes nothing, once
+abbrev pub enter : Books → Desk → Ring → Moved Ring
+enter me d x =
+    if x.busy then does Busy d (record x { busy = false })
+    else does Enter (entered (length me.untold) d) (record x { wakes = taken_in d.polled x.wakes })
 
 abbrev pub at_place : {T : Type 0} → Place → Moved T → Moved T
 at_place p m = record m { desk = record m.desk { place = p } }
 
-abbrev pub enter_last : Service → Books → Desk → Bool → Moved Bool
-enter_last v me d busy = at_place (at.Service (step.Reap reaping.Last) v) (enter me d busy)
+abbrev pub enter_last : Service → Books → Desk → Ring → Moved Ring
+enter_last v me d x = at_place (at.Service (step.Reap reaping.Last) v) (enter me d x)
 
 -- SLEEPERS
 

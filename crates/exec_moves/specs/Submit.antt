@@ -6,7 +6,7 @@ use Rattle.exec_machine.specs.{declared.{config.Configuration.Configuration, eve
 use Rattle.exec_machine.specs.declared.event.Event.TheVariants as event
 use Rattle.exec_moves.specs.declared.place.AfterPermit.TheVariants as permit
 use Rattle.exec_moves.specs.declared.place.InService.TheVariants as step
-use Rattle.exec_moves.specs.{declared.place.Service.Service, State.{Desk, Moved, Own, does}, Callback.{told_if_ended, is_full}, Load.may_stage, Serve.{after_staging, enter, first_numbered}}
+use Rattle.exec_moves.specs.{declared.place.Service.Service, State.{Desk, Moved, Own, does}, Callback.{told_if_ended, is_full}, Load.may_stage, Serve.{Ring, after_staging, enter, first_numbered}}
 use Rattle.exec_moves.specs.declared.place.Place.TheVariants as at
 
 -- WHAT IS NEXT
@@ -99,16 +99,16 @@ one_more d = record d { entries = d.entries + 1 }
 abbrev pub with_poll : ℕ → Desk → Desk
 with_poll size d = if d.polled || is_full size d then d else (record (one_more d) { polled = true })
 
--- the ring: set busy or not
-abbrev pub stage_next : Configuration → ℕ → Service → ℕ → Books → Common → Desk → Bool → Due → Moved Bool
-stage_next c i v gate me s d busy Flushes = flushed (enter me (submits v gate d) busy)
+-- the ring
+abbrev pub stage_next : Configuration → ℕ → Service → ℕ → Books → Common → Desk → Ring → Due → Moved Ring
+stage_next c i v gate me s d x Flushes = flushed (enter me (submits v gate d) x)
   where
     ended_by : Event → Desk → Desk
-    ended_by event.Busy x = after_staging c i v me s x
-    ended_by _ x = x
+    ended_by event.Busy e = after_staging c i v me s e
+    ended_by _ e = e
 
-    flushed : Moved Bool → Moved Bool
+    flushed : Moved Ring → Moved Ring
     flushed m = record m { desk = ended_by m.event m.desk }
-stage_next c i v gate me s d busy (Cancels r) = does (Cancel r) (submits v gate (one_more d)) busy
-stage_next c i v gate me s d busy (Stages r) = does (Stage r) (submits v gate (one_more d)) busy
-stage_next c i v gate me s d busy _ = does Serve (after_staging c i v me s (with_poll (ring_size c) d)) busy
+stage_next c i v gate me s d x (Cancels r) = does (Cancel r) (submits v gate (one_more d)) x
+stage_next c i v gate me s d x (Stages r) = does (Stage r) (submits v gate (one_more d)) x
+stage_next c i v gate me s d x _ = does Serve (after_staging c i v me s (with_poll (ring_size c) d)) x

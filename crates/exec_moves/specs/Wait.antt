@@ -1,28 +1,18 @@
--- Moves of the look before a wait, of the two waits, and of the withdrawal after them.
-use Rattle.std.specs.Prelude.{ℕ, Bool, true, false, not, ◌-◌, ◌*◌, ◌&&◌, ◌||◌, List, [], ◌∷◌, nat_lt, nat_le, slice_set, Option, Some, None, if◌then◌else◌}
+-- Moves of the two waits.
+use Rattle.std.specs.Prelude.{ℕ, Bool, true, false, not, ◌-◌, ◌*◌, ◌&&◌, ◌||◌, nat_lt, nat_le, Option, Some, None, if◌then◌else◌}
 use Rattle.exec_base.specs.Spinner.{after_hit, after_miss, after_wake}
-use Rattle.exec_words.specs.{Idle.Idle, Word.is_idle_at, declared.word.PureWord.PureWord}
+use Rattle.exec_words.specs.{Word.is_idle_at, declared.word.PureWord.PureWord}
 use Rattle.exec_words.specs.declared.word.WaitTarget.TheVariants as target
 use Rattle.exec_machine.specs.{declared.{config.Configuration.Configuration, event.Event.{Event, TheVariants.{Turn, Sleep, Enter}}}, Ranges.ring_size, Tests.is_empty, World.{Common, Own as Books}, Deadlines.next_due}
 use Rattle.exec_moves.specs.declared.place.AfterService.TheVariants as back
-use Rattle.exec_moves.specs.{declared.place.{AfterWait.AfterWait, Stay.Stay, Place.Place}, State.{Desk, Moved, Own, turns, does}, Callback.{has_requests, serve, ring_wait, is_full}, Load.{has_mail, has_submissions, has_come, next_turn}, Submit.with_poll, Serve.enter}
-use Rattle.exec_moves.specs.declared.place.AfterWait.TheVariants as next
-use Rattle.exec_moves.specs.declared.place.InLook.TheVariants as look
-use Rattle.exec_moves.specs.declared.place.InRingWait.TheVariants as ring
-use Rattle.exec_moves.specs.declared.place.InWordWait.TheVariants as word
-use Rattle.exec_moves.specs.declared.place.Stay.TheVariants as stay
+use Rattle.exec_moves.specs.{declared.{idling.{AfterWait.AfterWait, Stay.Stay}, place.Place.Place}, State.{Desk, Moved, Own, turns, does}, Callback.{has_requests, serve, ring_wait, is_full}, Load.{has_mail, has_submissions, has_come}, Submit.with_poll, Serve.{Ring, enter}}
+use Rattle.exec_moves.specs.declared.idling.AfterWait.TheVariants as next
+use Rattle.exec_moves.specs.declared.idling.InRingWait.TheVariants as ring
+use Rattle.exec_moves.specs.declared.idling.InWordWait.TheVariants as word
+use Rattle.exec_moves.specs.declared.idling.Stay.TheVariants as stay
 use Rattle.exec_moves.specs.declared.place.Place.TheVariants as at
 
--- THE LOOK
-
--- the idle set
-abbrev pub publish : ℕ → Desk → Idle → Moved Idle
-publish i d x = turns (at.Look look.LookAtMirror) d (record x { published = slice_set x.published i true })
-
--- the global queue
-abbrev pub look_at_mirror : Desk → List ℕ → Moved (List ℕ)
-look_at_mirror d [] = turns (at.Look look.LookAtCount) d []
-look_at_mirror d (t ∷ ts) = turns (at.Withdraw next.MakeUp) d (t ∷ ts)
+-- WHICH WAIT
 
 -- A worker looks again and again where it has a budget for that, and no deadline is within the longest spin.
 abbrev pub is_near : Configuration → Desk → Option ℕ → Bool
@@ -34,18 +24,9 @@ word_wait c i s d =
     if nat_lt 0 d.spinner.budget && not (is_near c d (next_due s i)) then at.WordWait (word.SpinOnBatch d.spinner.budget)
     else at.WordWait word.ArmWord
 
--- the search count: a worker alone has nobody to search for it, and nothing else to look at
-abbrev pub look_at_count : Configuration → ℕ → Common → Desk → Idle → Moved Idle
-look_at_count c i s d x = turns (if has_requests i s then ring_wait (ring_size c) stay.Turn d else word_wait c i s d) d x
-
-abbrev pub after_withdrawal : Configuration → ℕ → Books → Common → AfterWait → Desk → Place
-after_withdrawal c i me s next.Begin d = at.BeginTurn
-after_withdrawal c i me s next.Serve d = serve back.Begin
-after_withdrawal c i me s next.MakeUp d = next_turn c i me s d
-
--- the idle set
-abbrev pub withdraw : Configuration → ℕ → Books → Common → AfterWait → Desk → Idle → Moved Idle
-withdraw c i me s n d x = turns (after_withdrawal c i me s n d) d (record x { published = slice_set x.published i false })
+-- on the ring with requests, else on the wake word
+abbrev pub waits : Configuration → ℕ → Common → Desk → Place
+waits c i s d = if has_requests i s then ring_wait (ring_size c) stay.Turn d else word_wait c i s d
 
 -- THE SLEEP
 
@@ -60,9 +41,9 @@ abbrev pub after_wait : Stay → AfterWait → Place
 after_wait stay.Turn n = at.Withdraw n
 after_wait stay.Closing n = serve back.Finish
 
--- the ring: set busy or not
-abbrev pub enter_full_ring : Stay → Books → Desk → Bool → Moved Bool
-enter_full_ring x me d busy = enter me (record d { place = at.RingWait ring.TestRing x }) busy
+-- the ring
+abbrev pub enter_full_ring : Stay → Books → Desk → Ring → Moved Ring
+enter_full_ring x me d r = enter me (record d { place = at.RingWait ring.TestRing x }) r
 
 abbrev pub test_ring : Configuration → Stay → Books → Desk → Moved Own
 test_ring c x me d =
@@ -76,24 +57,24 @@ arm_ring x d w =
     (record w { target = target.Ring })
 
 -- a completion is there
-abbrev pub has_completion : Desk → List ℕ → Bool
-has_completion d landed = not (is_empty landed) || nat_lt 0 d.others
+abbrev pub has_completion : Desk → Ring → Bool
+has_completion d r = not (is_empty r.landed) || nat_lt 0 d.others || r.wakes.told
 
--- the ring: set busy or not, and what has landed there
-abbrev pub enter_ring : Stay → Books → Desk → Bool → List ℕ → Moved Bool
-enter_ring x me d busy landed = settled (enter me d busy)
+-- the ring
+abbrev pub enter_ring : Stay → Books → Desk → Ring → Moved Ring
+enter_ring x me d r = settled (enter me d r)
   where
-    after_enter : Event → Desk → Place
-    after_enter Enter e = at.RingWait (if has_completion e landed then ring.DisarmRing next.Begin else ring.SleepOnRing) x
-    after_enter _ e = at.RingWait (ring.DisarmRing next.Begin) x
+    after_enter : Event → Desk → Ring → Place
+    after_enter Enter e q = at.RingWait (if has_completion e q then ring.DisarmRing next.Begin else ring.SleepOnRing) x
+    after_enter _ e q = at.RingWait (ring.DisarmRing next.Begin) x
 
-    settled : Moved Bool → Moved Bool
-    settled m = record m { desk = record m.desk { place = after_enter m.event m.desk } }
+    settled : Moved Ring → Moved Ring
+    settled m = record m { desk = record m.desk { place = after_enter m.event m.desk m.thing } }
 
-abbrev pub sleep_on_ring : ℕ → Stay → Common → Desk → List ℕ → Moved (List ℕ)
-sleep_on_ring i x s d landed =
+abbrev pub sleep_on_ring : ℕ → Stay → Common → Desk → Ring → Moved Ring
+sleep_on_ring i x s d r =
     let left = record d { place = at.RingWait (ring.DisarmRing next.Begin) x } in
-    if has_completion d landed then does Turn left landed else sleep i s left landed
+    if has_completion d r then does Turn left r else sleep i s left r
 
 abbrev pub disarmed : PureWord → PureWord
 disarmed w = record w { target = target.None; latch = false }

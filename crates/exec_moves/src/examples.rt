@@ -1,20 +1,24 @@
-//! Worked examples, proved by computation: single moves, and whole logs.
+//! Worked examples, proved by computation: single moves, and whole logs of one worker.
 
 ghost use Rattle.std.specs.Prelude.{◌≡◌, [], ◌∷◌, Some};
 ghost use Rattle.exec_outcomes.specs.declared.outcome.{OpResult.TheVariants.Count, Outcome.TheVariants.Success};
 ghost use Rattle.exec_machine.specs.{declared.event.Event.TheVariants.{Turn, Serve, Enter, Reap, Sleep, Close, Stop}, Choice.Payer.ByRequest, Examples.{usual, does, pays}, Logs.a_send, MoreLogs.{a_deadline, a_late_enrolment, deadlines_in_order, the_wheel_goes_round, a_clock_in_a_service, a_clock_between_samples, a_cancel_in_time, parts, what_a_task_held}};
 ghost use Rattle.exec_machine.specs.declared.step.Action.TheVariants as action;
 ghost use Rattle.exec_machine.specs.declared.step.Step.TheVariants as step;
-ghost use Rattle.exec_moves.specs.declared.place.First.TheVariants as first;
+ghost use Rattle.exec_moves.specs.declared.handing.First.TheVariants as first;
+ghost use Rattle.exec_moves.specs.declared.handing.AfterPop.TheVariants as popped;
+ghost use Rattle.exec_moves.specs.declared.handing.InPop.TheVariants as pop;
 ghost use Rattle.exec_moves.specs.declared.place.InPick.TheVariants as pick;
 ghost use Rattle.exec_moves.specs.declared.place.Place.TheVariants as at;
 ghost use Rattle.exec_moves.specs.{Pick.count_down, Plays.{first_desk, IsPlayed, IsPaidFor}, Departures.{Departs, two_sends}};
 
 /// The pick that brings the countdown to its end looks at the global queue first.
 pub fn the_global_look()
-    ensures far { (count_down 31 (record (first_desk usual) { countdown = 2 })).desk.place ≡ at.Pick (pick.Pop first.Own) }
-    ensures near { (count_down 31 (record (first_desk usual) { countdown = 1 })).desk.place ≡ at.Pick (pick.LoadMirror first.Global) }
-    ensures set_back { (count_down 31 (record (first_desk usual) { countdown = 1 })).desk.countdown ≡ 31 }
+    ensures far { (count_down usual (record (first_desk usual 0) { countdown = 2 })).desk.place
+        ≡ at.Pop pop.PopAlone (popped.Pick first.Own) }
+    ensures near { (count_down usual (record (first_desk usual 0) { countdown = 1 })).desk.place
+        ≡ at.Pick (pick.LoadMirror first.Global) }
+    ensures set_back { (count_down usual (record (first_desk usual 0) { countdown = 1 })).desk.countdown ≡ 31 }
 {}
 
 /// The log that the moves make of a trace is the good one, line by line, and at each line the place says what the machine has

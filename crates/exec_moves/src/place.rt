@@ -3,21 +3,23 @@
 //! A worker is one party of many, and between two of its steps any other may take some. So all that it knows of where
 //! it stands is its place with what that carries; all else it looks up anew. Each place is named as the function that
 //! takes its step, in the file of its group. A step names one shared thing at most, which stands in brackets below;
-//! beside it, it sees the clock and whether the task set is closed, and it may make things, which get the next numbers.
-//! What a step finds it decides at once: tests, jumps and ends are no steps.
+//! beside it, it sees the clock, whether the task set is closed and whether the pool is stopped, and it may make
+//! things, which get the next numbers. What a step finds it decides at once: tests, jumps and ends are no steps.
 //!
-//! A part that several ways go through, as the callbacks, a service or a wait, carries where it leads. Parts call parts
-//! in no circle, so the types say what may come next.
+//! A part that several ways go through, as the callbacks, a service or a push, carries where it leads. Parts call parts
+//! in no circle, so the types say what may come next. What hands something on has its places in `handing`, search, look
+//! and waits have theirs in `idling`.
 //!
 //! A turn, from top to bottom. Every step is a `turn` where no event is named, within a service a `serve`.
 //!
 //! ```text
 //! BeginTurn                                     -> CountDown
-//! CountDown                                     -> Pop, or LoadMirror where the global look comes first
-//! Pop            [own run queue]                what came is polled; else on to LoadMirror or TakeRootFlag
-//! LoadMirror     [global queue]                 nothing there: on to Pop or TakeRootFlag
+//! CountDown                                     -> POP, or LoadMirror where the global look comes first
+//! POP            [own run queue]                what came is polled; else on to LoadMirror or TakeRootFlag
+//! LoadMirror     [global queue]                 nothing there: on to POP or TakeRootFlag
 //! LoadHead       [own run queue]                how much room there is
-//! TakeShare      [global queue]                 the first is polled
+//! TakeShare      [global queue, own tail]       the first is polled
+//! POLL                                          of an ordinary task: CountDown, after 64 polls TakeRootFlag
 //! TakeRootFlag                                  set: POLL; else on to CALLBACKS
 //! POLL                                          a root that is done: CLOSING; else on to CALLBACKS
 //! CALLBACKS                                     -> LOADS
@@ -26,9 +28,11 @@
 //! MAIL                                          -> CALLBACKS
 //! CALLBACKS                                     -> LOADS
 //! LOADS, TestForWork, ReadClock                 is anything ready or due?
-//!                                               yes: [SERVICE, CALLBACKS], then BeginTurn
+//!                                               yes: LEAVE, [SERVICE, CALLBACKS], then BeginTurn
+//! SEARCH, SCAN                                  of several workers: is anything to be stolen?
+//!                                               yes: as above
 //! LOOK                                          the own bit goes in; is anything there?
-//!                                               yes: Withdraw, then as above
+//!                                               yes: Withdraw, then as above, or SCAN
 //! RING WAIT, WORD WAIT                          with requests, without
 //! Withdraw       [idle set]                     -> [SERVICE, CALLBACKS], BeginTurn
 //! ```
@@ -36,12 +40,18 @@
 //! The parts:
 //!
 //! ```text
-//! POLL        BeginPoll      [the task]         begin T: what it waits for is looked at, else it acts
+//! POLL        LEAVE                             only with a search count
+//!             BeginPoll      [the task]         begin T: what it waits for is looked at, else it acts; a plain turn
+//!                                               where the task was cleared, and that is all
 //!             Resume         [the task]         got .., or pend T where its await is still open
-//!             Act            [the task]         the event of the act; JoinGate after a durable request
+//!             Act            [the task]         the event of the act; then JoinGate after a durable request, the push
+//!                                               of a task that was made (LoadSpawnHead) or woken, a SIGNAL after a send
+//!             LoadSpawnHead  [own run queue]    only with several workers: empty: PUSH, else GLOBAL
 //!             JoinGate       [a gate]
-//!             Pend           [the task]         pend T
+//!             Pend           [the task]         pend T, then PUSH where it was woken meanwhile
+//!             RemoveTask     [a shard]          after done T of an ordinary task
 //! CALLBACKS   TakeBatch                         nothing there: on
+//!             LEAVE                             only with a search count
 //!             CallBack       [the task]         wake T, a plain turn for an output, release R
 //! LOADS       LoadOwnHead [run queue], LoadOwnMirror [global queue], LoadOwnWord [wake word]
 //! SERVICE     Sample         [wake word]        samples the clock, takes a latch out
@@ -53,44 +63,46 @@
 //!             EnterLast      [ring]             enter or busy, unless put off
 //!             Reap           [ring]
 //!             EndService                        fire each sleeper that is due, then the end
-//! MAIL        LoadMailWord [wake word], TakeMail [inbox], Apply
-//! LOOK        Publish [idle set], LookAtMirror [global queue], LookAtCount [idle set]
-//! RING WAIT   EnterFullRing  [ring]             only where the submission queue is full
-//!             TestRing       [ring]             anything to stage: out
-//!             ArmRing        [wake word]        a latch or another batch: out
-//!             EnterRing      [ring]             something there, or busy: out
-//!             SleepOnRing    [ring]             sleep U, or a turn where something came
-//!             DisarmRing     [wake word]
-//! WORD WAIT   SpinOnBatch, SpinOnLatch, TakeLatch [wake word]
-//!             ArmWord, SleepOnWord, DisarmWord [wake word]
-//! CLOSING     Close; CloseQueue [global queue], OpenBarrier [barrier], Stop; Discard [run queue];
-//!             Visit [a shard]; LeaveBarrier [barrier], CloseMailbox [inbox]; Orphan each, CloseSleeper each;
-//!             CALLBACKS, SERVICE, CALLBACKS, and RING WAIT, SERVICE, CALLBACKS while requests stand; End
+//! MAIL        LoadMailWord [wake word], TakeMail [inbox], Apply [the root]   apply M: 64 at most
+//! CLOSING     Close; worker zero: CloseQueue [global queue], OpenBarrier [barrier], Stop, TellRoot [an inbox] each
+//!             with its SIGNAL; POP until empty; Visit [a shard], Clear [a task] each; LeaveBarrier [barrier], CloseMailbox
+//!             [inbox]; Orphan each, CloseSleeper each; CALLBACKS, SERVICE, CALLBACKS, and RING WAIT, SERVICE,
+//!             CALLBACKS while requests stand; End
+//! POP         PopAlone       [own run queue]    a lone worker's, in one action
+//!             LoadPopHead    [own run queue]    empty: that is all
+//!             ExchangePop    [own run queue]    lost: judged by what was found there
+//!             StorePop       [own run queue]    a lone value without a claim
+//! LEAVE       LeaveSearch    [idle set]         the last count: KICK
+//! PUSH        LoadPushHead   [own run queue]
+//!             StoreValue     [own run queue]    two values at least, and several workers: KICK
+//!             FlowOver       [own run queue]    lost: LoadPushHead again
+//!             StoreOldest    [own run queue]    then GLOBAL, as for a value that doesn't fit
+//! GLOBAL      Append         [global queue]     closed: let go, and that is all
+//!             LoadGlobalSet  [idle set]         empty: that is all
+//!             AddGlobalCount [idle set]         then CLAIM
+//!             ReturnGlobalCount [idle set]      nobody was claimed: LoadGlobalSet again where it was the last
+//! KICK        LoadKickCount  [idle set]         somebody searches: that is all
+//!             LoadKickSet    [idle set]         empty: that is all
+//!             ExchangeKickCount [idle set]      somebody searches: that is all; else CLAIM
+//!             ReturnKickCount [idle set]        nobody was claimed: begins again where it was the last
+//! CLAIM       ClaimWorker    [idle set]         lost: again with what was found, while a worker is there
+//! SIGNAL      SetLatch       [a wake word]      a wait bit without a latch: Raise
+//!             Raise          [a seat]           rouse I where it sleeps
 //! ```
-//!
-//! In each wait the bits go in before the last look, and the look before the sleep: who comes later finds the bits, and
-//! who came earlier is found.
 
+use crate::handing::{
+    AfterCallbacks, AfterClaim, AfterKick, AfterLeave, AfterPop, AfterPush, AfterSignal, First,
+    InGlobal, InKick, InPop, InPush, InSignal,
+};
+use crate::idling::{AfterWait, InLook, InRingWait, InScan, InSearch, InWordWait, Stay};
 use exec_task::drain::Drain;
-
-/// Which queue a pick looks at first.
-#[derive(Clone, Copy)]
-pub enum First {
-    /// The own run queue.
-    Own,
-    /// The global queue.
-    Global,
-}
+use exec_words::idle::WorkerSet;
 
 /// The steps of a pick.
 #[derive(Clone, Copy)]
 pub enum InPick {
     /// The count down to the global look.
     CountDown,
-    /// The pop of the own run queue.
-    Pop {
-        first: First,
-    },
     /// The load of the global queue's length.
     LoadMirror {
         first: First,
@@ -118,8 +130,12 @@ pub enum InPoll {
     Act,
     /// The durable request that it just made joins the gate of its open.
     JoinGate { request: usize },
+    /// The load of the own queue's head, for the task that it just made.
+    LoadSpawnHead,
     /// The end of a poll that waits.
     Pend,
+    /// An ordinary task that is over leaves the task set.
+    RemoveTask,
 }
 
 /// The steps of the callbacks.
@@ -129,21 +145,6 @@ pub enum InCallbacks {
     TakeBatch,
     /// One item of the batch.
     CallBack,
-}
-
-/// What follows the callbacks.
-#[derive(Clone, Copy)]
-pub enum AfterCallbacks {
-    /// The loads that decide whether the service may put its last enter off.
-    Look,
-    /// The loads that decide whether the worker may wait.
-    Test,
-    /// The next turn.
-    Begin,
-    /// The first service of a closing worker.
-    Drain,
-    /// The end of a closing worker, or another wait for its requests.
-    Finish,
 }
 
 /// Which of the two looks at the own words it is.
@@ -246,71 +247,6 @@ pub enum InMail {
     Apply { applied: usize, taken: bool },
 }
 
-/// The looks after the own bit went into the idle set.
-#[derive(Clone, Copy)]
-pub enum InLook {
-    /// The own bit goes into the idle set.
-    Publish,
-    /// The load of the global queue's length.
-    LookAtMirror,
-    /// The load of the search count.
-    LookAtCount,
-}
-
-/// In the midst of what a worker waits on its ring.
-#[derive(Clone, Copy)]
-pub enum Stay {
-    /// In a turn.
-    Turn,
-    /// While it closes.
-    Closing,
-}
-
-/// The steps of a wait on the ring.
-#[derive(Clone, Copy)]
-pub enum InRingWait {
-    /// The enter of a full submission queue.
-    EnterFullRing,
-    /// The test for submissions.
-    TestRing,
-    /// The ring bit goes into the wake word.
-    ArmRing,
-    /// The enter of the wait.
-    EnterRing,
-    /// The last look, and the sleep.
-    SleepOnRing,
-    /// The wait bits go out of the wake word.
-    DisarmRing { next: AfterWait },
-}
-
-/// The steps of a wait on the wake word.
-#[derive(Clone, Copy)]
-pub enum InWordWait {
-    /// A look for another batch, of so many looks that are left.
-    SpinOnBatch { left: u64 },
-    /// A look for a latch, the last of its round.
-    SpinOnLatch { left: u64 },
-    /// The latch goes out of the wake word, after a look that met something.
-    TakeLatch,
-    /// The sleeping bit goes into the wake word.
-    ArmWord,
-    /// The last look, and the sleep.
-    SleepOnWord,
-    /// The wait bits go out of the wake word.
-    DisarmWord,
-}
-
-/// What follows a wait.
-#[derive(Clone, Copy)]
-pub enum AfterWait {
-    /// The next turn.
-    Begin,
-    /// A service with callbacks, and then the next turn.
-    Serve,
-    /// What the worker has put off, where it has, and then the next turn.
-    MakeUp,
-}
-
 /// The steps of a closing, beside its callbacks, services and waits.
 #[derive(Clone, Copy)]
 pub enum InClosing {
@@ -322,10 +258,12 @@ pub enum InClosing {
     OpenBarrier,
     /// The pool is stopped.
     Stop,
-    /// The pop that empties the own run queue.
-    Discard,
+    /// The root of this worker is told so.
+    TellRoot { worker: usize },
     /// The visit of a shard of the task set.
     Visit { drain: Drain },
+    /// The task that the visit found is cleared.
+    Clear { task: usize, drain: Drain },
     /// The worker passes the shutdown barrier.
     LeaveBarrier,
     /// The mailbox is closed.
@@ -361,7 +299,11 @@ pub enum Place {
     TestForWork { found: Found },
     /// The reading of the clock.
     ReadClock,
-    /// The looks once the own bit is in the idle set.
+    /// What comes before a scan.
+    Search(InSearch),
+    /// A scan of the other run queues.
+    Scan(InScan),
+    /// The look once nothing was to be stolen: the own bit goes into the idle set, and all is looked at once more.
     Look(InLook),
     /// A wait on the ring.
     RingWait(InRingWait, Stay),
@@ -371,4 +313,18 @@ pub enum Place {
     Withdraw(AfterWait),
     /// The closing.
     Closing(InClosing),
+    /// A pop of the own run queue.
+    Pop(InPop, AfterPop),
+    /// The held search count is returned.
+    LeaveSearch(AfterLeave),
+    /// A push into the own run queue.
+    Push(InPush, AfterPush),
+    /// A push into the global queue.
+    Global(InGlobal, AfterPush),
+    /// A kick.
+    Kick(InKick, AfterKick),
+    /// A worker of the set that was found is claimed.
+    ClaimWorker(WorkerSet, AfterClaim),
+    /// This worker is signalled.
+    Signal(InSignal, usize, AfterSignal),
 }

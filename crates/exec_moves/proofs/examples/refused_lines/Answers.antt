@@ -1,19 +1,6 @@
-use Rattle.std.specs.Prelude.{Bool, true, false, refl}
-use Rattle.exec_machine.specs.declared.event.{StepResult.{StepResult, TheVariants.Did}, Event.TheVariants.{Turn, Serve}}
-use Rattle.exec_moves.proofs.OneLog.{departs}
+use Rattle.std.specs.Prelude.{refl}
+use Rattle.exec_moves.proofs.{OneLog.departs, Tellings.{is_turn, isnt_turn, is_serve}}
 use Rattle.exec_moves.proofs.examples.refused_lines.Goals as goal
-
-abbrev is_turn : StepResult → Bool
-is_turn (Did Turn) = true
-is_turn _ = false
-
-abbrev is_serve : StepResult → Bool
-is_serve (Did Serve) = true
-is_serve _ = false
-
-abbrev isnt_turn : StepResult → Bool
-isnt_turn (Did Turn) = false
-isnt_turn _ = true
 
 pub returns : goal.returns
 returns c =

@@ -1,0 +1,78 @@
+-- Where the parts lead that several ways go through.
+use Rattle.std.specs.Prelude.{ℕ, Bool, ◌==◌, nat_lt, Option, Some, None, if◌then◌else◌}
+use Rattle.exec_machine.specs.{declared.config.Configuration.Configuration, World.{Common, Own as Books}}
+use Rattle.exec_moves.specs.{declared.{handing.{AfterKick.AfterKick, AfterLeave.AfterLeave, AfterPop.AfterPop, AfterPush.AfterPush, AfterSend.AfterSend, AfterSignal.AfterSignal}, place.Place.Place}, State.{Desk}, Load.{next_turn}}
+use Rattle.exec_moves.specs.declared.handing.AfterCallbacks.TheVariants as after
+use Rattle.exec_moves.specs.declared.handing.AfterClaim.TheVariants as claim
+use Rattle.exec_moves.specs.declared.handing.AfterKick.TheVariants as kick
+use Rattle.exec_moves.specs.declared.handing.AfterLeave.TheVariants as leave
+use Rattle.exec_moves.specs.declared.handing.AfterPop.TheVariants as pop
+use Rattle.exec_moves.specs.declared.handing.AfterPush.TheVariants as push
+use Rattle.exec_moves.specs.declared.handing.AfterSend.TheVariants as send
+use Rattle.exec_moves.specs.declared.handing.AfterSignal.TheVariants as signal
+use Rattle.exec_moves.specs.declared.handing.InKick.TheVariants as kicks
+use Rattle.exec_moves.specs.declared.handing.InPop.TheVariants as pops
+use Rattle.exec_moves.specs.declared.place.InCallbacks.TheVariants as callback
+use Rattle.exec_moves.specs.declared.place.InClosing.TheVariants as closing
+use Rattle.exec_moves.specs.declared.place.InPick.TheVariants as pick
+use Rattle.exec_moves.specs.declared.place.InPoll.TheVariants as poll
+use Rattle.exec_moves.specs.declared.place.Place.TheVariants as at
+
+-- there are others to steal, to be kicked and to be searched for
+abbrev pub has_others : Configuration → Bool
+has_others c = nat_lt 1 c.workers
+
+-- POP: the queue of a lone worker is its own, and takes one action
+abbrev pub first_pop : Configuration → AfterPop → Place
+first_pop c b = if has_others c then at.Pop pops.LoadPopHead b else at.Pop pops.PopAlone b
+
+-- POLL: the runnable of this task is in the hand; a held search count is returned first
+abbrev pub polls : ℕ → Desk → Desk
+polls t d =
+    record d {
+      hand = Some t;
+      place = if d.searching then at.LeaveSearch (leave.Poll t) else at.Poll t poll.BeginPoll;
+    }
+
+-- after a poll: of an ordinary task, and of a root
+abbrev pub next_pick : Desk → Place
+next_pick d = if d.picks == 0 then at.TakeRootFlag else at.Pick pick.CountDown
+
+abbrev pub after_poll : Option ℕ → Desk → Place
+after_poll None d = next_pick d
+after_poll (Some home) d = at.Callbacks callback.TakeBatch after.Look
+
+-- PUSH, GLOBAL
+abbrev pub after_push : AfterPush → Desk → Place
+after_push (push.Act t) d = at.Poll t poll.Act
+after_push push.Pick d = next_pick d
+
+-- LEAVE
+abbrev pub after_leave : Configuration → ℕ → Books → Common → AfterLeave → Desk → Place
+after_leave c i me s (leave.Poll t) d = at.Poll t poll.BeginPoll
+after_leave c i me s (leave.CallBack n) d = at.Callbacks callback.CallBack n
+after_leave c i me s leave.Begin d = next_turn c i me s d
+
+-- KICK
+abbrev pub after_kick : Configuration → ℕ → Books → Common → AfterKick → Desk → Place
+after_kick c i me s (kick.Leave b) d = after_leave c i me s b d
+after_kick c i me s (kick.Push b) d = after_push b d
+
+-- a count was returned: who returned the last kicks
+abbrev pub after_return : Configuration → ℕ → Books → Common → Bool → AfterLeave → Desk → Place
+after_return c i me s last b d = if last then at.Kick kicks.LoadKickCount (kick.Leave b) else after_leave c i me s b d
+
+-- the stop is told to the root of each worker from this one on, and then the own queue is emptied
+abbrev pub tells_from : Configuration → ℕ → Place
+tells_from c worker = if nat_lt worker c.workers then at.Closing (closing.TellRoot worker) else first_pop c pop.Discard
+
+-- SEND
+abbrev pub after_send : Configuration → AfterSend → Place
+after_send c (send.Act t) = at.Poll t poll.Act
+after_send c (send.Tell worker) = tells_from c worker
+
+-- SIGNAL
+abbrev pub after_signal : Configuration → ℕ → Books → Common → AfterSignal → Desk → Place
+after_signal c i me s (signal.Claim (claim.Kick b)) d = after_kick c i me s b d
+after_signal c i me s (signal.Claim (claim.Global b)) d = after_push b d
+after_signal c i me s (signal.Send b) d = after_send c b

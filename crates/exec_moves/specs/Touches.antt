@@ -1,0 +1,55 @@
+-- That a step changes the one shared thing that its place names, and nothing else that parties share.
+use Rattle.std.specs.Prelude.{◌≡◌, ℕ, Bool, true, false, ◌==◌, List, [], slice_index_or}
+use Rattle.exec_moves.specs.{State.{Things, queue_of, word_of, inbox_of, wake_poll_of}, Cells.{Cell, Cell.{RunQueue, Share, WakeWord, Ring, Inbox, GlobalQueue, IdleSet, SearchCount, Rest, Shard, Barrier}}}
+
+-- A share stores the tail of the own run queue too, and a message publishes its batch in the wake word.
+abbrev pub touches_queue : Cell → ℕ → Bool
+touches_queue (RunQueue i) j = j == i
+touches_queue (Share i) j = j == i
+touches_queue _ j = false
+
+abbrev pub touches_word : Cell → ℕ → Bool
+touches_word (WakeWord i) j = j == i
+touches_word (Inbox i) j = j == i
+touches_word _ j = false
+
+abbrev pub touches_inbox : Cell → ℕ → Bool
+touches_inbox (Inbox i) j = j == i
+touches_inbox _ j = false
+
+abbrev pub touches_wake_poll : Cell → ℕ → Bool
+touches_wake_poll (Ring i) j = j == i
+touches_wake_poll (Rest i) j = j == i
+touches_wake_poll _ j = false
+
+abbrev pub touches_shard : Cell → ℕ → Bool
+touches_shard (Shard n) m = m == n
+touches_shard _ m = false
+
+abbrev pub touches_global : Cell → Bool
+touches_global GlobalQueue = true
+touches_global (Share i) = true
+touches_global _ = false
+
+abbrev pub touches_idle : Cell → Bool
+touches_idle IdleSet = true
+touches_idle SearchCount = true
+touches_idle _ = false
+
+abbrev pub touches_barrier : Cell → Bool
+touches_barrier Barrier = true
+touches_barrier _ = false
+
+abbrev pub shard_at : Things → ℕ → List ℕ
+shard_at x n = slice_index_or x.shards n []
+
+-- all but this cell is as before
+pub record OnlyTouches (cell : Cell) (before after : Things) : Type 0 where
+  pub queues : (j : ℕ) → touches_queue cell j ≡ false → queue_of after j ≡ queue_of before j
+  pub words : (j : ℕ) → touches_word cell j ≡ false → word_of after j ≡ word_of before j
+  pub inboxes : (j : ℕ) → touches_inbox cell j ≡ false → inbox_of after j ≡ inbox_of before j
+  pub wake_polls : (j : ℕ) → touches_wake_poll cell j ≡ false → wake_poll_of after j ≡ wake_poll_of before j
+  pub shards : (n : ℕ) → touches_shard cell n ≡ false → shard_at after n ≡ shard_at before n
+  pub global : touches_global cell ≡ false → after.global ≡ before.global
+  pub idle : touches_idle cell ≡ false → after.idle ≡ before.idle
+  pub barrier : touches_barrier cell ≡ false → after.barrier ≡ before.barrier
