@@ -1,8 +1,8 @@
 -- Whether a request isn't over, after each change of the requests.
-use Rattle.std.proofs.Common.{◌≡◌, ℕ, zero, suc, ◌==◌, ◌&&◌, Bool, true, false, not, List, [], ◌∷◌, set, get_or, if◌then◌else◌, ◌∙◌, refl, ap}
+use Rattle.std.proofs.Common.{◌≡◌, ℕ, zero, suc, ◌==◌, ◌&&◌, Bool, true, false, not, List, [], ◌∷◌, set, get_or, if◌then◌else◌, refl}
 use Rattle.std.proofs.lemmas.Bool.{and_parts, false≢true}
 use Rattle.std.specs.List.{list_any}
-use Rattle.exec_machine.specs.{declared.state.{Next.Next, Request.Request, RequestPhase.RequestPhase}, Closing.after_next, Requests.flown, Tests.{is_resolved, is_staged}, World.{Common, no_request, request_of}}
+use Rattle.exec_machine.specs.{declared.state.{Next.Next, Request.Request, RequestPhase.RequestPhase}, Closing.after_next, Requests.flown, Tests.{is_resolved, is_staged}, World.{Common, no_request}}
 use Rattle.exec_machine.specs.declared.state.Next.TheVariants as next
 use Rattle.exec_machine.specs.declared.state.RequestPhase.TheVariants as phase
 use Rattle.exec_moves.specs.Callback.{has_requests}

@@ -1,36 +1,38 @@
 -- There is never as much credit as the bound.
-use Rattle.std.proofs.Common.{◌≡◌, ℕ, zero, suc, ◌+◌, ◌*◌, ◌<◌, ◌≤◌, ◌==◌, ◌&&◌, ◌||◌, Bool, true, false, not, List, [], ◌∷◌, length, if◌then◌else◌, Option, Some, None, ◌∙◌, refl, sym, ap, subst, arith}
+use Rattle.std.proofs.Common.{◌≡◌, ℕ, suc, ◌+◌, ◌*◌, ◌<◌, ◌≤◌, ◌==◌, ◌&&◌, ◌||◌, Bool, true, false, List, [], ◌∷◌, length, if◌then◌else◌, refl, arith}
 use Rattle.std.proofs.lemmas.Nat.{mul-le}
 use Rattle.std.specs.Prelude.{nat_le, nat_lt}
 use Rattle.std.specs.List.{list_any}
-use Rattle.exec_machine.specs.{declared.{config.Configuration.Configuration, state.Request.Request}, After.{own_after, common_after}, Allowed.allowed, Progress.quiet_bound, Ranges.largest_spin, Tests.{AllTrue, is_gated}, World.{Own as Books, Common, Open, World, request_of}}
-use Rattle.exec_moves.specs.{declared.place.{AfterCallbacks.AfterCallbacks, AfterPermit.AfterPermit, AfterService.AfterService, InCallbacks.InCallbacks, InLoads.InLoads, InLook.InLook, InMail.InMail, InPick.InPick, InPoll.InPoll, InRingWait.InRingWait, InService.InService, InWordWait.InWordWait, Place.Place, Reaping.Reaping, Round.Round}, Credit.{Signs, count_numbered, credit, flushes, gates_begun, gates_from, gates_left, is_before_spin, in_turn, one_if, owed, owed_between, sampling, signs, spins_owed, submitting, turns_owed, weigh}, Heights.{after_permit, apply, below_service, callback_after_mail, end_service, height, in_service, level, load_mail_word, made_up, reap_last, submit, take_root_flag}, Move.move, State.{Desk, Things}, Submit.waits_at}
-use Rattle.exec_moves.specs.declared.place.AfterCallbacks.TheVariants as after
+use Rattle.exec_machine.specs.{declared.{config.Configuration.Configuration, state.Request.Request}, After.{common_after}, Allowed.allowed, Ranges.largest_spin, Tests.{AllTrue, is_gated}, World.{Own as Books, Common, Open, request_of}}
+use Rattle.exec_moves.specs.{declared.place.{AfterPermit.AfterPermit, AfterService.AfterService, InService.InService, Place.Place}, Credit.{Signs, count_numbered, credit, flushes, gates_begun, gates_from, gates_left, is_before_spin, one_if, sampling, signs, spins_owed, submitting, turns_owed, weigh}, Heights.{after_permit, apply, below_service, callback_after_mail, end_service, height, in_service, level, load_mail_word, made_up, reap_last, submit, take_root_flag}, Move.move, State.{Desk, Things}, Submit.waits_at}
+use Rattle.exec_moves.specs.declared.handing.AfterCallbacks.TheVariants as after
+use Rattle.exec_moves.specs.declared.handing.AfterPop.TheVariants as popped
+use Rattle.exec_moves.specs.declared.handing.InPop.TheVariants as pop
 use Rattle.exec_moves.specs.declared.place.AfterPermit.TheVariants as permit
 use Rattle.exec_moves.specs.declared.place.AfterService.TheVariants as back
-use Rattle.exec_moves.specs.declared.place.First.TheVariants as first
+use Rattle.exec_moves.specs.declared.handing.First.TheVariants as first
 use Rattle.exec_moves.specs.declared.place.InCallbacks.TheVariants as callback
 use Rattle.exec_moves.specs.declared.place.InLoads.TheVariants as load
-use Rattle.exec_moves.specs.declared.place.InLook.TheVariants as look
+use Rattle.exec_moves.specs.declared.idling.InLook.TheVariants as look
 use Rattle.exec_moves.specs.declared.place.InMail.TheVariants as mail
 use Rattle.exec_moves.specs.declared.place.InPick.TheVariants as pick
 use Rattle.exec_moves.specs.declared.place.InPoll.TheVariants as poll
-use Rattle.exec_moves.specs.declared.place.InRingWait.TheVariants as ring
+use Rattle.exec_moves.specs.declared.idling.InRingWait.TheVariants as ring
 use Rattle.exec_moves.specs.declared.place.InService.TheVariants as step
-use Rattle.exec_moves.specs.declared.place.InWordWait.TheVariants as word
+use Rattle.exec_moves.specs.declared.idling.InWordWait.TheVariants as word
 use Rattle.exec_moves.specs.declared.place.Place.TheVariants as at
 use Rattle.exec_moves.specs.declared.place.Reaping.TheVariants as reaping
 use Rattle.exec_moves.specs.declared.place.Round.TheVariants as round
-use Rattle.exec_credit.specs.Minded.{Bounded, KnowsOnWord, Minded, Stood, Knows}
+use Rattle.exec_credit.specs.Minded.{Bounded, HasRoot, Minded, Stood, Knows}
 use Rattle.exec_credit.proofs.{Fitted.fits, Fitting.{cut_of, may_sleep}, Minding.{and_no, none_waits}, Weighing.weighs}
 
 -- WHAT IS CARRIED
 
-pub bounded_then : (c : Configuration) (me : Books) (s : Common) (d : Desk) (x : Things) → Stood me s d x → Bounded s d
+pub bounded_then : (c : Configuration) (me : Books) (s : Common) (d : Desk) (x : Things) → Stood me s d x → HasRoot me s d → Minded c me s d x → Bounded s d
     → (let m = move c 0 me s d x in AllTrue (allowed c me s 0 m.event m.choice)) → (let m = move c 0 me s d x in Bounded (common_after c me s 0 m.event m.choice) m.desk)
-bounded_then c me s d x stood bounded may =
+bounded_then c me s d x stood root minded bounded may =
     let m = move c 0 me s d x in
-    let it = fits c me s d x stood in
+    let it = fits c me s d x stood root minded in
     record { outputs = omega (arith, bounded.outputs, it.1, weighs c me s stood.polled m.event m.choice (cut_of (may_sleep d.place) m.event it.0) may) }
 
 -- HEIGHTS
@@ -61,8 +63,6 @@ in_serving below step.EndService = omega arith
 height_of : (p : Place) → height p ≤ 80 + 2 * left_of p
 height_of at.BeginTurn = omega arith
 height_of (at.Pick pick.CountDown) = omega arith
-height_of (at.Pick (pick.Pop first.Own)) = omega arith
-height_of (at.Pick (pick.Pop first.Global)) = omega arith
 height_of (at.Pick (pick.LoadMirror first.Own)) = omega arith
 height_of (at.Pick (pick.LoadMirror first.Global)) = omega arith
 height_of (at.Pick (pick.LoadHead first.Own)) = omega arith
@@ -75,6 +75,8 @@ height_of (at.Poll t poll.BeginPoll) = omega arith
 height_of (at.Poll t poll.Resume) = omega arith
 height_of (at.Poll t poll.Act) = omega arith
 height_of (at.Poll t poll.Pend) = omega arith
+height_of (at.Poll t poll.LoadSpawnHead) = omega arith
+height_of (at.Poll t poll.RemoveTask) = omega arith
 height_of (at.Callbacks callback.TakeBatch after.Look) = omega arith
 height_of (at.Callbacks callback.TakeBatch after.Test) = omega arith
 height_of (at.Callbacks callback.TakeBatch after.Begin) = omega arith
@@ -103,8 +105,13 @@ height_of (at.Mail (mail.Apply applied taken)) = omega arith
 height_of (at.TestForWork f) = omega arith
 height_of at.ReadClock = omega arith
 height_of (at.Look look.Publish) = omega arith
-height_of (at.Look look.LookAtMirror) = omega arith
+height_of (at.Look (look.LookAtMirror last)) = omega arith
 height_of (at.Look look.LookAtCount) = omega arith
+height_of (at.Look look.ReturnLookCount) = omega arith
+height_of (at.Look (look.LookAtHead j)) = omega arith
+height_of (at.Look (look.LookAtTail j h)) = omega arith
+height_of (at.Look look.ExchangeLookCount) = omega arith
+height_of (at.Look look.ReturnClaimed) = omega arith
 height_of (at.RingWait ring.EnterFullRing y) = omega arith
 height_of (at.RingWait ring.TestRing y) = omega arith
 height_of (at.RingWait ring.ArmRing y) = omega arith
@@ -119,6 +126,20 @@ height_of (at.WordWait word.SleepOnWord) = omega arith
 height_of (at.WordWait word.DisarmWord) = omega arith
 height_of (at.Withdraw n) = omega arith
 height_of (at.Closing x) = omega arith
+height_of (at.Pop pop.PopAlone (popped.Pick first.Own)) = omega arith
+height_of (at.Pop pop.PopAlone (popped.Pick first.Global)) = omega arith
+height_of (at.Pop pop.PopAlone popped.Discard) = omega arith
+height_of (at.Pop pop.LoadPopHead b) = omega arith
+height_of (at.Pop (pop.ExchangePop h) b) = omega arith
+height_of (at.Pop pop.StorePop b) = omega arith
+height_of (at.Search x) = omega arith
+height_of (at.Scan x) = omega arith
+height_of (at.LeaveSearch b) = omega arith
+height_of (at.Push x b) = omega arith
+height_of (at.Global x b) = omega arith
+height_of (at.Kick x b) = omega arith
+height_of (at.ClaimWorker set b) = omega arith
+height_of (at.Signal x j b) = omega arith
 
 short : (c : Configuration) (me : Books) (s : Common) (d : Desk) (p : Place) → Knows c me s d p → left_of p ≤ largest_spin c.spin
 short c me s d (at.WordWait (word.SpinOnBatch left)) known = known.2

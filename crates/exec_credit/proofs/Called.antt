@@ -1,21 +1,17 @@
 -- The root was polled since its last wake, or is queued.
-use Rattle.std.proofs.Common.{◌≡◌, ◌⊎◌, ℕ, zero, suc, ◌+◌, ◌≤◌, ◌<◌, ◌==◌, ◌&&◌, ◌||◌, Bool, true, false, not, List, [], ◌∷◌, ◌++◌, length, map, set, get_or, All, Option, Some, None, if◌then◌else◌, ◌∙◌, refl, sym, ap, subst, arith, inl, inr}
-use Rattle.std.proofs.lemmas.Bool.{true≢false, false≢true, and_parts, or_cases, cases_Bool, eqb-true, eqb-false, ltb-true, ltb-false}
+use Rattle.std.proofs.Common.{◌≡◌, ◌⊎◌, ℕ, ◌+◌, ◌≤◌, ◌==◌, Bool, true, false, List, [], ◌∷◌, ◌++◌, length, set, get_or, Option, Some, None, if◌then◌else◌, ◌∙◌, refl, sym, ap, subst, arith, inl, inr}
+use Rattle.std.proofs.lemmas.Bool.{false≢true, eqb-true, eqb-false, ltb-true, ltb-false}
 use Rattle.std.proofs.lemmas.Grind.{get_or-set_at}
 use Rattle.std.proofs.lemmas.List.{get_or-set_other, get_or_past, length-set, set_past}
-use Rattle.std.proofs.Math.ListN.{get_or-map}
 use Rattle.std.specs.Prelude.{nat_lt}
-use Rattle.exec_outcomes.specs.{declared.outcome.{Outcome.Outcome, OpResult.OpResult}, Outcomes.refuses_hint}
-use Rattle.exec_machine.specs.{declared.{config.{Configuration.Configuration, ScriptWord.ScriptWord}, event.Event.Event, state.{Forwarding.{Forwarding, TheVariants.Unsent}, Next.Next, Request.Request, RequestPhase.RequestPhase, TaskPhase.TaskPhase, Waiting.Waiting, Sleeper.Sleeper}}, After.{common_after, polled}, Allowed.allowed, Choice.{Choice, Payer, Choice.{Plain, Passes, Pays, Posts}, Payer.{ByRequest, BySleeper, ByAct, ByCall, ByStop}}, Closing.{after_next, gone_with}, Deadlines.{enrolled, expired, fires_at}, Progress.has_come, Requests.{flown, reaped, staged, account_of_open, judged_of, asks_kind, operation_asked}, Same.{is_none, is_number}, Tasks.{after_over, after_pend, after_waking_word, begun, may_stop, pended_phase, wake, woken, woken_phase, polls_waiting, waits_for, without_newest, after_taking, removed}, Tests.{AllTrue, is_empty, is_idle, is_resolved, is_staged, set_task, set_request, set_sleeper, is_unsent, set_open, waits_for_nothing, is_gated, is_woken, waits_for_request, waits_for_timer}, Words.{acts, moved_on, asks_yield, next_word, asks_await, asks_drop, asks_no_sleep, asks_wake, sleep_asked}, World.{Own as Books, Common, Task, no_request, no_sleeper, no_task, request_of, sleeper_of, task_of, open_of}}
+use Rattle.exec_outcomes.specs.{Outcomes.refuses_hint}
+use Rattle.exec_machine.specs.{declared.{config.{Configuration.Configuration}, event.Event.Event, state.{Next.Next, Request.Request, TaskPhase.TaskPhase, Sleeper.Sleeper}}, After.{common_after, polled}, Choice.{Choice, Choice.{Plain, Passes, Pays, Posts}, Payer.{ByRequest, BySleeper, ByAct, ByCall, ByStop}}, Closing.{after_next}, Requests.{account_of_open, judged_of}, Tasks.{after_over, after_pend, after_waking_word, begun, pended_phase, wake, woken, woken_phase, waits_for, without_newest}, Tests.{is_idle, is_resolved, set_task, set_request, set_sleeper, set_open, waits_for_nothing}, Words.{moved_on, asks_yield, next_word}, World.{Own as Books, Common, Task, no_request, no_sleeper, no_task, request_of, sleeper_of, task_of, open_of}}
 use Rattle.exec_machine.specs.declared.event.Event.TheVariants as event
 use Rattle.exec_machine.specs.declared.state.Next.TheVariants as next
-use Rattle.exec_machine.specs.declared.state.RequestPhase.TheVariants as phase
 use Rattle.exec_machine.specs.declared.state.TaskPhase.TheVariants as task
 use Rattle.exec_machine.specs.declared.state.Waiting.TheVariants as waiting
-use Rattle.exec_moves.specs.{Callback.waker_of, State.Desk}
-use Rattle.std.specs.Prelude.{unwrap_or}
-use Rattle.exec_credit.specs.Minded.{HasRoot, IsCalled, IsFollowed, is_fresh_in}
-use Rattle.exec_credit.proofs.Fitting.{is_cut, left_by, left_of, wakes_after, woken_by_end}
+use Rattle.exec_credit.specs.Minded.{is_fresh_in}
+use Rattle.exec_credit.proofs.Fitting.{is_cut}
 
 -- a task, after one was set: what holds of it and of the new one
 pub task_set : (P : Task → Type 0) (s : Common) (t : ℕ) (y : Task) → P (task_of s 0) → (t ≡ 0 → P y) → P (get_or (set s.tasks t y) 0 no_task)

@@ -3,11 +3,11 @@ use Rattle.std.proofs.Common.{◌≡◌, ℕ, ◌-◌, ◌<◌, ◌≤◌, true,
 use Rattle.std.proofs.lemmas.Bool.{true≢false, false≢true, cases_Bool, ltb-true, ltb-false}
 use Rattle.std.specs.Prelude.{nat_lt}
 use Rattle.exec_machine.specs.{declared.{config.Configuration.Configuration, event.Event.TheVariants.Turn}, Ranges.ring_size, World.{Own as Books, Common, Task, task_of}}
-use Rattle.exec_moves.specs.{declared.place.{AfterCallbacks.AfterCallbacks, InCallbacks.InCallbacks, Place.Place}, Callback.{has_callbacks, after_callbacks, next_callback}, Credit.one_if, State.{Desk, Things, Own, turns, does}, Move.{aside, move_at}}
-use Rattle.exec_moves.specs.declared.place.AfterCallbacks.TheVariants as after
+use Rattle.exec_moves.specs.{declared.handing.AfterCallbacks.AfterCallbacks, declared.place.{InCallbacks.InCallbacks, Place.Place}, Callback.{has_callbacks, after_callbacks, next_callback}, Credit.one_if, State.{Desk, Things, Own, turns, does}, Move.move_at, Thing.aside}
+use Rattle.exec_moves.specs.declared.handing.AfterCallbacks.TheVariants as after
 use Rattle.exec_moves.specs.declared.place.InCallbacks.TheVariants as callback
 use Rattle.exec_moves.specs.declared.place.Place.TheVariants as at
-use Rattle.exec_credit.specs.Minds.{Falls, FallsAt, closes, seen, stands}
+use Rattle.exec_credit.specs.Minds.{Falls, FallsAt, IsAlone, closes, seen, stands}
 use Rattle.exec_credit.proofs.Falling.{down, either, by_move}
 
 abbrev taking : AfterCallbacks → Place
@@ -40,10 +40,12 @@ module _ (c : Configuration) (i : ℕ) (me : Books) (s : Common) (d : Desk) (x :
   goes_after after.Drain h none = absurd (true≢false h)
   goes_after after.Finish h none = absurd (true≢false h)
 
-  take_batch : (n : AfterCallbacks) → closes (taking n) ≡ false → FallsAt c i me s d x (taking n)
-  take_batch n h =
-      either c i (seen (taking n) me) s (stands (taking n) d) x (λ (q : Place). aside x (turns {T = Own} q (stands (taking n) d) tt)) (has_callbacks me d)
-      (calling n) (after_callbacks (ring_size c) i s n (stands (taking n) d)) (λ some. calls_back n h) (goes_after n h)
+  take_batch : d.searching ≡ false → (n : AfterCallbacks) → closes (taking n) ≡ false → FallsAt c i me s d x (taking n)
+  take_batch none n h =
+      by_move c i (seen (taking n) me) s (stands (taking n) d) x (move_at c i (seen (taking n) me) s (stands (taking n) d) x (taking n))
+      (aside x (turns {T = Own} (next_callback (ring_size c) i me s n (stands (taking n) d)) (stands (taking n) d) tt)) (rw none refl)
+      (either c i (seen (taking n) me) s (stands (taking n) d) x (λ (q : Place). aside x (turns {T = Own} q (stands (taking n) d) tt)) (has_callbacks me d)
+      (calling n) (after_callbacks (ring_size c) i s n (stands (taking n) d)) (λ some. calls_back n h) (goes_after n h))
 
   -- no task is to be woken, and so many outputs are left
   abbrev with_outputs : AfterCallbacks → ℕ → Desk
@@ -108,9 +110,9 @@ releases : (c : Configuration) (i : ℕ) (me : Books) (s : Common) (d : Desk) (x
 releases c i me s d x n [] h = none_left c i (record me { ended = [] }) s (record d { outputs = 0 }) x n 0 (omega arith) h refl
 releases c i me s d x n (r ∷ ended) h = λ q. absurd (false≢true q)
 
-pub calls : (c : Configuration) (i : ℕ) (me : Books) (s : Common) (d : Desk) (x : Things) (p : InCallbacks) (n : AfterCallbacks) → closes (at.Callbacks p n) ≡ false → FallsAt c i me s d x (at.Callbacks p n)
-calls c i me s d x callback.TakeBatch n h = take_batch c i me s d x n h
-calls c i me s d x callback.CallBack n h = by d.wakes
+pub calls : (c : Configuration) (i : ℕ) (me : Books) (s : Common) (d : Desk) (x : Things) (p : InCallbacks) (n : AfterCallbacks) → IsAlone c i d x (at.Callbacks p n) → closes (at.Callbacks p n) ≡ false → FallsAt c i me s d x (at.Callbacks p n)
+calls c i me s d x callback.TakeBatch n it h = take_batch c i me s d x it.unsearching n h
+calls c i me s d x callback.CallBack n it h = by d.wakes
   where
     by : (wakes : List ℕ) → FallsAt c i me s (record d { wakes = wakes }) x (calling n)
     by (t ∷ wakes) = λ q. absurd (false≢true q)

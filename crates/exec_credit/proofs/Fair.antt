@@ -1,19 +1,19 @@
 -- No worker sleeps on work.
-use Rattle.std.proofs.Common.{◌≡◌, ◌⊎◌, ℕ, zero, suc, ◌+◌, ◌≤◌, ◌<◌, ◌==◌, ◌&&◌, ◌||◌, Bool, true, false, not, List, [], ◌∷◌, length, get_or, Option, Some, None, if◌then◌else◌, ◌∙◌, refl, sym, ap, subst, arith, inl, inr}
-use Rattle.std.proofs.lemmas.Bool.{true≢false, false≢true, and_parts, or_cases, or_parts, or_from, cases_Bool, ltb-true, leb-true, leb-false, lt-ltb, lt-leb, eq-eqb, eqb-true}
+use Rattle.std.proofs.Common.{◌≡◌, ◌⊎◌, ℕ, zero, suc, ◌<◌, ◌==◌, ◌&&◌, ◌||◌, Bool, true, false, not, List, [], ◌∷◌, length, get_or, Option, Some, None, if◌then◌else◌, ◌∙◌, refl, sym, ap, subst, arith, inl, inr}
+use Rattle.std.proofs.lemmas.Bool.{true≢false, false≢true, and_parts, or_cases, ltb-true, leb-true, leb-false, lt-ltb, lt-leb}
 use Rattle.std.proofs.lemmas.List.{get_or_past}
 use Rattle.std.specs.Prelude.{nat_le, nat_lt}
 use Rattle.std.specs.List.{list_any, list_all}
-use Rattle.exec_machine.specs.{declared.{config.Configuration.Configuration, state.{Request.Request, RequestPhase.RequestPhase, Sleeper.Sleeper, TaskPhase.TaskPhase, WorkerPhase.WorkerPhase}}, Deadlines.{earlier, first_timer, first_until, is_after, is_due, next_due}, Progress.{IsRightlyAsleep, NothingUnfinished, all_asleep, has_come, has_to_close, is_cancel_untold, is_down, is_request_unfinished, is_runnable, is_sleeper_unfinished, is_task_unfinished, sleeps_for_nothing}, Ranges.ring_size, Same.{is_none, is_number}, Tests.{has_ended, is_asleep, is_awake, is_closing, is_done, is_empty, is_gated, is_idle, is_in_flight, is_landed, is_open, is_queued, is_resolved, is_staged}, World.{Own as Books, Common, Seat, Task, World, no_own, no_request, no_seat, no_sleeper, no_task, open_of, own_of, request_of, seat_of, sleeper_of, task_of}, Callers.is_half_done}
+use Rattle.exec_machine.specs.{declared.{config.Configuration.Configuration, state.{Request.Request, RequestPhase.RequestPhase, Sleeper.Sleeper, TaskPhase.TaskPhase, WorkerPhase.WorkerPhase}}, Deadlines.{earlier, first_timer, first_until, is_after, is_due, next_due}, Progress.{IsRightlyAsleep, NothingUnfinished, all_asleep, has_come, has_to_close, is_cancel_untold, is_down, is_request_unfinished, is_runnable, is_sleeper_unfinished, is_task_unfinished, sleeps_for_nothing}, Ranges.ring_size, Same.{is_none, is_number}, Tests.{has_ended, is_asleep, is_awake, is_closing, is_done, is_empty, is_gated, is_idle, is_in_flight, is_landed, is_open, is_queued, is_resolved, is_staged}, World.{Own as Books, Common, Seat, World, no_own, no_request, no_seat, no_sleeper, no_task, open_of, own_of, request_of, seat_of, sleeper_of, task_of}, Callers.is_half_done}
 use Rattle.exec_machine.specs.declared.state.RequestPhase.TheVariants as phase
 use Rattle.exec_machine.specs.declared.state.TaskPhase.TheVariants as task
 use Rattle.exec_machine.specs.declared.state.WorkerPhase.TheVariants as worker
-use Rattle.exec_moves.specs.declared.place.InRingWait.TheVariants as ring
-use Rattle.exec_moves.specs.declared.place.InWordWait.TheVariants as word
-use Rattle.exec_moves.specs.{declared.place.Place.Place, Callback.{has_callbacks, has_requests}, Load.{has_submissions, may_stage}, State.{Desk, Things}}
+use Rattle.exec_moves.specs.declared.idling.InRingWait.TheVariants as ring
+use Rattle.exec_moves.specs.declared.idling.InWordWait.TheVariants as word
+use Rattle.exec_moves.specs.{declared.place.Place.Place, Load.{may_stage}, State.{Desk, Things}}
 use Rattle.exec_moves.specs.declared.place.Place.TheVariants as at
-use Rattle.exec_moves.specs.declared.place.Stay.TheVariants as stay
-use Rattle.exec_credit.specs.{Minds.{closes, is_poll}, Minded.{HasRest, HasRoot, IsAtRest, IsListed, IsUnready, Rested, Stood, is_fresh_in, is_in, is_start, sleeps_closing, sleeps_open}}
+use Rattle.exec_moves.specs.declared.idling.Stay.TheVariants as stay
+use Rattle.exec_credit.specs.{Minds.{closes, is_poll}, Minded.{HasRest, HasRoot, IsAtRest, Rested, Stood, is_fresh_in, is_in, is_start, sleeps_closing, sleeps_open}}
 use Rattle.exec_credit.proofs.{Minding.and_no, Resting.{all_shut, none_untold}}
 
 -- NOTHING IS DUE

@@ -1,34 +1,26 @@
 -- What each move tells: an event of the cut, how many outputs more, and which wakes.
-use Rattle.std.proofs.Common.{◌≡◌, ℕ, suc, ◌+◌, ◌-◌, ◌≤◌, ◌==◌, ◌&&◌, ◌||◌, Bool, true, false, not, if◌then◌else◌, List, [], ◌∷◌, ◌++◌, length, drop, Option, Some, None, ◌∙◌, refl, sym, ap, subst, arith, inl, inr}
-use Rattle.std.proofs.lemmas.Bool.{true≢false, false≢true, and_parts, cases_Bool, ltb-false, eq-eqb}
+use Rattle.std.proofs.Common.{◌≡◌, ℕ, ◌+◌, ◌-◌, ◌≤◌, ◌==◌, ◌&&◌, ◌||◌, Bool, true, false, not, if◌then◌else◌, List, [], ◌∷◌, ◌++◌, length, Option, Some, None, ◌∙◌, refl, sym, ap, subst, arith, inl, inr}
+use Rattle.std.proofs.lemmas.Bool.{false≢true, and_parts, cases_Bool, eq-eqb}
 use Rattle.std.specs.Prelude.{nat_le, nat_lt}
-use Rattle.exec_outcomes.specs.{Accounts.{is_durable, outcome_at_grant}, declared.outcome.Outcome.Outcome}
-use Rattle.exec_machine.specs.{declared.{config.{Configuration.Configuration, ScriptWord.ScriptWord}, event.Event.Event, state.{MailMessage.MailMessage, Operation.Operation, Request.Request, RequestPhase.RequestPhase, Waiting.Waiting}}, Choice.{Choice, Payer, Choice.{Plain, Pays}, Payer.ByAct}, Deadlines.{next_due, outcome_at_enrol, outcome_at_expiry}, Ranges.ring_size, Requests.{account_of_open, ends_by_drop, operation_asked, outcome_given, outcome_if_late, outcome_shown}, Tests.{is_empty, is_resolved}, Words.{newest_held, next_word, sleep_asked}, World.{Own as Books, Common, Task, no_task, open_of, request_of, seat_of, sleeper_of, task_of}}
+use Rattle.exec_outcomes.specs.{Accounts.{is_durable}}
+use Rattle.exec_machine.specs.{declared.{config.{Configuration.Configuration, ScriptWord.ScriptWord}, event.Event.Event, state.{Operation.Operation, Request.Request, RequestPhase.RequestPhase, Waiting.Waiting}}, Choice.{Choice, Choice.{Pays}, Payer.ByAct}, Ranges.ring_size, Requests.{ends_by_drop, operation_asked, outcome_if_late}, Tasks.begun_waiting, Tests.{is_ready, is_resolved}, Words.{newest_held, next_word, sleep_asked}, World.{Own as Books, Common, Task, request_of, sleeper_of, task_of}}
 use Rattle.exec_machine.specs.declared.config.ScriptWord.TheVariants as word
 use Rattle.exec_machine.specs.declared.event.Event.TheVariants as event
 use Rattle.exec_machine.specs.declared.state.RequestPhase.TheVariants as phase
 use Rattle.exec_machine.specs.declared.state.Waiting.TheVariants as waiting
-use Rattle.exec_words.specs.Word.{is_idle_at}
-use Rattle.exec_moves.specs.{declared.place.{AfterCallbacks.AfterCallbacks, Found.Found, InCallbacks.InCallbacks, InClosing.InClosing, InLoads.InLoads, InLook.InLook, InMail.InMail, InPick.InPick, InPoll.InPoll, InRingWait.InRingWait, InService.InService, InWordWait.InWordWait, Place.Place, Reaping.Reaping, Round.Round, Service.Service, Stay.Stay}, Callback.{flagged_by, goes_on, has_callbacks, is_full, next_callback, payer_of, told_if_ended, told_of_drop, waker_of}, Load.{has_come, has_mail, has_submissions, is_ready, next_turn}, Mail.to_callbacks, Move.{aside, with_idle, with_word, move, move_at, move_submit}, Pick.polls, Poll.{act_asked, acts_on, await, drop_newest, ends, pend, resume, sleep_for, stops, told_of_all}, Serve.{after_service, after_staging, enter_last, first_to_fire, others_after_reap, reap, result_in}, State.{Desk, Moved, Own, Things, does, serves, turns}, Submit.{Due, after_grant, due_next, granted_at, one_more, stage_next, submits, with_poll, Due.{Expires, Enrols, AtGate, Flushes, Cancels, Stages, Ends}}, Wait.{after_sleep, after_wait, disarmed, enter_full_ring, enter_ring, has_completion, hit, missed, noting_sleep, sleep}}
-use Rattle.exec_moves.specs.declared.place.AfterCallbacks.TheVariants as after
-use Rattle.exec_moves.specs.declared.place.AfterService.TheVariants as back
-use Rattle.exec_moves.specs.declared.place.AfterWait.TheVariants as next
-use Rattle.exec_moves.specs.declared.place.First.TheVariants as first
+use Rattle.exec_moves.specs.{declared.handing.{AfterCallbacks.AfterCallbacks, AfterPop.AfterPop, InPop.InPop}, declared.place.{InCallbacks.InCallbacks, InPick.InPick, InPoll.InPoll, Place.Place}, Callback.{flagged_by, goes_on, payer_of, told_if_ended, told_of_drop, waker_of}, Heights.{polls_alone, pops_alone}, Move.move_at, Parts.{first_pop, polls}, Pick.one_pick_less, Poll.{act_asked, acts_on, after_begin, after_pend, await, drop_newest, let_go, pend, sleep_for, stops, told_of_all}, State.{Desk, Moved, Own, Things, does, goes as stands_at, turns}, Thing.aside}
+use Rattle.exec_moves.specs.declared.handing.AfterCallbacks.TheVariants as after
+use Rattle.exec_moves.specs.declared.handing.AfterPop.TheVariants as popped
+use Rattle.exec_moves.specs.declared.handing.First.TheVariants as first
+use Rattle.exec_moves.specs.declared.handing.InPop.TheVariants as pop
 use Rattle.exec_moves.specs.declared.place.InCallbacks.TheVariants as callback
-use Rattle.exec_moves.specs.declared.place.InClosing.TheVariants as closing
-use Rattle.exec_moves.specs.declared.place.InLoads.TheVariants as load
-use Rattle.exec_moves.specs.declared.place.InLook.TheVariants as look
-use Rattle.exec_moves.specs.declared.place.InMail.TheVariants as mail
 use Rattle.exec_moves.specs.declared.place.InPick.TheVariants as pick
 use Rattle.exec_moves.specs.declared.place.InPoll.TheVariants as poll
-use Rattle.exec_moves.specs.declared.place.InRingWait.TheVariants as ring
-use Rattle.exec_moves.specs.declared.place.InService.TheVariants as step
-use Rattle.exec_moves.specs.declared.place.InWordWait.TheVariants as word_wait
+use Rattle.exec_moves.specs.declared.idling.InRingWait.TheVariants as ring
+use Rattle.exec_moves.specs.declared.idling.InWordWait.TheVariants as word_wait
 use Rattle.exec_moves.specs.declared.place.Place.TheVariants as at
-use Rattle.exec_moves.specs.declared.place.Round.TheVariants as round
-use Rattle.exec_base.specs.Spinner.{after_miss}
-use Rattle.exec_credit.specs.{Minds.stands, Minded.{Stood, lets_go}}
-use Rattle.exec_credit.proofs.Leading.{emptied}
+use Rattle.exec_credit.specs.{Minds.stands, Minded.is_played}
+use Rattle.exec_credit.proofs.{Alone.{calm, emptied, of_one}, Minding.acted_as}
 
 -- the events of the cut
 abbrev pub is_cut : Event → Bool
@@ -141,7 +133,13 @@ all_fits s (r ∷ held) d =
     let later = all_fits s held (told_of_drop (request_of s r) d) in
     (omega (arith, first.0, later.0), later.1 ∙ first.1)
 
-module _ (c : Configuration) (me : Books) (s : Common) (d : Desk) (x : Things) where
+module _ (k : Configuration) (me : Books) (s : Common) (o : Desk) (x : Things) where
+  abbrev c : Configuration
+  c = of_one k
+
+  abbrev d : Desk
+  d = calm o
+
   abbrev Fit : Place → Type 0
   Fit p = Fits (may_sleep p) s d (move_at c 0 me s (stands p d) (emptied x) p)
 
@@ -152,18 +150,28 @@ module _ (c : Configuration) (me : Books) (s : Common) (d : Desk) (x : Things) w
   same = omega arith
 
   pub picks : (p : InPick) → Fit (at.Pick p)
-  picks pick.CountDown = choose false s d (aside (emptied x)) (nat_le d.countdown 1) (turns {T = Own} (at.Pick (pick.LoadMirror first.Global)) (record d { countdown = c.interval }) tt) (turns {T = Own} (at.Pick (pick.Pop first.Own)) (record d { countdown = d.countdown - 1 }) tt) (refl, same, refl) (refl, same, refl)
-  picks (pick.Pop f) = (refl, same, refl)
+  picks pick.CountDown =
+      let e = one_pick_less (stands (at.Pick pick.CountDown) d) in
+      choose false s d (aside (emptied x)) (nat_le d.countdown 1) (turns {T = Own} (at.Pick (pick.LoadMirror first.Global)) (record e { countdown = c.interval }) tt)
+      (turns {T = Own} (first_pop c (popped.Pick first.Own)) (record e { countdown = d.countdown - 1 }) tt) (refl, same, refl) (refl, same, refl)
   picks (pick.LoadMirror f) = (refl, same, refl)
   picks (pick.LoadHead f) = (refl, same, refl)
   picks (pick.TakeShare f room held) = (refl, same, refl)
 
+  pub pops : (p : InPop) (b : AfterPop) → pops_alone p ≡ true → Fit (at.Pop p b)
+  pops pop.PopAlone b alone = (refl, same, refl)
+  pops pop.LoadPopHead b alone = absurd (false≢true alone)
+  pops (pop.ExchangePop h) b alone = absurd (false≢true alone)
+  pops pop.StorePop b alone = absurd (false≢true alone)
+
   pub flags : Fit at.TakeRootFlag
-  flags = choose false s d (aside (emptied x)) d.root_ready (turns {T = Own} (polls me.root) (record d { root_ready = false }) tt) (turns {T = Own} (at.Callbacks callback.TakeBatch after.Look) d tt) (refl, same, refl) (refl, same, refl)
+  flags =
+      let e = stands at.TakeRootFlag d in
+      choose false s d (aside (emptied x)) d.root_ready (does {T = Own} event.Turn (polls me.root (record e { root_ready = false })) tt) (turns {T = Own} (at.Callbacks callback.TakeBatch after.Look) e tt) (refl, same, refl) (refl, same, refl)
 
   -- A POLL
 
-  module _ (t : ℕ) where
+  module _ (t : ℕ) (home : (task_of s t).home ≡ Some 0) where
     abbrev it : Task
     it = task_of s t
 
@@ -171,7 +179,10 @@ module _ (c : Configuration) (me : Books) (s : Common) (d : Desk) (x : Things) w
     on p n = move_at c 0 me s (stands (at.Poll t p) d) (emptied x) (at.Poll t p) ≡ aside (emptied x) n
 
     pends : (p : InPoll) → on p (pend t (stands (at.Poll t p) d) it) → Fit (at.Poll t p)
-    pends p is = same_as false s d (move_at c 0 me s (stands (at.Poll t p) d) (emptied x) (at.Poll t p)) (aside (emptied x) (pend t (stands (at.Poll t p) d) it)) is (refl, same, refl)
+    pends p is =
+        let e = stands (at.Poll t p) d in
+        same_as false s d (move_at c 0 me s e (emptied x) (at.Poll t p)) (aside (emptied x) (does (event.Pend t) (after_pend t e it (Some 0)) it))
+        (is ∙ ap (λ h. aside (emptied x) (does (event.Pend t) (after_pend t e it h) it)) home) (refl, same, refl)
 
     resumes : (w : Waiting) → it.waiting ≡ w → Fit (at.Poll t poll.Resume)
     resumes (waiting.Request r) h = by (request_of s r).phase refl
@@ -233,12 +244,25 @@ module _ (c : Configuration) (me : Books) (s : Common) (d : Desk) (x : Things) w
     acts word.End None = let told = all_fits s it.held here in (refl, told.0, told.1)
     acts w None = (refl, same, refl)
 
-    pub polls_on : (p : InPoll) → Fit (at.Poll t p)
-    polls_on poll.BeginPoll = (refl, same, refl)
-    polls_on poll.Resume = resumes it.waiting refl
-    polls_on poll.Act = acts (next_word s it) (operation_asked c me.sampled (next_word s it))
-    polls_on (poll.JoinGate r) = (refl, same, refl)
-    polls_on poll.Pend = (refl, same, refl)
+    begins : is_ready it.phase ≡ true → Fit (at.Poll t poll.BeginPoll)
+    begins ready =
+        let e = stands (at.Poll t poll.BeginPoll) d in
+        same_as false s d (move_at c 0 me s e (emptied x) (at.Poll t poll.BeginPoll)) (aside (emptied x) (does (event.Begin t) (stands_at (at.Poll t (after_begin (begun_waiting it.waiting))) (let_go e)) it)) (rw ready refl) (refl, same, refl)
+
+    acted : is_played (next_word s it) ≡ true → Fit (at.Poll t poll.Act)
+    acted can =
+        let w = next_word s it in
+        same_as false s d (move_at c 0 me s here (emptied x) (at.Poll t poll.Act)) (aside (emptied x) (act_asked t me s here it w (operation_asked c me.sampled w)))
+        (acted_as c me s here (emptied x) t w refl can) (acts w (operation_asked c me.sampled w))
+
+    pub polls_on : (p : InPoll) → polls_alone p ≡ true → (p ≡ poll.BeginPoll → is_ready it.phase ≡ true) → is_played (next_word s it) ≡ true → Fit (at.Poll t p)
+    polls_on poll.BeginPoll alone ready can = begins (ready refl)
+    polls_on poll.Resume alone ready can = resumes it.waiting refl
+    polls_on poll.Act alone ready can = acted can
+    polls_on (poll.JoinGate r) alone ready can = (refl, same, refl)
+    polls_on poll.Pend alone ready can = pends poll.Pend refl
+    polls_on poll.LoadSpawnHead alone ready can = absurd (false≢true alone)
+    polls_on poll.RemoveTask alone ready can = absurd (false≢true alone)
 
   -- CALLBACKS
 

@@ -1,3 +1,4 @@
+mod Alone
 mod Sinking
 mod Falling
 mod Turning

@@ -1,12 +1,12 @@
 -- The lists of requests, after each event of the cut.
-use Rattle.std.proofs.Common.{◌≡◌, ◌⊎◌, ℕ, ◌+◌, ◌≤◌, ◌<◌, ◌==◌, ◌&&◌, ◌||◌, Bool, true, false, not, List, [], ◌∷◌, ◌++◌, length, map, set, get_or, drop, Option, Some, None, if◌then◌else◌, ◌∙◌, refl, sym, ap, subst, arith, inl, inr}
-use Rattle.std.proofs.lemmas.Bool.{true≢false, false≢true, and_parts, or_parts, or_cases, cases_Bool, eqb-true}
+use Rattle.std.proofs.Common.{◌≡◌, ℕ, ◌+◌, ◌≤◌, ◌<◌, ◌==◌, ◌&&◌, ◌||◌, Bool, true, false, not, List, [], ◌∷◌, ◌++◌, length, set, get_or, drop, Option, Some, None, if◌then◌else◌, ◌∙◌, refl, sym, ap, subst, arith}
+use Rattle.std.proofs.lemmas.Bool.{true≢false, false≢true, and_parts, eqb-true}
 use Rattle.std.proofs.lemmas.List.{get_or-set_same}
 use Rattle.std.proofs.Math.ListN.{get_or-map}
 use Rattle.exec_outcomes.specs.{declared.outcome.{Outcome.{Outcome, TheVariants.Failure}, OpResult.OpResult, Kind.Kind}, Accounts.is_durable}
 use Rattle.exec_base.specs.declared.error.Error.TheVariants.{Timeout}
 use Rattle.std.specs.Prelude.{unwrap_or}
-use Rattle.exec_machine.specs.{declared.{config.Configuration.Configuration, event.Event.Event, state.{Request.Request, RequestPhase.RequestPhase, Operation.Operation, MailMessage.TheVariants.{CancelRequest, CancelTimer}, Waiting.Waiting, Next.Next}}, After.{own_after, common_after, polled}, Allowed.allowed, Choice.{Choice, Payer, Choice.{Pays, Passes, Plain, Posts}, Payer.{ByRequest, ByAct, ByCall, BySleeper, ByStop}}, Deadlines.{enrolled, expired, fires_at, outcome_at_expiry, rest_until}, Requests.{dropped, ends_by_drop, flown, is_cancelled_by_drop, outcome_given, outcome_shown, own_after_drop, joined_if, own_after_end, left_if, own_after_reap, reaped, staged, account_of_open, went_on, account_after_admit, asked_now, first_phase, new_request, resolved_if, with_seen, resolved}, Same.{is_none, same_end}, Tests.{AllTrue, is_gated, is_in_flight, is_landed, is_landed_with, is_queued, is_resolved, is_staged, is_of_file, is_kept, set_seat, set_task}, World.{Own as Books, Common, Seat, no_request, no_seat, request_of, seat_of, open_of, sleeper_of, task_of}, Tasks.{after_over, own_after_drops, own_after_over, own_after_waking_up, owes, requests_after_drops, pended_phase, unpolled}, Closing.{after_next, with_closed_mailbox}}
+use Rattle.exec_machine.specs.{declared.{config.Configuration.Configuration, event.Event.Event, state.{Request.Request, RequestPhase.RequestPhase, Operation.Operation}}, After.{own_after, common_after}, Allowed.allowed, Choice.{Choice}, Deadlines.{enrolled, expired, fires_at}, Requests.{dropped, ends_by_drop, flown, is_cancelled_by_drop, own_after_drop, joined_if, own_after_end, left_if, reaped, staged, account_after_admit, asked_now, first_phase, new_request, resolved_if, with_seen}, Same.{is_none, same_end}, Tests.{AllTrue, is_in_flight, is_landed, is_landed_with, is_queued, is_resolved, is_staged, is_of_file}, World.{Own as Books, Common, Seat, no_request, no_seat, request_of, seat_of, open_of}}
 use Rattle.exec_machine.specs.declared.event.Event.TheVariants as event
 use Rattle.exec_machine.specs.declared.state.RequestPhase.TheVariants as phase
 use Rattle.std.proofs.lemmas.Bool.{eqb-false, ltb-true, ltb-false}
@@ -15,12 +15,7 @@ use Rattle.std.proofs.Math.ListN.{get_or-append}
 use Rattle.std.proofs.Math.Seq.{get_or-append_seam}
 use Rattle.std.specs.Prelude.{nat_lt}
 use Rattle.exec_machine.specs.declared.state.Next.TheVariants as next
-use Rattle.std.proofs.lemmas.List.{length-set, set_past}
-use Rattle.std.proofs.lemmas.Grind.{get_or-set_at}
-use Rattle.std.proofs.lemmas.List.{get_or-set_other}
-use Rattle.exec_machine.specs.declared.state.Waiting.TheVariants as waiting
-use Rattle.exec_machine.specs.declared.state.WorkerPhase.TheVariants as worker
-use Rattle.exec_credit.proofs.{Fitting.is_cut, Listed.{KeepsIn, in_last, kept_drop, kept_joined, kept_left, keeps_end, listed_by, no_listed, one_listed, over_listed}}
+use Rattle.exec_credit.proofs.{Listed.{KeepsIn, in_last, kept_drop, kept_joined, kept_left, listed_by, no_listed, one_listed, over_listed}}
 use Rattle.exec_credit.specs.Minded.{AreListed, IsListed, is_in}
 
 -- PHASES

@@ -1,6 +1,6 @@
 -- What is carried gives what credit asks for.
-use Rattle.std.proofs.Common.{◌≡◌, ℕ, zero, suc, ◌+◌, ◌-◌, ◌*◌, ◌<◌, ◌≤◌, ◌==◌, ◌&&◌, ◌||◌, Bool, true, false, not, List, [], ◌∷◌, length, get_or, drop, All, Option, Some, None, if◌then◌else◌, ◌∙◌, refl, sym, ap, subst, arith, inl, inr}
-use Rattle.std.proofs.lemmas.Bool.{true≢false, false≢true, lt-ltb}
+use Rattle.std.proofs.Common.{◌≡◌, ℕ, zero, suc, ◌-◌, ◌*◌, ◌≤◌, ◌==◌, ◌&&◌, Bool, true, false, List, [], ◌∷◌, length, get_or, drop, All, Option, Some, None, if◌then◌else◌, ◌∙◌, refl, sym, ap, subst, arith}
+use Rattle.std.proofs.lemmas.Bool.{true≢false, false≢true}
 use Rattle.std.specs.Prelude.{nat_le, nat_lt}
 use Rattle.std.proofs.lemmas.List.Elements.{All-tail}
 use Rattle.std.proofs.lemmas.Option.{slice_get-get_or}
@@ -12,13 +12,12 @@ use Rattle.exec_machine.specs.declared.state.Code.TheVariants as code
 use Rattle.exec_machine.specs.declared.state.Next.TheVariants as next
 use Rattle.exec_machine.specs.declared.state.RequestPhase.TheVariants as phase
 use Rattle.exec_machine.specs.declared.state.Waiting.TheVariants as waiting
-use Rattle.exec_moves.specs.declared.place.InCallbacks.TheVariants as callback
-use Rattle.exec_moves.specs.declared.place.AfterCallbacks.TheVariants as after
-use Rattle.exec_moves.specs.{declared.place.{InPoll.InPoll, Place.Place}, Move.{move, move_at}, Poll.{act_asked, await, drop_newest, resume, sleep_for}, Seen.next_at, Serve.first_numbered, State.{Desk, Things, Moved}, Submit.{next_gate, waits_at}}
+use Rattle.exec_machine.specs.Tests.{is_ready}
+use Rattle.exec_moves.specs.{declared.place.{InPoll.InPoll, Place.Place}, Heights.polls_alone, Move.{move_act, move_at}, Poll.{act, act_asked, await, drop_newest, resume, sleep_for}, Seen.next_at, Serve.first_numbered, State.{Desk, Things, Moved, word_of as wake_word}, Submit.{next_gate, waits_at}, Thing.aside}
 use Rattle.exec_moves.specs.declared.place.InPoll.TheVariants as poll
 use Rattle.exec_moves.specs.declared.place.Place.TheVariants as at
-use Rattle.exec_credit.specs.{Minds.{Minds, closes, is_poll}, Minded.{IsWithin, Minded, Stood, is_joining, is_played}}
-use Rattle.exec_credit.proofs.{First.{deadlines, sleepers}, Leading.no_mail}
+use Rattle.exec_credit.specs.{Minds.{Minds, closes, is_alone, is_poll}, Minded.{HasRoot, Minded, PollsRoot, Stood, is_joining, is_played}}
+use Rattle.exec_credit.proofs.{Alone.parts_of, First.{deadlines, sleepers}, Leading.no_mail}
 
 -- NO GATES
 
@@ -142,12 +141,43 @@ module _ (c : Configuration) (me : Books) (s : Common) (d : Desk) (x : Things) (
   resumes waiting.Wake h = rw h refl
   resumes waiting.Yielded h = rw h refl
 
-  polls : s.scripts ≡ [] → All (λ w. is_played w ≡ true) s.root → (p : InPoll) → is_joining (at.Poll t p) ≡ false → is_quiet (move_at c 0 me s d x (at.Poll t p)).event ≡ false
-  polls scripts words poll.BeginPoll joins = refl
-  polls scripts words poll.Resume joins = resumes it.waiting refl
-  polls scripts words poll.Act joins = acts (next_word s it) (played s scripts words it) (next_acts s it (words_left s it))
-  polls scripts words (poll.JoinGate r) joins = absurd (true≢false joins)
-  polls scripts words poll.Pend joins = refl
+  -- an act, by its word
+  pub acted_as : (w : ScriptWord) → next_word s it ≡ w → is_played w ≡ true → move_at c 0 me s d x (at.Poll t poll.Act) ≡ aside x (act_asked t me s d it w (operation_asked c me.sampled w))
+  acted_as w is can =
+      ap (λ v. move_act c 0 me s d x t v) is ∙ (by w can ∙ ap (λ v. aside x (act_asked t me s d it v (operation_asked c me.sampled v))) is)
+    where
+      by : (w : ScriptWord) → is_played w ≡ true → move_act c 0 me s d x t w ≡ aside x (act c t me s d it)
+      by (word.Send socket n) can = refl
+      by (word.Poll l) can = refl
+      by word.Await can = refl
+      by word.Drop can = refl
+      by (word.Sleep time) can = refl
+      by word.Yield can = refl
+      by word.End can = refl
+      by (word.Fault code) can = refl
+      by w can = absurd (false≢true can)
+
+  polls : s.scripts ≡ [] → All (λ w. is_played w ≡ true) s.root → (p : InPoll) → (p ≡ poll.BeginPoll → is_ready it.phase ≡ true) → polls_alone p ≡ true → is_joining (at.Poll t p) ≡ false
+      → is_quiet (move_at c 0 me s d x (at.Poll t p)).event ≡ false
+  polls scripts words poll.BeginPoll ready alone joins = rw (ready refl) refl
+  polls scripts words poll.Resume ready alone joins = resumes it.waiting refl
+  polls scripts words poll.Act ready alone joins =
+      let can = played s scripts words it in
+      subst (λ (m : Moved Things). is_quiet m.event ≡ false) (sym (acted_as (next_word s it) refl can)) (acts (next_word s it) can (next_acts s it (words_left s it)))
+  polls scripts words (poll.JoinGate r) ready alone joins = absurd (true≢false joins)
+  polls scripts words poll.Pend ready alone joins = refl
+  polls scripts words poll.LoadSpawnHead ready alone joins = absurd (false≢true alone)
+  polls scripts words poll.RemoveTask ready alone joins = absurd (false≢true alone)
+
+-- only the root is polled
+pub in_poll : (s : Common) (t : ℕ) (p : InPoll) → PollsRoot s (at.Poll t p) → (t ≡ 0) × (p ≡ poll.BeginPoll → is_ready (task_of s 0).phase ≡ true)
+in_poll s t poll.BeginPoll it = (it.0, λ h. it.1)
+in_poll s t poll.Resume it = (it, λ h. absurd (cc))
+in_poll s t poll.Act it = (it, λ h. absurd (cc))
+in_poll s t (poll.JoinGate r) it = (it, λ h. absurd (cc))
+in_poll s t poll.LoadSpawnHead it = (it, λ h. absurd (cc))
+in_poll s t poll.Pend it = (it, λ h. absurd (cc))
+in_poll s t poll.RemoveTask it = (it, λ h. absurd (cc))
 
 -- WHAT CREDIT ASKS FOR
 
@@ -164,25 +194,40 @@ next_free (at.Poll t (poll.JoinGate r)) open_still joins = absurd (true≢false 
 next_free p open_still joins = refl
 
 module _ (c : Configuration) (me : Books) (s : Common) (d : Desk) (x : Things) where
-  told : s.scripts ≡ [] → All (λ w. is_played w ≡ true) s.root → (p : Place) → is_joining p ≡ false → is_poll p ≡ true → is_quiet (move_at c 0 me s d x p).event ≡ false
-  told scripts words (at.Poll t p) joins polling = polls c me s d x t scripts words p joins
-  told scripts words p joins polling = absurd (false≢true polling)
+  told : s.scripts ≡ [] → All (λ w. is_played w ≡ true) s.root → (p : Place) → PollsRoot s p → is_alone p ≡ true → is_joining p ≡ false → is_poll p ≡ true → is_quiet (move_at c 0 me s d x p).event ≡ false
+  told scripts words (at.Poll t p) polled alone joins polling =
+      let here = in_poll s t p polled in
+      polls c me s d x t scripts words p (λ h. subst (λ j. is_ready (task_of s j).phase ≡ true) (sym here.0) (here.1 h)) alone joins
+  told scripts words p polled alone joins polling = absurd (false≢true polling)
 
-  pub minds : nat_lt 0 (ring_size c) ≡ true → Stood me s d x → Minded c me s d x → closes d.place ≡ false → Minds c 0 me s d x
-  minds ring stood minded open_still =
+  pub minds : nat_lt 0 (ring_size c) ≡ true → Stood me s d x → HasRoot me s d → Minded c me s d x → closes d.place ≡ false → Minds c 0 me s d x
+  minds ring stood root minded open_still =
+      let lone = minded.lone in
+      let parts = parts_of x lone.settled in
       record {
         here = omega (arith, stood.seats);
+        alone =
+            record {
+              lone = minded.workers;
+              first = refl;
+              place = lone.place;
+              unsearching = lone.unsearching;
+              word = parts.word;
+              poll = parts.poll;
+              unraised = parts.unraised;
+              bit = lone.bit;
+            };
         some_ring = ring;
         open_still = open_still;
         serving = stood.serving;
         free = stood.next ∙ next_free d.place open_still stood.joining;
         unread = stood.batch;
-        unsent = no_mail d x minded.unsent;
+        unsent = no_mail d (wake_word x 0) minded.unsent;
         elsewhere = stood.global;
         unfound = minded.unfound;
         ungated = ungated s stood.plain.ungated;
         kept = stood.passing;
-        told = told stood.scripts stood.words d.place stood.joining;
+        told = told stood.scripts stood.words d.place root.polls lone.place stood.joining;
         sampled = stood.sampled;
         deadlines = deadlines c me s;
         sleepers = sleepers me s (stood.opened open_still);

@@ -1,18 +1,18 @@
 -- What other parties change of what is carried.
-use Rattle.std.proofs.Common.{◌≡◌, ◌⊎◌, ◌≤◌, ℕ, ◌==◌, ◌&&◌, Bool, true, false, not, List, [], ◌∷◌, length, set, get_or, Option, Some, None, ◌∙◌, refl, sym, ap, subst, arith, inl, inr}
+use Rattle.std.proofs.Common.{◌≡◌, ◌⊎◌, ◌≤◌, ℕ, ◌==◌, ◌&&◌, Bool, true, false, not, List, [], ◌∷◌, length, set, get_or, ◌∙◌, refl, sym, ap, arith, inl, inr}
 use Rattle.std.proofs.lemmas.Bool.{false≢true, eqb-true, eqb-false, ltb-true, ltb-false}
 use Rattle.std.proofs.lemmas.Grind.{get_or-set_at}
 use Rattle.std.specs.Prelude.{nat_lt}
 use Rattle.std.proofs.lemmas.List.{get_or-set_other, get_or_past}
 use Rattle.std.specs.List.{list_any}
 use Rattle.exec_outcomes.specs.declared.outcome.OpResult.{OpResult}
-use Rattle.exec_machine.specs.{declared.{config.Configuration.Configuration, state.{Request.Request, RequestPhase.RequestPhase}}, Callers.after_landing, Progress.is_cancel_untold, Tests.{is_flying, is_resolved, is_staged}, World.{Own as Books, Common, no_request, request_of}}
+use Rattle.exec_machine.specs.{declared.{config.Configuration.Configuration, state.{Request.Request, RequestPhase.RequestPhase}}, Callers.after_landing, Tests.{is_flying, is_resolved, is_staged}, World.{Own as Books, Common, no_request, request_of}}
 use Rattle.exec_machine.specs.declared.state.RequestPhase.TheVariants as phase
-use Rattle.exec_moves.specs.{declared.place.{InRingWait.InRingWait, InWordWait.InWordWait, Place.Place, Stay.Stay}, Callback.{has_callbacks, has_requests}, State.Desk}
-use Rattle.exec_moves.specs.declared.place.InRingWait.TheVariants as ring
-use Rattle.exec_moves.specs.declared.place.InWordWait.TheVariants as word
+use Rattle.exec_moves.specs.{declared.idling.{InRingWait.InRingWait, InWordWait.InWordWait, Stay.Stay}, declared.place.Place.Place, Callback.{has_callbacks, has_requests}, State.Desk}
+use Rattle.exec_moves.specs.declared.idling.InRingWait.TheVariants as ring
+use Rattle.exec_moves.specs.declared.idling.InWordWait.TheVariants as word
 use Rattle.exec_moves.specs.declared.place.Place.TheVariants as at
-use Rattle.exec_moves.specs.declared.place.Stay.TheVariants as stay
+use Rattle.exec_moves.specs.declared.idling.Stay.TheVariants as stay
 use Rattle.exec_credit.specs.Minded.{IsEntered, IsUnready, Knows, KnowsFor, KnowsOnRing, KnowsOnWord}
 use Rattle.exec_credit.proofs.Asking.{open_set}
 
@@ -66,6 +66,15 @@ module _ (c : Configuration) (me : Books) (s s' : Common) (d e : Desk) (flag : e
   knows_still (at.TestForWork f) it = tt
   knows_still (at.Withdraw n) it = tt
   knows_still (at.Closing x) it = tt
+  knows_still (at.Pop x b) it = tt
+  knows_still (at.Search x) it = tt
+  knows_still (at.Scan x) it = tt
+  knows_still (at.LeaveSearch b) it = tt
+  knows_still (at.Push x b) it = tt
+  knows_still (at.Global x b) it = tt
+  knows_still (at.Kick x b) it = tt
+  knows_still (at.ClaimWorker set b) it = tt
+  knows_still (at.Signal x j b) it = tt
 
 -- A LANDING
 

@@ -1,21 +1,21 @@
 -- One step of any party keeps what lets no worker sleep on work.
-use Rattle.std.proofs.Common.{◌≡◌, ◌⊎◌, ℕ, zero, suc, ◌+◌, ◌≤◌, ◌<◌, ◌==◌, ◌&&◌, ◌||◌, Bool, true, false, not, List, [], ◌∷◌, ◌++◌, length, map, set, get_or, Option, Some, None, if◌then◌else◌, ◌∙◌, refl, sym, ap, subst, arith, inl, inr}
-use Rattle.std.proofs.lemmas.Bool.{true≢false, false≢true, and_parts, ltb-false, leb-false, lt-ltb}
+use Rattle.std.proofs.Common.{◌≡◌, ℕ, zero, suc, ◌+◌, ◌<◌, ◌&&◌, Bool, true, false, not, [], ◌∷◌, ◌++◌, length, set, get_or, Option, Some, None, if◌then◌else◌, ◌∙◌, refl, sym, ap, subst, arith, inl, inr}
+use Rattle.std.proofs.lemmas.Bool.{true≢false, false≢true, and_parts, leb-false, lt-ltb}
 use Rattle.std.proofs.lemmas.List.{get_or-set_same}
 use Rattle.std.proofs.Math.ListN.{get_or-map}
 use Rattle.std.specs.Prelude.{nat_le, nat_lt}
 use Rattle.exec_outcomes.specs.{Accounts.is_durable, declared.outcome.OpResult.OpResult, Lawful.{is_lawful, window_of}}
-use Rattle.exec_machine.specs.{declared.{config.{Configuration.Configuration, ScriptWord.ScriptWord}, state.{Request.Request, Rest.Rest, RequestPhase.RequestPhase, Waiting.Waiting}, step.Action.Action}, After.{own_after, common_after, made_by}, Allowed.allowed, Callers.{after_clock, after_landing, after_peer, is_enabled, is_held}, Deadlines.{earlier, first_timer, first_until, is_after, next_due, rest_until, roused_at}, Progress.{Plan, has_come}, Requests.{asked_now, asked_of, cursor_of, operation_asked, operation_or_none}, Run.{Follows, first_tasks}, Tests.{AllTrue, has_ended, is_awake, is_flying, is_open, is_resolved, set_seat, is_idle, is_in_flight}, Words.{next_word, polled_task}, World.{Own as Books, Common, Seat, no_request, no_seat, no_task, own_of, request_of, seat_of, sleeper_of, task_of}, Examples.refuses, Same.is_none, Tasks.new_seat}
+use Rattle.exec_machine.specs.{declared.{config.{Configuration.Configuration, ScriptWord.ScriptWord}, state.{Rest.Rest, RequestPhase.RequestPhase, Waiting.Waiting}, step.Action.Action}, After.{own_after, common_after, made_by}, Allowed.allowed, Callers.{after_clock, after_landing, is_enabled, is_held}, Deadlines.{earlier, first_timer, first_until, is_after, next_due, rest_until, roused_at}, Progress.{Plan, has_come}, Requests.{asked_of, cursor_of, operation_asked, operation_or_none}, Run.{Follows, first_tasks}, Tests.{is_empty, AllTrue, has_ended, is_awake, is_flying, is_open, is_resolved, set_seat, is_idle, is_in_flight}, Words.{next_word, polled_task}, World.{Own as Books, Common, Seat, no_seat, no_task, own_of, request_of, seat_of, task_of}, Examples.refuses, Same.is_none, Tasks.new_seat}
 use Rattle.exec_machine.specs.declared.config.ScriptWord.TheVariants as word
 use Rattle.exec_machine.specs.declared.state.RequestPhase.TheVariants as phase
 use Rattle.exec_machine.specs.declared.state.Rest.TheVariants as rest
 use Rattle.exec_machine.specs.declared.step.Action.TheVariants as action
-use Rattle.exec_moves.specs.{Move.move, Plays.{Played, Playing, by_action, by_step, first_playing}, State.{Desk, Things}}
+use Rattle.exec_moves.specs.{Move.move, Plays.{Played, Playing, by_action, by_step, desk_of, first_desk, first_playing}, State.{Desk, Things}}
 use Rattle.std.proofs.lemmas.List.{get_or_past}
 use Rattle.std.proofs.Common.{replicate}
 use Rattle.exec_machine.specs.declared.state.Waiting.TheVariants as waiting
-use Rattle.exec_credit.specs.Minded.{AreListed, HasRest, HasRoot, IsAtRest, IsCalled, IsListed, Minded, PaidIn, Rested, RestedIn, Stood, StoodIn, is_fresh_in, is_played}
-use Rattle.exec_credit.proofs.{Woken.called_then, Fitted.fits, Fitting.{cut_of, may_sleep}, Listed.{in_last, kept_joined, no_listed}, Listing.put_unenrolled, Lists.lists, Minding.played, Others.{flying_open, landed_at, kept as landed_kept}, Stepped.{first_set, nobody_there, none_half}, Resting.{rests_then, sleepers_then}}
+use Rattle.exec_credit.specs.Minded.{HasRoot, IsAtRest, IsListed, Minded, PaidIn, Rested, RestedIn, Stood, StoodIn, begins_call, is_fresh_in, is_played}
+use Rattle.exec_credit.proofs.{Woken.called_then, Fitted.fits, Fitting.{cut_of, may_sleep}, Listed.{in_last, kept_joined, no_listed}, Listing.put_unenrolled, Lists.lists, Minding.played, Others.{flying_open, landed_at, kept as landed_kept}, Stepped.{desk_set, first_set, landed_desk, nobody_there, none_half}, Resting.{rests_then, sleepers_then}}
 
 undurable : (c : Configuration) (sampled : ℕ) (w : ScriptWord) → is_played w ≡ true → is_durable (operation_or_none (operation_asked c sampled w)).kind ≡ false
 undurable c sampled (word.Send socket n) h = refl
@@ -33,11 +33,11 @@ pub rested_then : (c : Configuration) (me : Books) (s : Common) (d : Desk) (x : 
     → (let m = move c 0 me s d x in AllTrue (allowed c me s 0 m.event m.choice)) → (let m = move c 0 me s d x in Rested c (own_after c me s 0 m.event m.choice) (common_after c me s 0 m.event m.choice) m.desk)
 rested_then c me s d x stood root minded rested awake may =
     let m = move c 0 me s d x in
-    let it = fits c me s d x stood in
+    let it = fits c me s d x stood root minded in
     let cut = cut_of (may_sleep d.place) m.event it.0 in
     let here : 0 < length s.seats = omega (arith, stood.seats) in
     record {
-      rests = rests_then c me s d x here rested.listed stood.plain.ours stood minded awake may;
+      rests = rests_then c me s d x here rested.listed stood.plain.ours stood root minded awake may;
       listed = lists c me s rested.listed here stood.plain.ours (undurable c me.sampled (next_word s (polled_task me s)) (played s stood.scripts stood.words (polled_task me s))) stood.plain.ungated m.event m.choice cut may;
       called = called_then c me s d m.desk.wakes root stood.plain.ungated rested.called m.event m.choice cut it.2 may;
       sleepers = sleepers_then c me s rested.sleepers m.event m.choice cut;
@@ -172,7 +172,7 @@ module _ (c : Configuration) (me : Books) (s : Common) (d : Desk) (here : 0 < le
 other_seat : (s : Common) (i : ℕ) → length s.seats ≡ 1 → seat_of s (suc i) ≡ no_seat
 other_seat s i one = get_or_past s.seats (suc i) no_seat (omega (arith, one))
 
-module _ (c : Configuration) (x : Playing) (stood : StoodIn x) (paid : PaidIn c x) (rested : RestedIn c x) where
+module _ (c : Configuration) (x : Playing) (stood : StoodIn c x) (desks : is_empty x.desks ≡ false) (paid : PaidIn c x) (rested : RestedIn c x) where
   here : 0 < length x.world.common.seats
   here = omega (arith, stood.here.seats)
 
@@ -180,27 +180,29 @@ module _ (c : Configuration) (x : Playing) (stood : StoodIn x) (paid : PaidIn c 
   works awake follows =
       let me = own_of x.world 0 in
       let s = x.world.common in
-      let m = move c 0 me s x.desk x.things in
+      let d = desk_of c x 0 in
+      let m = move c 0 me s d x.things in
       let same = first_set x.world.workers me (own_after c me s 0 m.event m.choice) (made_by s m.event) stood.one in
-      subst (λ (own : Books). Rested c own (common_after c me s 0 m.event m.choice) m.desk) (sym same)
-      (rested_then c me s x.desk x.things stood.here stood.root paid rested awake follows.1)
+      subst (λ (e : Desk). Rested c (own_of (by_action c x (action.Work 0)).next.world 0) (common_after c me s 0 m.event m.choice) e) (sym (desk_set x.desks m.desk (first_desk c 0) desks))
+      (subst (λ (own : Books). Rested c own (common_after c me s 0 m.event m.choice) m.desk) (sym same)
+      (rested_then c me s d x.things stood.here stood.root paid rested awake follows.1))
 
-  by_party : (a : Action) → is_enabled x.world.common a ≡ true → Follows c x.world a (by_action c x a).told.0.said (by_action c x a).told.1 → RestedIn c (by_action c x a).next
-  by_party (action.Work zero) may follows =
+  by_party : (a : Action) → begins_call a ≡ false → is_enabled x.world.common a ≡ true → Follows c x.world a (by_action c x a).told.0.said (by_action c x a).told.1 → RestedIn c (by_action c x a).next
+  by_party (action.Work zero) inside may follows =
       let seat = seat_of x.world.common 0 in
       works (and_parts (is_awake seat.rest) (not (has_ended seat.phase)) (and_parts (is_awake seat.rest && not (has_ended seat.phase)) (not (is_held x.world.common seat)) may).0).0 follows
-  by_party (action.Work (suc i)) may follows = absurd (false≢true (sym (nobody_there x.world.common i stood.here.seats) ∙ may))
-  by_party (action.Spawn j k) may follows = absurd (false≢true follows.1.0)
-  by_party (action.Wake j t) may follows = absurd (false≢true follows.1.0)
-  by_party (action.GoOn j) may follows = absurd (false≢true (sym (none_half x.world.common.callers stood.callers j) ∙ may))
-  by_party (action.Clock d) may follows = clock_on c (own_of x.world 0) x.world.common x.desk here rested d
-  by_party (action.Land r n) may follows = lands c (own_of x.world 0) x.world.common x.desk here rested stood.here.plain.ours r n (and_parts (is_flying (request_of x.world.common r).phase) (is_lawful (window_of (asked_of (request_of x.world.common r).operation) (cursor_of (request_of x.world.common r).operation)) n) may).0
-  by_party (action.SetBusy zero) may follows = marks c (own_of x.world 0) x.world.common x.desk here rested (record (seat_of x.world.common 0) { busy = true }) refl refl refl
-  by_party (action.SetBusy (suc i)) may follows = absurd (false≢true (sym (ap (λ (it : Seat). not (has_ended it.phase)) (other_seat x.world.common i stood.here.seats)) ∙ may))
-  by_party (action.EndPoll i) may follows = rested
-  by_party (action.Stir zero) may follows = stirs c (own_of x.world 0) x.world.common x.desk here rested
-  by_party (action.Stir (suc i)) may follows = absurd (false≢true (sym (ap (λ (it : Seat). not (is_awake it.rest)) (other_seat x.world.common i stood.here.seats)) ∙ may))
-  by_party (action.Peer l) may follows =
+  by_party (action.Work (suc i)) inside may follows = absurd (false≢true (sym (nobody_there x.world.common i stood.here.seats) ∙ may))
+  by_party (action.Spawn j k) inside may follows = absurd (true≢false inside)
+  by_party (action.Wake j t) inside may follows = absurd (true≢false inside)
+  by_party (action.GoOn j) inside may follows = absurd (false≢true (sym (none_half x.world.common.callers stood.callers j) ∙ may))
+  by_party (action.Clock d) inside may follows = clock_on c (own_of x.world 0) x.world.common (desk_of c x 0) here rested d
+  by_party (action.Land r n) inside may follows = landed_desk c x desks r (stood.here.plain.ours r) (λ (e : Desk) (y : Things). Rested c (own_of x.world 0) (after_landing x.world.common r n) e) (lands c (own_of x.world 0) x.world.common (desk_of c x 0) here rested stood.here.plain.ours r n (and_parts (is_flying (request_of x.world.common r).phase) (is_lawful (window_of (asked_of (request_of x.world.common r).operation) (cursor_of (request_of x.world.common r).operation)) n) may).0)
+  by_party (action.SetBusy zero) inside may follows = marks c (own_of x.world 0) x.world.common (desk_of c x 0) here rested (record (seat_of x.world.common 0) { busy = true }) refl refl refl
+  by_party (action.SetBusy (suc i)) inside may follows = absurd (false≢true (sym (ap (λ (it : Seat). not (has_ended it.phase)) (other_seat x.world.common i stood.here.seats)) ∙ may))
+  by_party (action.EndPoll i) inside may follows = rested
+  by_party (action.Stir zero) inside may follows = stirs c (own_of x.world 0) x.world.common (desk_of c x 0) here rested
+  by_party (action.Stir (suc i)) inside may follows = absurd (false≢true (sym (ap (λ (it : Seat). not (is_awake it.rest)) (other_seat x.world.common i stood.here.seats)) ∙ may))
+  by_party (action.Peer l) inside may follows =
       record {
         rests = λ asleep. let old = rested.rests asleep in record { until = old.until; ahead = old.ahead; there = old.there; open_still = λ h. let r = old.open_still h in record { unready = r.unready; entered = record { untold = r.entered.untold; staged = r.entered.staged }; landed = r.landed }; waits = old.waits };
         listed = rested.listed;
@@ -208,13 +210,13 @@ module _ (c : Configuration) (x : Playing) (stood : StoodIn x) (paid : PaidIn c 
         sleepers = rested.sleepers;
       }
 
-pub rested_steps : (c : Configuration) (x : Playing) (a : Action) → StoodIn x → PaidIn c x → RestedIn c x → Follows c x.world a (by_step c x a).told.0.said (by_step c x a).told.1 → RestedIn c (by_step c x a).next
-rested_steps c x a stood paid rested follows = by (is_enabled x.world.common a) refl follows
+pub rested_steps : (c : Configuration) (x : Playing) (a : Action) → begins_call a ≡ false → StoodIn c x → is_empty x.desks ≡ false → PaidIn c x → RestedIn c x → Follows c x.world a (by_step c x a).told.0.said (by_step c x a).told.1 → RestedIn c (by_step c x a).next
+rested_steps c x a inside stood desks paid rested follows = by (is_enabled x.world.common a) refl follows
   where
     by : (b : Bool) → is_enabled x.world.common a ≡ b
         → (let y : Played = if b then by_action c x a else record { told = refuses a; next = x } in Follows c x.world a y.told.0.said y.told.1)
         → RestedIn c (if b then by_action c x a else record { told = refuses a; next = x }).next
-    by true may follows = by_party c x stood paid rested a may follows
+    by true may follows = by_party c x stood desks paid rested a inside may follows
     by false refused follows = rested
 
 pub first_rested : (p : Plan) → p.config.workers ≡ 1 → RestedIn p.config (first_playing p)

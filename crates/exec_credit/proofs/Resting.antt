@@ -1,25 +1,25 @@
 -- Where a worker sleeps, and what it has then.
-use Rattle.std.proofs.Common.{◌≡◌, ℕ, zero, suc, length, drop, set, ◌+◌, ◌++◌, ◌<◌, ◌==◌, ◌&&◌, ◌||◌, Bool, true, false, not, List, [], ◌∷◌, get_or, Option, Some, None, if◌then◌else◌, ◌∙◌, refl, sym, ap, subst, arith}
+use Rattle.std.proofs.Common.{◌≡◌, ℕ, zero, suc, length, drop, set, ◌+◌, ◌++◌, ◌<◌, ◌==◌, ◌&&◌, ◌||◌, Bool, true, false, not, List, [], ◌∷◌, get_or, Option, Some, None, if◌then◌else◌, ◌∙◌, refl, sym, ap, subst}
 use Rattle.std.proofs.lemmas.Bool.{true≢false, false≢true, and_parts, or_parts, eqb-true}
 use Rattle.std.proofs.lemmas.List.{get_or-set_same}
 use Rattle.std.specs.List.{list_any}
-use Rattle.exec_machine.specs.{declared.{config.Configuration.Configuration, event.Event.Event, state.{Next.Next, Request.Request, RequestPhase.RequestPhase, Sleeper.Sleeper, Waiting.Waiting}}, After.{own_after, common_after, polled}, Allowed.allowed, Choice.{Choice, Choice.{Plain, Passes, Pays, Posts}, Payer.{ByRequest, BySleeper, ByAct, ByCall, ByStop}}, Closing.{after_next, with_closed_mailbox, gone_with}, Deadlines.{next_due, rest_until, earlier, first_timer, first_until, is_after, new_sleeper}, Progress.is_cancel_untold, Same.same_number, Tests.{AllTrue, is_awake, is_empty, is_landed, is_resolved, is_staged, set_seat, is_open, set_task, set_open}, World.{Own as Books, Common, Seat, no_request, no_seat, request_of, seat_of, task_of, no_sleeper, open_of, sleeper_of}, Tasks.{after_over, pended_phase, removed, sleepers_after_waking_up}, Requests.{account_of_open, judged_of}}
+use Rattle.exec_machine.specs.{declared.{config.Configuration.Configuration, event.Event.Event, state.{Next.Next, Request.Request, RequestPhase.RequestPhase, Sleeper.Sleeper, Waiting.Waiting}}, After.{own_after, common_after, polled}, Allowed.allowed, Choice.{Choice, Choice.{Plain, Passes, Pays, Posts}, Payer.{ByRequest, BySleeper, ByAct, ByCall, ByStop}}, Closing.{after_next, with_closed_mailbox, gone_with}, Deadlines.{next_due, rest_until, earlier, first_timer, first_until, is_after, new_sleeper}, Same.same_number, Tests.{AllTrue, is_awake, is_empty, is_landed, is_resolved, is_staged, set_seat, is_open, set_task, set_open}, World.{Own as Books, Common, Seat, no_request, no_seat, request_of, seat_of, task_of, no_sleeper, open_of, sleeper_of}, Tasks.{after_over, pended_phase, removed, sleepers_after_waking_up}, Requests.{account_of_open, judged_of}}
 use Rattle.exec_machine.specs.declared.event.Event.TheVariants as event
 use Rattle.exec_machine.specs.declared.state.Next.TheVariants as next
 use Rattle.exec_machine.specs.declared.state.RequestPhase.TheVariants as phase
 use Rattle.exec_machine.specs.declared.state.WorkerPhase.TheVariants as worker
 use Rattle.exec_words.specs.Word.{is_idle_at}
-use Rattle.exec_moves.specs.declared.place.AfterWait.TheVariants as after
-use Rattle.exec_moves.specs.declared.place.InRingWait.TheVariants as ring
-use Rattle.exec_moves.specs.declared.place.InWordWait.TheVariants as word
-use Rattle.exec_moves.specs.{declared.place.{Place.Place, Stay.Stay}, Callback.has_requests, Load.has_come, Move.{aside, move, move_at, with_word}, State.{Desk, Moved, Things, does}, Wait.{has_completion, noting_sleep, sleep, sleep_on_ring, sleep_on_word}}
+use Rattle.exec_moves.specs.declared.idling.AfterWait.TheVariants as after
+use Rattle.exec_moves.specs.declared.idling.InRingWait.TheVariants as ring
+use Rattle.exec_moves.specs.declared.idling.InWordWait.TheVariants as word
+use Rattle.exec_moves.specs.{declared.idling.Stay.Stay, declared.place.Place.Place, Callback.has_requests, Load.has_come, Move.{move, move_at}, Serve.Ring, State.{Desk, Moved, Things, does, wake_poll_of, word_of}, Thing.{ring_of, with_ring, with_word}, Wait.{has_completion, noting_sleep}}
 use Rattle.exec_moves.specs.declared.place.Place.TheVariants as at
-use Rattle.exec_moves.specs.declared.place.Stay.TheVariants as stay
+use Rattle.exec_moves.specs.declared.idling.Stay.TheVariants as stay
 use Rattle.std.proofs.Math.ListN.{get_or-map}
 use Rattle.std.specs.Prelude.{nat_lt}
 use Rattle.exec_outcomes.specs.Outcomes.{refuses_hint}
 use Rattle.exec_machine.specs.declared.state.Waiting.TheVariants as waiting
-use Rattle.exec_credit.specs.{Minds.stands, Minded.{AreListed, HasRest, IsAtRest, IsEntered, IsUnready, Knows, Minded, Stood, is_in, sleeps_closing, sleeps_open}}
+use Rattle.exec_credit.specs.{Minds.stands, Minded.{AreListed, HasRest, HasRoot, IsAtRest, Knows, Minded, Stood, is_in, sleeps_closing, sleeps_open}}
 use Rattle.exec_credit.proofs.{Asking.is_open_of, Fitted.fits, Fitting.{cut_of, is_cut, is_sleep, may_sleep}}
 
 -- NO OTHER EVENT makes a worker sleep
@@ -146,7 +146,7 @@ module _ (c : Configuration) (me : Books) (s : Common) (d : Desk) (x : Things) (
   Rests m = is_sleep m.event ≡ true → AllTrue (allowed c me s 0 m.event m.choice) → IsAtRest c (own_after c me s 0 m.event m.choice) (common_after c me s 0 m.event m.choice) m.desk
 
   on_ring : (y : Stay) → Knows c me s d (at.RingWait ring.SleepOnRing y) → Rests (move_at c 0 me s (stands (at.RingWait ring.SleepOnRing y) d) x (at.RingWait ring.SleepOnRing y))
-  on_ring y known = by (has_completion d (seat_of s 0).landed) refl (has_come s.clock (next_due s 0))
+  on_ring y known = by (has_completion d (ring_of s x 0)) refl (has_come s.clock (next_due s 0))
     where
       rest_of : (y : Stay) → Knows c me s d (at.RingWait ring.SleepOnRing y) → (seat_of s 0).landed ≡ [] → sleeps_open (at.RingWait (ring.DisarmRing after.Begin) y) ≡ true
           → HasRest c (own_after c me s 0 (event.Sleep (next_due s 0)) Plain) (common_after c me s 0 (event.Sleep (next_due s 0)) Plain) (stands (at.RingWait (ring.DisarmRing after.Begin) y) d)
@@ -166,19 +166,19 @@ module _ (c : Configuration) (me : Books) (s : Common) (d : Desk) (x : Things) (
       there stay.Turn = refl
       there stay.Closing = refl
 
-      by : (b : Bool) → has_completion d (seat_of s 0).landed ≡ b → (come : Bool)
-          → Rests (aside x (let left = record d { place = at.RingWait (ring.DisarmRing after.Begin) y } in if b then does {T = List ℕ} event.Turn left (seat_of s 0).landed else (if come then does {T = List ℕ} event.Turn left (seat_of s 0).landed else does {T = List ℕ} (event.Sleep (next_due s 0)) left (seat_of s 0).landed)))
+      by : (b : Bool) → has_completion d (ring_of s x 0) ≡ b → (come : Bool)
+          → Rests (with_ring 0 x (let left = record d { place = at.RingWait (ring.DisarmRing after.Begin) y } in if b then does {T = Ring} event.Turn left (ring_of s x 0) else (if come then does {T = Ring} event.Turn left (ring_of s x 0) else does {T = Ring} (event.Sleep (next_due s 0)) left (ring_of s x 0))))
       by true h come slept may = absurd (false≢true slept)
       by false h true slept may = absurd (false≢true slept)
       by false h false slept may =
           rests_at c me s d x here listed ours (at.RingWait (ring.DisarmRing after.Begin) y) (there y) (own_after c me s 0 (event.Sleep (next_due s 0)) Plain) may.1.1.0
-          (rest_of y known (none_landed (seat_of s 0).landed (nat_lt 0 d.others) h)) (waits y known)
+          (rest_of y known (none_landed (seat_of s 0).landed (nat_lt 0 d.others) (or_parts (not (is_empty (seat_of s 0).landed) || nat_lt 0 d.others) (wake_poll_of x 0).told h).0)) (waits y known)
 
   on_word : Knows c me s d (at.WordWait word.SleepOnWord) → Rests (move_at c 0 me s (stands (at.WordWait word.SleepOnWord) d) x (at.WordWait word.SleepOnWord))
-  on_word known = by (is_idle_at x.word d.processed) (has_come s.clock (next_due s 0))
+  on_word known = by (is_idle_at (word_of x 0) d.processed) (has_come s.clock (next_due s 0))
     where
       by : (b come : Bool)
-          → Rests (with_word x (let left = stands (at.WordWait word.DisarmWord) d in if b then noting_sleep s.clock (if come then does event.Turn left x.word else does (event.Sleep (next_due s 0)) left x.word) else does event.Turn left x.word))
+          → Rests (with_word 0 x (let left = stands (at.WordWait word.DisarmWord) d in if b then noting_sleep s.clock (if come then does event.Turn left (word_of x 0) else does (event.Sleep (next_due s 0)) left (word_of x 0)) else does event.Turn left (word_of x 0)))
       by false come slept may = absurd (false≢true slept)
       by true true slept may = absurd (false≢true slept)
       by true false slept may =
@@ -196,20 +196,20 @@ module _ (c : Configuration) (me : Books) (s : Common) (d : Desk) (x : Things) (
   at_place (at.WordWait word.SleepOnWord) h known = on_word known
   at_place p h known = absurd (false≢true h)
 
-  pub rests_then : Stood me s d x → Minded c me s d x → is_awake (seat_of s 0).rest ≡ true → (let m = move c 0 me s d x in AllTrue (allowed c me s 0 m.event m.choice))
+  pub rests_then : Stood me s d x → HasRoot me s d → Minded c me s d x → is_awake (seat_of s 0).rest ≡ true → (let m = move c 0 me s d x in AllTrue (allowed c me s 0 m.event m.choice))
       → (let m = move c 0 me s d x in is_awake (seat_of (common_after c me s 0 m.event m.choice) 0).rest ≡ false → IsAtRest c (own_after c me s 0 m.event m.choice) (common_after c me s 0 m.event m.choice) m.desk)
-  rests_then stood minded awake may asleep = by (is_sleep (move c 0 me s d x).event) refl (may_sleep d.place) refl
+  rests_then stood root minded awake may asleep = by (is_sleep (move c 0 me s d x).event) refl (may_sleep d.place) refl
     where
       by : (b : Bool) → is_sleep (move c 0 me s d x).event ≡ b → (sleepy : Bool) → may_sleep d.place ≡ sleepy
           → (let m = move c 0 me s d x in IsAtRest c (own_after c me s 0 m.event m.choice) (common_after c me s 0 m.event m.choice) m.desk)
       by false loud sleepy is =
           let m = move c 0 me s d x in
-          let kept = rest_kept c me s here m.event m.choice (cut_of (may_sleep d.place) m.event (fits c me s d x stood).0) loud in
+          let kept = rest_kept c me s here m.event m.choice (cut_of (may_sleep d.place) m.event (fits c me s d x stood root minded).0) loud in
           absurd (true≢false (sym awake ∙ (ap is_awake (sym kept) ∙ asleep)))
       by true slept true is = at_place d.place is minded.knows slept may
       by true slept false is =
           let m = move c 0 me s d x in
-          let cut = and_parts (may_sleep d.place || not (is_sleep m.event)) (is_cut m.event) (fits c me s d x stood).0 in
+          let cut = and_parts (may_sleep d.place || not (is_sleep m.event)) (is_cut m.event) (fits c me s d x stood root minded).0 in
           absurd (false≢true (neither (may_sleep d.place) (is_sleep m.event) is slept cut.0))
         where
           neither : (a b : Bool) → a ≡ false → b ≡ true → (a || not b) ≡ true → false ≡ true

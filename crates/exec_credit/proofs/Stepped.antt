@@ -1,19 +1,19 @@
 -- One step of any party: what is carried, and that a quiet one is paid for.
-use Rattle.std.proofs.Common.{◌≡◌, ℕ, zero, suc, ◌+◌, ◌<◌, ◌≤◌, ◌&&◌, ◌||◌, Bool, true, false, not, List, [], ◌∷◌, ◌++◌, length, set, get_or, if◌then◌else◌, ◌∙◌, refl, sym, ap, subst, arith, inl, inr}
+use Rattle.std.proofs.Common.{◌≡◌, ℕ, zero, suc, ◌+◌, ◌<◌, ◌&&◌, Bool, true, false, not, List, [], ◌∷◌, ◌++◌, length, set, get_or, if◌then◌else◌, ◌∙◌, refl, sym, ap, subst, arith, inl, inr}
 use Rattle.std.proofs.lemmas.Bool.{true≢false, false≢true, and_parts, or_parts, cases_Bool, lt-ltb}
 use Rattle.std.proofs.lemmas.List.{get_or_past}
 use Rattle.std.specs.Prelude.{nat_le, nat_lt}
 use Rattle.std.specs.List.{list_any}
 use Rattle.exec_outcomes.specs.{declared.outcome.OpResult.OpResult, Lawful.{is_lawful, window_of}}
-use Rattle.exec_machine.specs.{declared.{config.Configuration.Configuration, event.Event.Event, state.{Call.Call, WorkerPhase.WorkerPhase, Rest.TheVariants.Awake}, step.Action.Action}, After.{own_after, common_after, made_by}, Callers.{after_clock, after_landing, after_peer, is_enabled, is_half_done, is_held, may_work}, Choice.Choice, Progress.{is_anyone_closing, is_quiet_step}, Ranges.{ring_size, doubled_up_to}, Requests.{asked_of, cursor_of}, Run.Follows, Tests.{set_seat, has_ended, is_awake, is_closing, is_flying, is_open}, Text.is_quiet, World.{Own as Books, Common, Seat, World, no_own, no_seat, own_of, seat_of, request_of}, Examples.refuses}
+use Rattle.exec_machine.specs.{declared.{config.Configuration.Configuration, state.{Call.Call, WorkerPhase.WorkerPhase, Rest.TheVariants.Awake}, step.Action.Action}, After.{own_after, common_after, made_by}, Callers.{after_clock, after_landing, after_peer, is_enabled, is_half_done, is_held, may_work}, Progress.{is_anyone_closing, is_quiet_step}, Ranges.{ring_size, doubled_up_to}, Requests.{asked_of, cursor_of}, Run.Follows, Tests.{set_seat, has_ended, is_empty, is_awake, is_closing, is_flying, is_open}, Text.is_quiet, World.{Own as Books, Common, Seat, no_own, no_seat, own_of, seat_of, request_of}, Examples.refuses}
 use Rattle.exec_machine.specs.declared.state.Call.TheVariants as call
 use Rattle.exec_machine.specs.declared.state.WorkerPhase.TheVariants as worker
 use Rattle.exec_machine.specs.declared.step.Action.TheVariants as action
 use Rattle.exec_moves.specs.declared.place.InClosing.TheVariants as closing
-use Rattle.exec_moves.specs.{declared.place.Place.Place, Credit.credit, Move.{move, move_at}, Plays.{Played, Playing, by_action, by_step, credit_of}, State.{Desk, Things, Moved}}
+use Rattle.exec_moves.specs.{declared.place.Place.Place, Credit.credit, Move.{move, move_at}, Plays.{Played, Playing, by_action, by_step, credit_of, desk_of, first_desk, last_told, with_none_behind}, State.{Desk, Things, Moved, WakePoll, no_wake_poll, one_behind, passed, wake_poll_of}, Thing.set_wake_poll}
 use Rattle.exec_moves.specs.declared.place.Place.TheVariants as at
-use Rattle.exec_credit.specs.{Minds.{Falls, closes}, Minded.{Minded, PaidIn, Stood, StoodIn, is_start}}
-use Rattle.exec_credit.proofs.{Asking.is_open_of, Led.leads, Minding.minds, Others.{knows_still, landing_entered, landing_open}, Quiet.falls}
+use Rattle.exec_credit.specs.{Minds.{Falls, IsUnraised, closes}, Minded.{HasRoot, Lone, Minded, PaidIn, Stood, StoodIn, begins_call, is_start}}
+use Rattle.exec_credit.proofs.{Alone.{HasParts, parts_of, settled_of}, Asking.is_open_of, Led.leads, Minding.minds, Others.{knows_still, landing_entered, landing_open}, Quiet.falls}
 
 -- there is some room in a ring
 doubled : (k p n : ℕ) → 0 < p → 0 < doubled_up_to k p n
@@ -33,12 +33,12 @@ none_of false h = refl
 
 -- A STEP OF THE WORKER
 
-module _ (c : Configuration) (me : Books) (s : Common) (d : Desk) (x : Things) (stood : Stood me s d x) (minded : Minded c me s d x) where
+module _ (c : Configuration) (me : Books) (s : Common) (d : Desk) (x : Things) (stood : Stood me s d x) (root : HasRoot me s d) (minded : Minded c me s d x) where
   abbrev did : Moved Things
   did = move c 0 me s d x
 
   pub minded_then : Minded c (own_after c me s 0 did.event did.choice) (common_after c me s 0 did.event did.choice) did.desk did.thing
-  minded_then = let it = leads c me s d x stood minded in record { unsent = it.0; unfound = it.2; looks = it.3; spinner = it.1; knows = it.4 }
+  minded_then = let it = leads me s c d x stood root minded in record { workers = minded.workers; lone = it.5; unsent = it.0; unfound = it.2; looks = it.3; spinner = it.1; knows = it.4 }
 
   closing_of : (p : WorkerPhase) → is_open p ≡ false → has_ended p ≡ false → is_closing p ≡ true
   closing_of worker.Open shut going = absurd (true≢false shut)
@@ -52,7 +52,7 @@ module _ (c : Configuration) (me : Books) (s : Common) (d : Desk) (x : Things) (
   -- while nobody closes
   pub paid_for : has_ended (seat_of s 0).phase ≡ false → is_closing (seat_of s 0).phase ≡ false → Falls c 0 me s d x did
   paid_for going nobody quiet = elim (cases_Bool (closes d.place)) [
-    | inr open_still ↦ falls c 0 me s d x (minds c me s d x (some_ring c) stood minded open_still) quiet
+    | inr open_still ↦ falls c 0 me s d x (minds c me s d x (some_ring c) stood root minded open_still) quiet
     | inl shut ↦ elim (cases_Bool (is_start d.place)) [
       | inl starts ↦ absurd (false≢true (sym (start_loud d.place starts) ∙ quiet))
       | inr on ↦ absurd (true≢false (sym (closing_of (seat_of s 0).phase (stood.closed shut on) going) ∙ nobody))
@@ -69,10 +69,81 @@ none_half [] none j = refl
 none_half (k ∷ calls) none zero = (or_parts (is_half_done k) (list_any is_half_done calls) none).0
 none_half (k ∷ calls) none (suc j) = none_half calls (or_parts (is_half_done k) (list_any is_half_done calls) none).1 j
 
+-- a desk that was put back
+pub desk_set : (desks : List Desk) (y first : Desk) → is_empty desks ≡ false → get_or (set desks 0 y) 0 first ≡ y
+desk_set [] y first some = absurd (true≢false some)
+desk_set (d ∷ desks) y first some = refl
+
+pub some_left : (desks : List Desk) (i : ℕ) (y : Desk) → is_empty desks ≡ false → is_empty (set desks i y) ≡ false
+some_left [] i y some = some
+some_left (d ∷ desks) zero y some = refl
+some_left (d ∷ desks) (suc i) y some = refl
+
+-- what lands stands behind all other completions
+pub landed_desk : (c : Configuration) (x : Playing) → is_empty x.desks ≡ false
+    → (r : ℕ) → (request_of x.world.common r).worker ≡ 0 → (P : Desk → Things → Type 0)
+    → P (record (desk_of c x 0) { others = 0 }) (set_wake_poll 0 x.things (passed (wake_poll_of x.things 0)))
+    → (let y = with_none_behind c (request_of x.world.common r).worker x in P (desk_of c y 0) y.things)
+landed_desk c x some r ours P h =
+    let things = set_wake_poll 0 x.things (passed (wake_poll_of x.things 0)) in
+    subst (λ i. let y = with_none_behind c i x in P (desk_of c y 0) y.things) (sym ours)
+    (subst (λ d. P d things)
+    (sym (desk_set x.desks (record (desk_of c x 0) { others = 0 }) (first_desk c 0) some)) h)
+
+-- the wake poll of a ring, after what raises no wake of it
+module _ (f : WakePoll → WakePoll) (kept : (w : WakePoll) → IsUnraised w → IsUnraised (f w)) where
+  some_polls : (ws : List WakePoll) (i : ℕ) (w : WakePoll) → is_empty ws ≡ false → is_empty (set ws i w) ≡ false
+  some_polls [] i w some = some
+  some_polls (v ∷ ws) zero w some = refl
+  some_polls (v ∷ ws) (suc i) w some = refl
+
+  first_poll : (ws : List WakePoll) → is_empty ws ≡ false
+      → get_or (set ws 0 (f (get_or ws 0 no_wake_poll))) 0 no_wake_poll ≡ f (get_or ws 0 no_wake_poll)
+  first_poll [] some = absurd (true≢false some)
+  first_poll (v ∷ ws) some = refl
+
+  other_poll : (ws : List WakePoll) (i : ℕ) (w : WakePoll)
+      → get_or (set ws (suc i) w) 0 no_wake_poll ≡ get_or ws 0 no_wake_poll
+  other_poll [] i w = refl
+  other_poll (v ∷ ws) i w = refl
+
+  pub poll_set : (i : ℕ) (x : Things) (d : Desk) → Lone d x → Lone d (set_wake_poll i x (f (wake_poll_of x i)))
+  poll_set i x d lone =
+      record {
+        settled = settled_of (set_wake_poll i x (f (wake_poll_of x i))) (record {
+          queue = parts.queue;
+          word = parts.word;
+          poll = some_polls x.wake_polls i (f (wake_poll_of x i)) parts.poll;
+          inbox = parts.inbox;
+          bits = parts.bits;
+          unraised = still i;
+          untaken = parts.untaken;
+          untasked = parts.untasked;
+        });
+        unsearching = lone.unsearching;
+        place = lone.place;
+        bit = lone.bit;
+      }
+    where
+      parts : HasParts x
+      parts = parts_of x lone.settled
+
+      still : (i : ℕ) → IsUnraised (wake_poll_of (set_wake_poll i x (f (wake_poll_of x i))) 0)
+      still zero =
+          subst (λ w. IsUnraised w) (sym (first_poll x.wake_polls parts.poll)) (kept (wake_poll_of x 0) parts.unraised)
+      still (suc i) =
+          subst (λ w. IsUnraised w) (sym (other_poll x.wake_polls i (f (wake_poll_of x (suc i))))) parts.unraised
+
+pub told_last : (i : ℕ) (x : Things) (d : Desk) → Lone d x → Lone d (set_wake_poll i x (last_told (wake_poll_of x i)))
+told_last = poll_set last_told (λ w it. record { unkept = it.unkept; unended = it.unended })
+
+pub has_passed : (x : Things) (d : Desk) → Lone d x → Lone d (set_wake_poll 0 x (passed (wake_poll_of x 0)))
+has_passed = poll_set passed (λ w it. record { unkept = it.unkept; unended = ap one_behind it.unended }) 0
+
 pub nobody_there : (s : Common) (i : ℕ) → length s.seats ≡ 1 → may_work s (seat_of s (suc i)) ≡ false
 nobody_there s i one = rw (get_or_past s.seats (suc i) no_seat (omega (arith, one))) refl
 
-module _ (c : Configuration) (x : Playing) (stood : StoodIn x) (minded : PaidIn c x) where
+module _ (c : Configuration) (x : Playing) (stood : StoodIn c x) (desks : is_empty x.desks ≡ false) (minded : PaidIn c x) where
   abbrev after_it : Action → Type 0
   after_it a =
       PaidIn c (by_action c x a).next
@@ -82,14 +153,19 @@ module _ (c : Configuration) (x : Playing) (stood : StoodIn x) (minded : PaidIn 
   works may =
       let me = own_of x.world 0 in
       let s = x.world.common in
-      let m = move c 0 me s x.desk x.things in
+      let d = desk_of c x 0 in
+      let m = move c 0 me s d x.things in
       let same = first_set x.world.workers me (own_after c me s 0 m.event m.choice) (made_by s m.event) stood.one in
+      let here = desk_set x.desks m.desk (first_desk c 0) desks in
+      let own_then = own_of (by_action c x (action.Work 0)).next.world 0 in
       let awake = and_parts (is_awake (seat_of s 0).rest && not (has_ended (seat_of s 0).phase)) (not (is_held s (seat_of s 0))) may in
       let going = none_of (has_ended (seat_of s 0).phase) (and_parts (is_awake (seat_of s 0).rest) (not (has_ended (seat_of s 0).phase)) awake.0).1 in (
-        subst (λ (own : Books). Minded c own (common_after c me s 0 m.event m.choice) m.desk m.thing) (sym same) (minded_then c me s x.desk x.things stood.here minded),
+        subst (λ (e : Desk). Minded c own_then (common_after c me s 0 m.event m.choice) e m.thing) (sym here)
+            (subst (λ (own : Books). Minded c own (common_after c me s 0 m.event m.choice) m.desk m.thing) (sym same) (minded_then c me s d x.things stood.here stood.root minded)),
         λ quiet. let parts = and_parts (is_quiet m.event) (not (is_anyone_closing x.world)) quiet in
-            subst (λ (own : Books). credit c 0 own (common_after c me s 0 m.event m.choice) m.desk m.thing < credit_of c x) (sym same)
-            (paid_for c me s x.desk x.things stood.here minded going (nobody s.seats stood.here.seats (none_of (is_anyone_closing x.world) parts.1)) parts.0),
+            subst (λ (e : Desk). credit c 0 own_then (common_after c me s 0 m.event m.choice) e m.thing < credit_of c x) (sym here)
+            (subst (λ (own : Books). credit c 0 own (common_after c me s 0 m.event m.choice) m.desk m.thing < credit_of c x) (sym same)
+            (paid_for c me s d x.things stood.here stood.root minded going (nobody s.seats stood.here.seats (none_of (is_anyone_closing x.world) parts.1)) parts.0)),
       )
     where
       nobody : (seats : List Seat) → length seats ≡ 1 → list_any (λ seat. is_closing seat.phase) seats ≡ false → is_closing (get_or seats 0 no_seat).phase ≡ false
@@ -100,6 +176,8 @@ module _ (c : Configuration) (x : Playing) (stood : StoodIn x) (minded : PaidIn 
   beside : (s' : Common) (e : Desk) → s'.requests ≡ x.world.common.requests → Minded c (own_of x.world 0) x.world.common e x.things → Minded c (own_of x.world 0) s' e x.things
   beside s' e same it =
       record {
+        workers = it.workers;
+        lone = it.lone;
         unsent = it.unsent;
         unfound = it.unfound;
         looks = it.looks;
@@ -109,41 +187,78 @@ module _ (c : Configuration) (x : Playing) (stood : StoodIn x) (minded : PaidIn 
             (λ known. record { untold = rw same known.untold; staged = λ r. rw same (known.staged r) }) e.place it.knows;
       }
 
-  lands : (r : ℕ) (n : OpResult) → is_flying (request_of x.world.common r).phase ≡ true → Minded c (own_of x.world 0) (after_landing x.world.common r n) (record x.desk { others = 0 }) x.things
+  lands : (r : ℕ) (n : OpResult) → is_flying (request_of x.world.common r).phase ≡ true
+      → Minded c (own_of x.world 0) (after_landing x.world.common r n) (record (desk_of c x 0) { others = 0 })
+      (set_wake_poll 0 x.things (passed (wake_poll_of x.things 0)))
   lands r n flies =
       record {
+        workers = minded.workers;
+        lone =
+            (let it = has_passed x.things (desk_of c x 0) minded.lone in
+            record { settled = it.settled; unsearching = it.unsearching; place = it.place; bit = it.bit });
         unsent = minded.unsent;
         unfound = minded.unfound;
         looks = minded.looks;
         spinner = minded.spinner;
         knows =
-            knows_still c (own_of x.world 0) x.world.common (after_landing x.world.common r n) x.desk (record x.desk { others = 0 }) refl refl
-            (landing_open x.world.common r n flies) (landing_entered x.world.common r n flies (own_of x.world 0)) x.desk.place minded.knows;
+            knows_still c (own_of x.world 0) x.world.common (after_landing x.world.common r n) (desk_of c x 0) (record (desk_of c x 0) { others = 0 }) refl refl
+            (landing_open x.world.common r n flies) (landing_entered x.world.common r n flies (own_of x.world 0)) (desk_of c x 0).place minded.knows;
       }
 
-  by_party : (a : Action) → is_enabled x.world.common a ≡ true
+  by_party : (a : Action) → begins_call a ≡ false → is_enabled x.world.common a ≡ true
       → Follows c x.world a (by_action c x a).told.0.said (by_action c x a).told.1 → after_it a
-  by_party (action.Work zero) may follows = works may
-  by_party (action.Work (suc i)) may follows = absurd (false≢true (sym (nobody_there x.world.common i stood.here.seats) ∙ may))
-  by_party (action.Spawn j k) may follows = absurd (false≢true follows.1.0)
-  by_party (action.Wake j t) may follows = absurd (false≢true follows.1.0)
-  by_party (action.GoOn j) may follows = absurd (false≢true (sym (none_half x.world.common.callers stood.callers j) ∙ may))
-  by_party (action.Clock d) may follows = (beside (after_clock x.world.common d) x.desk refl minded, λ quiet. absurd (false≢true quiet))
-  by_party (action.Land r n) may follows = (lands r n (and_parts (is_flying (request_of x.world.common r).phase) (is_lawful (window_of (asked_of (request_of x.world.common r).operation) (cursor_of (request_of x.world.common r).operation)) n) may).0, λ quiet. absurd (false≢true quiet))
-  by_party (action.SetBusy i) may follows = (beside (set_seat x.world.common i (record (seat_of x.world.common i) { busy = true })) x.desk refl minded, λ quiet. absurd (false≢true quiet))
-  by_party (action.EndPoll i) may follows = (beside x.world.common x.desk refl minded, λ quiet. absurd (false≢true quiet))
-  by_party (action.Stir i) may follows = (beside (set_seat x.world.common i (record (seat_of x.world.common i) { rest = Awake })) x.desk refl minded, λ quiet. absurd (false≢true quiet))
-  by_party (action.Peer l) may follows = (beside (after_peer x.world.common l) x.desk refl minded, λ quiet. absurd (false≢true quiet))
+  by_party (action.Work zero) inside may follows = works may
+  by_party (action.Work (suc i)) inside may follows = absurd (false≢true (sym (nobody_there x.world.common i stood.here.seats) ∙ may))
+  by_party (action.Spawn j k) inside may follows = absurd (true≢false inside)
+  by_party (action.Wake j t) inside may follows = absurd (true≢false inside)
+  by_party (action.GoOn j) inside may follows = absurd (false≢true (sym (none_half x.world.common.callers stood.callers j) ∙ may))
+  by_party (action.Clock d) inside may follows = (beside (after_clock x.world.common d) (desk_of c x 0) refl minded, λ quiet. absurd (false≢true quiet))
+  by_party (action.Land r n) inside may follows = (landed_desk c x desks r (stood.here.plain.ours r) (λ (e : Desk) (y : Things). Minded c (own_of x.world 0) (after_landing x.world.common r n) e y) (lands r n (and_parts (is_flying (request_of x.world.common r).phase) (is_lawful (window_of (asked_of (request_of x.world.common r).operation) (cursor_of (request_of x.world.common r).operation)) n) may).0), λ quiet. absurd (false≢true quiet))
+  by_party (action.SetBusy i) inside may follows = (beside (set_seat x.world.common i (record (seat_of x.world.common i) { busy = true })) (desk_of c x 0) refl minded, λ quiet. absurd (false≢true quiet))
+  by_party (action.EndPoll i) inside may follows = (
+    record {
+      workers = minded.workers;
+      lone = told_last i x.things (desk_of c x 0) minded.lone;
+      unsent = minded.unsent;
+      unfound = minded.unfound;
+      looks = minded.looks;
+      spinner = minded.spinner;
+      knows = minded.knows;
+    },
+    λ quiet. absurd (false≢true quiet),
+  )
+  by_party (action.Stir i) inside may follows = (beside (set_seat x.world.common i (record (seat_of x.world.common i) { rest = Awake })) (desk_of c x 0) refl minded, λ quiet. absurd (false≢true quiet))
+  by_party (action.Peer l) inside may follows = (beside (after_peer x.world.common l) (desk_of c x 0) refl minded, λ quiet. absurd (false≢true quiet))
 
 abbrev Pays : Configuration → Playing → Action → Played → Type 0
 Pays c x a y = PaidIn c y.next × (is_quiet_step x.world y.told.0.said ≡ true → credit_of c y.next < credit_of c x)
 
-pub steps : (c : Configuration) (x : Playing) (a : Action) → StoodIn x → PaidIn c x
+pub steps : (c : Configuration) (x : Playing) (a : Action) → begins_call a ≡ false → StoodIn c x → is_empty x.desks ≡ false → PaidIn c x
     → Follows c x.world a (by_step c x a).told.0.said (by_step c x a).told.1 → Pays c x a (by_step c x a)
-steps c x a stood minded follows = by (is_enabled x.world.common a) refl follows
+steps c x a inside stood desks minded follows = by (is_enabled x.world.common a) refl follows
   where
     by : (b : Bool) → is_enabled x.world.common a ≡ b
         → (let y : Played = if b then by_action c x a else record { told = refuses a; next = x } in Follows c x.world a y.told.0.said y.told.1)
         → Pays c x a (if b then by_action c x a else record { told = refuses a; next = x })
-    by true may follows = by_party c x stood minded a may follows
+    by true may follows = by_party c x stood desks minded a inside may follows
     by false refused follows = (minded, λ quiet. absurd (false≢true quiet))
+
+-- there are desks still
+pub desks_then : (c : Configuration) (x : Playing) (a : Action) → is_empty x.desks ≡ false → is_empty (by_step c x a).next.desks ≡ false
+desks_then c x a some = by (is_enabled x.world.common a)
+  where
+    of_action : (a : Action) → is_empty (by_action c x a).next.desks ≡ false
+    of_action (action.Work i) = some_left x.desks i (move c i (own_of x.world i) x.world.common (desk_of c x i) x.things).desk some
+    of_action (action.Land r n) = let i = (request_of x.world.common r).worker in some_left x.desks i (record (desk_of c x i) { others = 0 }) some
+    of_action (action.Spawn j k) = some
+    of_action (action.Wake j t) = some
+    of_action (action.GoOn j) = some
+    of_action (action.Clock d) = some
+    of_action (action.SetBusy i) = some
+    of_action (action.EndPoll i) = some
+    of_action (action.Stir i) = some
+    of_action (action.Peer l) = some
+
+    by : (b : Bool) → is_empty (if b then by_action c x a else record { told = refuses a; next = x }).next.desks ≡ false
+    by true = of_action a
+    by false = some

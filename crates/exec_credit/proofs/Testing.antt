@@ -5,11 +5,11 @@ use Rattle.std.specs.Prelude.{nat_le}
 use Rattle.std.specs.List.{list_any}
 use Rattle.exec_machine.specs.{declared.{config.Configuration.Configuration, state.{Request.Request, Sleeper.Sleeper}}, Deadlines.{earlier, first_timer, first_until, is_due, next_due}, Tests.{is_asleep, is_empty, is_open}, World.{Own as Books, Common, seat_of}}
 use Rattle.exec_moves.specs.declared.place.AfterService.TheVariants as back
-use Rattle.exec_moves.specs.{declared.place.{Found.Found, Place.Place}, Callback.{has_callbacks, has_requests, serve}, Credit.one_if, Load.{has_come, has_submissions, is_ready, next_turn}, State.{Desk, Things, Own, turns}, Move.aside}
-use Rattle.exec_moves.specs.declared.place.InLook.TheVariants as look
+use Rattle.exec_moves.specs.{declared.place.{Found.Found, Place.Place}, Callback.{has_callbacks, has_requests, serve}, Credit.one_if, Load.{has_come, has_submissions, is_ready, next_turn}, State.{Desk, Things, Own, turns}, Thing.aside}
+use Rattle.exec_moves.specs.declared.idling.InLook.TheVariants as look
 use Rattle.exec_moves.specs.declared.place.Place.TheVariants as at
-use Rattle.exec_credit.specs.Minds.{Falls, FallsAt, seen, stands}
-use Rattle.exec_credit.proofs.Falling.{pays, down, either}
+use Rattle.exec_credit.specs.Minds.{Falls, FallsAt, IsAlone, seen, stands}
+use Rattle.exec_credit.proofs.{Alone.{at_alone, calm, of_one, settled}, Falling.{pays, down, either}}
 
 -- WHAT A TEST FINDS
 
@@ -96,35 +96,49 @@ due i s come = by (is_open (seat_of s i).phase) come
 
 -- THE TESTS
 
-module _ (c : Configuration) (i : ℕ) (me : Books) (s : Common) (d : Desk) (x : Things) where
-  pub test_for_work : (f : Found) → f.ready ≡ false → d.batch ≡ [] → FallsAt c i me s d x (at.TestForWork f)
+module _ (k : Configuration) (me : Books) (s : Common) (e : Desk) (x : Things) where
+  abbrev c : Configuration
+  c = of_one k
+
+  abbrev d : Desk
+  d = calm e
+
+  test_for_work : (f : Found) → f.ready ≡ false → d.batch ≡ [] → FallsAt c 0 me s d x (at.TestForWork f)
   test_for_work f none empty =
-      either c i (seen (at.TestForWork f) me) s (stands (at.TestForWork f) d) x (aside x) (is_ready me f d || has_submissions c me)
-      (turns {T = Own} (next_turn c i me s d) (stands (at.TestForWork f) d) tt) (turns {T = Own} at.ReadClock (stands (at.TestForWork f) d) tt) again
-      (λ h. down c i me s d x (at.TestForWork f) (aside x (turns {T = Own} at.ReadClock (stands (at.TestForWork f) d) tt)) (refl, omega arith, omega arith, omega arith))
+      either c 0 (seen (at.TestForWork f) me) s (stands (at.TestForWork f) d) x (aside x) (is_ready me f d || has_submissions c me)
+      (turns {T = Own} (next_turn c 0 me s d) (stands (at.TestForWork f) d) tt) (turns {T = Own} at.ReadClock (stands (at.TestForWork f) d) tt) again
+      (λ h. down c 0 me s d x (at.TestForWork f) (aside x (turns {T = Own} at.ReadClock (stands (at.TestForWork f) d) tt)) (refl, omega arith, omega arith, omega arith))
     where
       up : (q : Place) → Type 0
-      up q = Falls c i (seen (at.TestForWork f) me) s (stands (at.TestForWork f) d) x (aside x (turns {T = Own} q (stands (at.TestForWork f) d) tt))
+      up q = Falls c 0 (seen (at.TestForWork f) me) s (stands (at.TestForWork f) d) x (aside x (turns {T = Own} q (stands (at.TestForWork f) d) tt))
 
-      again : (is_ready me f d || has_submissions c me) ≡ true → up (next_turn c i me s d)
+      again : (is_ready me f d || has_submissions c me) ≡ true → up (next_turn c 0 me s d)
       again some =
           let one = found f.ready d.root_ready (has_callbacks me d) (not (is_empty d.batch)) (has_submissions c me) none (ap (λ b. not (is_empty b)) empty) some in
-          either c i (seen (at.TestForWork f) me) s (stands (at.TestForWork f) d) x (λ (q : Place). aside x (turns {T = Own} q (stands (at.TestForWork f) d) tt))
-          ((d.put_off && has_requests i s) || (d.may_put_off && has_submissions c me)) (serve back.Begin) at.BeginTurn
-          (λ h. pays c i me s d x (at.TestForWork f) (aside x (turns {T = Own} (serve back.Begin) (stands (at.TestForWork f) d) tt)) 1 0 (refl, omega arith, omega (arith, one, one_or (has_submissions c me) (not d.polled)), omega arith))
-          (λ h. pays c i me s d x (at.TestForWork f) (aside x (turns {T = Own} at.BeginTurn (stands (at.TestForWork f) d) tt)) 1 0 (refl, omega arith, omega (arith, one, one_or (has_submissions c me) (not d.polled)), omega arith))
+          either c 0 (seen (at.TestForWork f) me) s (stands (at.TestForWork f) d) x (λ (q : Place). aside x (turns {T = Own} q (stands (at.TestForWork f) d) tt))
+          ((d.put_off && has_requests 0 s) || (d.may_put_off && has_submissions c me)) (serve back.Begin) at.BeginTurn
+          (λ h. pays c 0 me s d x (at.TestForWork f) (aside x (turns {T = Own} (serve back.Begin) (stands (at.TestForWork f) d) tt)) 1 0 (refl, omega arith, omega (arith, one, one_or (has_submissions c me) (not d.polled)), omega arith))
+          (λ h. pays c 0 me s d x (at.TestForWork f) (aside x (turns {T = Own} at.BeginTurn (stands (at.TestForWork f) d) tt)) 1 0 (refl, omega arith, omega (arith, one, one_or (has_submissions c me) (not d.polled)), omega arith))
 
-  pub read_clock : FallsAt c i me s d x at.ReadClock
+  read_clock : FallsAt c 0 me s d x at.ReadClock
   read_clock =
-      either c i (seen at.ReadClock me) s (stands at.ReadClock d) x (aside x) (has_come s.clock (next_due s i))
-      (turns {T = Own} (next_turn c i me s d) (record d { place = at.ReadClock; read = s.clock }) tt)
+      either c 0 (seen at.ReadClock me) s (stands at.ReadClock d) x (aside x) (has_come s.clock (next_due s 0))
+      (turns {T = Own} (next_turn c 0 me s d) (record d { place = at.ReadClock; read = s.clock }) tt)
       (turns {T = Own} (at.Look look.Publish) (record d { place = at.ReadClock; read = s.clock }) tt) again
-      (λ h. down c i me s d x at.ReadClock (aside x (turns {T = Own} (at.Look look.Publish) (record d { place = at.ReadClock; read = s.clock }) tt)) (refl, omega arith, omega arith, omega arith))
+      (λ h. down c 0 me s d x at.ReadClock (aside x (turns {T = Own} (at.Look look.Publish) (record d { place = at.ReadClock; read = s.clock }) tt)) (refl, omega arith, omega arith, omega arith))
     where
-      again : has_come s.clock (next_due s i) ≡ true
-          → Falls c i (seen at.ReadClock me) s (stands at.ReadClock d) x (aside x (turns {T = Own} (next_turn c i me s d) (record d { place = at.ReadClock; read = s.clock }) tt))
+      again : has_come s.clock (next_due s 0) ≡ true
+          → Falls c 0 (seen at.ReadClock me) s (stands at.ReadClock d) x (aside x (turns {T = Own} (next_turn c 0 me s d) (record d { place = at.ReadClock; read = s.clock }) tt))
       again come =
-          either c i (seen at.ReadClock me) s (stands at.ReadClock d) x (λ (q : Place). aside x (turns {T = Own} q (record d { place = at.ReadClock; read = s.clock }) tt))
-          ((d.put_off && has_requests i s) || (d.may_put_off && has_submissions c me)) (serve back.Begin) at.BeginTurn
-          (λ h. pays c i me s d x at.ReadClock (aside x (turns {T = Own} (serve back.Begin) (record d { place = at.ReadClock; read = s.clock }) tt)) 1 0 (refl, omega arith, omega (arith, due i s come), omega arith))
-          (λ h. pays c i me s d x at.ReadClock (aside x (turns {T = Own} at.BeginTurn (record d { place = at.ReadClock; read = s.clock }) tt)) 1 0 (refl, omega arith, omega (arith, due i s come), omega arith))
+          either c 0 (seen at.ReadClock me) s (stands at.ReadClock d) x (λ (q : Place). aside x (turns {T = Own} q (record d { place = at.ReadClock; read = s.clock }) tt))
+          ((d.put_off && has_requests 0 s) || (d.may_put_off && has_submissions c me)) (serve back.Begin) at.BeginTurn
+          (λ h. pays c 0 me s d x at.ReadClock (aside x (turns {T = Own} (serve back.Begin) (record d { place = at.ReadClock; read = s.clock }) tt)) 1 0 (refl, omega arith, omega (arith, due 0 s come), omega arith))
+          (λ h. pays c 0 me s d x at.ReadClock (aside x (turns {T = Own} at.BeginTurn (record d { place = at.ReadClock; read = s.clock }) tt)) 1 0 (refl, omega arith, omega (arith, due 0 s come), omega arith))
+
+module _ (c : Configuration) (i : ℕ) (me : Books) (s : Common) (d : Desk) (x : Things) where
+  pub tests : (f : Found) → IsAlone c i d x (at.TestForWork f) → f.ready ≡ false → d.batch ≡ [] → FallsAt c i me s d x (at.TestForWork f)
+  tests f it none empty =
+      at_alone c i d x (at.TestForWork f) it (λ k j e y. FallsAt k j me s e y (at.TestForWork f)) (test_for_work c me s d (settled x) f none empty)
+
+  pub reads : IsAlone c i d x at.ReadClock → FallsAt c i me s d x at.ReadClock
+  reads it = at_alone c i d x at.ReadClock it (λ k j e y. FallsAt k j me s e y at.ReadClock) (read_clock c me s d (settled x))

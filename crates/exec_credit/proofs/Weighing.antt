@@ -1,12 +1,12 @@
 -- How many outputs may still be left: of each request that is held, and of each that isn't over.
-use Rattle.std.proofs.Common.{◌≡◌, ◌⊎◌, ℕ, zero, suc, ◌+◌, ◌-◌, ◌*◌, ◌≤◌, ◌<◌, ◌==◌, ◌&&◌, ◌||◌, Bool, true, false, not, List, [], ◌∷◌, ◌++◌, length, map, set, get_or, take, cond, Option, Some, None, if◌then◌else◌, ◌∙◌, refl, sym, ap, subst, arith, inl, inr}
-use Rattle.std.proofs.lemmas.Bool.{true≢false, false≢true, and_parts, cases_Bool, eqb-true, eqb-false, eq-eqb, ltb-true, ltb-false, not-true}
+use Rattle.std.proofs.Common.{◌≡◌, ℕ, ◌+◌, ◌-◌, ◌*◌, ◌≤◌, ◌<◌, ◌==◌, ◌&&◌, Bool, true, false, not, List, [], ◌∷◌, ◌++◌, length, map, set, get_or, cond, Option, Some, None, if◌then◌else◌, ◌∙◌, refl, sym, ap, subst, arith}
+use Rattle.std.proofs.lemmas.Bool.{true≢false, false≢true, and_parts, eqb-true, eqb-false, ltb-true, ltb-false}
 use Rattle.std.proofs.lemmas.Grind.{get_or-set_at}
 use Rattle.std.proofs.lemmas.List.{get_or-set_other, get_or_past, length-set, length-append, length-take, set_past}
 use Rattle.std.proofs.lemmas.List.Sums.{sum_by-set, sum_by-append, sum_by-cons}
-use Rattle.std.specs.Prelude.{nat_lt, count_by, slice_get}
+use Rattle.std.specs.Prelude.{nat_lt, slice_get}
 use Rattle.exec_outcomes.specs.{declared.outcome.{Outcome.{Outcome, TheVariants.Failure}, OpResult.OpResult, Kind.Kind}, Outcomes.refuses_hint}
-use Rattle.exec_machine.specs.{declared.{config.Configuration.Configuration, event.Event.Event, state.{Next.Next, Request.Request, RequestPhase.RequestPhase}}, After.{common_after, polled}, Allowed.allowed, Choice.{Choice, Choice.{Plain, Passes, Pays, Posts}, Payer, Payer.{ByRequest, BySleeper, ByAct, ByCall, ByStop}}, Requests.{dropped, ends_by_drop, flown, is_cancelled_by_drop, outcome_given, outcome_shown, reaped, resolved, account_of_open, after_reap, asked_now, granted, new_request, resolved_if, staged, with_seen, judged_of}, Tests.{AllTrue, is_queued, is_resolved, is_staged, set_task, waits_for_nothing, is_gated, set_request, set_sleeper, set_open}, World.{Own as Books, Common, Task, no_request, no_task, request_of, task_of, sleeper_of, open_of}, Closing.after_next, Same.{is_number, same_end}, Tasks.{after_got, after_over, after_taking, pended_phase, requests_after_drops, without_newest, after_drop, after_wait, after_waking_word, begun, waits_for, wake, woken}, Words.{moved_on, newest_held, polled_task, asks_yield, next_word}, Deadlines.{enrolled, expired, fires_at}}
+use Rattle.exec_machine.specs.{declared.{config.Configuration.Configuration, event.Event.Event, state.{Next.Next, Request.Request, RequestPhase.RequestPhase}}, After.{common_after, polled}, Allowed.allowed, Choice.{Choice, Choice.{Plain, Passes, Pays, Posts}, Payer.{ByRequest, BySleeper, ByAct, ByCall, ByStop}}, Requests.{dropped, ends_by_drop, flown, is_cancelled_by_drop, reaped, resolved, account_of_open, after_reap, asked_now, granted, new_request, resolved_if, staged, with_seen, judged_of}, Tests.{AllTrue, is_queued, is_resolved, is_staged, set_task, waits_for_nothing, is_gated, set_request, set_sleeper, set_open}, World.{Own as Books, Common, Task, no_request, no_task, request_of, task_of, sleeper_of, open_of}, Closing.after_next, Same.{is_number, same_end}, Tasks.{after_got, after_over, after_taking, pended_phase, requests_after_drops, without_newest, after_drop, after_wait, after_waking_word, begun, waits_for, wake, woken}, Words.{moved_on, newest_held, polled_task, asks_yield, next_word}, Deadlines.{enrolled, expired, fires_at}}
 use Rattle.exec_machine.specs.declared.event.Event.TheVariants as event
 use Rattle.exec_machine.specs.declared.state.Next.TheVariants as next
 use Rattle.exec_machine.specs.declared.state.RequestPhase.TheVariants as phase

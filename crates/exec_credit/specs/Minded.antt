@@ -1,19 +1,21 @@
 -- What is carried from step to step so that quiet steps are paid for and no worker sleeps on work. There is one worker.
-use Rattle.std.specs.Prelude.{◌≡◌, ◌≤◌, ◌<◌, ℕ, Bool, true, false, not, ◌+◌, ◌*◌, ◌==◌, ◌&&◌, ◌||◌, List, [], ◌∷◌, length, All, nat_lt, Some, None, count_by}
-use Rattle.std.specs.List.{list_any}
+use Rattle.std.specs.Prelude.{◌≡◌, ◌≤◌, ℕ, Bool, true, false, not, ◌+◌, ◌*◌, ◌==◌, ◌&&◌, ◌||◌, List, [], ◌∷◌, length, All, Some, None, is_some, count_by}
+use Rattle.std.specs.List.{list_all, list_any}
 use Rattle.exec_base.specs.Spinner.{Spinner}
-use Rattle.exec_machine.specs.{declared.{config.{Configuration.Configuration, Spin.Spin, ScriptWord.ScriptWord}, state.{Request.Request, TaskPhase.TaskPhase, Forwarding.TheVariants.Unsent, Waiting.Waiting}}, Same.is_none, Ranges.{largest_spin, ring_size}, Tests.{is_empty, is_open, is_closing, has_ended, is_awake, is_idle, is_done, is_gated, is_queued, is_staged, is_landed, is_in_flight, is_resolved, is_asleep}, World.{Own, Common, Task, seat_of, task_of, request_of, sleeper_of, own_of}, Deadlines.{next_due, rest_until, is_after}, Progress.{has_come, is_runnable, is_cancel_untold}, Callers.is_half_done}
+use Rattle.exec_machine.specs.{declared.{config.{Configuration.Configuration, Spin.Spin, ScriptWord.ScriptWord}, state.{Request.Request, TaskPhase.TaskPhase, Forwarding.TheVariants.Unsent, Waiting.Waiting}, step.Action.Action}, Same.is_none, Ranges.{largest_spin}, Tests.{is_empty, is_open, has_ended, is_awake, is_idle, is_ready, is_done, is_gated, is_queued, is_staged, is_landed, is_in_flight, is_resolved, is_asleep}, World.{Own, Common, Task, seat_of, task_of, request_of, sleeper_of, own_of}, Deadlines.{next_due, rest_until, is_after}, Progress.{has_come, is_runnable, is_cancel_untold}, Callers.is_half_done}
 use Rattle.exec_machine.specs.declared.config.ScriptWord.TheVariants as word
 use Rattle.exec_machine.specs.declared.state.TaskPhase.TheVariants as task
+use Rattle.exec_machine.specs.declared.step.Action.TheVariants as action
 use Rattle.exec_machine.specs.declared.state.Waiting.TheVariants as waiting
 use Rattle.exec_moves.specs.declared.place.InClosing.TheVariants as closing
 use Rattle.exec_moves.specs.declared.place.InPoll.TheVariants as poll
-use Rattle.exec_moves.specs.{declared.place.{InRingWait.InRingWait, InWordWait.InWordWait, Place.Place, Stay.Stay}, Callback.{has_callbacks, has_requests}, Load.has_submissions, Plays.Playing, Seen.{serves_at, next_at}, State.{Desk, Things}}
-use Rattle.exec_moves.specs.declared.place.InRingWait.TheVariants as ring
-use Rattle.exec_moves.specs.declared.place.InWordWait.TheVariants as word_wait
+use Rattle.exec_moves.specs.{declared.idling.{InRingWait.InRingWait, InWordWait.InWordWait, Stay.Stay}, declared.place.Place.Place, Callback.{has_callbacks, has_requests}, Load.has_submissions, Plays.{Playing, desk_of}, Seen.{serves_at, next_at}, State.{Desk, Things, inbox_of, queue_of, wake_poll_of, word_of}}
+use Rattle.exec_moves.specs.declared.idling.InRingWait.TheVariants as ring
+use Rattle.exec_moves.specs.declared.idling.InWordWait.TheVariants as word_wait
 use Rattle.exec_moves.specs.declared.place.Place.TheVariants as at
-use Rattle.exec_moves.specs.declared.place.Stay.TheVariants as stay
-use Rattle.exec_credit.specs.Minds.{HasLooks, closes, finds, is_poll, passes}
+use Rattle.exec_moves.specs.declared.idling.Stay.TheVariants as stay
+use Rattle.exec_words.specs.Idle.{is_in as is_in_set}
+use Rattle.exec_credit.specs.Minds.{HasLooks, closes, finds, is_alone, is_poll, is_published, passes}
 
 -- WHAT THE INVARIANT OF THE WORKER GIVES, of each state
 
@@ -68,7 +70,7 @@ pub record Stood (me : Own) (s : Common) (d : Desk) (x : Things) : Type 0 where
   pub sampled : me.sampled ≤ s.clock
   pub seats : length s.seats ≡ 1
   pub inbox : (seat_of s 0).inbox ≡ []
-  pub queue : x.queue.values ≡ []
+  pub queue : (queue_of x 0).values ≡ []
   pub global : x.global ≡ []
   pub batch : d.batch ≡ []
   pub opened : closes d.place ≡ false → is_open (seat_of s 0).phase ≡ true
@@ -81,10 +83,18 @@ pub record Stood (me : Own) (s : Common) (d : Desk) (x : Things) : Type 0 where
   pub scripts : s.scripts ≡ []
   pub words : All (λ w. is_played w ≡ true) s.root
 
+-- only the root is polled, which is queued where its poll is about to begin
+abbrev pub PollsRoot : Common → Place → Type 0
+PollsRoot s (at.Poll t poll.BeginPoll) = (t ≡ 0) × (is_ready (task_of s 0).phase ≡ true)
+PollsRoot s (at.Poll t x) = t ≡ 0
+PollsRoot s _ = Unit {0}
+
 -- The root is the only task, and queued just where its flag is set.
 pub record HasRoot (me : Own) (s : Common) (d : Desk) : Type 0 where
   pub root : me.root ≡ 0
   pub tasks : length s.tasks ≡ 1
+  pub home : (task_of s 0).home ≡ Some 0
+  pub polls : PollsRoot s d.place
   pub ready : d.root_ready ≡ false → is_poll d.place ≡ false → is_runnable (task_of s 0).phase ≡ false
   pub going : closes d.place ≡ false → is_done (task_of s 0).phase ≡ false
   pub done : is_open (seat_of s 0).phase ≡ false → is_done (task_of s 0).phase ≡ true
@@ -148,9 +158,28 @@ module _ (c : Configuration) (me : Own) (s : Common) (d : Desk) where
   Knows (at.WordWait x) = KnowsOnWord x
   Knows _ = Unit {0}
 
+-- THAT THE WORKER IS ALONE
+
+-- Its parts of what several touch are there; nobody raises a wake of its ring, or leaves it a message; and no ordinary task
+-- is live.
+abbrev pub is_settled : Things → Bool
+is_settled x =
+    not (is_empty x.queues) && not (is_empty x.words) && not (is_empty x.wake_polls) && not (is_empty x.inboxes)
+    && not (is_empty x.idle.published) && not (wake_poll_of x 0).kept && not (is_some (wake_poll_of x 0).ended)
+    && is_empty (inbox_of x 0) && list_all is_empty x.shards
+
+-- at its place; and its bit is in the idle set where it is to be
+pub record Lone (d : Desk) (x : Things) : Type 0 where
+  pub settled : is_settled x ≡ true
+  pub unsearching : d.searching ≡ false
+  pub place : is_alone d.place ≡ true
+  pub bit : is_published d.place ≡ true → is_in_set x.idle.published 0 ≡ true
+
 -- What is carried so that each quiet step is paid for.
 pub record Minded (c : Configuration) (me : Own) (s : Common) (d : Desk) (x : Things) : Type 0 where
-  pub unsent : x.word.batch ≡ d.processed
+  pub workers : c.workers ≡ 1
+  pub lone : Lone d x
+  pub unsent : (word_of x 0).batch ≡ d.processed
   pub unfound : finds d.place ≡ false
   pub looks : HasLooks d.place
   pub spinner : IsWithin c.spin d.spinner
@@ -219,23 +248,30 @@ pub record Bounded (s : Common) (d : Desk) : Type 0 where
 
 -- OF AN EXECUTOR, which has one worker and no outside callers
 
-pub record StoodIn (x : Playing) : Type 0 where
+pub record StoodIn (c : Configuration) (x : Playing) : Type 0 where
   pub one : x.world.workers ≡ own_of x.world 0 ∷ []
   pub callers : list_any is_half_done x.world.common.callers ≡ false
-  pub here : Stood (own_of x.world 0) x.world.common x.desk x.things
-  pub root : HasRoot (own_of x.world 0) x.world.common x.desk
+  pub here : Stood (own_of x.world 0) x.world.common (desk_of c x 0) x.things
+  pub root : HasRoot (own_of x.world 0) x.world.common (desk_of c x 0)
 
 abbrev pub PaidIn : Configuration → Playing → Type 0
-PaidIn c x = Minded c (own_of x.world 0) x.world.common x.desk x.things
+PaidIn c x = Minded c (own_of x.world 0) x.world.common (desk_of c x 0) x.things
 
 abbrev pub RestedIn : Configuration → Playing → Type 0
-RestedIn c x = Rested c (own_of x.world 0) x.world.common x.desk
+RestedIn c x = Rested c (own_of x.world 0) x.world.common (desk_of c x 0)
 
-abbrev pub BoundedIn : Playing → Type 0
-BoundedIn x = Bounded x.world.common x.desk
+abbrev pub BoundedIn : Configuration → Playing → Type 0
+BoundedIn c x = Bounded x.world.common (desk_of c x 0)
+
+-- a call from outside begins
+abbrev pub begins_call : Action → Bool
+begins_call (action.Spawn j k) = true
+begins_call (action.Wake j t) = true
+begins_call _ = false
 
 -- all that is carried
 pub record MindedIn (c : Configuration) (x : Playing) : Type 0 where
+  pub desks : is_empty x.desks ≡ false
   pub paid : PaidIn c x
-  pub bounded : BoundedIn x
+  pub bounded : BoundedIn c x
   pub rested : RestedIn c x
