@@ -2,8 +2,12 @@ pub mod Fields
 pub mod Numbers
 pub mod Headers
 pub mod Begins
+pub mod Scripts
 pub mod Faults
 pub mod Said
 pub mod Steps
 pub mod Words
 pub mod Meanings
+pub mod Tasks
+pub mod Lists
+pub mod Calls

@@ -1,10 +1,12 @@
 -- The words of a script.
-use Rattle.std.proofs.Common.{◌≡◌, ◌≢◌, ℕ, ◌<◌, ◌≤◌, ◌^◌, suc, cond, ◌==◌, List, [], ◌∷◌, ◌++◌, All, codes, decimal, refl, sym, ap, ◌∙◌, subst, arith, length, get_or, drop, append_assoc}
+use Rattle.std.proofs.Common.{◌≡◌, ◌≢◌, ℕ, ◌<◌, ◌≤◌, ◌^◌, suc, cond, true, false, ◌==◌, List, [], ◌∷◌, ◌++◌, All, codes, decimal, refl, sym, ap, ◌∙◌, subst, arith, length, get_or, drop, append_assoc}
 use Rattle.std.proofs.Common.{Option, Some, None, IfSome, IfNone}
+use Rattle.std.proofs.lemmas.Bool.{false≢true}
 use Rattle.std.proofs.lemmas.List.{flat_map_more, append-nil, append_cancel_left}
+use Rattle.std.proofs.lemmas.List.Elements.{All-push}
 use Rattle.std.proofs.lemmas.Fmt.{decimal_injective}
-use Rattle.exec_machine.specs.declared.config.{Configuration.Configuration, ScriptWord.{ScriptWord, TheVariants.{Send, Poll, Await, Drop, Sleep, Yield, End, Fault}}}
-use Rattle.exec_text.specs.{Grammar.{text_of_word, text_of_words, WordFits}, Reading.{IsCut, NoSpace, IsField, IsNumber, IsWord, IsRoot}}
+use Rattle.exec_machine.specs.declared.config.{Configuration.Configuration, ScriptWord.{ScriptWord, TheVariants.{Send, Poll, Await, Drop, Sleep, Spawn, Wake, Yield, End, Fault}}}
+use Rattle.exec_text.specs.{declared.rules.Rules.Rules, Grammar.{text_of_word, text_of_words, WordFits}, Reading.{IsCut, NoSpace, IsField, IsNumber, IsWord, allows, AllAllowed, IsLineOf}}
 use Rattle.exec_text.proofs.{Fields.{cut_same, field_same}, Numbers.{spaced, AllSmall, spaced_cut, spaced_same, front_number, number_one, no_space_decimal}}
 
 -- a word is a name and numbers
@@ -14,6 +16,8 @@ name_of (Poll listener) = codes "poll"
 name_of Await = codes "await"
 name_of Drop = codes "drop"
 name_of (Sleep time) = codes "sleep"
+name_of (Spawn script) = codes "spawn"
+name_of (Wake task) = codes "wake"
 name_of Yield = codes "yield"
 name_of End = codes "end"
 name_of (Fault code) = codes "fault"
@@ -23,6 +27,8 @@ abbrev pub numbers_of : ScriptWord → List ℕ
 numbers_of (Send socket size) = socket ∷ size ∷ []
 numbers_of (Poll listener) = listener ∷ []
 numbers_of (Sleep time) = time ∷ []
+numbers_of (Spawn script) = script ∷ []
+numbers_of (Wake task) = task ∷ []
 numbers_of (Fault code) = code ∷ []
 numbers_of _ = []
 
@@ -30,14 +36,15 @@ pub word_is : (word : ScriptWord) (rest : List ℕ) → text_of_word word ++ res
 word_is (Send socket size) rest = ap (λ (t : List ℕ). codes "send " ++ t) (append_assoc (decimal socket) (32 ∷ decimal size) rest)
 word_is _ rest = refl
 
--- which are its own: the second letters of the names differ
+-- which are its own: the second letters of the names differ, but for one pair
 abbrev pub word_from : List ℕ → List ℕ → ScriptWord
-word_from name ns = by_letter (get_or name 1 0) (get_or ns 0 0) (get_or ns 1 0)
+word_from name ns = by_letter (get_or name 0 0) (get_or name 1 0) (get_or ns 0 0) (get_or ns 1 0)
   where
-    by_letter : ℕ → ℕ → ℕ → ScriptWord
-    by_letter l a b =
+    by_letter : ℕ → ℕ → ℕ → ℕ → ScriptWord
+    by_letter f l a b =
         cond (l == 101) (Send a b)
-        (cond (l == 111) (Poll a) (cond (l == 119) Await (cond (l == 114) Drop (cond (l == 108) (Sleep a) (cond (l == 105) Yield (cond (l == 110) End (Fault a)))))))
+        (cond (l == 111) (Poll a) (cond (l == 119) Await (cond (l == 114) Drop (cond (l == 108) (Sleep a) (cond (l == 105) Yield
+        (cond (l == 110) End (cond (l == 112) (Spawn a) (cond (f == 119) (Wake a) (Fault a)))))))))
 
 pub word_again : (c : Configuration) (word : ScriptWord) → WordFits c word → word_from (name_of word) (numbers_of word) ≡ word
 word_again c (Send socket size) h = refl
@@ -45,6 +52,8 @@ word_again c (Poll listener) h = refl
 word_again c Await h = refl
 word_again c Drop h = refl
 word_again c (Sleep time) h = refl
+word_again c (Spawn script) h = refl
+word_again c (Wake task) h = refl
 word_again c Yield h = refl
 word_again c End h = refl
 word_again c (Fault code) h = refl
@@ -60,6 +69,8 @@ count_again c (Poll listener) h = refl
 count_again c Await h = refl
 count_again c Drop h = refl
 count_again c (Sleep time) h = refl
+count_again c (Spawn script) h = refl
+count_again c (Wake task) h = refl
 count_again c Yield h = refl
 count_again c End h = refl
 count_again c (Fault code) h = refl
@@ -74,6 +85,8 @@ name_clean (Poll listener) = (λ e. omega arith, (λ e. omega arith, (λ e. omeg
 name_clean Await = (λ e. omega arith, (λ e. omega arith, (λ e. omega arith, (λ e. omega arith, (λ e. omega arith, tt)))))
 name_clean Drop = (λ e. omega arith, (λ e. omega arith, (λ e. omega arith, (λ e. omega arith, tt))))
 name_clean (Sleep time) = (λ e. omega arith, (λ e. omega arith, (λ e. omega arith, (λ e. omega arith, (λ e. omega arith, tt)))))
+name_clean (Spawn script) = (λ e. omega arith, (λ e. omega arith, (λ e. omega arith, (λ e. omega arith, (λ e. omega arith, tt)))))
+name_clean (Wake task) = (λ e. omega arith, (λ e. omega arith, (λ e. omega arith, (λ e. omega arith, tt))))
 name_clean Yield = (λ e. omega arith, (λ e. omega arith, (λ e. omega arith, (λ e. omega arith, (λ e. omega arith, tt)))))
 name_clean End = (λ e. omega arith, (λ e. omega arith, (λ e. omega arith, tt)))
 name_clean (Fault code) = (λ e. omega arith, (λ e. omega arith, (λ e. omega arith, (λ e. omega arith, (λ e. omega arith, tt)))))
@@ -85,6 +98,8 @@ numbers_small c (Send socket size) s h =
     let m : size ≤ 1048576 = h.2 in (omega arith, (omega arith, tt))
 numbers_small c (Poll listener) s h = (omega arith, tt)
 numbers_small c (Sleep time) s h = (h, tt)
+numbers_small c (Spawn script) s h = (h, tt)
+numbers_small c (Wake task) s h = (h, tt)
 numbers_small c (Fault code) s h = (h, tt)
 numbers_small c _ s h = tt
 
@@ -184,16 +199,18 @@ two_numbers : (n a b : ℕ) → n < 2 ^ 64 → a < 2 ^ 64 → 32 ∷ decimal n �
 two_numbers n a b x y e =
     let k = (cut_same (decimal n) (decimal a) [] (spaced (b ∷ []) []) (no_space_decimal n x) (no_space_decimal a y) tt refl (append-nil (decimal n) ∙ ap (drop 1) e)).1 in cc
 
-pub no_one_number : (c : Configuration) (name : List ℕ) (n : ℕ) → NoSpace name → n < 2 ^ 64 → c.sockets < 2 ^ 64 → name ≢ codes "sleep" → name ≢ codes "fault" → (name ≡ codes "poll" → c.sockets ≤ n) → (w : ScriptWord) → WordFits c w → name ++ 32 ∷ decimal n ≢ text_of_word w
-no_one_number c name n clean small sockets sleep fault poll (Send s k) h e =
+pub no_one_number : (c : Configuration) (name : List ℕ) (n : ℕ) → NoSpace name → n < 2 ^ 64 → c.sockets < 2 ^ 64 → name ≢ codes "sleep" → name ≢ codes "fault" → name ≢ codes "spawn" → name ≢ codes "wake" → (name ≡ codes "poll" → c.sockets ≤ n) → (w : ScriptWord) → WordFits c w → name ++ 32 ∷ decimal n ≢ text_of_word w
+no_one_number c name n clean small sockets sleep fault spawn wake poll (Send s k) h e =
     let l : s < c.sockets = h.0 in two_numbers n s k small (omega arith) (numbered_is name n (Send s k) clean e).1
-no_one_number c name n clean small sockets sleep fault poll (Poll l) h e =
+no_one_number c name n clean small sockets sleep fault spawn wake poll (Poll l) h e =
     let i = numbered_is name n (Poll l) clean e in
     let j : n ≡ l = same_number n l small (omega arith) i.1 in
     let k : c.sockets ≤ n = poll i.0 in omega arith
-no_one_number c name n clean small sockets sleep fault poll (Sleep d) h e = sleep (numbered_is name n (Sleep d) clean e).0
-no_one_number c name n clean small sockets sleep fault poll (Fault k) h e = fault (numbered_is name n (Fault k) clean e).0
-no_one_number c name n clean small sockets sleep fault poll w h e = let i = (numbered_is name n w clean e).1 in cc
+no_one_number c name n clean small sockets sleep fault spawn wake poll (Sleep d) h e = sleep (numbered_is name n (Sleep d) clean e).0
+no_one_number c name n clean small sockets sleep fault spawn wake poll (Fault k) h e = fault (numbered_is name n (Fault k) clean e).0
+no_one_number c name n clean small sockets sleep fault spawn wake poll (Spawn k) h e = spawn (numbered_is name n (Spawn k) clean e).0
+no_one_number c name n clean small sockets sleep fault spawn wake poll (Wake k) h e = wake (numbered_is name n (Wake k) clean e).0
+no_one_number c name n clean small sockets sleep fault spawn wake poll w h e = let i = (numbered_is name n w clean e).1 in cc
 
 -- A word at the front leaves one rest.
 pub rest_same : (c : Configuration) (bs r t : List ℕ) (v w : ScriptWord) → c.sockets < 2 ^ 64 → IsWord c bs v r → IsWord c bs w t → (v ≡ w) × (r ≡ t)
@@ -219,23 +236,46 @@ tail_fits c w ws h = λ k d l. h (suc k) d (omega arith)
 pub front_word : (c : Configuration) (w : ScriptWord) (ws : List ScriptWord) → AllFit c (w ∷ ws) → IsWord c (text_of_words (w ∷ ws)) w (text_of_words ws)
 front_word c w ws h = record { spelled = refl; fits = head_fits c w ws h; cut = words_cut ws }
 
--- Words that fit and spell the rest.
-abbrev pub HasWords : Configuration → List ℕ → Type 0
-HasWords c rest = (ws : List ScriptWord) × AllFit c ws × (rest ≡ text_of_words ws)
+-- Words that may stand there and spell the rest.
+abbrev pub HasWords : Configuration → Rules → List ℕ → Type 0
+HasWords c r rest = (ws : List ScriptWord) × AllAllowed c r ws × (rest ≡ text_of_words ws)
 
-pub words_past : (c : Configuration) (rest after : List ℕ) (w : ScriptWord) → c.sockets < 2 ^ 64 → IsWord c rest w after → HasWords c rest → HasWords c after
-words_past c rest after w small h x = past x.0 x.1 x.2
+tail_allowed : (c : Configuration) (r : Rules) (w : ScriptWord) (ws : List ScriptWord) → AllAllowed c r (w ∷ ws) → AllAllowed c r ws
+tail_allowed c r w ws h = record { fit = tail_fits c w ws h.fit; allowed = λ k d l. h.allowed (suc k) d (omega arith) }
+
+pub push_allowed : (c : Configuration) (r : Rules) (ws : List ScriptWord) (w : ScriptWord) → AllAllowed c r ws → WordFits c w → allows r w ≡ true → AllAllowed c r (ws ++ w ∷ [])
+push_allowed c r ws w h f a = record { fit = All-push (WordFits c) ws w h.fit f; allowed = All-push (λ (v : ScriptWord). allows r v ≡ true) ws w h.allowed a }
+
+pub none_allowed : (c : Configuration) (r : Rules) → AllAllowed c r []
+none_allowed c r = record { fit = λ k d h. absurd (omega arith); allowed = λ k d h. absurd (omega arith) }
+
+-- the first of such words, and the others
+first_word : (c : Configuration) (r : Rules) (rest after : List ℕ) (w v : ScriptWord) (vs : List ScriptWord) → c.sockets < 2 ^ 64 → IsWord c rest w after → AllAllowed c r (v ∷ vs) → rest ≡ text_of_words (v ∷ vs) → (w ≡ v) × (after ≡ text_of_words vs)
+first_word c r rest after w v vs small h fit e =
+    rest_same c rest after (text_of_words vs) w v small h (word_moved c (text_of_words (v ∷ vs)) rest (text_of_words vs) v (sym e) (front_word c v vs fit.fit))
+
+pub words_past : (c : Configuration) (r : Rules) (rest after : List ℕ) (w : ScriptWord) → c.sockets < 2 ^ 64 → IsWord c rest w after → HasWords c r rest → HasWords c r after
+words_past c r rest after w small h x = past x.0 x.1 x.2
   where
-    past : (ws : List ScriptWord) → AllFit c ws → rest ≡ text_of_words ws → HasWords c after
+    past : (ws : List ScriptWord) → AllAllowed c r ws → rest ≡ text_of_words ws → HasWords c r after
     past [] fit e = let k : [] ≡ 32 ∷ (text_of_word w ++ after) = sym e ∙ h.spelled in cc
-    past (v ∷ vs) fit e = (vs, tail_fits c v vs fit, (rest_same c rest after (text_of_words vs) w v small h (word_moved c (text_of_words (v ∷ vs)) rest (text_of_words vs) v (sym e) (front_word c v vs fit))).1)
+    past (v ∷ vs) fit e = (vs, tail_allowed c r v vs fit, (first_word c r rest after w v vs small h fit e).1)
 
-pub no_words : (c : Configuration) (rest : List ℕ) → 0 < length rest → ((w : ScriptWord) (r : List ℕ) → IsWord c rest w r → ⊥) → HasWords c rest → ⊥
-no_words c rest some over x = none x.0 x.1 x.2
+pub no_words : (c : Configuration) (r : Rules) (rest : List ℕ) → 0 < length rest → ((w : ScriptWord) (after : List ℕ) → IsWord c rest w after → ⊥) → HasWords c r rest → ⊥
+no_words c r rest some over x = none x.0 x.1 x.2
   where
-    none : (ws : List ScriptWord) → AllFit c ws → rest ≡ text_of_words ws → ⊥
+    none : (ws : List ScriptWord) → AllAllowed c r ws → rest ≡ text_of_words ws → ⊥
     none [] fit e = omega (arith, ap length e)
-    none (v ∷ vs) fit e = over v (text_of_words vs) (word_moved c (text_of_words (v ∷ vs)) rest (text_of_words vs) v (sym e) (front_word c v vs fit))
+    none (v ∷ vs) fit e = over v (text_of_words vs) (word_moved c (text_of_words (v ∷ vs)) rest (text_of_words vs) v (sym e) (front_word c v vs fit.fit))
+
+pub not_allowed : (c : Configuration) (r : Rules) (rest after : List ℕ) (w : ScriptWord) → c.sockets < 2 ^ 64 → IsWord c rest w after → allows r w ≡ false → HasWords c r rest → ⊥
+not_allowed c r rest after w small h refused x = none x.0 x.1 x.2
+  where
+    none : (ws : List ScriptWord) → AllAllowed c r ws → rest ≡ text_of_words ws → ⊥
+    none [] fit e = let k : [] ≡ 32 ∷ (text_of_word w ++ after) = sym e ∙ h.spelled in cc
+    none (v ∷ vs) fit e =
+        let same : w ≡ v = (first_word c r rest after w v vs small h fit e).0 in
+        false≢true (sym refused ∙ ap (allows r) same ∙ fit.allowed 0 v (omega arith))
 
 pub words_more : (c : Configuration) (bs rest after : List ℕ) (ws : List ScriptWord) (w : ScriptWord) → bs ≡ text_of_words ws ++ rest → IsWord c rest w after → bs ≡ text_of_words (ws ++ w ∷ []) ++ after
 words_more c bs rest after ws w e h =
@@ -251,35 +291,32 @@ words_same c (w ∷ ws) (v ∷ vs) small f g e =
     let s = rest_same c (text_of_words (w ∷ ws)) (text_of_words ws) (text_of_words vs) w v small (front_word c w ws f) (word_moved c (text_of_words (v ∷ vs)) (text_of_words (w ∷ ws)) (text_of_words vs) v (sym e) (front_word c v vs g)) in
     ap (λ (x : ScriptWord). x ∷ ws) s.0 ∙ ap (λ (x : List ScriptWord). v ∷ x) (words_same c ws vs small (tail_fits c w ws f) (tail_fits c v vs g) s.1)
 
--- the root line
-root_clean : NoSpace (codes "root")
-root_clean = (λ e. omega arith, (λ e. omega arith, (λ e. omega arith, (λ e. omega arith, tt))))
-
-pub root_fields : (c : Configuration) (line name rest : List ℕ) (root : List ScriptWord) → IsField line name rest → IsRoot c line root → (name ≡ codes "root") × (rest ≡ text_of_words root)
-root_fields c line name rest root f h = field_same line name (codes "root") rest (text_of_words root) f (record { spelled = h.spelled; no_space = root_clean; cut = words_cut root })
+-- a line of words
+pub line_fields : (c : Configuration) (r : Rules) (name line first rest : List ℕ) (words : List ScriptWord) → NoSpace name → IsField line first rest → IsLineOf c r name line words → (first ≡ name) × (rest ≡ text_of_words words)
+line_fields c r name line first rest words clean f h = field_same line first name rest (text_of_words words) f (record { spelled = h.spelled; no_space = clean; cut = words_cut words })
 
 some_text : (ws : List ScriptWord) → 0 < length ws → 0 < length (text_of_words ws)
 some_text [] h = absurd (omega arith)
 some_text (w ∷ ws) h = omega arith
 
-pub root_some : (c : Configuration) (line name rest : List ℕ) (root : List ScriptWord) → IsField line name rest → IsRoot c line root → 0 < length rest
-root_some c line name rest root f h = subst (λ (r : List ℕ). 0 < length r) (sym (root_fields c line name rest root f h).1) (some_text root h.some)
+pub line_some : (c : Configuration) (r : Rules) (name line first rest : List ℕ) (words : List ScriptWord) → NoSpace name → IsField line first rest → IsLineOf c r name line words → 0 < length rest
+line_some c r name line first rest words clean f h = subst (λ (t : List ℕ). 0 < length t) (sym (line_fields c r name line first rest words clean f h).1) (some_text words h.some)
 
 some_words : (ws : List ScriptWord) → 0 < length (text_of_words ws) → 0 < length ws
 some_words [] h = absurd (omega arith)
 some_words (w ∷ ws) h = omega arith
 
-pub root_is : (c : Configuration) (line name rest : List ℕ) (root : List ScriptWord) → IsField line name rest → name ≡ codes "root" → 0 < length rest → rest ≡ text_of_words root → AllFit c root → IsRoot c line root
-root_is c line name rest root f e some s fit = record {
-  spelled = f.spelled ∙ ap (λ (n : List ℕ). n ++ rest) e ∙ ap (λ (t : List ℕ). codes "root" ++ t) s;
-  some = some_words root (subst (λ (r : List ℕ). 0 < length r) s some);
+line_is : (c : Configuration) (r : Rules) (name line first rest : List ℕ) (words : List ScriptWord) → IsField line first rest → first ≡ name → 0 < length rest → rest ≡ text_of_words words → AllAllowed c r words → IsLineOf c r name line words
+line_is c r name line first rest words f e some s fit = record {
+  spelled = f.spelled ∙ ap (λ (n : List ℕ). n ++ rest) e ∙ ap (λ (t : List ℕ). name ++ t) s;
+  some = some_words words (subst (λ (t : List ℕ). 0 < length t) s some);
   fit = fit;
 }
 
-pub root_read : {V : Type 0} (c : Configuration) (Keeps : V → List ScriptWord → Type 0) (r : Option V) (line name rest : List ℕ) → IsField line name rest → name ≡ codes "root" → 0 < length rest → IfSome r (λ v. (words : List ScriptWord) × (rest ≡ text_of_words words) × AllFit c words × Keeps v words) → IfSome r (λ v. (root : List ScriptWord) × IsRoot c line root × Keeps v root)
-root_read c Keeps (Some v) line name rest f e some h = (h.0, root_is c line name rest h.0 f e some h.1 h.2, h.3)
-root_read c Keeps None line name rest f e some h = tt
+pub line_read : {V : Type 0} (c : Configuration) (r : Rules) (Keeps : V → List ScriptWord → Type 0) (o : Option V) (name line first rest : List ℕ) → IsField line first rest → first ≡ name → 0 < length rest → IfSome o (λ v. (words : List ScriptWord) × (rest ≡ text_of_words words) × AllAllowed c r words × Keeps v words) → IfSome o (λ v. (words : List ScriptWord) × IsLineOf c r name line words × Keeps v words)
+line_read c r Keeps (Some v) name line first rest f e some h = (h.0, line_is c r name line first rest h.0 f e some h.1 h.2, h.3)
+line_read c r Keeps None name line first rest f e some h = tt
 
-pub root_unread : {V : Type 0} (c : Configuration) (r : Option V) (line name rest : List ℕ) → IsField line name rest → IfNone r ((words : List ScriptWord) → AllFit c words → rest ≢ text_of_words words) → IfNone r ((root : List ScriptWord) → IsRoot c line root → ⊥)
-root_unread c (Some v) line name rest f h = tt
-root_unread c None line name rest f h = λ root r. h root r.fit (root_fields c line name rest root f r).1
+pub line_unread : {V : Type 0} (c : Configuration) (r : Rules) (o : Option V) (name line first rest : List ℕ) → NoSpace name → IsField line first rest → IfNone o ((words : List ScriptWord) → AllAllowed c r words → rest ≢ text_of_words words) → IfNone o ((words : List ScriptWord) → IsLineOf c r name line words → ⊥)
+line_unread c r (Some v) name line first rest clean f h = tt
+line_unread c r None name line first rest clean f h = λ words l. h words l.fit (line_fields c r name line first rest words clean f l).1

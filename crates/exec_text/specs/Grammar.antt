@@ -1,10 +1,13 @@
 -- Which texts are traces, and what each says.
-use Rattle.std.specs.Prelude.{◌≡◌, ℕ, Bool, false, not, ◌==◌, ◌+◌, ◌-◌, ◌^◌, ◌<◌, ◌≤◌, ◌⊎◌, List, [], ◌∷◌, ◌++◌, All, map, filter, length, take, codes}
+use Rattle.std.specs.Prelude.{◌≡◌, ℕ, Bool, false, not, ◌==◌, ◌+◌, ◌-◌, ◌^◌, ◌<◌, ◌≤◌, ◌⊎◌, List, [], ◌∷◌, ◌++◌, All, map, filter, length, take, codes, eqb}
+use Rattle.std.specs.Cmp.Lexicographic.{pointwise}
 use Rattle.std.specs.Fmt.{decimal}
 use Rattle.std.specs.List.{flat_map}
 use Rattle.std.specs.Str.Lines.{lines}
 use Rattle.exec_outcomes.specs.declared.outcome.OpResult.{OpResult, TheVariants.{Count, Errno}}
-use Rattle.exec_machine.specs.{declared.{config.{Configuration.Configuration, ScriptWord.{ScriptWord, TheVariants.{Send, Poll, Await, Drop, Sleep, Yield, End, Fault}}}, step.{Action.TheVariants.{Clock, Land, Stir}, Step.{Step, TheVariants.{Work, One}}}}, Text.text_of_action, Progress.Plan}
+use Rattle.exec_machine.specs.{declared.{config.{Configuration.Configuration, ScriptWord.{ScriptWord, TheVariants.{Send, Poll, Await, Drop, Sleep, Spawn, Yield, End, Fault}}}, step.{Action.TheVariants.{GoOn, Clock, Land, SetBusy, EndPoll, Stir}, Step.{Step, TheVariants.{Work, One}}}}, Text.text_of_action, Progress.Plan}
+use Rattle.exec_machine.specs.declared.config.ScriptWord.TheVariants as word
+use Rattle.exec_machine.specs.declared.step.Action.TheVariants as action
 use Rattle.exec_text.specs.declared.trace.Trace.{Trace}
 
 -- what a trace says: what it sets up, and the steps that it asks for
@@ -32,6 +35,8 @@ text_of_word (Poll listener) = codes "poll " ++ decimal listener
 text_of_word Await = codes "await"
 text_of_word Drop = codes "drop"
 text_of_word (Sleep time) = codes "sleep " ++ decimal time
+text_of_word (Spawn script) = codes "spawn " ++ decimal script
+text_of_word (word.Wake task) = codes "wake " ++ decimal task
 text_of_word Yield = codes "yield"
 text_of_word End = codes "end"
 text_of_word (Fault code) = codes "fault " ++ decimal code
@@ -41,6 +46,12 @@ text_of_word _ = []
 abbrev pub text_of_words : List ScriptWord → List ℕ
 text_of_words words = flat_map (λ word. 32 ∷ text_of_word word) words
 
+abbrev pub text_of_script : List ScriptWord → List ℕ
+text_of_script words = codes "script" ++ text_of_words words
+
+abbrev pub text_of_root : List ScriptWord → List ℕ
+text_of_root words = codes "root" ++ text_of_words words
+
 abbrev pub text_of_step : Step → List ℕ
 text_of_step (Work worker count) = codes "w " ++ decimal worker ++ 32 ∷ decimal count
 text_of_step (One action) = text_of_action action
@@ -48,20 +59,39 @@ text_of_step (One action) = text_of_action action
 -- the lines of a trace that say something, in order
 abbrev pub trace_lines : Meaning → List (List ℕ)
 trace_lines m =
-    header_lines m.plan.config ++ map (λ words. codes "script" ++ text_of_words words) m.plan.scripts
-    ++ (codes "root" ++ text_of_words m.plan.root) ∷ codes "steps" ∷ map text_of_step m.steps
+    header_lines m.plan.config ++ map text_of_script m.plan.scripts ++ text_of_root m.plan.root ∷ codes "steps" ∷ map text_of_step m.steps
 
--- Bounds of what a line says: a number is at most 2^64 - 1, an error number isn't 0. Other words and steps come later.
+-- Bounds of what a line says: a number is at most 2^64 - 1, an error number isn't 0, and there are sixteen callers. Other
+-- words and steps come later.
 abbrev pub WordFits : Configuration → ScriptWord → Type 0
 WordFits c (Send socket length) = (socket < c.sockets) × (0 < length) × (length ≤ 1048576)
 WordFits c (Poll listener) = listener < c.sockets
 WordFits c Await = Unit {0}
 WordFits c Drop = Unit {0}
 WordFits c (Sleep time) = time < 2 ^ 64
+WordFits c (Spawn script) = script < 2 ^ 64
+WordFits c (word.Wake task) = task < 2 ^ 64
 WordFits c Yield = Unit {0}
 WordFits c End = Unit {0}
 WordFits c (Fault code) = code < 2 ^ 64
 WordFits c _ = ⊥
+
+-- Requests and sleeps that take time stand in the root's line alone so far.
+abbrev pub StaysInScript : ScriptWord → Type 0
+StaysInScript (Send socket length) = ⊥
+StaysInScript (Poll listener) = ⊥
+StaysInScript (Sleep time) = time ≡ 0
+StaysInScript _ = Unit {0}
+
+-- a line of words has one at least
+pub record RootFits (c : Configuration) (words : List ScriptWord) : Type 0 where
+  pub some : 0 < length words
+  pub fit : All (WordFits c) words
+
+pub record ScriptFits (c : Configuration) (words : List ScriptWord) : Type 0 where
+  pub some : 0 < length words
+  pub fit : All (WordFits c) words
+  pub stay : All StaysInScript words
 
 abbrev pub ResultFits : OpResult → Type 0
 ResultFits (Count n) = n < 2 ^ 64
@@ -69,8 +99,13 @@ ResultFits (Errno code) = (0 < code) × (code < 2 ^ 64)
 
 abbrev pub StepFits : Step → Type 0
 StepFits (Work worker count) = (worker < 2 ^ 64) × (0 < count) × (count < 2 ^ 64)
+StepFits (One (action.Spawn caller script)) = (caller < 16) × (script < 2 ^ 64)
+StepFits (One (action.Wake caller task)) = (caller < 16) × (task < 2 ^ 64)
+StepFits (One (GoOn caller)) = caller < 16
 StepFits (One (Clock by)) = by < 2 ^ 64
 StepFits (One (Land request result)) = (request < 2 ^ 64) × ResultFits result
+StepFits (One (SetBusy worker)) = worker < 2 ^ 64
+StepFits (One (EndPoll worker)) = worker < 2 ^ 64
 StepFits (One (Stir worker)) = worker < 2 ^ 64
 StepFits (One _) = ⊥
 
@@ -89,12 +124,30 @@ pub record HeaderFits (c : Configuration) : Type 0 where
   pub files : c.files < 2 ^ 64
   pub sockets : c.sockets < 2 ^ 64
 
-pub record MeaningFits (m : Meaning) : Type 0 where
+-- each line by itself is right
+pub record IsWellFormed (m : Meaning) : Type 0 where
   pub header : HeaderFits m.plan.config
-  pub no_scripts : m.plan.scripts ≡ []
-  pub some_word : 0 < length m.plan.root
-  pub words_fit : All (WordFits m.plan.config) m.plan.root
-  pub steps_fit : All StepFits m.steps
+  pub scripts : All (ScriptFits m.plan.config) m.plan.scripts
+  pub root : RootFits m.plan.config m.plan.root
+  pub steps : All StepFits m.steps
+
+-- The numbers of scripts are below this count.
+abbrev pub WordNames : ℕ → ScriptWord → Type 0
+WordNames count (Spawn script) = script < count
+WordNames count _ = Unit {0}
+
+abbrev pub StepNames : ℕ → Step → Type 0
+StepNames count (One (action.Spawn caller script)) = script < count
+StepNames count _ = Unit {0}
+
+pub record NamesScripts (count : ℕ) (m : Meaning) : Type 0 where
+  pub scripts : All (All (WordNames count)) m.plan.scripts
+  pub root : All (WordNames count) m.plan.root
+  pub steps : All (StepNames count) m.steps
+
+pub record MeaningFits (m : Meaning) : Type 0 where
+  pub formed : IsWellFormed m
+  pub named : NamesScripts (length m.plan.scripts) m
 
 -- the text is a trace, and says this
 pub record IsTraceOf (text : List ℕ) (m : Meaning) : Type 0 where
@@ -104,16 +157,37 @@ pub record IsTraceOf (text : List ℕ) (m : Meaning) : Type 0 where
 abbrev pub IsTrace : List ℕ → Type 0
 IsTrace text = (m : Meaning) × IsTraceOf text m
 
--- some trace begins with these lines
-abbrev pub CanGoOn : List (List ℕ) → Type 0
-CanGoOn front = (m : Meaning) × MeaningFits m × (rest : List (List ℕ)) × (filter says_something front ++ rest ≡ trace_lines m)
+-- each of these lines is right by itself, where it stands: they begin what is a trace, but for numbers of scripts
+abbrev pub CanBegin : List (List ℕ) → Type 0
+CanBegin front = (m : Meaning) × IsWellFormed m × (rest : List (List ℕ)) × (filter says_something front ++ rest ≡ trace_lines m)
 
--- This line is the first at which the text is no trace: no trace begins with the lines up to it, but one
--- does with those before it. Where all lines are such a beginning and no trace, it's the line after the last.
+-- and none of them names a script at or above this count
+abbrev pub CanGoOn : ℕ → List (List ℕ) → Type 0
+CanGoOn count front =
+    (m : Meaning) × IsWellFormed m × NamesScripts count m × (rest : List (List ℕ)) × (filter says_something front ++ rest ≡ trace_lines m)
+
+-- how many of the lines are those of scripts
+abbrev pub is_script : List ℕ → Bool
+is_script line = pointwise eqb (take 6 line) (codes "script")
+
+unfoldable pub scripts_among : List (List ℕ) → ℕ
+scripts_among front = length (filter is_script front)
+
+-- So many scripts count: those before the first line that is wrong by itself. These are the most that any beginning has of
+-- which each line is right.
+pub record ScriptsThatCount (text : List ℕ) (count : ℕ) : Type 0 where
+  pub last : ℕ
+  pub begin : CanBegin (take last (lines text))
+  pub counted : count ≡ scripts_among (take last (lines text))
+  pub most : (n : ℕ) → CanBegin (take n (lines text)) → scripts_among (take n (lines text)) ≤ count
+
+-- This line is the first at which the text is no trace: a line that is wrong where it stands, or names a script that there
+-- isn't among those that count. Where there is no such line, and the text is no trace, it's the line after the last.
 abbrev pub IsFirstFault : List ℕ → ℕ → Type 0
 IsFirstFault text line =
-    ((0 < line) × (line ≤ length (lines text)) × CanGoOn (take (line - 1) (lines text)) × (CanGoOn (take line (lines text)) → ⊥))
-    ⊎ ((line ≡ length (lines text) + 1) × CanGoOn (lines text) × (IsTrace text → ⊥))
+    (count : ℕ) × ScriptsThatCount text count
+    × (((0 < line) × (line ≤ length (lines text)) × CanGoOn count (take (line - 1) (lines text)) × (CanGoOn count (take line (lines text)) → ⊥))
+    ⊎ ((line ≡ length (lines text) + 1) × CanGoOn count (lines text) × (IsTrace text → ⊥)))
 
 -- what a trace that was read says
 abbrev pub meaning_of : Trace → Meaning

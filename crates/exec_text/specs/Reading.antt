@@ -1,10 +1,11 @@
 -- What the clauses of the reader say, beside the grammar.
-use Rattle.std.specs.Prelude.{◌≡◌, ◌≢◌, ℕ, ◌+◌, ◌-◌, ◌^◌, ◌<◌, ◌≤◌, ◌⊎◌, List, [], ◌∷◌, ◌++◌, All, filter, length, take, drop, slice_index, codes}
+use Rattle.std.specs.Prelude.{◌≡◌, ◌≢◌, ℕ, ◌+◌, ◌-◌, ◌^◌, ◌<◌, ◌≤◌, ◌⊎◌, Bool, true, ◌||◌, ◌==◌, nat_lt, List, [], ◌∷◌, ◌++◌, All, Option, Some, None, map, filter, length, take, drop, slice_index, codes}
 use Rattle.std.specs.Fmt.{decimal}
 use Rattle.std.specs.List.{AllByRecursion}
 use Rattle.std.specs.Str.Lines.{lines}
-use Rattle.exec_machine.specs.declared.config.{Configuration.Configuration, Spin.Spin, ScriptWord.ScriptWord}
-use Rattle.exec_text.specs.{Grammar.{says_something, header_lines, HeaderFits, text_of_word, text_of_words, WordFits, IsTrace, IsFirstFault}, declared.read_error.ReadError.{ReadError, TheVariants.{Syntax, NoMemory}}}
+use Rattle.exec_machine.specs.declared.{config.{Configuration.Configuration, Spin.Spin, ScriptWord.{ScriptWord, TheVariants.{Send, Poll, Sleep, Spawn}}}, step.Action.Action}
+use Rattle.exec_machine.specs.declared.step.Action.TheVariants as action
+use Rattle.exec_text.specs.{Grammar.{says_something, header_lines, HeaderFits, text_of_word, text_of_words, text_of_script, text_of_root, WordFits, ScriptFits, RootFits, WordNames, IsTrace, IsFirstFault}, Kept.{Keeps, KeepsLists}, declared.{read_error.ReadError.{ReadError, TheVariants.{Syntax, NoMemory}}, rules.Rules.Rules, task.{TaskLine.{TaskLine, TheVariants.{Script, Root}}, Tasks.Tasks}}}
 
 -- Why a text was not read: the line is the first at which it is no trace, or it is one, and there was no memory.
 abbrev pub IsUnread : ReadError → List ℕ → Type 0
@@ -93,22 +94,77 @@ pub record SpinFits (s : Spin) : Type 0 where
   pub quick : s.quick < 2 ^ 64
   pub iterations : s.iterations < 2 ^ 64
 
--- the line spells these words, which can be the root's
-pub record IsRoot (c : Configuration) (line : List ℕ) (root : List ScriptWord) : Type 0 where
-  pub spelled : line ≡ codes "root" ++ text_of_words root
-  pub some : 0 < length root
-  pub fit : All (WordFits c) root
+-- how many scripts the rules know of
+abbrev pub is_named : Option ℕ → ℕ → Bool
+is_named None script = true
+is_named (Some count) script = nat_lt script count
 
--- the lines are the header and the line of the root
-pub record IsTop (c : Configuration) (said : List (List ℕ)) (root : List ScriptWord) : Type 0 where
-  pub header_fits : HeaderFits c
-  pub line : List ℕ
-  pub spelled : said ≡ header c ++ line ∷ []
-  pub root_line : IsRoot c line root
+-- whether the rules allow the word
+abbrev pub allows : Rules → ScriptWord → Bool
+allows r (Spawn script) = is_named r.scripts script
+allows r (Send socket length) = r.is_root
+allows r (Poll listener) = r.is_root
+allows r (Sleep time) = r.is_root || (time == 0)
+allows r _ = true
 
--- the lines are the header, the line of the root, and `steps`
-pub record IsMarkedTop (c : Configuration) (said : List (List ℕ)) (root : List ScriptWord) : Type 0 where
+pub record AllAllowed (c : Configuration) (r : Rules) (words : List ScriptWord) : Type 0 where
+  pub fit : All (WordFits c) words
+  pub allowed : All (λ word. allows r word ≡ true) words
+
+-- the line is this name and these words, which the rules allow
+pub record IsLineOf (c : Configuration) (r : Rules) (name line : List ℕ) (words : List ScriptWord) : Type 0 where
+  pub spelled : line ≡ name ++ text_of_words words
+  pub some : 0 < length words
+  pub fit : AllAllowed c r words
+
+-- the line is one of the root or of a script, where so many scripts count
+pub record IsRoot (c : Configuration) (count : ℕ) (line : List ℕ) (root : List ScriptWord) : Type 0 where
+  pub spelled : line ≡ text_of_root root
+  pub fits : RootFits c root
+  pub named : All (WordNames count) root
+
+pub record IsScript (c : Configuration) (count : ℕ) (line : List ℕ) (words : List ScriptWord) : Type 0 where
+  pub spelled : line ≡ text_of_script words
+  pub fits : ScriptFits c words
+  pub named : All (WordNames count) words
+
+-- the lines are the header and those of these scripts
+pub record IsHead (c : Configuration) (count : ℕ) (said : List (List ℕ)) (scripts : List (List ScriptWord)) : Type 0 where
   pub header_fits : HeaderFits c
+  pub spelled : said ≡ header c ++ map text_of_script scripts
+  pub fit : All (ScriptFits c) scripts
+  pub named : All (All (WordNames count)) scripts
+
+-- and the line of the root
+pub record IsTop (c : Configuration) (count : ℕ) (said : List (List ℕ)) (scripts : List (List ScriptWord)) (root : List ScriptWord) : Type 0 where
+  pub front : List (List ℕ)
+  pub head : IsHead c count front scripts
   pub line : List ℕ
-  pub spelled : said ≡ header c ++ line ∷ codes "steps" ∷ []
-  pub root_line : IsRoot c line root
+  pub spelled : said ≡ front ++ line ∷ []
+  pub root_line : IsRoot c count line root
+
+-- and the line `steps`
+pub record IsMarkedTop (c : Configuration) (count : ℕ) (said : List (List ℕ)) (scripts : List (List ScriptWord)) (root : List ScriptWord) : Type 0 where
+  pub top : List (List ℕ)
+  pub is_top : IsTop c count top scripts root
+  pub spelled : said ≡ top ++ codes "steps" ∷ []
+
+-- the line of a task was read, and its words are kept
+abbrev pub IsTaskLine : Configuration → ℕ → List ℕ → TaskLine → Type 0
+IsTaskLine c count line (Script kept) = (words : List ScriptWord) × IsScript c count line words × Keeps kept words
+IsTaskLine c count line (Root kept) = (root : List ScriptWord) × IsRoot c count line root × Keeps kept root
+
+-- the lines are the header and those of tasks, and the words of these are kept
+pub record HasTasks (c : Configuration) (count : ℕ) (said : List (List ℕ)) (t : Tasks) : Type 0 where
+  pub scripts : List (List ScriptWord)
+  pub root : List ScriptWord
+  pub top : IsTop c count said scripts root
+  pub keeps_scripts : KeepsLists t.scripts scripts
+  pub keeps_root : Keeps t.root root
+
+-- what stands behind the number of a caller, where so many scripts count
+abbrev pub IsCall : ℕ → ℕ → List ℕ → Action → Type 0
+IsCall caller count bytes (action.Spawn j script) = (j ≡ caller) × (script < 2 ^ 64) × (script < count) × (bytes ≡ codes " spawn " ++ decimal script)
+IsCall caller count bytes (action.Wake j task) = (j ≡ caller) × (task < 2 ^ 64) × (bytes ≡ codes " wake " ++ decimal task)
+IsCall caller count bytes (action.GoOn j) = (j ≡ caller) × (bytes ≡ [])
+IsCall caller count bytes _ = ⊥

@@ -6,7 +6,7 @@
 //! judged and not kept.
 
 ghost use Rattle.std.specs.Prelude.{◌≡◌, List, [], ◌∷◌, ◌++◌, IfOk, IfErr};
-ghost use Rattle.exec_text.specs.{declared.read_error.ReadError.TheVariants.NoMemory, Kept.Keeps};
+ghost use Rattle.exec_text.specs.{declared.read_error.ReadError.TheVariants.NoMemory, Kept.{Keeps, KeepsLists}};
 
 use crate::read_error::ReadError;
 use std::alloc::Global;
@@ -43,12 +43,25 @@ impl<T: Drop> Kept<T> {
 
     /// All elements, unless they are lost.
     pub(crate) fn whole(self) -> Result<Vec<T>, ReadError>
-        ensures ok { IfOk result (λ list. (all : List T) → Keeps self all → list.items ≡ all) }
+        ensures ok { IfOk result (λ list. self ≡ Kept.All list) }
         ensures err { IfErr result (λ e. e ≡ NoMemory) }
     {
         match self {
             Kept::All(list) => Ok(list),
             Kept::Lost => Err(ReadError::NoMemory),
+        }
+    }
+}
+
+impl<T: Drop> Kept<Vec<T>> {
+    /// The lists with one more.
+    pub(crate) fn with_list(self, list: Kept<T>) -> Self
+        ensures { (all : List (List T)) (one : List T) → KeepsLists self all → Keeps list one →
+            KeepsLists result (all ++ one ∷ []) }
+    {
+        match list {
+            Kept::All(list) => self.with(list),
+            Kept::Lost => Kept::Lost,
         }
     }
 }

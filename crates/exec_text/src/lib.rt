@@ -4,9 +4,9 @@
 //! spells, or the first line at which the text is no trace. Want of memory is told only of a
 //! text that is a trace: `kept.rt` says how.
 //!
-//! The lines are read one after another (`line.rt`): the header by a table (`header.rt`), the root's words
-//! (`word.rt`), the mark `steps`, and the steps (`step.rt`). What can't want memory has a type that says so: its
-//! error is a `FaultyLine`.
+//! The lines are read one after another (`line.rt`): the header by a table (`header.rt`), the lines of tasks, which
+//! are counted first (`task.rt`) and read word by word (`word.rt`), the mark `steps`, and the steps (`step.rt`). What
+//! can't want memory has a type that says so: its error is a `FaultyLine`.
 #![tactic(auto)]
 
 mod field;
@@ -16,7 +16,9 @@ mod line;
 mod number;
 mod read;
 mod read_error;
+mod rules;
 mod step;
+mod task;
 pub mod trace;
 mod word;
 

@@ -31,6 +31,15 @@ impl<'a> Lines<'a> {
         }
     }
 
+    /// The same place, from which one can look ahead.
+    pub(crate) fn ahead(&self) -> Lines<'a>
+        ensures text { result.text.now ≡ self.now.text.now }
+        ensures same { result.number ≡ self.now.number }
+    {
+        let Lines { text, from, number } = *self;
+        Lines { text, from, number }
+    }
+
     /// The next line that says something.
     pub(crate) fn next_said(&mut self) -> Option<&'a [u8]>
         ensures text { self.new.text.now ≡ self.old.text.now }

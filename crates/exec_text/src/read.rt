@@ -1,17 +1,16 @@
 //! A trace is read from its text.
 
-ghost use Rattle.std.specs.Prelude.{◌≡◌, List, [], ◌∷◌, ◌++◌, All, codes, map, sum_by, OnOk, IfOk, IfErr};
+ghost use Rattle.std.specs.Prelude.{◌≡◌, ℕ, List, [], ◌∷◌, ◌++◌, All, codes, map, sum_by, OnOk, IfOk, IfErr};
 ghost use Rattle.exec_machine.specs.declared.{config.{Configuration.Configuration, ScriptWord.ScriptWord}, step.Step.Step};
-ghost use Rattle.exec_text.specs.{Grammar.{HeaderFits, text_of_step, StepFits, meaning_of, IsTraceOf, IsFirstFault, count_of}, Reading.{IsUnread, said_before, all_said, header, IsTop, IsMarkedTop}, Kept.Keeps, Laws.{TraceHasNoFault, FaultIsOne, MeaningIsOne}};
+ghost use Rattle.exec_text.specs.{Grammar.{text_of_step, StepFits, StepNames, meaning_of, IsTraceOf, IsFirstFault, ScriptsThatCount, count_of}, Reading.{IsUnread, said_before, all_said, IsTop, IsMarkedTop}, Kept.Keeps, Laws.{TraceHasNoFault, FaultIsOne, MeaningIsOne}};
 
 use crate::header::read_header;
 use crate::kept::Kept;
 use crate::line::Lines;
 use crate::read_error::{FaultyLine, ReadError};
 use crate::step::step_of;
+use crate::task::{count_scripts, read_tasks};
 use crate::trace::Trace;
-use crate::word::root_of;
-use exec_machine::config::{Configuration, ScriptWord};
 use exec_machine::step::Step;
 use std::alloc::Global;
 
@@ -24,42 +23,26 @@ pub fn read_trace(alloc: Global, text: &[u8]) -> Result<Trace, ReadError>
 {
     let mut lines = Lines::new(text);
     let config = read_header(&mut lines)?;
-    let kept_root = read_root(alloc, &config, &mut lines)?;
+    let count = count_scripts(&config, &lines);
+    let tasks = read_tasks(alloc, &config, count, &mut lines)?;
     read_mark(&mut lines)?;
-    let kept_steps = read_steps(alloc, &mut lines)?;
-    let root = kept_root.whole()?;
+    let kept_steps = read_steps(alloc, count, &mut lines)?;
+    let scripts = tasks.scripts.whole()?;
+    let root = tasks.root.whole()?;
     let steps = kept_steps.whole()?;
     Ok(Trace {
         config,
-        scripts: Vec::new(alloc),
+        scripts,
         root,
         steps,
     })
 }
 
-/// Reads the line of the root task.
-fn read_root(
-    alloc: Global,
-    config: &Configuration,
-    lines: &mut Lines,
-) -> Result<Kept<ScriptWord>, FaultyLine>
-    requires said { said_before lines.old.text.now lines.old.number ≡ header config.now }
-    requires fits { HeaderFits config.now }
-    ensures text { lines.new.text.now ≡ lines.old.text.now }
-    ensures ok { IfOk result (λ kept. (root : List ScriptWord)
-        × IsTop config.now (said_before lines.new.text.now lines.new.number) root × Keeps kept root) }
-    ensures fault { IfErr result (λ e. IsFirstFault lines.old.text.now e.number) }
-{
-    let line = lines.expect_said()?;
-    match root_of(alloc, config, line) {
-        Some(root) => Ok(root),
-        None => Err(lines.fault()),
-    }
-}
-
 /// Reads the line `steps`.
 fn read_mark(lines: &mut Lines) -> Result<(), FaultyLine>
-    requires { (c : Configuration) × (root : List ScriptWord) × IsTop c (said_before lines.old.text.now lines.old.number) root }
+    requires { (c : Configuration) × (count : ℕ) × (scripts : List (List ScriptWord)) × (root : List ScriptWord)
+        × IsTop c count (said_before lines.old.text.now lines.old.number) scripts root
+        × ScriptsThatCount lines.old.text.now count }
     ensures text { lines.new.text.now ≡ lines.old.text.now }
     ensures ok { OnOk result (said_before lines.new.text.now lines.new.number ≡ said_before lines.old.text.now lines.old.number ++ codes "steps" ∷ []) }
     ensures fault { IfErr result (λ e. IsFirstFault lines.old.text.now e.number) }
@@ -71,17 +54,19 @@ fn read_mark(lines: &mut Lines) -> Result<(), FaultyLine>
     Ok(())
 }
 
-/// Reads the lines below `steps`.
-fn read_steps(alloc: Global, lines: &mut Lines) -> Result<Kept<Step>, FaultyLine>
-    requires { (c : Configuration) × (root : List ScriptWord) × IsMarkedTop c (said_before lines.old.text.now lines.old.number) root }
+/// Reads the lines below `steps`, where there are so many scripts.
+fn read_steps(alloc: Global, scripts: usize, lines: &mut Lines) -> Result<Kept<Step>, FaultyLine>
+    requires top { (c : Configuration) × (tasks : List (List ScriptWord)) × (root : List ScriptWord)
+        × IsMarkedTop c scripts (said_before lines.old.text.now lines.old.number) tasks root }
+    requires counted { ScriptsThatCount lines.old.text.now scripts }
     ensures ok { IfOk result (λ kept. (steps : List Step)
         × (all_said lines.old.text.now ≡ said_before lines.old.text.now lines.old.number ++ map text_of_step steps)
-        × All StepFits steps × Keeps kept steps) }
+        × All StepFits steps × All (StepNames scripts) steps × Keeps kept steps) }
     ensures fault { IfErr result (λ e. IsFirstFault lines.old.text.now e.number) }
 {
     let mut steps = Kept::new(alloc);
     while let Some(line) = lines.next_said() {
-        let Some(step) = step_of(line) else {
+        let Some(step) = step_of(line, scripts) else {
             return Err(lines.fault());
         };
         steps = steps.with(step);

@@ -1,45 +1,61 @@
 //! The words of a script.
 
-ghost use Rattle.std.specs.Prelude.{◌≡◌, ◌≢◌, ℕ, ◌<◌, ◌^◌, List, ◌∷◌, ◌++◌, All, codes, decimal, IfSome, IfNone};
+ghost use Rattle.std.specs.Prelude.{◌≡◌, ◌≢◌, ℕ, ◌<◌, ◌^◌, List, [], ◌∷◌, ◌++◌, codes, decimal, IfSome, IfNone};
 ghost use Rattle.exec_machine.specs.declared.config.{Configuration.Configuration, ScriptWord.ScriptWord};
-ghost use Rattle.exec_text.specs.{Grammar.{text_of_word, text_of_words, WordFits}, Kept.Keeps, Reading.{NoSpace, IsRoot, IsWord}};
+ghost use Rattle.exec_text.specs.{Grammar.{text_of_word, text_of_words, WordFits}, Kept.Keeps, Reading.{NoSpace, IsWord, IsLineOf, AllAllowed}};
 
 use crate::field::{first_field, next_field};
 use crate::kept::Kept;
 use crate::number::next_number;
+use crate::rules::Rules;
 use exec_machine::config::{Configuration, ScriptWord};
-use std::alloc::Global;
 
 /// The longest send.
 const MOST: u64 = 1048576;
 
-/// The words of the root line, of which there is at least one.
-pub(crate) fn root_of(
-    alloc: Global,
+/// The words of a line of this name, of which there is at least one. They come behind those that were kept.
+pub(crate) fn words_in(
+    name: &[u8],
+    kept: Kept<ScriptWord>,
     config: &Configuration,
+    rules: Rules,
     line: &[u8],
 ) -> Option<Kept<ScriptWord>>
-    requires { config.now.sockets < 2 ^ 64 }
-    ensures found { IfSome result (λ kept. (root : List ScriptWord) × IsRoot config.now line.now root × Keeps kept root) }
-    ensures none { IfNone result ((root : List ScriptWord) → IsRoot config.now line.now root → ⊥) }
+    requires sockets { config.now.sockets < 2 ^ 64 }
+    requires name { NoSpace name.now }
+    requires none { Keeps kept [] }
+    ensures found { IfSome result (λ all. (words : List ScriptWord) × IsLineOf config.now rules name.now line.now words
+        × Keeps all words) }
+    ensures none { IfNone result ((words : List ScriptWord) → IsLineOf config.now rules name.now line.now words → ⊥) }
 {
-    let (name, rest) = first_field(line);
-    if name != b"root".as_slice() || rest.is_empty() {
+    let (first, rest) = first_field(line);
+    if first != name || rest.is_empty() {
         return None;
     }
-    words_of(alloc, config, rest)
+    words_of(kept, config, rules, rest)
 }
 
-/// The words that the bytes spell, a space before each.
-fn words_of(alloc: Global, config: &Configuration, bytes: &[u8]) -> Option<Kept<ScriptWord>>
-    requires { config.now.sockets < 2 ^ 64 }
-    ensures found { IfSome result (λ kept. (words : List ScriptWord) × (bytes.now ≡ text_of_words words) × All (WordFits config.now) words × Keeps kept words) }
-    ensures none { IfNone result ((words : List ScriptWord) → All (WordFits config.now) words → bytes.now ≢ text_of_words words) }
+/// The words that the bytes spell, a space before each. They come behind those that were kept.
+fn words_of(
+    kept: Kept<ScriptWord>,
+    config: &Configuration,
+    rules: Rules,
+    bytes: &[u8],
+) -> Option<Kept<ScriptWord>>
+    requires sockets { config.now.sockets < 2 ^ 64 }
+    requires none { Keeps kept [] }
+    ensures found { IfSome result (λ all. (words : List ScriptWord) × (bytes.now ≡ text_of_words words)
+        × AllAllowed config.now rules words × Keeps all words) }
+    ensures none { IfNone result ((words : List ScriptWord) → AllAllowed config.now rules words →
+        bytes.now ≢ text_of_words words) }
 {
-    let mut words = Kept::new(alloc);
+    let mut words = kept;
     let mut rest = bytes;
     while !rest.is_empty() {
         let (word, after) = next_word(config, rest)?;
+        if !rules.allow(word) {
+            return None;
+        }
         words = words.with(word);
         rest = after;
     }
@@ -100,9 +116,15 @@ fn numbered_word(config: &Configuration, name: &[u8], number: u64) -> Option<Scr
     if name == b"fault".as_slice() {
         return Some(ScriptWord::Fault { code: number });
     }
-    let listener = number as usize;
-    if name == b"poll".as_slice() && listener < config.sockets {
-        return Some(ScriptWord::Poll { listener });
+    let place = number as usize;
+    if name == b"spawn".as_slice() {
+        return Some(ScriptWord::Spawn { script: place });
+    }
+    if name == b"wake".as_slice() {
+        return Some(ScriptWord::Wake { task: place });
+    }
+    if name == b"poll".as_slice() && place < config.sockets {
+        return Some(ScriptWord::Poll { listener: place });
     }
     None
 }
