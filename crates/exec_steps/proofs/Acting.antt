@@ -1,39 +1,18 @@
 -- Acts of a polled body that change its slot alone: a pass, a wait for a wake, a yield.
-use Rattle.std.proofs.{Common.{◌≡◌, ℕ, suc, ◌-◌, ◌==◌, ◌&&◌, ◌≤◌, ◌^◌, arith, Bool, true, false, List, [], ◌∷◌, length, map, Option, Some, None, refl, sym, ap, subst, ◌∙◌, slice_get, slice_index_or, slice_set, if◌then◌else◌}, lemmas.{Bool.{false≢true, eq-eqb}, List.{map-set, set-set}}}
+use Rattle.std.proofs.{Common.{◌≡◌, ◌≢◌, ◌⊎◌, inl, inr, ⊎_elim, ℕ, suc, ◌+◌, ◌-◌, ◌==◌, ◌&&◌, ◌≤◌, ◌^◌, arith, Bool, true, false, List, [], ◌∷◌, length, map, Option, Some, None, IsSome, refl, sym, ap, subst, ◌∙◌, option_to_list, slice_get, slice_index_or, slice_set, if◌then◌else◌}, lemmas.{Bool.{false≢true, eq-eqb}, List.{map-set, set-set}}}
 use Rattle.exec_base.specs.{Slab.{Slab, value_at}, declared.slab.Id.Id}
 use Rattle.exec_time.specs.declared.timers.{Sleeper.Sleeper as Sleeping, Observer.Observer}
 use Rattle.exec_driver.specs.Driving.{Driving}
-use Rattle.exec_task.specs.{Phases.{is_polled, woken as cell_woken}, Sight.Sight, declared.body.{Act.Act, Said.Said}}
-use Rattle.exec_machine.specs.{Choice.{Choice, Choice.{Plain, Pays}, Payer.ByAct}, declared.{config.ScriptWord.ScriptWord, event.Event.{Event, TheVariants.{Pass, Wait, Wake}}, state.Waiting.Waiting}, Progress.Plan, Requests.operation_asked, Tasks.{after_taking, after_waking_word, is_woken_here, polls_waiting, waits_for, woken, woken_phase}, Tests.{is_empty, is_resolved, is_woken, waits_for_nothing}, Words.{acts, asks_await, asks_no_sleep, asks_wake, asks_yield, moved_on, next_word}, World.{Own, Task, Common, no_task, task_of}}
-use Rattle.exec_moves.specs.{declared.place.{Place.Place, InPoll.InPoll}, Poll.{act_asked, await}, State.{Moved, Things}}
-use Rattle.exec_steps.{specs.{declared.parts.{mail.Reply.Reply, names.Names.Names, record.Record.Record, shared.Shared.Shared, sleeping.SleeperRecord.SleeperRecord, task_slot.TaskSlot.TaskSlot, worker.Worker.Worker}, Acting.{ActsAs, HasActed, Performs, PerformsOne, StepsOf}, Hearing.{CanHear, held_once_come}, Phased.is_complete, Polls.{MadeAct, sight_of, yielded_slot}, Records.number_in, Rooted.{Holds, Awaits}, Scripts.{GoesOn, IsAnswered, Plays, is_last}, Sound.{SoundAt, IsRunnable, one_of, acts_next}, Spots.{Spot, spot_of, standing_at}, View.{Visible, own_of, desk_of, driver_of, common_of, things_of, phase_seen, task_seen, spot_by, body_in}, Works.TurnsSlot}, proofs.{Facts.{set_there, or_right, both_true}, Performing.{going_on, in_poll, performs_passed, performs_waiting, performs_yielded, run_on, still_performs, wakes_as}, Polling.{IsAfter, IsEvent, Sits, at_phase, on_in_poll, sound_polled, works_polled}, Waking.task_there}}
-
--- WHAT ITS ACT IS
-
-module _ {B L : Type 0} (left : B → L) (runs : L → Plan → Type 0) (holds : L → Option Said → List ℕ) (spot : L → Option Said → Spot) (gives : L → Option Sight → Said → Act B → L → Option Sight → Type 0) where
-  pub has_acted : Plays runs holds spot gives → (w : Worker) (s s1 : Shared B) (a : Act B) → SoundAt (Place.Poll w.root InPoll.Act) w s → MadeAct left gives w.root w.moments.sampled s s1 a → PerformsOne left runs holds w.root s → HasActed left runs holds spot gives w s s1 a
-  has_acted plays w s s1 a sound m one =
-      let old = sound.tied.stands m.slot m.there in
-      let body : body_in m.slot.cell.phase m.slot.body ≡ Some m.acts.body = in_poll m.slot.cell.phase m.slot.body old.polled ∙ m.acts.was in
-      let hears : CanHear m.slot.told m.slot.waiting m.acts.said = subst (λ o. CanHear o m.slot.waiting m.acts.said) (sym m.acts.told) refl in
-      let at_spot : spot (left m.acts.body) (Some m.acts.said) ≡ spot_of (task_seen left spot m.slot) = sym (ap (λ o. spot_by left spot o m.slot.told) body ∙ ap (spot (left m.acts.body)) m.acts.told) in
-      let early : w.moments.sampled ≤ 2 ^ 62 = omega (arith, sound.time.not_after, sound.time.bounded) in
-      record {
-        sound = sound;
-        made = m;
-        asks = λ p vs fits.
-            let held : holds (left m.acts.body) (Some m.acts.said) ≡ m.slot.held.items = fits.holding m.acts.body m.acts.said body hears ∙ ap (λ u. held_once_come u m.slot.held.items) old.waits in
-            let it = plays p (common_of left spot p vs s) (task_seen left spot m.slot) (sight_of w.moments.sampled s.opens) m.sight (left m.acts.body) (left m.acts.body') m.acts.said a
-            (fits.runs_it m.acts.body m.acts.said body hears) refl refl early m.acts.given at_spot held in
-            record { asks = it.asks; stands = it.stands; goes_on = it.goes_on };
-        one = (one.0, one.1, one.2 m.slot m.there);
-      }
+use Rattle.exec_task.specs.{Phases.{is_polled, woken as cell_woken}, Sight.Sight, declared.{body.{Act.Act, Said.Said}, runnable.Runnable.Runnable, task.Phase.Phase}}
+use Rattle.exec_machine.specs.{Choice.{Choice, Choice.{Plain, Pays}, Payer.ByAct}, declared.{config.ScriptWord.ScriptWord, event.Event.{Event, TheVariants.{Pass, Wait, Wake}}, state.{Next.Next, Waiting.Waiting}}, Progress.Plan, Requests.operation_asked, Tasks.{after_taking, after_waking_word, is_woken_here, polls_waiting, waits_for, woken, woken_phase}, Tests.{is_empty, is_resolved, is_woken, waits_for_nothing}, Words.{acts, asks_await, asks_no_sleep, asks_wake, asks_yield, moved_on, next_word}, World.{Own, Task, Common, no_task, task_of}}
+use Rattle.exec_moves.specs.{declared.place.{Place.Place, InPoll.InPoll}, Move.move_act, Poll.{act_asked, await}, Seen.{next_in_poll, polls_at, polls_in}, State.{Moved, Things}}
+use Rattle.exec_steps.{specs.{declared.parts.{mail.Reply.Reply, names.Names.Names, record.Record.Record, shared.Shared.Shared, sleeping.SleeperRecord.SleeperRecord, task_slot.TaskSlot.TaskSlot, worker.Worker.Worker}, Acting.{ActsAs, HasActed, Performs, PerformsAll, PerformsOne, StepsOf}, Hearing.{CanHear, held_once_come}, Phased.is_complete, Places.{begins_at, hands_on_at, in_poll_of, one_if, polled_in, removes_at}, Polls.{MadeAct, sight_of, yielded_slot}, Records.number_in, Rooted.{Holds, Awaits, ends_poll}, Scripts.{GoesOn, IsAnswered, Plays, is_last}, Sound.{HasGuest, IsGuest, IsInHand, SoundAt, IsRunnable, Stands, WaitsAt, acts_next, is_told, one_of, root_in_hand, waits_for_wakes}, Spots.{Spot, spot_of, standing_at}, View.{Views, own_of, desk_of, driver_of, common_of, phase_seen, task_seen, spot_by, body_in, things_with}, Whole.{HasOne, is_number as is_counted, runnables_in}, Works.{Beside, Suits, TurnsSlot}}, proofs.{Facts.{by_number, same_thing, set_there, or_right, both_true}, Here.{IsHere, going_on, polled_here, unflagged_there}, Pending.{in_poll, polled_none}, Performing.{performs_passed, performs_waiting, performs_yielded, still_performs, wakes_as}, Polling.{at_phase, home_mine, in_own_poll, number_apart, number_there, on_in_poll, removes_none}, PoolKept.unremoved, Slots.{Balances, IsEvent, beside_slot, task_there, works_slot}, SlotTasks.{IsAfter, Keeps, Sits, Tasked, Visits, guest_tasked, none_in, root_tasked, sound_tasked}}}
 
 -- WHAT THE ROOT HOLDS, where its poll is to end
 
-pub holds_stopping : (i t : ℕ) (holding : List ℕ) (u what : Waiting) (over : Bool) (n : Names) (d : Driving Reply Reply) (zs : Slab (Sleeping Reply)) (rs : List Record) (ss : List SleeperRecord)
-    → u ≡ Waiting.Nothing → over ≡ false → Awaits true i t holding what rs ss → Holds false i t holding u over n d zs rs ss → Holds true i t holding what over n d zs rs ss
-holds_stopping i t holding u what over n d zs rs ss nothing open_still waits old =
+pub holds_stopping : (ends : Bool) (i t : ℕ) (holding : List ℕ) (u what : Waiting) (over : Bool) (n : Names) (d : Driving Reply Reply) (zs : Slab (Sleeping Reply)) (rs : List Record) (ss : List SleeperRecord)
+    → u ≡ Waiting.Nothing → over ≡ false → Awaits ends i t holding what rs ss → Holds false i t holding u over n d zs rs ss → Holds ends i t holding what over n d zs rs ss
+holds_stopping ends i t holding u what over n d zs rs ss nothing open_still waits old =
     let awaited : (k : ℕ) (r : Record) (v : ℕ) → slice_get rs k ≡ Some r → r.shown.worker ≡ i → is_resolved r.shown.phase ≡ false → r.shown.observed ≡ true → r.shown.waiter ≡ Some v → (v ≡ t) × (what ≡ Waiting.Request k) =
     λ k r v there mine unresolved seen waiter. absurd (let never : Waiting.Nothing ≡ Waiting.Request k = sym nothing ∙ (old.awaited k r v there mine unresolved seen waiter).1 in cc) in
     let sleeping : (id : Id) (it : Sleeping Reply) → value_at zs id ≡ Some it → (it.observer ≡ Observer.Local (record { 0 = t })) × (what ≡ Waiting.Timer (number_in n.timers.items id)) =
@@ -52,207 +31,356 @@ none_held (x ∷ xs) h = let back : suc (length xs) - 1 ≡ length xs = omega ar
     never y [] is = let no : Some y ≡ None = is in absurd (cc)
     never y (z ∷ zs) is = never z zs is
 
-module _ {B L : Type 0} (left : B → L) (runs : L → Plan → Type 0) (holds : L → Option Said → List ℕ) (spot : L → Option Said → Spot) (gives : L → Option Sight → Said → Act B → L → Option Sight → Type 0) where
+-- a root or an ordinary task that its own worker wakes
+pub woken_here : (i : ℕ) (home : Option ℕ) → (home ≡ Some i) ⊎ (home ≡ None) → is_woken_here i home ≡ true
+woken_here i home (inl is) = ap (is_woken_here i) is ∙ eq-eqb i i refl
+woken_here i home (inr is) = ap (is_woken_here i) is
+
+-- the root holds what it did
+holds_so : (ends : Bool) (i t : ℕ) (holding : List ℕ) (u what : Waiting) (over over' : Bool) (n : Names) (d : Driving Reply Reply) (zs : Slab (Sleeping Reply)) (rs : List Record) (ss : List SleeperRecord)
+    → u ≡ Waiting.Nothing → over ≡ false → over' ≡ false → Awaits ends i t holding what rs ss → Holds false i t holding u over n d zs rs ss → Holds ends i t holding what over' n d zs rs ss
+holds_so ends i t holding u what over over' n d zs rs ss nothing open_still still waits old =
+    let it = holds_stopping ends i t holding u what over n d zs rs ss nothing open_still waits old in
+    subst (λ b. Holds ends i t holding what b n d zs rs ss) (open_still ∙ sym still) it
+
+-- A POLLED SLOT that stays polled, whose body is there: the task waits for nothing yet, and for this then
+
+module _ {B : Type 0} where
+  pub record StaysOn (y : InPoll) (t : ℕ) (slot slot' : TaskSlot B) : Type 0 where
+    pub keeps : Keeps slot slot'
+    pub polled : is_polled slot'.cell.phase ≡ true
+    pub body : IsSome slot'.body
+    pub poller : slot'.poller ≡ slot.poller
+    pub cancelled : slot'.cell.cancelled ≡ slot.cell.cancelled
+    pub cleared : slot'.cleared ≡ slot.cleared
+    pub held : slot'.held ≡ slot.held
+    pub waits : WaitsAt (Some y) slot'.waiting
+    pub wakes : waits_for_wakes slot'.waiting ≡ true
+    pub told : is_told slot'.waiting false ≡ true → IsSome slot'.told
+    pub untold : acts_next slot'.waiting ≡ false → slot'.told ≡ None
+    pub awaits : (i : ℕ) (held : List ℕ) (rs : List Record) (ss : List SleeperRecord) → Awaits (ends_poll (Some y)) i t held slot'.waiting rs ss
+    pub polls : polls_in t y ≡ Some t
+    pub begins : begins_at (Place.Poll t y) ≡ None
+    pub hands : hands_on_at (Place.Poll t y) ≡ false
+    pub free : next_in_poll y ≡ Next.Free
+
+  none_polled : (g : Bool) (p : Phase B) (n : ℕ) → is_polled p ≡ true → n ≡ 0 → HasOne g p n
+  none_polled g Phase.Running n h none = none
+  none_polled g Phase.Notified n h none = none
+  none_polled g (Phase.Idle x) n h none = absurd (false≢true h)
+  none_polled g (Phase.Queued x) n h none = absurd (false≢true h)
+  none_polled g Phase.Complete n h none = absurd (false≢true h)
+
+  unqueued : (p : Phase B) → is_polled p ≡ true → (b : B) → p ≡ Phase.Queued b → ⊥
+  unqueued p polled b is = absurd (false≢true (sym (ap is_polled is) ∙ polled))
+
+  pub stays_tasked : (t : ℕ) (y : InPoll) (w : Worker) (s : Shared B) (slot' : TaskSlot B) → (sound : SoundAt (Place.Poll t InPoll.Act) w s) → (it : IsHere InPoll.Act t w s) → StaysOn y t it.slot slot'
+      → Tasked (Place.Poll t y) w w.root_ready None s (slice_set s.tasks.items t slot')
+  stays_tasked t y w s slot' sound it on = by_number t w.root other root
+    where
+      root : t ≡ w.root → Tasked (Place.Poll t y) w w.root_ready None s (slice_set s.tasks.items t slot')
+      root same =
+          let slot = it.slot in
+          let q : Place = Place.Poll t y in
+          let there : slice_get s.tasks.items w.root ≡ Some slot = subst (λ n. slice_get s.tasks.items n ≡ Some slot) same it.there in
+          let own : polled_in w.root q ≡ Some y = in_own_poll w.root (polls_in t y) y (on.polls ∙ ap (λ n. Some n) same) in
+          let before : polled_in w.root (Place.Poll t InPoll.Act) ≡ Some InPoll.Act = in_own_poll w.root (Some t) InPoll.Act (ap (λ n. Some n) same) in
+          let old = (it.root same).0 in
+          let same_root : slot ≡ sound.runnable.root = same_thing slot sound.runnable.root (sym there ∙ sound.runnable.there) in
+          let unflagged : w.root_ready ≡ None = unflagged_there w.root_ready None slot it.polled (subst (λ (o : TaskSlot B). IsRunnable (one_of w.root_ready None) o) (sym same_root) sound.runnable.once) in
+          let over : is_complete slot.cell.phase ≡ false = going_on slot.cell.phase it.polled in
+          let over' : is_complete slot'.cell.phase ≡ false = going_on slot'.cell.phase on.polled in
+          let held : Holds false w.index w.root slot.held.items slot.waiting (is_complete slot.cell.phase) w.names (driver_of w) w.home.timers s.requests.items s.sleepers.items =
+          subst (λ x. Holds (ends_poll x) w.index w.root slot.held.items slot.waiting (is_complete slot.cell.phase) w.names (driver_of w) w.home.timers s.requests.items s.sleepers.items) before (sound.rooted.root slot there) in
+          let holds : Holds (ends_poll (Some y)) w.index w.root slot.held.items slot'.waiting (is_complete slot'.cell.phase) w.names (driver_of w) w.home.timers s.requests.items s.sleepers.items =
+          holds_so (ends_poll (Some y)) w.index w.root slot.held.items slot.waiting slot'.waiting (is_complete slot.cell.phase) (is_complete slot'.cell.phase) w.names (driver_of w) w.home.timers s.requests.items s.sleepers.items it.waits over over'
+          (subst (λ n. Awaits (ends_poll (Some y)) w.index n slot.held.items slot'.waiting s.requests.items s.sleepers.items) same (on.awaits w.index slot.held.items s.requests.items s.sleepers.items)) held in
+          let sits : Sits q w w.root_ready s slot slot' = record {
+            there = there;
+            keeps = on.keeps;
+            stands = subst (λ x. Stands x w.index slot') (sym own) (record { polled = on.polled; body = λ some. on.body; poller = λ some. on.poller ∙ it.poller; kept = on.cancelled ∙ old.kept; uncleared = on.cleared ∙ old.uncleared; told = λ h. on.told (ap (is_told slot'.waiting) (sym over') ∙ h); untold = on.untold; waits = on.waits });
+            once = subst (λ o. IsRunnable o slot') (sym unflagged) (unqueued slot'.cell.phase on.polled);
+            hand = on.hands;
+            polls = λ n is. same_thing n t (sym is ∙ on.polls) ∙ same;
+            complete = over' ∙ sym over;
+            holds = subst (λ x. Holds (ends_poll x) w.index w.root slot'.held.items slot'.waiting (is_complete slot'.cell.phase) w.names (driver_of w) w.home.timers s.requests.items s.sleepers.items) (sym own)
+                (subst (λ v. Holds (ends_poll (Some y)) w.index w.root v.items slot'.waiting (is_complete slot'.cell.phase) w.names (driver_of w) w.home.timers s.requests.items s.sleepers.items) (sym on.held) holds);
+          } in
+          subst (λ n. Tasked q w w.root_ready None s (slice_set s.tasks.items n slot')) (sym same) (root_tasked t InPoll.Act q w w.root_ready s slot slot' sound sits)
+
+      other : t ≢ w.root → Tasked (Place.Poll t y) w w.root_ready None s (slice_set s.tasks.items t slot')
+      other apart =
+          let slot = it.slot in
+          let q : Place = Place.Poll t y in
+          let old = (it.ordinary apart).0 in
+          let guest : IsGuest y w.index slot' = record {
+            ordinary = on.keeps.home ∙ old.ordinary;
+            polled = on.polled;
+            body = on.body;
+            poller = on.poller ∙ it.poller;
+            cancelled = on.cancelled ∙ it.cancelled ∙ sym on.cleared;
+            held = ap (λ v. v.items) on.held ∙ old.held;
+            waits = on.wakes;
+            told = on.told;
+            untold = on.untold;
+            there = on.waits;
+          } in
+          guest_tasked t InPoll.Act q w None s slot slot' sound (record {
+            apart = apart;
+            there = it.there;
+            keeps = on.keeps;
+            hand = subst (λ b. IsInHand None b None) (sym on.hands) refl;
+            genuine = λ r has. absurd (none_in r has);
+            polls = λ n is same. apart (same_thing t n (sym on.polls ∙ is) ∙ same);
+            guest = subst (λ o. HasGuest o y w.index w.root (slice_set s.tasks.items t slot')) (sym on.polls) (λ no. (slot', set_there s.tasks.items t slot' slot it.there, guest));
+            rests = λ unpolled. absurd (false≢true (sym unpolled ∙ on.polled));
+          })
+
+  pub stays_balances : (t : ℕ) (y : InPoll) (w : Worker) (s : Shared B) (slot' : TaskSlot B) → SoundAt (Place.Poll t InPoll.Act) w s → (it : IsHere InPoll.Act t w s) → StaysOn y t it.slot slot' → Balances t (Place.Poll t y) w None it.slot slot'
+  stays_balances t y w s slot' sound it on =
+      let slot = it.slot in
+      let empty : w.hand ≡ None = sound.hand in
+      record {
+        keeps = on.keeps;
+        apart = λ u other. sym (ap (λ o. runnables_in u (option_to_list o)) empty);
+        one = λ g home n one. none_polled g slot'.cell.phase (n + 0) on.polled (polled_none g slot.cell.phase (n + 0) it.polled (subst (λ o. HasOne g slot.cell.phase (n + runnables_in t (option_to_list o))) empty one));
+        polls_apart = λ u other. number_apart t u (polls_in t y) on.polls other ∙ sym (ap (λ q. is_counted (polls_at q) u) sound.here ∙ number_apart t u (Some t) refl other);
+        polls = λ home n polls.
+            ap (λ b. n + one_if b) (number_there t (polls_in t y) on.polls ∙ sym (ap (λ q. is_counted (polls_at q) t) sound.here ∙ number_there t (Some t) refl)) ∙ polls ∙ ap one_if (it.polled ∙ sym on.polled);
+        remains = λ home. record { cleared = on.cleared; over = λ h. absurd (false≢true (sym (going_on slot.cell.phase it.polled) ∙ h)); poller = λ polled. inl (on.poller ∙ it.poller, on.polls) };
+        removes = λ u is. absurd (unremoved (removes_at (Place.Poll t y)) (removes_none t y on.polls) u is);
+      }
+
+  pub home_here : (x : InPoll) (t : ℕ) (w : Worker) (s : Shared B) → (it : IsHere x t w s) → (it.slot.home ≡ Some w.index) ⊎ (it.slot.home ≡ None)
+  home_here x t w s it = by_number t w.root (λ apart. inr (it.ordinary apart).1) (λ same. inl (it.root same).1)
+
+-- what the machine has of a worker in a poll
+abbrev pub me_at : ℕ → Worker → Own
+me_at t w = own_of (record w { place = Place.Poll t InPoll.Act })
+
+module _ {B : Type 0} where
   -- the slot once the body has acted
   abbrev pub acted_slot : TaskSlot B → B → TaskSlot B
   acted_slot slot b' = record slot { body = Some b'; told = None }
 
+  -- the body is told this, and acts again
+  pub tells_on : (t : ℕ) (slot : TaskSlot B) (b' : B) (x : Said) → is_polled slot.cell.phase ≡ true → slot.waiting ≡ Waiting.Nothing → StaysOn InPoll.Act t slot (record slot { body = Some b'; told = Some x })
+  tells_on t slot b' x polled waits =
+      record {
+        keeps = record { home = refl; number = refl; owner = refl };
+        polled = polled;
+        body = refl;
+        poller = refl;
+        cancelled = refl;
+        cleared = refl;
+        held = refl;
+        waits = waits;
+        wakes = ap waits_for_wakes waits;
+        told = λ h. refl;
+        untold = λ h. absurd (false≢true (sym h ∙ ap acts_next waits));
+        awaits = λ i held rs ss. subst (λ u. Awaits false i t held u rs ss) (sym waits) tt;
+        polls = refl;
+        begins = refl;
+        hands = refl;
+        free = refl;
+      }
+
+module _ {B L : Type 0} (left : B → L) (spot : L → Option Said → Spot) where
   -- the body past its word, and what it is told then
   pub moved_seen : (all : Common) (slot : TaskSlot B) (b' : B) (told : Option Said) → is_polled slot.cell.phase ≡ true → spot (left b') told ≡ spot_of (moved_on all (task_seen left spot slot))
       → task_seen left spot (record slot { body = Some b'; told = told }) ≡ moved_on all (task_seen left spot slot)
   moved_seen all slot b' told is past =
       ap (λ o. standing_at (spot_by left spot o told) (task_seen left spot slot)) (in_poll slot.cell.phase (Some b') is) ∙ ap (λ x. standing_at x (task_seen left spot slot)) past
 
-  -- an act changed the slot, and then what it asks for did
-  pub acted : (q : Place) (w w' : Worker) (s s1 s' : Shared B) (e : Event) (c : Choice) (a : Act B) (change : TaskSlot B → TaskSlot B) → (h : HasActed left runs holds spot gives w s s1 a) → IsAfter q →
-      let slot = h.made.slot in
-      let slot' = change (acted_slot slot h.made.acts.body') in
-      Sits q w w.root_ready w.hand s slot slot'
-      → ((p : Plan) (vs : List Visible) → ActsAs left runs holds spot gives (common_of left spot p vs s) p w.moments.sampled slot h.made.acts.body' a → IsEvent left spot (Place.Poll w.root InPoll.Act) q w w.root_ready w.hand s slot' e c p vs)
-      → ((p : Plan) → GoesOn runs holds spot gives p (task_seen left spot slot) a (left h.made.acts.body') → Performs left runs holds p slot') → is_last a ≡ false
-      → w' ≡ record w { place = q } → TurnsSlot w.root s1 s' change → StepsOf left runs holds spot w s e w' s'
-  acted q w w' s s1 s' e c a change h to sits event performs on same turns =
-      let m = h.made in
-      let slot' = change (acted_slot m.slot m.acts.body') in
-      let there : slice_get s1.tasks.items w.root ≡ Some m.slot' = ap (λ ts. slice_get ts w.root) m.tasks ∙ set_there s.tasks.items w.root m.slot' m.slot m.there in
-      let items : s'.tasks.items ≡ slice_set s.tasks.items w.root slot' =
-      turns.tasks m.slot' there ∙ ap (λ ts. slice_set ts w.root (change m.slot')) m.tasks ∙ set-set s.tasks.items w.root m.slot' (change m.slot') ∙ ap (λ x. slice_set s.tasks.items w.root (change x)) m.acts.slot in
-      let kept : s' ≡ record s { tasks = s'.tasks } = turns.kept ∙ ap (λ (x : Shared B). record x { tasks = s'.tasks }) m.kept in
-      let w1 : Worker = record w { place = q } in
-      let s2 : Shared B = record s { tasks = s'.tasks } in
-      let done : StepsOf left runs holds spot w s e w1 s2 = (
-        (λ p vs suits fits. works_polled left spot (Place.Poll w.root InPoll.Act) q w w.root_ready w.hand s s' slot' e c h.sound.here items p vs suits (event p vs (h.asks p vs (fits m.slot m.there)))),
-        sound_polled w.root InPoll.Act q w w.root_ready w.hand s s' m.slot slot' h.sound to sits items,
-        still_performs left runs holds w w1 s s2 m.slot slot' m.there items refl refl (λ p fits. performs p ((h.asks p [] fits).goes_on on)),
-      ) in
-      subst (λ y. StepsOf left runs holds spot w s e w' y) (sym kept) (subst (λ y. StepsOf left runs holds spot w s e y s2) (sym same) done)
-
   -- THE MACHINE'S WORD
 
-  abbrev pub me_at : Worker → Own
-  me_at w = own_of (record w { place = Place.Poll w.root InPoll.Act })
-
-  pub acts_so : (all : Common) (w : Worker) (slot : TaskSlot B) (test : ScriptWord → Bool) → task_of all w.root ≡ task_seen left spot slot → slot.waiting ≡ Waiting.Nothing → test (next_word all (task_seen left spot slot)) ≡ true → acts (me_at w) all test ≡ true
-  acts_so all w slot test it waits h =
+  pub acts_so : (t : ℕ) (all : Common) (w : Worker) (slot : TaskSlot B) (test : ScriptWord → Bool) → task_of all t ≡ task_seen left spot slot → slot.waiting ≡ Waiting.Nothing → test (next_word all (task_seen left spot slot)) ≡ true → acts (me_at t w) all test ≡ true
+  acts_so t all w slot test it waits h =
       ap (λ y. waits_for_nothing y.waiting && test (next_word all y)) it ∙ ap (λ u. waits_for_nothing u && test (next_word all (task_seen left spot slot))) waits ∙ h
 
-  -- the move of an act by this word
-  abbrev pub move_by : Plan → Common → Worker → Shared B → Task → ScriptWord → Moved Things
-  move_by p all w s it x =
-      let m = act_asked w.root (me_at w) all (desk_of (record w { place = Place.Poll w.root InPoll.Act })) it x (operation_asked p.config w.moments.sampled x) in
-      record { event = m.event; choice = m.choice; desk = m.desk; thing = things_of w.index s }
+  -- the whole move, by this word: a wake and a spawn are others
+  abbrev pub word_move : ℕ → Plan → Common → Worker → Shared B → Views → ScriptWord → Moved Things
+  word_move t p all w s vs x = move_act p.config w.index (me_at t w) all (desk_of (record w { place = Place.Poll t InPoll.Act })) (things_with vs s) t x
 
-  pub moves_so : (p : Plan) (all : Common) (w : Worker) (s : Shared B) (slot : TaskSlot B) (x : ScriptWord) → task_of all w.root ≡ task_seen left spot slot → next_word all (task_seen left spot slot) ≡ x
-      → move_by p all w s (task_of all w.root) (next_word all (task_of all w.root)) ≡ move_by p all w s (task_seen left spot slot) x
-  moves_so p all w s slot x it is = ap (λ y. move_by p all w s y (next_word all y)) it ∙ ap (move_by p all w s (task_seen left spot slot)) is
+  pub by_word : (t : ℕ) (p : Plan) (all : Common) (w : Worker) (s : Shared B) (vs : Views) (slot : TaskSlot B) (x : ScriptWord) → task_of all t ≡ task_seen left spot slot → next_word all (task_seen left spot slot) ≡ x
+      → word_move t p all w s vs (next_word all (task_of all t)) ≡ word_move t p all w s vs x
+  by_word t p all w s vs slot x it is = ap (word_move t p all w s vs) (ap (next_word all) it ∙ is)
+
+  -- of any other word, by the task
+  abbrev pub move_by : ℕ → Plan → Common → Worker → Shared B → Views → Task → ScriptWord → Moved Things
+  move_by t p all w s vs it x =
+      let m = act_asked t (me_at t w) all (desk_of (record w { place = Place.Poll t InPoll.Act })) it x (operation_asked p.config w.moments.sampled x) in
+      record { event = m.event; choice = m.choice; desk = m.desk; thing = things_with vs s }
+
+  abbrev pub IsPlainWord : ScriptWord → Type 0
+  IsPlainWord x = (t : ℕ) (p : Plan) (all : Common) (w : Worker) (s : Shared B) (vs : Views) → word_move t p all w s vs x ≡ move_by t p all w s vs (task_of all t) (next_word all (task_of all t))
+
+  pub moves_so : (t : ℕ) (p : Plan) (all : Common) (w : Worker) (s : Shared B) (vs : Views) (slot : TaskSlot B) (x : ScriptWord) → IsPlainWord x → task_of all t ≡ task_seen left spot slot → next_word all (task_seen left spot slot) ≡ x
+      → word_move t p all w s vs (next_word all (task_of all t)) ≡ move_by t p all w s vs (task_seen left spot slot) x
+  moves_so t p all w s vs slot x plain it is =
+      by_word t p all w s vs slot x it is ∙ plain t p all w s vs
+      ∙ ap (λ y. move_by t p all w s vs y (next_word all y)) it ∙ ap (move_by t p all w s vs (task_seen left spot slot)) is
+
+module _ {B L : Type 0} (left : B → L) (runs : L → Plan → Option ℕ → Type 0) (holds : L → Option Said → List ℕ) (spot : L → Option Said → Spot) (gives : L → Option Sight → Said → Act B → L → Option Sight → Type 0) where
+  -- what an act leaves that changed the slot, and then what it asks for did
+  pub record Leaves (t : ℕ) (y : InPoll) (w : Worker) (s s' : Shared B) (slot' : TaskSlot B) : Type 0 where
+    pub items : s'.tasks.items ≡ slice_set s.tasks.items t slot'
+    pub kept : s' ≡ record s { tasks = s'.tasks }
+    pub sound : SoundAt (Place.Poll t y) (record w { place = Place.Poll t y; root_ready = w.root_ready; hand = None }) (record s { tasks = s'.tasks })
+    pub beside : Beside w s (record w { place = Place.Poll t y; root_ready = w.root_ready; hand = None }) (record s { tasks = s'.tasks })
+
+  pub act_leaves : (t : ℕ) (y : InPoll) (w : Worker) (s s1 s' : Shared B) (a : Act B) (change : TaskSlot B → TaskSlot B) → (h : HasActed left runs holds spot gives t w s s1 a) →
+      let slot' = change (acted_slot h.made.slot h.made.acts.body') in
+      StaysOn y t h.made.slot slot' → TurnsSlot t s1 s' change → Leaves t y w s s' slot'
+  act_leaves t y w s s1 s' a change h stays turns =
+      let m = h.made in
+      let q : Place = Place.Poll t y in
+      let slot' = change (acted_slot m.slot m.acts.body') in
+      let it : IsHere InPoll.Act t w s = polled_here InPoll.Act t w s h.sound refl in
+      let is : m.slot ≡ it.slot = same_thing m.slot it.slot (sym m.there ∙ it.there) in
+      let stays' : StaysOn y t it.slot slot' = subst (λ o. StaysOn y t o slot') is stays in
+      let there : slice_get s1.tasks.items t ≡ Some m.slot' = ap (λ ts. slice_get ts t) m.tasks ∙ set_there s.tasks.items t m.slot' m.slot m.there in
+      let items : s'.tasks.items ≡ slice_set s.tasks.items t slot' =
+      turns.tasks m.slot' there ∙ ap (λ ts. slice_set ts t (change m.slot')) m.tasks ∙ set-set s.tasks.items t m.slot' (change m.slot') ∙ ap (λ x. slice_set s.tasks.items t (change x)) m.acts.slot in
+      let to : IsAfter q = on_in_poll t y stays.begins in
+      let bal : Balances t q w None it.slot slot' = stays_balances t y w s slot' h.sound it stays' in
+      record {
+        items = items;
+        kept = turns.kept ∙ ap (λ (x : Shared B). record x { tasks = s'.tasks }) m.kept;
+        sound = sound_tasked t InPoll.Act q w w.root_ready None s s' h.sound to (subst (Tasked q w w.root_ready None s) (sym items) (stays_tasked t y w s slot' h.sound it stays'));
+        beside = beside_slot left spot t InPoll.Act q w w.root_ready None s s' it.slot slot' h.sound to it.there items bal (home_mine w.index it.slot.home (home_here InPoll.Act t w s it)) (λ polled. inl it.poller);
+      }
+
+  -- an act changed the slot, and then what it asks for did
+  pub acted : (t : ℕ) (y : InPoll) (w w' : Worker) (s s1 s' : Shared B) (e : Event) (c : Choice) (a : Act B) (change : TaskSlot B → TaskSlot B) → (h : HasActed left runs holds spot gives t w s s1 a) →
+      let slot = h.made.slot in
+      let slot' = change (acted_slot slot h.made.acts.body') in
+      StaysOn y t slot slot'
+      → ((p : Plan) (vs : Views) → ActsAs left runs holds spot gives (common_of left spot p vs s) p w.moments.sampled slot h.made.acts.body' a → IsEvent left spot (Place.Poll t InPoll.Act) (Place.Poll t y) t w w.root_ready None s slot' e c p vs)
+      → ((p : Plan) → GoesOn runs holds spot gives p (task_seen left spot slot) a (left h.made.acts.body') → Performs left runs holds p slot') → is_last a ≡ false
+      → w' ≡ record w { place = Place.Poll t y } → TurnsSlot t s1 s' change → StepsOf left runs holds spot w s e w' s'
+  acted t y w w' s s1 s' e c a change h stays event performs on same turns =
+      let m = h.made in
+      let q : Place = Place.Poll t y in
+      let slot' = change (acted_slot m.slot m.acts.body') in
+      let leaves : Leaves t y w s s' slot' = act_leaves t y w s s1 s' a change h stays turns in
+      let w1 : Worker = record w { place = q; root_ready = w.root_ready; hand = None } in
+      let s2 : Shared B = record s { tasks = s'.tasks } in
+      let done : StepsOf left runs holds spot w s e w1 s2 = (
+        (λ p vs suits fits. works_slot left spot (Place.Poll t InPoll.Act) q t w w.root_ready None s s' slot' e c h.sound.here leaves.items p vs suits (event p vs (h.asks p vs (fits t m.slot m.there)))),
+        leaves.sound,
+        still_performs left runs holds t w w1 s s2 m.slot slot' m.there leaves.items refl refl (λ p fits. performs p ((h.asks p (record { workers = []; calls = [] }) fits).goes_on on)),
+        leaves.beside,
+      ) in
+      let at : w' ≡ w1 = same ∙ ap (λ o. record w { place = q; hand = o }) h.sound.hand in
+      subst (λ z. StepsOf left runs holds spot w s e w' z) (sym leaves.kept) (subst (λ z. StepsOf left runs holds spot w s e z s2) (sym at) done)
+
+  -- the slot of the body that acted
+  pub record IsActor (t : ℕ) (w : Worker) (slot : TaskSlot B) : Type 0 where
+    pub polled : is_polled slot.cell.phase ≡ true
+    pub waits : slot.waiting ≡ Waiting.Nothing
+    pub home : (slot.home ≡ Some w.index) ⊎ (slot.home ≡ None)
+
+  pub actor : (t : ℕ) (w : Worker) (s s1 : Shared B) (a : Act B) → (h : HasActed left runs holds spot gives t w s s1 a) → IsActor t w h.made.slot
+  actor t w s s1 a h =
+      let m = h.made in
+      let it : IsHere InPoll.Act t w s = polled_here InPoll.Act t w s h.sound refl in
+      let is : it.slot ≡ m.slot = same_thing it.slot m.slot (sym it.there ∙ m.there) in
+      record {
+        polled = ap (λ (o : TaskSlot B). is_polled o.cell.phase) (sym is) ∙ it.polled;
+        waits = ap (λ (o : TaskSlot B). o.waiting) (sym is) ∙ it.waits;
+        home = subst (λ (o : TaskSlot B). (o.home ≡ Some w.index) ⊎ (o.home ≡ None)) is (home_here InPoll.Act t w s it);
+      }
 
   -- A PASS
 
-  pass_event : IsAnswered spot → (w : Worker) (s : Shared B) (slot : TaskSlot B) (b' : B) → slice_get s.tasks.items w.root ≡ Some slot → slot.waiting ≡ Waiting.Nothing → is_polled slot.cell.phase ≡ true → (p : Plan) (vs : List Visible)
+  pass_event : IsAnswered spot → (t : ℕ) (w : Worker) (s : Shared B) (slot : TaskSlot B) (b' : B) → w.hand ≡ None → slice_get s.tasks.items t ≡ Some slot → slot.waiting ≡ Waiting.Nothing → is_polled slot.cell.phase ≡ true → (p : Plan) (vs : Views)
       → ActsAs left runs holds spot gives (common_of left spot p vs s) p w.moments.sampled slot b' (Act.Sleep 0)
-      → IsEvent left spot (Place.Poll w.root InPoll.Act) (Place.Poll w.root InPoll.Act) w w.root_ready w.hand s (record slot { body = Some b'; told = Some Said.Pass }) Pass Plain p vs
-  pass_event answered w s slot b' there waits is p vs does_so =
+      → IsEvent left spot (Place.Poll t InPoll.Act) (Place.Poll t InPoll.Act) t w w.root_ready None s (record slot { body = Some b'; told = Some Said.Pass }) Pass Plain p vs
+  pass_event answered t w s slot b' empty there waits is p vs does_so =
       let all = common_of left spot p vs s in
-      let me = me_at w in
-      let it : task_of all w.root ≡ task_seen left spot slot = task_there left spot s.tasks.items w.root slot there in
+      let me = me_at t w in
+      let it : task_of all t ≡ task_seen left spot slot = task_there left spot s.tasks.items t slot there in
       let past : spot (left b') (Some Said.Pass) ≡ spot_of (moved_on all (task_seen left spot slot)) = answered (left b') Said.Pass (λ h. absurd (cc)) ∙ does_so.stands in
       record {
-        moves = moves_so p all w s slot (ScriptWord.Sleep 0) it does_so.asks;
-        may = (or_right (polls_waiting me all is_woken) (acts me all asks_no_sleep) (acts_so all w slot asks_no_sleep it waits (ap asks_no_sleep does_so.asks)), tt);
+        moves = moves_so left spot t p all w s vs slot (ScriptWord.Sleep 0) (λ k q c v x us. refl) it does_so.asks ∙ ap (λ o. record { event = Pass; choice = Plain; desk = desk_of (record w { place = Place.Poll t InPoll.Act; hand = o }); thing = things_with vs s }) empty;
+        may = (or_right (polls_waiting me all is_woken) (acts me all asks_no_sleep) (acts_so left spot t all w slot asks_no_sleep it waits (ap asks_no_sleep does_so.asks)), tt);
         own = refl;
-        common = ap (λ y. record all { tasks = slice_set all.tasks w.root (after_taking all y) }) it
-            ∙ ap (λ u. record all { tasks = slice_set all.tasks w.root (if waits_for_nothing u then moved_on all (task_seen left spot slot) else record (task_seen left spot slot) { waiting = Waiting.Nothing }) }) waits
-            ∙ ap (λ y. record all { tasks = slice_set all.tasks w.root y }) (sym (moved_seen all slot b' (Some Said.Pass) is past));
+        common = ap (λ y. record all { tasks = slice_set all.tasks t (after_taking all y) }) it
+            ∙ ap (λ u. record all { tasks = slice_set all.tasks t (if waits_for_nothing u then moved_on all (task_seen left spot slot) else record (task_seen left spot slot) { waiting = Waiting.Nothing }) }) waits
+            ∙ ap (λ y. record all { tasks = slice_set all.tasks t y }) (sym (moved_seen left spot all slot b' (Some Said.Pass) is past));
       }
 
-  pub passed_by : IsAnswered spot → (w w' : Worker) (s s1 s' : Shared B) (e : Event) → (h : HasActed left runs holds spot gives w s s1 (Act.Sleep 0))
-      → e ≡ Pass → w' ≡ record w { place = Place.Poll w.root InPoll.Act } → TurnsSlot w.root s1 s' (λ slot. record slot { told = Some Said.Pass }) → StepsOf left runs holds spot w s e w' s'
-  passed_by answered w w' s s1 s' e h event same turns =
-      let sound = h.sound in
+  pub passed_by : IsAnswered spot → (t : ℕ) (w w' : Worker) (s s1 s' : Shared B) (e : Event) → (h : HasActed left runs holds spot gives t w s s1 (Act.Sleep 0))
+      → e ≡ Pass → w' ≡ record w { place = Place.Poll t InPoll.Act } → TurnsSlot t s1 s' (λ slot. record slot { told = Some Said.Pass }) → StepsOf left runs holds spot w s e w' s'
+  passed_by answered t w w' s s1 s' e h event same turns =
       let m = h.made in
-      let old = sound.tied.stands m.slot m.there in
-      let slot' : TaskSlot B = record m.slot { body = Some m.acts.body'; told = Some Said.Pass } in
-      let root : m.slot ≡ sound.runnable.root = cc (m.there, sound.runnable.there) in
-      let run : IsRunnable (one_of w.root_ready w.hand) m.slot = subst (IsRunnable (one_of w.root_ready w.hand)) (sym root) sound.runnable.once in
-      let sits : Sits (Place.Poll w.root InPoll.Act) w w.root_ready w.hand s m.slot slot' = record {
-        there = m.there;
-        stands = record { polled = old.polled; body = λ h. refl; poller = old.poller; kept = old.kept; uncleared = old.uncleared; told = λ h. refl; untold = λ h. absurd (false≢true (sym h ∙ ap acts_next old.waits)); waits = old.waits };
-        once = run_on (one_of w.root_ready w.hand) m.slot slot' old.polled old.polled run;
-        one = sound.runnable.one;
-        hand = sound.hand;
-        home = refl;
-        number = refl;
-        complete = refl;
-        holds = sound.rooted.root m.slot m.there;
-      } in
-      subst (λ y. StepsOf left runs holds spot w s y w' s') (sym event)
-      (acted (Place.Poll w.root InPoll.Act) w w' s s1 s' Pass Plain (Act.Sleep 0) (λ slot. record slot { told = Some Said.Pass }) h (on_in_poll w.root InPoll.Act) sits
-      (λ p vs so. pass_event answered w s m.slot m.acts.body' m.there old.waits old.polled p vs so) (λ p goes. performs_passed left runs holds spot gives p m.slot m.acts.body' old.polled old.waits goes) refl same turns)
-
-  -- A WAIT FOR A WAKE
-
-  wait_event : (w : Worker) (s : Shared B) (slot : TaskSlot B) (b' : B) (r : Option ℕ) → slice_get s.tasks.items w.root ≡ Some slot → slot.waiting ≡ Waiting.Nothing → is_polled slot.cell.phase ≡ true → slice_get slot.held.items (length slot.held.items - 1) ≡ None
-      → (p : Plan) (vs : List Visible) → ActsAs left runs holds spot gives (common_of left spot p vs s) p w.moments.sampled slot b' (Act.Await r)
-      → IsEvent left spot (Place.Poll w.root InPoll.Act) (Place.Poll w.root InPoll.Pend) w w.root_ready w.hand s (record slot { body = Some b'; told = None; waiting = Waiting.Wake }) (Wait None) Plain p vs
-  wait_event w s slot b' r there waits is none p vs does_so =
-      let all = common_of left spot p vs s in
-      let me = me_at w in
-      let d = desk_of (record w { place = Place.Poll w.root InPoll.Act }) in
-      let it : task_of all w.root ≡ task_seen left spot slot = task_there left spot s.tasks.items w.root slot there in
-      let seen = ap (λ (y : Task). record y { waiting = Waiting.Wake }) (moved_seen all slot b' None is does_so.stands) in
-      let by_newest : Option ℕ → Moved Things = λ o. record { event = (await w.root all d (task_seen left spot slot) o).event; choice = (await w.root all d (task_seen left spot slot) o).choice; desk = (await w.root all d (task_seen left spot slot) o).desk; thing = things_of w.index s } in
-      record {
-        moves = moves_so p all w s slot ScriptWord.Await it does_so.asks.0 ∙ ap by_newest none;
-        may = (acts_so all w slot asks_await it waits (ap asks_await does_so.asks.0), (ap (λ y. is_empty y.held) it ∙ ap is_empty (none_held slot.held.items none), tt));
-        own = refl;
-        common = ap (λ y. record all { tasks = slice_set all.tasks w.root (waits_for all y Waiting.Wake) }) it ∙ ap (λ y. record all { tasks = slice_set all.tasks w.root y }) (sym seen);
-      }
-
-  pub waited_by : (w w' : Worker) (s s1 s' : Shared B) (e : Event) (r : Option ℕ) → (h : HasActed left runs holds spot gives w s s1 (Act.Await r)) → slice_get h.made.slot.held.items (length h.made.slot.held.items - 1) ≡ None
-      → e ≡ Wait None → w' ≡ record w { place = Place.Poll w.root InPoll.Pend } → TurnsSlot w.root s1 s' (λ slot. record slot { waiting = Waiting.Wake }) → StepsOf left runs holds spot w s e w' s'
-  waited_by w w' s s1 s' e r h none event same turns =
-      let sound = h.sound in
-      let m = h.made in
-      let old = sound.tied.stands m.slot m.there in
-      let slot' : TaskSlot B = record m.slot { body = Some m.acts.body'; told = None; waiting = Waiting.Wake } in
-      let root : m.slot ≡ sound.runnable.root = cc (m.there, sound.runnable.there) in
-      let run : IsRunnable (one_of w.root_ready w.hand) m.slot = subst (IsRunnable (one_of w.root_ready w.hand)) (sym root) sound.runnable.once in
-      let sits : Sits (Place.Poll w.root InPoll.Pend) w w.root_ready w.hand s m.slot slot' = record {
-        there = m.there;
-        stands = record { polled = old.polled; body = λ h. refl; poller = old.poller; kept = old.kept; uncleared = old.uncleared; told = λ h. absurd (false≢true h); untold = λ h. refl; waits = refl };
-        once = run_on (one_of w.root_ready w.hand) m.slot slot' old.polled old.polled run;
-        one = sound.runnable.one;
-        hand = sound.hand;
-        home = refl;
-        number = refl;
-        complete = refl;
-        holds = holds_stopping w.index w.root m.slot.held.items m.slot.waiting Waiting.Wake (is_complete m.slot.cell.phase) w.names (driver_of w) w.home.timers s.requests.items s.sleepers.items old.waits (going_on m.slot.cell.phase old.polled) tt (sound.rooted.root m.slot m.there);
-      } in
-      subst (λ y. StepsOf left runs holds spot w s y w' s') (sym event)
-      (acted (Place.Poll w.root InPoll.Pend) w w' s s1 s' (Wait None) Plain (Act.Await r) (λ slot. record slot { waiting = Waiting.Wake }) h (on_in_poll w.root InPoll.Pend) sits
-      (λ p vs so. wait_event w s m.slot m.acts.body' r m.there old.waits old.polled none p vs so) (λ p goes. performs_waiting left runs holds spot gives p m.slot m.acts.body' r old.polled goes) refl same turns)
+      let it = actor t w s s1 (Act.Sleep 0) h in
+      subst (λ z. StepsOf left runs holds spot w s z w' s') (sym event)
+      (acted t InPoll.Act w w' s s1 s' Pass Plain (Act.Sleep 0) (λ slot. record slot { told = Some Said.Pass }) h (tells_on t m.slot m.acts.body' Said.Pass it.polled it.waits)
+      (λ p vs so. pass_event answered t w s m.slot m.acts.body' h.sound.hand m.there it.waits it.polled p vs so) (λ p goes. performs_passed left runs holds spot gives p m.slot m.acts.body' it.polled it.waits goes) refl same turns)
 
   -- A YIELD
 
-  yield_event : IsAnswered spot → (w : Worker) (s : Shared B) (slot : TaskSlot B) (b' : B) → slice_get s.tasks.items w.root ≡ Some slot → slot.waiting ≡ Waiting.Nothing → is_polled slot.cell.phase ≡ true → slot.home ≡ Some w.index
-      → (p : Plan) (vs : List Visible) → ActsAs left runs holds spot gives (common_of left spot p vs s) p w.moments.sampled slot b' Act.Yield
-      → IsEvent left spot (Place.Poll w.root InPoll.Act) (Place.Poll w.root InPoll.Pend) w w.root_ready w.hand s (yielded_slot (acted_slot slot b')) (Wake w.root) (Pays ByAct) p vs
-  yield_event answered w s slot b' there waits is home p vs does_so =
+  yield_event : IsAnswered spot → (t : ℕ) (w : Worker) (s : Shared B) (slot : TaskSlot B) (b' : B) → w.hand ≡ None → slice_get s.tasks.items t ≡ Some slot → slot.waiting ≡ Waiting.Nothing → is_polled slot.cell.phase ≡ true → (slot.home ≡ Some w.index) ⊎ (slot.home ≡ None)
+      → (p : Plan) (vs : Views) → ActsAs left runs holds spot gives (common_of left spot p vs s) p w.moments.sampled slot b' Act.Yield
+      → IsEvent left spot (Place.Poll t InPoll.Act) (Place.Poll t InPoll.Pend) t w w.root_ready None s (yielded_slot (acted_slot slot b')) (Wake t) (Pays ByAct) p vs
+  yield_event answered t w s slot b' empty there waits is home p vs does_so =
       let all = common_of left spot p vs s in
-      let me = me_at w in
+      let me = me_at t w in
       let at_task = task_seen left spot slot in
-      let it : task_of all w.root ≡ at_task = task_there left spot s.tasks.items w.root slot there in
+      let it : task_of all t ≡ at_task = task_there left spot s.tasks.items t slot there in
       let past : spot (left b') (Some Said.Pass) ≡ spot_of (moved_on all at_task) = answered (left b') Said.Pass (λ h. absurd (cc)) ∙ does_so.stands in
       let mid : TaskSlot B = record slot { body = Some b'; told = Some Said.Pass; waiting = Waiting.Yielded } in
       let wakes = wakes_as slot.cell.phase (Some b') slot.poller is in
-      let seen : task_seen left spot mid ≡ waits_for all at_task Waiting.Yielded = ap (λ (y : Task). record y { waiting = Waiting.Yielded }) (moved_seen all slot b' (Some Said.Pass) is past) in
-      let word_done : after_waking_word all (task_of all w.root) ≡ task_seen left spot mid =
+      let seen : task_seen left spot mid ≡ waits_for all at_task Waiting.Yielded = ap (λ (y : Task). record y { waiting = Waiting.Yielded }) (moved_seen left spot all slot b' (Some Said.Pass) is past) in
+      let word_done : after_waking_word all (task_of all t) ≡ task_seen left spot mid =
       ap (after_waking_word all) it ∙ ap (λ b. if b then waits_for all at_task Waiting.Yielded else moved_on all at_task) (ap asks_yield does_so.asks) ∙ sym seen in
       let woken_seen : woken (task_seen left spot mid) ≡ task_seen left spot (yielded_slot (acted_slot slot b')) =
       ap (λ b. at_phase left spot mid b (woken_phase (phase_seen slot.cell.phase slot.poller)) Waiting.Yielded false) (sym wakes.same_body)
       ∙ ap (λ q. at_phase left spot mid (body_in (cell_woken slot.cell.phase) (Some b')) q Waiting.Yielded false) (sym wakes.shown) in
-      let wake_in : List Task → Common = λ ts. record all { tasks = slice_set ts w.root (woken (slice_index_or ts w.root no_task)) } in
-      let listed : slice_set all.tasks w.root (task_seen left spot mid) ≡ map (task_seen left spot) (slice_set s.tasks.items w.root mid) = sym (map-set (task_seen left spot) s.tasks.items w.root mid) in
-      let found : slice_index_or (map (task_seen left spot) (slice_set s.tasks.items w.root mid)) w.root no_task ≡ task_seen left spot mid =
-      task_there left spot (slice_set s.tasks.items w.root mid) w.root mid (set_there s.tasks.items w.root mid slot there) in
-      let at_mid : slice_index_or (slice_set all.tasks w.root (task_seen left spot mid)) w.root no_task ≡ task_seen left spot mid = ap (λ ts. slice_index_or ts w.root no_task) listed ∙ found in
+      let wake_in : List Task → Common = λ ts. record all { tasks = slice_set ts t (woken (slice_index_or ts t no_task)) } in
+      let listed : slice_set all.tasks t (task_seen left spot mid) ≡ map (task_seen left spot) (slice_set s.tasks.items t mid) = sym (map-set (task_seen left spot) s.tasks.items t mid) in
+      let found : slice_index_or (map (task_seen left spot) (slice_set s.tasks.items t mid)) t no_task ≡ task_seen left spot mid =
+      task_there left spot (slice_set s.tasks.items t mid) t mid (set_there s.tasks.items t mid slot there) in
+      let at_mid : slice_index_or (slice_set all.tasks t (task_seen left spot mid)) t no_task ≡ task_seen left spot mid = ap (λ ts. slice_index_or ts t no_task) listed ∙ found in
       record {
-        moves = moves_so p all w s slot ScriptWord.Yield it does_so.asks;
+        moves = moves_so left spot t p all w s vs slot ScriptWord.Yield (λ k q c v x us. refl) it does_so.asks ∙ ap (λ o. record { event = Wake t; choice = Pays ByAct; desk = desk_of (record w { place = Place.Poll t InPoll.Pend; hand = o }); thing = things_with vs s }) empty;
         may = (
-          or_right (acts me all (asks_wake w.root)) (acts me all asks_yield && (w.root == w.root)) (both_true (acts me all asks_yield) (w.root == w.root) (acts_so all w slot asks_yield it waits (ap asks_yield does_so.asks)) (eq-eqb w.root w.root refl)),
-          (ap (λ y. is_woken_here w.index y.home) it ∙ ap (is_woken_here w.index) home ∙ eq-eqb w.index w.index refl, tt),
+          or_right (acts me all (asks_wake t)) (acts me all asks_yield && (t == t)) (both_true (acts me all asks_yield) (t == t) (acts_so left spot t all w slot asks_yield it waits (ap asks_yield does_so.asks)) (eq-eqb t t refl)),
+          (ap (λ y. is_woken_here w.index y.home) it ∙ woken_here w.index slot.home home, tt),
         );
         own = refl;
-        common = ap (λ y. wake_in (slice_set all.tasks w.root y)) word_done
-            ∙ ap (λ y. record all { tasks = slice_set (slice_set all.tasks w.root (task_seen left spot mid)) w.root (woken y) }) at_mid
-            ∙ ap (λ ts. record all { tasks = ts }) (set-set all.tasks w.root (task_seen left spot mid) (woken (task_seen left spot mid)))
-            ∙ ap (λ y. record all { tasks = slice_set all.tasks w.root y }) woken_seen;
+        common = ap (λ y. wake_in (slice_set all.tasks t y)) word_done
+            ∙ ap (λ y. record all { tasks = slice_set (slice_set all.tasks t (task_seen left spot mid)) t (woken y) }) at_mid
+            ∙ ap (λ ts. record all { tasks = ts }) (set-set all.tasks t (task_seen left spot mid) (woken (task_seen left spot mid)))
+            ∙ ap (λ y. record all { tasks = slice_set all.tasks t y }) woken_seen;
       }
 
-  pub yielded_by : IsAnswered spot → (w w' : Worker) (s s1 s' : Shared B) (e : Event) → (h : HasActed left runs holds spot gives w s s1 Act.Yield)
-      → e ≡ Wake w.root → w' ≡ record w { place = Place.Poll w.root InPoll.Pend } → TurnsSlot w.root s1 s' yielded_slot → StepsOf left runs holds spot w s e w' s'
-  yielded_by answered w w' s s1 s' e h event same turns =
-      let sound = h.sound in
+  pub yielded_by : IsAnswered spot → (t : ℕ) (w w' : Worker) (s s1 s' : Shared B) (e : Event) → (h : HasActed left runs holds spot gives t w s s1 Act.Yield)
+      → e ≡ Wake t → w' ≡ record w { place = Place.Poll t InPoll.Pend } → TurnsSlot t s1 s' yielded_slot → StepsOf left runs holds spot w s e w' s'
+  yielded_by answered t w w' s s1 s' e h event same turns =
       let m = h.made in
-      let old = sound.tied.stands m.slot m.there in
-      let slot' : TaskSlot B = yielded_slot (acted_slot m.slot m.acts.body') in
-      let root : m.slot ≡ sound.runnable.root = cc (m.there, sound.runnable.there) in
-      let run : IsRunnable (one_of w.root_ready w.hand) m.slot = subst (IsRunnable (one_of w.root_ready w.hand)) (sym root) sound.runnable.once in
-      let home : m.slot.home ≡ Some w.index = ap (λ (x : TaskSlot B). x.home) root ∙ sound.runnable.home in
-      let wakes = wakes_as m.slot.cell.phase (Some m.acts.body') m.slot.poller old.polled in
-      let before : Holds false w.index w.root m.slot.held.items m.slot.waiting (is_complete slot'.cell.phase) w.names (driver_of w) w.home.timers s.requests.items s.sleepers.items =
-      subst (λ b. Holds false w.index w.root m.slot.held.items m.slot.waiting b w.names (driver_of w) w.home.timers s.requests.items s.sleepers.items) (sym wakes.complete) (sound.rooted.root m.slot m.there) in
-      let sits : Sits (Place.Poll w.root InPoll.Pend) w w.root_ready w.hand s m.slot slot' = record {
-        there = m.there;
-        stands = record { polled = wakes.polled; body = λ h. refl; poller = old.poller; kept = old.kept; uncleared = old.uncleared; told = λ h. refl; untold = λ h. absurd (false≢true (sym h)); waits = refl };
-        once = run_on (one_of w.root_ready w.hand) m.slot slot' old.polled wakes.polled run;
-        one = sound.runnable.one;
-        hand = sound.hand;
-        home = refl;
-        number = refl;
-        complete = wakes.complete;
-        holds = holds_stopping w.index w.root m.slot.held.items m.slot.waiting Waiting.Yielded (is_complete slot'.cell.phase) w.names (driver_of w) w.home.timers s.requests.items s.sleepers.items old.waits (going_on slot'.cell.phase wakes.polled) tt before;
+      let it = actor t w s s1 Act.Yield h in
+      let wakes = wakes_as m.slot.cell.phase (Some m.acts.body') m.slot.poller it.polled in
+      let stays : StaysOn InPoll.Pend t m.slot (yielded_slot (acted_slot m.slot m.acts.body')) = record {
+        keeps = record { home = refl; number = refl; owner = refl };
+        polled = wakes.polled;
+        body = refl;
+        poller = refl;
+        cancelled = refl;
+        cleared = refl;
+        held = refl;
+        waits = refl;
+        wakes = refl;
+        told = λ h. refl;
+        untold = λ h. absurd (false≢true (sym h));
+        awaits = λ i held rs ss. tt;
+        polls = refl;
+        begins = refl;
+        hands = refl;
+        free = refl;
       } in
-      subst (λ y. StepsOf left runs holds spot w s y w' s') (sym event)
-      (acted (Place.Poll w.root InPoll.Pend) w w' s s1 s' (Wake w.root) (Pays ByAct) Act.Yield yielded_slot h (on_in_poll w.root InPoll.Pend) sits
-      (λ p vs so. yield_event answered w s m.slot m.acts.body' m.there old.waits old.polled home p vs so) (λ p goes. performs_yielded left runs holds spot gives p m.slot m.acts.body' old.polled goes) refl same turns)
+      subst (λ z. StepsOf left runs holds spot w s z w' s') (sym event)
+      (acted t InPoll.Pend w w' s s1 s' (Wake t) (Pays ByAct) Act.Yield yielded_slot h stays
+      (λ p vs so. yield_event answered t w s m.slot m.acts.body' h.sound.hand m.there it.waits it.polled it.home p vs so) (λ p goes. performs_yielded left runs holds spot gives p m.slot m.acts.body' it.polled goes) refl same turns)

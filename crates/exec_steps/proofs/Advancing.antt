@@ -7,7 +7,7 @@ use Rattle.exec_driver.specs.{Driving.Driving, Lists.{Lists, is_among, with_due}
 use Rattle.exec_task.specs.declared.body.Said.{Said}
 use Rattle.exec_machine.specs.declared.{config.Configuration.Configuration, event.Event.{Event, TheVariants.Serve}}
 use Rattle.exec_moves.specs.declared.place.{Service.Service, Place.Place, InService.InService}
-use Rattle.exec_steps.{specs.{declared.parts.{mail.Reply.Reply, shared.Shared.Shared, worker.Worker.Worker}, Due.IsWheelAt, Flown.operations, Ordered.{IsOrdered, went_round}, Sound.{SoundAt, IsAlike}, Spots.Spot, View.{visible, own_of, desk_of, driver_of, things_of}, Works.Steps}, proofs.{Serving.{serves_to, IsServed, Serves, Keeps, KeepsBy}, Draining.{advance_ordered, ahead_of, round_so}, Flown.landed_as, Going.{all_still, rooted_on}, Seeing.{makes, own_with, desk_with, visible_with, served, common_same}}}
+use Rattle.exec_steps.{specs.{declared.parts.{mail.Reply.Reply, shared.Shared.Shared, worker.Worker.Worker}, Due.IsWheelAt, Flown.operations, Ordered.{IsOrdered, went_round}, Phased.closes_at, Places.{is_armed_at, is_published_at, searches_at}, Sound.{SoundAt, IsAlike}, Spots.Spot, View.{Views, visible, own_of, desk_of, driver_of, seat_seen, things_with}, Works.Steps}, proofs.{Serving.{IsServed, Serves, Keeps, KeepsBy, is_calm, spares_same}, Draining.{advance_ordered, ahead_of, round_so}, Flown.landed_as, Going.{all_still, rooted_on}, Seeing.{makes, own_with, desk_with, visible_with, served, common_same, things_kept}}}
 
 -- THE WHEEL
 
@@ -101,8 +101,8 @@ module _ {B L : Type 0} (left : B → L) (spot : L → Option Said → Spot) whe
       let d : Driving Reply Reply = with_wheel (driver_of w) wheel shape.1 in
       let is : driver_of w' ≡ d = driver ∙ shape.2 in
       let on : Advances (driver_of w).wheel shape.0 now = subst (λ x. Advances (driver_of w).wheel x now) (sym shape.3) (advances (driver_of w).wheel now) in
-      let serves : Serves q w w' s s = serves_to q (Place.Service (InService.Submit 0) v) w w' s s (subst (IsServed w) (sym same) refl) refl there refl refl refl refl in
-      let seen : visible w' ≡ visible w = ap visible same ∙ ap (λ x. visible_with w.names.requests.items x.ring) is in
+      let serves : Serves q w w' s s = record { worker = subst (IsServed w) (sym same) refl; shared = refl; from = refl; to = ap is_calm there; armed = ap is_armed_at there; closes = ap closes_at there; searches = ap searches_at there; published = ap is_published_at there } in
+      let seen : visible w' ≡ visible w = ap visible same ∙ ap (λ (x : Driving Reply Reply). visible_with w.names.requests.items (visible w).taken x.ring) is in
       let due = sound.due in
       let flown = sound.flown in
       let named = sound.named in
@@ -132,7 +132,7 @@ module _ {B L : Type 0} (left : B → L) (spot : L → Option Said → Spot) whe
         over = sound.over;
         quiet = λ h. absurd (false≢true (sym h));
         due = record { punctual = subst IsPunctual is punctual; told = λ h. absurd (false≢true (sym h)); wheel = wheel_at; timed = due.timed; asleep = due.asleep; order = order };
-        flown = record { ending = flown.ending; staging = flown.staging; telling = flown.telling; entries = flown.entries; permits = refl; ours = flown.ours; plain = flown.plain; enrolling = flown.enrolling; acks = flown.acks; owning = flown.owning; landed = landed_as w.names (driver_of w) d s.requests.items (operations (driver_of w).ring) refl flown.landed; uncancelled = flown.uncancelled };
+        flown = record { ending = flown.ending; staging = flown.staging; telling = flown.telling; entries = flown.entries; permits = refl; plain = flown.plain; enrolling = flown.enrolling; polled = flown.polled; owning = flown.owning; landed = landed_as w.names (driver_of w) d s.requests.items (operations (driver_of w).ring) refl flown.landed; uncancelled = flown.uncancelled };
         carried = sound.carried;
         rooted =
             rooted_on s.requests.items s.requests.items (all_still s.requests.items) None w.index w.root w.names w.names (driver_of w) d w.home.timers s.tasks.items s.sleepers.items sound.rooted
@@ -144,10 +144,11 @@ module _ {B L : Type 0} (left : B → L) (spot : L → Option Said → Spot) whe
       subst (λ x. KeepsBy x (driver_of x) x.home.timers s.requests.items s.sleepers.items s) (sym same)
       (subst (λ x. KeepsBy home x w.home.timers s.requests.items s.sleepers.items s) (sym is) (assumption by)) in
       subst (λ x. Steps left spot w s x w' s) (sym event)
-      (served left spot q w w' s s Serve sound serves keeps
+      (served left spot q w w' s s Serve sound serves keeps (spares_same w.index s s refl refl)
       (λ p vs suits. record {
-        moves = ap (λ x. makes Serve x (things_of w.index s)) (sym (ap desk_of same ∙ ap (desk_with w (Place.Service (InService.Submit 0) v) w.put_off w.home.deferred) is));
+        moves = ap (λ x. makes Serve x (things_with vs s)) (sym (ap desk_of same ∙ ap (desk_with w (Place.Service (InService.Submit 0) v) w.put_off w.home.deferred) is))
+            ∙ ap (makes Serve (desk_of w')) (sym (things_kept vs w.index (visible w) (visible w') s s suits.seen (ap (λ y. y.wakes) seen) refl));
         may = (refl, tt);
         own = ap own_of same ∙ ap (own_with w (Place.Service (InService.Submit 0) v) w.names.ended.items w.names.untold.items) is;
-        common = common_same left spot p vs w w' s suits seen;
+        common = common_same left spot p vs w w' s suits (λ c. ap (λ y. seat_seen y c) seen);
       }))

@@ -6,9 +6,9 @@ use Rattle.exec_request.specs.States.{asks_cancel}
 use Rattle.exec_waiters.specs.{Events.{cancelled as cancelled_of, told_by_finish}, States.{tick_in, flying_count}, Told.{Tells, nothing_told}, declared.{waiter.Waiter.Waiter, waiter_id.WaiterId.WaiterId}}
 use Rattle.exec_driver.{specs.{Driving.Driving, Lists.{first_of, is_among, is_same, after_due}, Punctual.IsPunctual, Steps.{cancelled_from, cancelling, ended, told_by_cancel, timed_out}}, proofs.Names.same_tells}
 use Rattle.exec_task.specs.declared.body.Said.{Said}
-use Rattle.exec_machine.specs.{declared.event.Event.{Event, TheVariants.Expire}, Deadlines.{expired, outcome_at_expiry}, Same.same_end, World.request_of}
+use Rattle.exec_machine.specs.{declared.event.Event.{Event, TheVariants.Expire}, Deadlines.{expired, outcome_at_expiry}, Same.same_end, World.{Common, request_of}}
 use Rattle.exec_moves.specs.{Move.move_submit, Callback.told_if_ended, Submit.{due_next, first_due, submits, Due.Expires}, declared.place.{Service.Service, Place.Place, InService.InService}}
-use Rattle.exec_steps.{specs.{declared.parts.{mail.Reply.Reply, names.Names.Names, record.Record.Record, shared.Shared.Shared, worker.Worker.Worker}, Due.IsWheelAt, Flown.HasFlown, Records.number_in, Serving.changed_at, Sound.{IsAlike, IsSubmitted, served_in}, Spots.Spot, Submitting.{IsDueIn, IsInOrder}, View.{visible, own_of, desk_of, driver_of, common_of, things_of, numbers_of}, Works.Steps}, proofs.{Serving.{serves_to, IsServed, OthersKept, keeps_home, Serves, Keeps, KeepsBy}, Calling.request_seen, Carries.carried_still, Changing.{OneGoesOn, flying_after, keeps_one}, Going.GoesOn, Seeing.{makes, shows, served, common_changed}, Staging.stages_again, Turning.set_found, Watching.{Watched, flown_watched, submitted_watched, watched}, Timed.keeps_untold, Expiring.{HasExpired, comes_to_due, due_first, expires, flies_not_queued, move_expire, same_change, told_first, unticked_start, unticked_tick}, Expired.expiry_ends, Resolving.unticked_at, Orders.{alike_unticked, eased, eases_written, part_after, part_self}}}
+use Rattle.exec_steps.{specs.{declared.parts.{mail.Reply.Reply, names.Names.Names, record.Record.Record, shared.Shared.Shared, worker.Worker.Worker}, Due.IsWheelAt, Flown.HasFlown, Records.number_in, Serving.changed_at, Sound.{IsAlike, IsSubmitted, served_in}, Spots.Spot, Submitting.{IsDueIn, IsInOrder}, View.{Views, visible, with_view, own_of, desk_of, driver_of, common_of, seat_seen, things_with, numbers_of}, Works.Steps}, proofs.{Serving.{serves_to, IsServed, OthersKept, keeps_home, Serves, SparesRecords, Keeps, KeepsBy, spares_one}, Calling.request_seen, Carries.carried_still, Changing.{OneGoesOn, flying_after, keeps_one}, Going.GoesOn, Seeing.{makes, shows, served, common_changed, common_same, things_kept}, Staging.stages_again, Watching.{Watched, flown_watched, submitted_watched, watched}, Timed.keeps_untold, Expiring.{HasExpired, comes_to_due, due_first, expires, flies_not_queued, move_expire, same_change, told_first, unticked_start, unticked_tick}, Expired.expiry_ends, Resolving.unticked_at, Orders.{alike_unticked, eased, eases_written, part_after, part_self}}}
 
 -- THE LIST
 
@@ -57,7 +57,7 @@ module _ {B : Type 0} (w : Worker) (s : Shared B) (new : IsDueIn w s) (id : Wait
       let d = driver_of w in
       let who = due_first w s new id first in
       let x = tick_in who.it.state in
-      watched w.names d cancelled_driver s.requests.items id.0 who.it cancelled_waiter who.r cancels who.live who.there who.named refl who.alike.open_still refl refl refl (λ h. absurd (false≢true h)) (λ t is. absurd (cc)) alike_cancelled refl
+      watched w.names d cancelled_driver s.requests.items id.0 who.it cancelled_waiter who.r cancels who.live who.there who.named refl who.alike.open_still refl refl refl (λ h. absurd (false≢true h)) (λ t is. absurd (cc)) alike_cancelled refl refl
       (unticked_start d.wheel x) (unticked_tick d.wheel x) (alike_unticked d.wheel x) refl
       (λ other among. ⊎_elim (λ before. inl before) (λ same. inr (same, untold_by who.r.shown.cancel_staged who.r.shown.cancelled (who.alike.cancelled ∙ who.unasked) who.alike.told_once)) (among_last other id d.lists.cancels among))
 
@@ -134,8 +134,10 @@ module _ {B L : Type 0} (left : B → L) (spot : L → Option Said → Spot) whe
       let kept : KeepsBy w0 d' w.home.timers rs' s.sleepers.items s = keeps_cancelled w s new id first flies (subst IsPunctual driver by.punctual) in
       let untold : KeepsBy w1 d' w.home.timers rs' s.sleepers.items s = keeps_untold w0 d' w.home.timers rs' s.sleepers.items s deferred tells kept in
       let keeps : Keeps w' s' = keeps_home w1 w' s s' rs' d' same2 by.shared driver records untold in
-      let serves : Serves q w w' s s' = serves_to q q w w' s s' (subst (IsServed w) (sym same) refl) (subst (OthersKept s) (sym by.shared) refl) there refl refl refl refl in
+      let serves : Serves q w w' s s' = serves_to q q w w' s s' (subst (IsServed w) (sym same) refl) (subst (OthersKept s) (sym by.shared) refl) there (stages_again gate v) in
       let show = shows q w w' s s' d' serves driver in
+      let seen : visible w' ≡ visible w = show.seen in
+      let spares : SparesRecords w.index s s' = spares_one w.index s s' k who.r cancels records (ap (λ (y : Shared B). y.sleepers.items) by.shared) who.there who.worker (λ y. refl) in
       let wakes : deferred.notes.wakes.items ≡ w.home.deferred.notes.wakes.items = tells.notes.wakes_added ∙ append-nil w.home.deferred.notes.wakes.items in
       let outputs : deferred.outputs.items ≡ w.home.deferred.outputs.items = tells.outputs_added ∙ append-nil w.home.deferred.outputs.items in
       let flying : flying_count d'.requests ≡ flying_count d.requests =
@@ -143,7 +145,7 @@ module _ {B L : Type 0} (left : B → L) (spot : L → Option Said → Spot) whe
       omega (arith, n) in
       let numbers : numbers_of w.names.requests.items (d.lists.cancels ++ id ∷ []) ≡ numbers_of w.names.requests.items d.lists.cancels ++ k ∷ [] = map-append (λ (x : WaiterId). number_in w.names.requests.items x.0) d.lists.cancels (id ∷ []) in
       subst (λ x. Steps left spot w s x w' s') (sym (by.event ∙ ap (Expire k) ends))
-      (served left spot q w w' s s' (Expire k None) sound serves keeps
+      (served left spot q w w' s s' (Expire k None) sound serves keeps spares
       (λ p vs suits.
       let cp = p.config in
       let all = common_of left spot p vs s in
@@ -153,15 +155,16 @@ module _ {B L : Type 0} (left : B → L) (spot : L → Option Said → Spot) whe
       let desk : desk_of w' ≡ desk_of w0 = show.desk ∙ rw (there, ap (λ x. x.put_off) same, wakes, outputs) refl in
       record {
         moves =
-            ap (move_submit cp w.index (own_of w0) all (desk_of w0) (things_of w.index s) gate v) due
-            ∙ ap (move_expire (desk_of w0) (things_of w.index s) gate v k) request
-            ∙ ap (λ o. makes (Expire k o) (submits v gate (told_if_ended o who.r.shown (desk_of w0))) (things_of w.index s)) ends
-            ∙ ap (λ x. makes (Expire k None) x (things_of w.index s)) (sym desk);
+            ap (move_submit cp w.index (own_of w0) all (desk_of w0) (things_with vs s) gate v) due
+            ∙ ap (move_expire (desk_of w0) (things_with vs s) gate v k) request
+            ∙ ap (λ o. makes (Expire k o) (submits v gate (told_if_ended o who.r.shown (desk_of w0))) (things_with vs s)) ends
+            ∙ ap (λ x. makes (Expire k None) x (things_with vs s)) (sym desk)
+            ∙ ap (makes (Expire k None) (desk_of w')) (sym (things_kept vs w.index (visible w) (visible w') s s' suits.seen (ap (λ y. y.wakes) seen) serves.shared));
         may = (refl, (told_first cp (own_of w0) w.index all.requests k found, (ap (same_end None) (ap outcome_at_expiry request ∙ ends), tt)));
         own = show.own ∙ rw (there, ap (λ x. x.names.ended) same, ap (λ x. x.names.untold) same, numbers, flying) refl;
         common =
-            ap (λ us. common_of left spot p us s') (ap (λ x. slice_set vs w.index x) show.seen ∙ set_found vs w.index (visible w) suits.seen)
-            ∙ common_changed left spot p vs s s' k who.r cancels by.shared records who.there (λ x. refl)
+            common_changed left spot p (with_view vs w.index (visible w')) s s' k who.r cancels by.shared records who.there (λ x. refl)
+            ∙ ap (λ (x : Common). record x { requests = slice_set (map (λ r. r.shown) rs) k (cancels who.r).shown }) (common_same left spot p vs w w' s suits (λ c'. ap (λ y. seat_seen y c') seen))
             ∙ ap (λ x. record all { requests = slice_set (map (λ r. r.shown) rs) k (record x { timer = None; cancelled = true }) }) (sym request);
       }))
 

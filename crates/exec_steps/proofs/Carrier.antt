@@ -1,9 +1,9 @@
 -- What keeps what the kernel has, where entries go into the submission queue and the kernel takes them in.
 use Rattle.std.{proofs.{Common.{◌≡◌, ◌≢◌, ℕ, ◌+◌, ◌-◌, ◌==◌, ◌&&◌, Bool, true, false, cond, List, [], ◌∷◌, ◌++◌, filter, Option, Some, None, refl, sym, ap, subst, ◌∙◌, arith, slice_get, sum_by, if◌then◌else◌}, lemmas.{Bool.{false≢true, eq-eqb}, List.{append-nil, append_assoc, Elements.filter-append}}}, specs.{List.fold, Option.option_map}}
-use Rattle.exec_base.specs.Slab.{Slab}
+use Rattle.exec_base.specs.{Slab.{Slab}, declared.slab.Id.Id}
 use Rattle.exec_request.specs.{Requests.window_by, declared.{request.Request.Request as Asking, window.Opcode.Opcode}}
 use Rattle.exec_ring.specs.{Kernels.{is_of, taken_as, taken_in, all_taken}, Rings.RingState, declared.{completion.Submission.Submission, store.Store.Store}}
-use Rattle.exec_waiters.specs.{Ids.user_data_of, declared.waiter.Entry.Entry}
+use Rattle.exec_waiters.specs.{Ids.user_data_of, States.waiter_at, declared.waiter.{Entry.Entry, Waiter.Waiter}}
 use Rattle.exec_machine.specs.{declared.state.{Request.Request, RequestPhase.RequestPhase}, Tests.is_staged}
 use Rattle.exec_steps.{specs.{declared.parts.{mail.Reply.Reply, record.Record.Record}, Carried.{IsCarried, IsUnderWay, IsWhole, may_send, sends_to, those_of, unlanded}, Records.number_in, Serving.{changed_at, changed_in, flies, flown_in, is_one_of}}, proofs.{Carrying.sum_changed, Flying.{flies_if, get_flown}}}
 
@@ -154,7 +154,7 @@ module _ (numbers : List ℕ) (s : Slab (Entry Reply Reply)) (ring : RingState) 
           (r, found, cc)
 
   -- the kernel takes in all that is staged
-  pub carried_entered : (ks : List ℕ) → ((k : ℕ) (x : Record) → slice_get rs k ≡ Some x → is_staged x.shown.phase ≡ true → is_one_of k ks ≡ true) → (all_taken ring).staged ≡ [] → IsCarried numbers s (all_taken ring) (flown_in ks rs) st
+  pub carried_entered : (ks : List ℕ) → ((id : Id) (it : Waiter Reply Reply) (x : Record) → waiter_at s id ≡ Some it → slice_get rs (number_in numbers id) ≡ Some x → is_staged x.shown.phase ≡ true → is_one_of (number_in numbers id) ks ≡ true) → (all_taken ring).staged ≡ [] → IsCarried numbers s (all_taken ring) (flown_in ks rs) st
   carried_entered ks all staged =
       record {
         slots = carried.slots;
@@ -165,7 +165,7 @@ module _ (numbers : List ℕ) (s : Slab (Entry Reply Reply)) (ring : RingState) 
         carried = λ id it r live there.
             let k = number_in numbers id in
             let old = flown_was ks k r there in
-            let now : r.shown.phase ≡ entered_phase old.0.shown.phase = ap (λ z. z.shown.phase) old.2 ∙ phase_then (is_one_of k ks) old.0 (all k old.0 old.1) in
+            let now : r.shown.phase ≡ entered_phase old.0.shown.phase = ap (λ z. z.shown.phase) old.2 ∙ phase_then (is_one_of k ks) old.0 (all id it old.0 live old.1) in
             subst (λ p. IsUnderWay p (user_data_of id) it.request (all_taken ring)) (sym now)
             (under_entered old.0.shown.phase (user_data_of id) it.request ring (all_taken ring) (carried.whole id it live) (those_taken (user_data_of id) ring) staged (carried.carried id it old.0 live old.1));
         nobody = λ u small free.

@@ -6,8 +6,9 @@ use Rattle.exec_request.specs.{Requests.{asked_of, cursor_of, target_of, window_
 use Rattle.exec_ring.specs.{Completions.{completed, number_of, result_in}, Kernels.{is_of, allows, flight_of, without_flight, landed, may_land}, Landings.{IsReady, IsReadyFor, Moves, MovesBytes}, Rings.{RingState, completions}, Sockets.after_send, Stores.socket_of, declared.{completion.{Completion.Completion, Posted.Posted, Submission.Submission}, store.Store.Store}}
 use Rattle.exec_waiters.specs.Ids.{user_data_of, index_in, generation_in}
 use Rattle.exec_driver.specs.Steps.{is_control}
+use Rattle.exec_moves.specs.State.{passed}
 use Rattle.exec_machine.specs.{declared.state.{Operation.Operation, RequestPhase.{RequestPhase, TheVariants.Flying}}, Requests.{asked_of as asked_in, cursor_of as cursor_in}, Same.same_kind}
-use Rattle.exec_steps.{specs.{declared.parts.record.Record.Record, Carried.{IsOneBuffer, IsWhole, IsLone, IsUnderWay, those_of, sends_to, may_send, unlanded, landing}, Flown.{AreAcks, operations}, Serving.{changed_at, changed_in}, View.trailing}, proofs.{Facts.same_number, Rings.completion_added}}
+use Rattle.exec_steps.{specs.{declared.parts.record.Record.Record, Carried.{IsOneBuffer, IsWhole, IsLone, IsUnderWay, those_of, sends_to, may_send, unlanded, landing}, Flown.{IsPolled, operations}, Serving.{changed_at, changed_in}, View.{trailing, wake_poll_in}}, proofs.{Facts.same_number, WokenEntered.landing as landing_added}}
 
 -- THE FIRST THAT PASSES A TEST
 
@@ -252,26 +253,14 @@ others_fly u v r n apart = others_left (is_of u) (is_of v) (λ e is. other e is 
 
 -- COMPLETIONS
 
-trailing_operation : (n : ℕ) (cs : List Completion) (c : Completion) → is_control c ≡ false → trailing n (cs ++ c ∷ []) ≡ 0
-trailing_operation n [] c operates = rw operates refl
-trailing_operation n (x ∷ cs) c operates = trailing_operation (if is_control x then suc n else 0) cs c operates
-
 -- one more completion of an operation stands there, as the last
 pub record OneLanded (r : RingState) (u : ℕ) (n : OpResult) : Type 0 where
   pub others : trailing 0 (completions (landed r u n)) ≡ 0
   pub operated : operations (landed r u n) ≡ operations r ++ completed u n ∷ []
-  pub acks : AreAcks r.posted → AreAcks (landed r u n).posted
-
-acks_more : (ps : List Posted) (p : Posted) → is_control p.completion ≡ false → AreAcks ps → AreAcks (ps ++ p ∷ [])
-acks_more [] p operates are = ((λ h. absurd (false≢true (sym operates ∙ h))), tt)
-acks_more (q ∷ ps) p operates are = (are.0, acks_more ps p operates are.1)
+  pub poll : wake_poll_in (landed r u n) ≡ passed (wake_poll_in r)
+  pub polled : (a : Bool) → IsPolled r a → IsPolled (landed r u n) a
 
 pub one_landed : (r : RingState) (u : ℕ) (n : OpResult) → index_in u < 4294967295 → OneLanded r u n
 one_landed r u n small =
-    let operates = no_control u n small in
-    let added : completions (landed r u n) ≡ completions r ++ completed u n ∷ [] = completion_added (without_flight r u) (completed u n) in
-    record {
-      others = ap (trailing 0) added ∙ trailing_operation 0 (completions r) (completed u n) operates;
-      operated = ap (filter (λ c. not (is_control c))) added ∙ filter-append (λ c. not (is_control c)) (completions r) (completed u n ∷ []) ∙ rw operates refl;
-      acks = acks_more r.posted (record { wakes = r.wakes; completion = completed u n }) operates;
-    }
+    let it = landing_added (without_flight r u) (completed u n) (no_control u n small) in
+    record { others = it.others; operated = it.operated; poll = it.poll; polled = it.polled }

@@ -1,72 +1,13 @@
 -- The end of the stagings of a service.
 use Rattle.std.proofs.{Common.{◌≡◌, ℕ, ◌+◌, ◌<◌, ◌≤◌, ◌==◌, ◌&&◌, ◌||◌, Bool, true, false, not, List, [], ◌∷◌, ◌++◌, length, Option, None, refl, sym, ap, subst, ◌∙◌, arith, nat_lt, if◌then◌else◌}, lemmas.{Bool.false≢true, List.length-append}}
-use Rattle.exec_ring.specs.{Kernels.entered as entered_ring, declared.completion.Submission.Submission}
+use Rattle.exec_ring.specs.{Kernels.{all_taken, entered as entered_ring}, Rings.RingState, declared.completion.Submission.Submission}
 use Rattle.exec_waiters.specs.{Ids.index_in, States.{pending_count, flying_count}, Told.is_untold, declared.waiter_id.WaiterId.WaiterId}
 use Rattle.exec_driver.specs.{Driving.{Driving, has_pending, may_stage_one, is_full as is_ring_full}, Steps.{wake_entry, poll_staged}}
 use Rattle.exec_task.specs.declared.body.Said.{Said}
-use Rattle.exec_machine.specs.{declared.{config.Configuration.Configuration, event.Event.{Event, TheVariants.{Serve, Busy}}}, Progress.Plan, Ranges.ring_size}
-use Rattle.exec_moves.specs.{Callback.{has_requests, has_callbacks, is_full}, Load.has_submissions, Serve.{enters, after_staging}, Move.{move_at, move_submit}, Seen.serves_at, State.Desk, Submit.{staging_due, request_due, with_poll, Due.{Ends, Flushes}}, declared.place.{InService.InService, Service.Service, Place.Place, Reaping.Reaping}}
-use Rattle.exec_steps.{specs.{declared.parts.{mail.Reply.Reply, shared.Shared.Shared, worker.{PutOff.PutOff, Worker.Worker}}, Carried.those_of, Due.{IsWheelAt, may_be_due}, Flown.{AreAcks, operations}, Rooted.IsRooted, Serving.{AreTagged, Enters, cancels_in, enters_after, with_staging_ended}, Sound.{tellers, SoundAt, IsSubmitted, served_in}, Spots.Spot, Submitting.{IsIdle, EndsStaging, with_wake_poll, must_flush, after_flush}, Tests.{has_open_requests, is_anything_told}, View.{Visible, visible, own_of, desk_of, driver_of, common_of, things_of}, Works.{Suits, Steps}}, proofs.{Serving.{serves_to, IsServed, calm, Follows, Serves, Keeps, KeepsBy}, Seats.own_seat, Conveying.{carried_ring, control_entry}, Entered.entered, Flown.landed_as, Going.{all_still, rooted_on}, Leading.told_seen, Seeing.{makes, own_with, desk_with, visible_with, served, common_same}, Staging.{staging_next, flush_seen, stages_again, idle_at, suits_at}, Standing.{requests_seen, submissions_seen}}}
-
--- WHERE ONLY THE RING CHANGES
-
--- a driver with another ring, in which the same has landed
-pub record SameButRing (d d' : Driving Reply Reply) : Type 0 where
-  pub requests : d'.requests ≡ d.requests
-  pub lists : d'.lists ≡ d.lists
-  pub wheel : d'.wheel ≡ d.wheel
-  pub size : d'.ring.size ≡ d.ring.size
-  pub landed : operations d'.ring ≡ operations d.ring
-  pub raised : d'.ring.raised ≡ d.ring.raised
-  pub acks : AreAcks d.ring.posted → AreAcks d'.ring.posted
-  pub cancels : cancels_in d'.ring.staged ≡ cancels_in d.ring.staged
-  pub tagged : AreTagged d.ring.staged → AreTagged d'.ring.staged
-  pub entries : length d.ring.staged ≤ length d'.ring.staged
-  pub flies : d'.ring.flying ≡ d.ring.flying
-  pub stages : (v : ℕ) → index_in v < 4294967295 → those_of v d'.ring.staged ≡ those_of v d.ring.staged
-
-module _ {B : Type 0} where
-  pub keeps_ring : (q q' : Place) (o : PutOff) (w : Worker) (s : Shared B) (d' : Driving Reply Reply) → SoundAt q w s → Follows q q' → SameButRing (driver_of w) d'
-      → (may_be_due (served_in q') ≡ false → (driver_of w).lists.due ≡ []) → KeepsBy (record w { place = q'; put_off = o }) d' w.home.timers s.requests.items s.sleepers.items s
-  keeps_ring q q' o w s d' sound to like told =
-      let d = driver_of w in
-      let rs = s.requests.items in
-      let due = sound.due in
-      let flown = sound.flown in
-      let named = sound.named in
-      let sub = named.submitted in
-      let submitted : IsSubmitted w.index w.names.staged.items w.names.untold.items d'.ring rs =
-      record { tagged = like.tagged sub.tagged; cancels = like.cancels ∙ sub.cancels; known = sub.known; own = sub.own; all = sub.all; unraised = like.raised ∙ sub.unraised } in
-      let d1 : Driving Reply Reply = record d' { requests = d.requests; lists = d.lists; wheel = d.wheel } in
-      let shape : d1 ≡ d' = rw (← like.requests, ← like.lists, ← like.wheel) refl in
-      subst (λ x. KeepsBy (record w { place = q'; put_off = o }) x w.home.timers rs s.sleepers.items s) shape (record {
-        told = sound.told;
-        named = record { requests = named.requests; timers = named.timers; alike = named.alike; over = named.over; submitted = submitted; slots = named.slots; beds = named.beds };
-        sized = like.size ∙ sound.sized;
-        over = sound.over;
-        quiet = λ h. sound.quiet (sym to.wakes ∙ h);
-        due = record { punctual = record { ahead = due.punctual.ahead }; told = told; wheel = subst (λ m. IsWheelAt s.config w.moments.start m d.wheel) (sym (to.moment w.moments)) due.wheel; timed = due.timed; asleep = due.asleep; order = due.order };
-        flown = record {
-          ending = flown.ending;
-          staging = rw like.size flown.staging;
-          telling = rw like.size flown.telling;
-          entries = omega (arith, flown.entries, like.entries);
-          permits = to.permits;
-          enrolling = flown.enrolling;
-          acks = like.acks flown.acks;
-          owning = flown.owning;
-          ours = flown.ours;
-          plain = flown.plain;
-          landed = rw like.landed (landed_as w.names d d1 rs (operations d.ring) refl flown.landed);
-          uncancelled = flown.uncancelled;
-        };
-        carried = carried_ring w.names.requests.items d.requests d.ring rs s.store sound.carried d1.ring (λ v small. ap (those_of v) like.flies) like.stages;
-        rooted =
-            rooted_on rs rs (all_still rs) None w.index w.root w.names w.names d d1 w.home.timers s.tasks.items s.sleepers.items
-            (subst (λ x. IsRooted x w.index w.root w.names d w.home.timers s.tasks.items rs s.sleepers.items) (calm q to.from).stands sound.rooted)
-            refl refl refl (λ id h. h) (λ id told h. h);
-        owed = sound.tied.owed;
-      })
+use Rattle.exec_machine.specs.{declared.{config.Configuration.Configuration, event.Event.{Event, TheVariants.{Serve, Busy}}, state.MailMessage.MailMessage}, Choice.Choice.Plain, Progress.Plan, Ranges.ring_size}
+use Rattle.exec_moves.specs.{Callback.{has_requests, has_callbacks, is_full}, Load.has_submissions, Serve.{Ring, enter, enters, after_staging}, Move.{move_at, move_submit}, Seen.serves_at, State.Desk, Submit.{stage_next, staging_due, request_due, with_poll, Due.{Ends, Flushes}}, Thing.{ring_of, set_wake_poll, with_ring}, declared.place.{InService.InService, Service.Service, Place.Place, Reaping.Reaping}}
+use Rattle.exec_steps.proofs.Keeping.{SameButRing, keeps_ring, same_ring}
+use Rattle.exec_steps.{specs.{declared.parts.{mail.Reply.Reply, shared.Shared.Shared, worker.{PutOff.PutOff, Worker.Worker}}, Carried.those_of, Due.{IsWheelAt, may_be_due}, Flown.{IsPolled, is_poll, operations, polls_in}, Places.one_if, Rooted.IsRooted, Raises.{Enters, TakesRaises}, Serving.{AreTagged, EntersRing, cancels_in, enters_after, with_staging_ended}, Sound.{tellers, SoundAt, IsSubmitted, served_in}, Spots.Spot, Submitting.{IsIdle, EndsStaging, with_wake_poll, must_flush, after_flush}, Tests.{has_open_requests, is_anything_told}, View.{Views, visible, own_of, desk_of, driver_of, common_of, seat_seen, things_with}, Works.{Suits, Steps}}, proofs.{Serving.{serves_to, IsServed, Follows, Serves, Keeps, KeepsBy, spares_same}, Conveying.control_entry, Entered.{MovesBy, entered, led_to, ring_seen}, Leading.told_seen, Raising.{flush_taken, lists_taken, sound_taken, still_lists}, Seeing.{makes, own_with, desk_with, visible_with, served, common_same, ring_again, things_kept}, Staging.{staging_next, flush_seen, stages_again, idle_at, suits_at}, Standing.{requests_seen, submissions_seen}}}
 
 -- THE WAKE POLL
 
@@ -78,16 +19,25 @@ no_cancel_more : (es : List Submission) → cancels_in (es ++ wake_entry ∷ [])
 no_cancel_more [] = refl
 no_cancel_more (e ∷ es) = rw (no_cancel_more es) refl
 
-polled_ring : (d : Driving Reply Reply) → SameButRing d (poll_staged d)
-polled_ring d =
+pub polls_more : (es : List Submission) (e : Submission) → polls_in (es ++ e ∷ []) ≡ polls_in es + one_if (is_poll e.window.kind)
+polls_more [] e = omega arith
+polls_more (x ∷ es) e = let rest = polls_more es e in omega (arith, rest)
+
+staged_polled : (d : Driving Reply Reply) → d.armed ≡ false → IsPolled d.ring d.armed → IsPolled (poll_staged d).ring true
+staged_polled d free polled =
+    let more : polls_in (d.ring.staged ++ wake_entry ∷ []) ≡ polls_in d.ring.staged + 1 = polls_more d.ring.staged wake_entry in
+    let none : one_if d.armed ≡ 0 = ap one_if free in
+    omega (arith, polled, more, none)
+
+polled_ring : (d : Driving Reply Reply) → d.armed ≡ false → SameButRing d (poll_staged d)
+polled_ring d free =
     record {
       requests = refl;
       lists = refl;
       wheel = refl;
       size = refl;
       landed = refl;
-      raised = refl;
-      acks = λ a. a;
+      polled = staged_polled d free;
       cancels = no_cancel_more d.ring.staged;
       tagged = tagged_poll d.ring.staged;
       entries = rw (length-append d.ring.staged (wake_entry ∷ [])) (omega arith);
@@ -95,13 +45,10 @@ polled_ring d =
       stages = λ v small. control_entry wake_entry v d.ring (λ h. omega (arith, h)) small;
     }
 
-pub same_ring : (d : Driving Reply Reply) → SameButRing d d
-same_ring d = record { requests = refl; lists = refl; wheel = refl; size = refl; landed = refl; raised = refl; acks = λ a. a; cancels = refl; tagged = λ t. t; entries = omega arith; flies = refl; stages = λ v small. refl }
-
-poll_by : (a f : Bool) (d : Driving Reply Reply) → SameButRing d (if a then d else (if f then d else poll_staged d))
-poll_by true f d = same_ring d
-poll_by false true d = same_ring d
-poll_by false false d = polled_ring d
+pub poll_by : (a f : Bool) (d : Driving Reply Reply) → d.armed ≡ a → SameButRing d (if a then d else (if f then d else poll_staged d))
+poll_by true f d is = same_ring d
+poll_by false true d is = same_ring d
+poll_by false false d is = polled_ring d is
 
 -- WHERE IT LEADS
 
@@ -109,12 +56,12 @@ abbrev pub after_by : Bool → InService
 after_by b = if b then InService.EnterLast else InService.Reap Reaping.Last
 
 follows_by : (gate : ℕ) (v : Service) (b : Bool) → Follows (Place.Service (InService.Submit gate) v) (Place.Service (after_by b) v)
-follows_by gate v true = record { from = refl; to = refl; serves = refl; armed = refl; closes = refl; wakes = refl; permits = refl; moment = λ m. refl }
-follows_by gate v false = record { from = refl; to = refl; serves = refl; armed = refl; closes = refl; wakes = refl; permits = refl; moment = λ m. refl }
+follows_by gate v true = record { from = refl; to = refl; serves = refl; armed = refl; closes = refl; wakes = refl; permits = refl; moment = λ m. refl; searches = refl; published = refl }
+follows_by gate v false = record { from = refl; to = refl; serves = refl; armed = refl; closes = refl; wakes = refl; permits = refl; moment = λ m. refl; searches = refl; published = refl }
 
 module _ {B L : Type 0} (left : B → L) (spot : L → Option Said → Spot) where
   -- the machine enters then, or doesn't, as the worker does
-  pub enters_seen : (v : Service) (gate : ℕ) (w : Worker) (s : Shared B) (x : Desk) (p : Plan) (vs : List Visible) → SoundAt (Place.Service (InService.Submit gate) v) w s → Suits p vs w s
+  pub enters_seen : (v : Service) (gate : ℕ) (w : Worker) (s : Shared B) (x : Desk) (p : Plan) (vs : Views) → SoundAt (Place.Service (InService.Submit gate) v) w s → Suits p vs w s
       → x.wakes ≡ (desk_of w).wakes → x.outputs ≡ (desk_of w).outputs
       → enters p.config w.index v (own_of w) (common_of left spot p vs s) x ≡ enters_after v w
   enters_seen v gate w s x p vs sound suits wakes outputs =
@@ -127,12 +74,12 @@ module _ {B L : Type 0} (left : B → L) (spot : L → Option Said → Spot) whe
       ∙ ap (λ b. has_open_requests w && (not v.defer || b || has_submissions c me)) told
       ∙ ap (λ b. has_open_requests w && (not v.defer || is_anything_told w || b)) (sym submissions)
 
-  requests_open : (v : Service) (gate : ℕ) (w : Worker) (s : Shared B) (p : Plan) (vs : List Visible) → SoundAt (Place.Service (InService.Submit gate) v) w s
+  requests_open : (v : Service) (gate : ℕ) (w : Worker) (s : Shared B) (p : Plan) (vs : Views) → SoundAt (Place.Service (InService.Submit gate) v) w s
       → has_requests w.index (common_of left spot p vs s) ≡ has_open_requests w
   requests_open v gate w s p vs sound = sym (requests_seen w.index w.names (driver_of w) w.home.timers s.requests.items s.sleepers.items sound.named)
 
   -- what is on the desk once the staging has ended
-  pub ended_seen : (v : Service) (gate : ℕ) (w : Worker) (s : Shared B) (x : Desk) (p : Plan) (vs : List Visible) → SoundAt (Place.Service (InService.Submit gate) v) w s → Suits p vs w s
+  pub ended_seen : (v : Service) (gate : ℕ) (w : Worker) (s : Shared B) (x : Desk) (p : Plan) (vs : Views) → SoundAt (Place.Service (InService.Submit gate) v) w s → Suits p vs w s
       → x.wakes ≡ (desk_of w).wakes → x.outputs ≡ (desk_of w).outputs
       → after_staging p.config w.index v (own_of w) (common_of left spot p vs s) x ≡ record x { place = Place.Service (after_by (enters_after v w)) v; may_put_off = v.defer; put_off = has_open_requests w && not (enters_after v w) }
   ended_seen v gate w s x p vs sound suits wakes outputs =
@@ -162,10 +109,10 @@ request_none c w sized none = by (driver_of w).lists.queued refl
         let full : nat_lt (flying_count (driver_of w).requests) (ring_size c) ≡ false = ap (nat_lt (flying_count (driver_of w).requests)) (sym sized) ∙ rw is at none in
         rw full refl
 
-busy_same : (a f : Bool) (d : Driving Reply Reply) (numbers : List ℕ) → visible_with numbers (if a then d else (if f then d else poll_staged d)).ring ≡ visible_with numbers d.ring
-busy_same true f d numbers = refl
-busy_same false true d numbers = refl
-busy_same false false d numbers = refl
+busy_same : (a f : Bool) (d : Driving Reply Reply) (numbers : List ℕ) (taken : List MailMessage) → visible_with numbers taken (if a then d else (if f then d else poll_staged d)).ring ≡ visible_with numbers taken d.ring
+busy_same true f d numbers taken = refl
+busy_same false true d numbers taken = refl
+busy_same false false d numbers taken = refl
 
 own_polled : (a f : Bool) (w : Worker) (q : Place) → own_with w q w.names.ended.items w.names.untold.items (if a then driver_of w else (if f then driver_of w else poll_staged (driver_of w))) ≡ own_with w q w.names.ended.items w.names.untold.items (driver_of w)
 own_polled true f w q = refl
@@ -187,8 +134,8 @@ module _ {B L : Type 0} (left : B → L) (spot : L → Option Said → Spot) whe
       let sound = idle.sound in
       let d = driver_of w in
       let d' : Driving Reply Reply = record (with_wake_poll d) { landings = (driver_of w1).landings } in
-      let like0 = poll_by d.armed (is_ring_full d) d in
-      let like : SameButRing d d' = record { requests = like0.requests; lists = like0.lists; wheel = like0.wheel; size = like0.size; landed = like0.landed; raised = like0.raised; acks = like0.acks; cancels = like0.cancels; tagged = like0.tagged; entries = like0.entries; flies = like0.flies; stages = like0.stages } in
+      let like0 = poll_by d.armed (is_ring_full d) d refl in
+      let like : SameButRing d d' = record { requests = like0.requests; lists = like0.lists; wheel = like0.wheel; size = like0.size; landed = like0.landed; polled = like0.polled; cancels = like0.cancels; tagged = like0.tagged; entries = like0.entries; flies = like0.flies; stages = like0.stages } in
       let b = enters_after v w in
       let o : PutOff = record { defer = v.defer; «enter» = has_open_requests w && not b } in
       let q' : Place = Place.Service (after_by b) v in
@@ -206,18 +153,18 @@ module _ {B L : Type 0} (left : B → L) (spot : L → Option Said → Spot) whe
       ∙ ap (λ (x : Worker). record x { place = q'; put_off = o }) ends.worker in
       let driver : driver_of w' ≡ d' = ap driver_of same ∙ ends.driver in
       let follows = follows_by idle.gate v b in
-      let serves : Serves q w w' s s = serves_to q q' w w' s s (subst (IsServed w) (sym same) refl) refl (ap (λ x. x.place) same) refl follows.to follows.armed follows.closes in
+      let serves : Serves q w w' s s = serves_to q q' w w' s s (subst (IsServed w) (sym same) refl) refl (ap (λ x. x.place) same) follows in
       let by : KeepsBy (record w { place = q'; put_off = o }) d' w.home.timers s.requests.items s.sleepers.items s =
       keeps_ring q q' o w s d' sound follows like (λ h. idle.due) in
       let keeps : Keeps w' s =
       subst (λ x. KeepsBy x (driver_of x) x.home.timers s.requests.items s.sleepers.items s) (sym same)
       (subst (λ x. KeepsBy w2 x w.home.timers s.requests.items s.sleepers.items s) (sym ends.driver) (assumption by)) in
       let seen : visible w' ≡ visible w =
-      ap visible same ∙ ap (λ (x : Driving Reply Reply). visible_with w.names.requests.items x.ring) ends.driver ∙ busy_same d.armed (is_ring_full d) d w.names.requests.items in
+      ap visible same ∙ ap (λ (x : Driving Reply Reply). visible_with w.names.requests.items (visible w).taken x.ring) ends.driver ∙ busy_same d.armed (is_ring_full d) d w.names.requests.items (visible w).taken in
       let w0 : Worker = record w { place = q } in
       let idle0 : IsIdle v w0 s = idle_at v w s idle in
       subst (λ x. Steps left spot w s x w' s) (sym event)
-      (served left spot q w w' s s Serve sound serves keeps
+      (served left spot q w w' s s Serve sound serves keeps (spares_same w.index s s refl refl)
       (λ p vs suits.
       let c = p.config in
       let all = common_of left spot p vs s in
@@ -233,15 +180,17 @@ module _ {B L : Type 0} (left : B → L) (spot : L → Option Said → Spot) whe
       let outputs : x.outputs ≡ (desk_of w0).outputs = outputs_there (a || f) (desk_of w0) (length d.ring.staged + 1) in
       record {
         moves =
-            ap (move_submit c w.index (own_of w0) all (desk_of w0) (things_of w.index s) idle.gate v) (staging_next left spot v w0 s idle0 p vs suits0 ∙ due)
-            ∙ ap (λ y. makes Serve (after_staging c w.index v (own_of w0) all y) (things_of w.index s)) (with_poll_seen (ring_size c) w0 a f refl full)
-            ∙ ap (λ y. makes Serve y (things_of w.index s))
+            ap (move_submit c w.index (own_of w0) all (desk_of w0) (things_with vs s) idle.gate v) (staging_next left spot v w0 s idle0 p vs suits0 ∙ due)
+            ∙ ap (makes Serve (after_staging c w.index v (own_of w0) all (with_poll (ring_size c) (desk_of w0)))) (ring_again (things_with vs s) w.index all)
+            ∙ ap (λ y. makes Serve (after_staging c w.index v (own_of w0) all y) (things_with vs s)) (with_poll_seen (ring_size c) w0 a f refl full)
+            ∙ ap (λ y. makes Serve y (things_with vs s))
             (ended_seen left spot v idle.gate w0 s x p vs idle0.sound suits0 wakes outputs
             ∙ desk_there (a || f) w q' o (length d.ring.staged + 1)
-            ∙ sym (ap desk_of same ∙ ap (desk_with w q' o w.home.deferred) ends.driver ∙ poll_seen w q' o d a f));
+            ∙ sym (ap desk_of same ∙ ap (desk_with w q' o w.home.deferred) ends.driver ∙ poll_seen w q' o d a f))
+            ∙ ap (makes Serve (desk_of w')) (sym (things_kept vs w.index (visible w) (visible w') s s suits.seen (ap (λ y. y.wakes) seen) refl));
         may = (refl, tt);
         own = ap own_of same ∙ ap (own_with w q' w.names.ended.items w.names.untold.items) ends.driver ∙ own_polled a f w q' ∙ rw (served_by b) refl;
-        common = common_same left spot p vs w w' s suits seen;
+        common = common_same left spot p vs w w' s suits (λ c'. ap (λ y. seat_seen y c') seen);
       }))
     where
       served_by : (b : Bool) → serves_at (Place.Service (after_by b) v) ≡ true
@@ -264,57 +213,112 @@ module _ {B L : Type 0} (left : B → L) (spot : L → Option Said → Spot) whe
 
 -- A FULL QUEUE IS ENTERED FIRST
 
-module _ {B L : Type 0} (left : B → L) (spot : L → Option Said → Spot) where
+module _ {B : Type 0} where
+  -- once the wakes that waited at its seat are in its ring
+  abbrev idle_then : (v : Service) (w w1 : Worker) (s s1 : Shared B) → IsIdle v w s → TakesRaises w s w1 s1 → IsIdle v w1 s1
+  idle_then v w w1 s s1 idle takes =
+      let q : Place = Place.Service (InService.Submit idle.gate) v in
+      let lists : (driver_of w1).lists ≡ (driver_of w).lists = lists_taken q w w1 s s1 idle.sound takes in
+      record {
+        gate = idle.gate;
+        sound = sound_taken q w w1 s s1 idle.sound takes;
+        lists = still_lists q w w1 s s1 idle.sound takes idle.lists;
+        due = ap (λ l. l.due) lists ∙ idle.due;
+        enrolments = ap (λ l. l.enrolments) lists ∙ idle.enrolments;
+      }
+
   -- with a worker that has the same driver but for its ring and landings
-  after_same : (v : Service) (w w1 : Worker) (s s' : Shared B) (e : Event) → Enters w s e w1 s' → (driver_of w).ring.busy ≡ true
+  after_same : (v : Service) (w w1 : Worker) (s s' : Shared B) (e : Event) → EntersRing w s e w1 s' → (driver_of w).ring.busy ≡ true
       → (enters_after v w1 ≡ enters_after v w) × (has_open_requests w1 ≡ has_open_requests w)
   after_same v w w1 s s' e it busy =
-      let ring : entered_ring (driver_of w).ring ≡ record (driver_of w).ring { busy = false } = rw busy refl in
-      let d' : Driving Reply Reply = record (driver_of w) { ring = record (driver_of w).ring { busy = false }; landings = (driver_of w1).landings } in
-      let driver : driver_of w1 ≡ d' = it.driver ∙ ap (λ x. record (driver_of w) { ring = x; landings = (driver_of w1).landings }) ring in (
+      let d = driver_of w in
+      let r' : RingState = record d.ring { busy = false } in
+      let d' : Driving Reply Reply = record d { ring = r'; landings = (driver_of w1).landings } in
+      let ring : entered_ring d.ring ≡ r' = ap (λ b. if b then (record d.ring { busy = false }) else all_taken d.ring) busy in
+      let driver : driver_of w1 ≡ d' = it.driver ∙ ap (λ x. record d { ring = x; landings = (driver_of w1).landings }) ring in (
         ap (λ (x : Worker). not (pending_count (driver_of w1).requests == 0) && (not v.defer || not (is_untold x.home.deferred) || has_pending (driver_of w1))) it.worker
             ∙ ap (λ (x : Driving Reply Reply). not (pending_count x.requests == 0) && (not v.defer || not (is_untold w.home.deferred) || has_pending x)) driver,
         ap (λ (x : Driving Reply Reply). not (pending_count x.requests == 0)) driver,
       )
 
-  entered_there : (w w' w1 : Worker) (s s' : Shared B) (e : Event) → Enters w s e w1 s' → w' ≡ record w1 { place = w'.place; put_off = w'.put_off } → Enters w s e (record w' { place = w.place; put_off = w.put_off }) s'
-  entered_there w w' w1 s s' e it same =
-      let back : record w1 { place = w.place; put_off = w.put_off } ≡ w1 = rw (← ap (λ x. x.place) it.worker, ← ap (λ x. x.put_off) it.worker) refl in
-      subst (λ x. Enters w s e x s') (sym (ap (λ (x : Worker). record x { place = w.place; put_off = w.put_off }) same ∙ back)) it
+module _ {B L : Type 0} (left : B → L) (spot : L → Option Said → Spot) where
+  -- the machine enters next
+  flushes_next : (v : Service) (w : Worker) (s : Shared B) → (idle : IsIdle v w s) → must_flush (driver_of w) ≡ true → (p : Plan) (vs : Views) → Suits p vs w s
+      → ring_of (common_of left spot p vs s) (things_with vs s) w.index ≡ ring_seen w
+      → move_at p.config w.index (own_of w) (common_of left spot p vs s) (desk_of w) (things_with vs s) (Place.Service (InService.Submit idle.gate) v)
+      ≡ with_ring w.index (things_with vs s) (stage_next p.config w.index v idle.gate (own_of w) (common_of left spot p vs s) (desk_of w) (ring_seen w) Flushes)
+  flushes_next v w s idle full p vs suits ring =
+      let c = p.config in
+      let due : staging_due c (own_of w) (desk_of w) ≡ Flushes = rw (flush_seen c w (idle.sound.sized ∙ ap ring_size suits.config), full) refl in
+      ap (move_submit c w.index (own_of w) (common_of left spot p vs s) (desk_of w) (things_with vs s) idle.gate v) (staging_next left spot v w s idle p vs suits ∙ due)
+      ∙ ap (λ y. with_ring w.index (things_with vs s) (stage_next c w.index v idle.gate (own_of w) (common_of left spot p vs s) (desk_of w) y Flushes)) ring
 
-  pub flush_entered : (v : Service) (w w' w1 : Worker) (s s' : Shared B) (e : Event) → (idle : IsIdle v w s) → must_flush (driver_of w) ≡ true → Enters w s e w1 s' → w' ≡ after_flush v (driver_of w).ring.busy w1 → Steps left spot w s e w' s'
+  -- the ring with this word of whether it is busy
+  abbrev ring_by : Worker → Bool → Ring
+  ring_by w b = record { busy = b; landed = (visible w).landed; wakes = (visible w).wakes }
+
+  pub flush_entered : (v : Service) (w w' w1 : Worker) (s s' : Shared B) (e : Event) → (idle : IsIdle v w s) → must_flush (driver_of w) ≡ true → (it : Enters w s e w1 s') → w' ≡ after_flush v (driver_of it.mid).ring.busy w1 → Steps left spot w s e w' s'
   flush_entered v w w' w1 s s' e idle full it is =
-      elim ((driver_of w).ring.busy) as (λ b. (driver_of w).ring.busy ≡ b → w' ≡ after_flush v b w1 → Steps left spot w s e w' s') [
+      elim ((driver_of it.mid).ring.busy) as (λ b. (driver_of it.mid).ring.busy ≡ b → w' ≡ after_flush v b w1 → Steps left spot w s e w' s') [
         | true ↦ put_aside
         | false ↦ went_in
       ] refl is
     where
-      moved : (p : Plan) (vs : List Visible) → Suits p vs w s
-          → move_at p.config w.index (own_of w) (common_of left spot p vs s) (desk_of w) (things_of w.index s) (Place.Service (InService.Submit idle.gate) v)
-          ≡ move_submit p.config w.index (own_of w) (common_of left spot p vs s) (desk_of w) (things_of w.index s) idle.gate v Flushes
-      moved p vs suits =
-          let c = p.config in
-          let due : staging_due c (own_of w) (desk_of w) ≡ Flushes = rw (flush_seen c w (idle.sound.sized ∙ ap ring_size suits.config), full) refl in
-          ap (move_submit c w.index (own_of w) (common_of left spot p vs s) (desk_of w) (things_of w.index s) idle.gate v) (staging_next left spot v w s idle p vs suits ∙ due)
+      q : Place
+      q = Place.Service (InService.Submit idle.gate) v
 
-      went_in : (driver_of w).ring.busy ≡ false → w' ≡ w1 → Steps left spot w s e w' s'
+      place : w1.place ≡ w.place
+      place = ap (λ x. x.place) it.enters.worker ∙ ap (λ x. x.place) it.takes.worker
+
+      off : w1.put_off ≡ w.put_off
+      off = ap (λ x. x.put_off) it.enters.worker ∙ ap (λ x. x.put_off) it.takes.worker
+
+      enters_there : w' ≡ record w1 { place = w'.place; put_off = w'.put_off } → EntersRing it.mid it.rested e (record w' { place = w.place; put_off = w.put_off }) s'
+      enters_there same =
+          let back : record w1 { place = w.place; put_off = w.put_off } ≡ w1 =
+          ap (λ y. record w1 { place = y; put_off = w.put_off }) (sym place) ∙ ap (λ o. record w1 { place = w1.place; put_off = o }) (sym off) in
+          subst (λ x. EntersRing it.mid it.rested e x s') (sym (ap (λ (x : Worker). record x { place = w.place; put_off = w.put_off }) same ∙ back)) it.enters
+
+      steps : Follows q w'.place → w' ≡ record w1 { place = w'.place; put_off = w'.put_off } → MovesBy left spot q it.mid w' it.rested → Steps left spot w s e w' s'
+      steps on same moves =
+          let there : Enters w s e (record w' { place = w.place; put_off = w.put_off }) s' = record { mid = it.mid; rested = it.rested; takes = it.takes; enters = enters_there same } in
+          entered left spot q w w' s s' e idle.sound on (λ h. idle.due) there moves
+
+      went_in : (driver_of it.mid).ring.busy ≡ false → w' ≡ w1 → Steps left spot w s e w' s'
       went_in free same =
-          let there : w'.place ≡ Place.Service (InService.Submit idle.gate) v = ap (λ x. x.place) same ∙ ap (λ x. x.place) it.worker ∙ idle.sound.here in
-          let off : w'.put_off ≡ w.put_off = ap (λ x. x.put_off) same ∙ ap (λ x. x.put_off) it.worker in
-          entered left spot (Place.Service (InService.Submit idle.gate) v) w w' s s' e idle.sound (subst (λ y. Follows (Place.Service (InService.Submit idle.gate) v) y) (sym there) (stages_again idle.gate v)) (λ h. idle.due)
-          (entered_there w w' w1 s s' e it (subst (λ x. x ≡ record w1 { place = x.place; put_off = x.put_off }) (sym same) refl))
-          (λ p vs suits. moved p vs suits ∙ rw (there, off, own_seat left spot p vs w s idle.sound.alone.seat suits idle.sound.alone.there, free) refl)
+          let m = it.mid in
+          let there : w'.place ≡ q = ap (λ x. x.place) same ∙ place ∙ idle.sound.here in
+          let put : w'.put_off ≡ m.put_off = ap (λ x. x.put_off) same ∙ ap (λ x. x.put_off) it.enters.worker in
+          steps (subst (Follows q) (sym there) (stages_again idle.gate v)) (subst (λ x. x ≡ record w1 { place = x.place; put_off = x.put_off }) (sym same) refl)
+          (λ p vs suits ring.
+          let i = m.index in
+          let x = things_with vs it.rested in
+          let all = common_of left spot p vs it.rested in
+          flushes_next v m it.rested (idle_then v w m s it.rested idle it.takes) (flush_taken q w m s it.rested idle.sound it.takes ∙ full) p vs suits ring
+          ∙ ap (λ b. with_ring i x (stage_next p.config i v idle.gate (own_of m) all (desk_of m) (ring_by m b) Flushes)) free
+          ∙ ap (λ y. with_ring i x (led_to y m.put_off (enter (own_of m) (desk_of m) (ring_by m false)))) (sym there)
+          ∙ ap (λ o. with_ring i x (led_to w'.place o (enter (own_of m) (desk_of m) (ring_by m false)))) (sym put)
+          ∙ ap (λ b. with_ring i x (led_to w'.place w'.put_off (enter (own_of m) (desk_of m) (ring_by m b)))) (sym free))
 
-      put_aside : (driver_of w).ring.busy ≡ true → w' ≡ with_staging_ended v w1 → Steps left spot w s e w' s'
+      put_aside : (driver_of it.mid).ring.busy ≡ true → w' ≡ with_staging_ended v w1 → Steps left spot w s e w' s'
       put_aside busy same =
-          let like = after_same v w w1 s s' e it busy in
-          let b = enters_after v w in
+          let m = it.mid in
+          let like = after_same v m w1 it.rested s' e it.enters busy in
+          let b = enters_after v m in
           let there : w'.place ≡ Place.Service (after_by b) v = ap (λ x. x.place) same ∙ ap (λ c. Place.Service (after_by c) v) like.0 in
           let defer : w'.put_off.defer ≡ v.defer = ap (λ x. x.put_off.defer) same in
-          let put : w'.put_off.«enter» ≡ (has_open_requests w && not b) = ap (λ x. x.put_off.«enter») same ∙ ap (λ c. has_open_requests w1 && not c) like.0 ∙ ap (λ c. c && not b) like.1 in
-          entered left spot (Place.Service (InService.Submit idle.gate) v) w w' s s' e idle.sound (subst (λ y. Follows (Place.Service (InService.Submit idle.gate) v) y) (sym there) (follows_by idle.gate v b)) (λ h. idle.due)
-          (entered_there w w' w1 s s' e it (subst (λ x. x ≡ record w1 { place = x.place; put_off = x.put_off }) (sym same) refl))
-          (λ p vs suits.
-          moved p vs suits
-          ∙ rw (there, defer, put, own_seat left spot p vs w s idle.sound.alone.seat suits idle.sound.alone.there, busy)
-          (ap (λ x. makes Busy x (things_of w.index s)) (ended_seen left spot v idle.gate w s (record (desk_of w) { place = Place.Service (InService.Submit idle.gate) v }) p vs idle.sound suits refl refl)))
+          let put : w'.put_off.«enter» ≡ (has_open_requests m && not b) = ap (λ x. x.put_off.«enter») same ∙ ap (λ c. has_open_requests w1 && not c) like.0 ∙ ap (λ c. c && not b) like.1 in
+          steps (subst (Follows q) (sym there) (follows_by idle.gate v b)) (subst (λ x. x ≡ record w1 { place = x.place; put_off = x.put_off }) (sym same) refl)
+          (λ p vs suits ring.
+          let i = m.index in
+          let x = things_with vs it.rested in
+          let all = common_of left spot p vs it.rested in
+          let idle1 = idle_then v w m s it.rested idle it.takes in
+          flushes_next v m it.rested idle1 (flush_taken q w m s it.rested idle.sound it.takes ∙ full) p vs suits ring
+          ∙ ap (λ a. with_ring i x (stage_next p.config i v idle.gate (own_of m) all (desk_of m) (ring_by m a) Flushes)) busy
+          ∙ ap (λ y. record { event = Busy; choice = Plain; desk = y; thing = set_wake_poll i x (visible m).wakes })
+          (ended_seen left spot v idle.gate m it.rested (record (desk_of m) { place = q }) p vs idle1.sound suits refl refl
+          ∙ ap (λ y. record (desk_of m) { place = y; may_put_off = v.defer; put_off = has_open_requests m && not b }) (sym there)
+          ∙ ap (λ y. record (desk_of m) { place = w'.place; may_put_off = y; put_off = has_open_requests m && not b }) (sym defer)
+          ∙ ap (λ y. record (desk_of m) { place = w'.place; may_put_off = w'.put_off.defer; put_off = y }) (sym put))
+          ∙ ap (λ a. with_ring i x (led_to w'.place w'.put_off (enter (own_of m) (desk_of m) (ring_by m a)))) (sym busy))

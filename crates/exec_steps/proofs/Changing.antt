@@ -207,7 +207,7 @@ module _ {B : Type 0} (q q' : Place) (o : PutOff) (v : Names) (w : Worker) (s : 
         carried = carried;
         rooted =
             rooted_on rs records_then all None w.index w.root w.names names_then d d' w.home.timers s.tasks.items s.sleepers.items
-            (subst (λ x. IsRooted x w.index w.root w.names d w.home.timers s.tasks.items rs s.sleepers.items) (calm q to.from).stands sound.rooted)
+            (subst (λ x. IsRooted x w.index w.root w.names d w.home.timers s.tasks.items rs s.sleepers.items) ((calm q to.from).stands w.root) sound.rooted)
             refl refl refl
             (λ other h. subst (λ x. IsSome (value_at x other)) (sym one.slab) (some_after d.requests id it it' one.at other h))
             (λ other told h. ready_before d.requests id it it' one.at other told (subst (λ x. value_at x other ≡ Some (Ready told)) one.slab h));

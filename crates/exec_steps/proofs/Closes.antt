@@ -1,247 +1,383 @@
--- The steps of a closing, each as a step of the machine.
-use Rattle.std.{proofs.{Common.{◌≡◌, ℕ, ◌-◌, ◌==◌, ◌||◌, Bool, true, false, not, [], length, map, Option, Some, None, refl, sym, ap, subst, ◌∙◌, arith, slice_get, slice_set, if◌then◌else◌}, lemmas.{Bool.{false≢true, eq-eqb}, List.{length-map, set-get_or}, Option.slice_get_within}}, specs.List.list_all}
-use Rattle.exec_words.specs.{Global.Global, Inbox.shut}
-use Rattle.exec_task.specs.{TaskSet.{Set, drain_of, passed, IsFor}, declared.{drain.Drain.Drain, body.Said.Said, runnable.Runnable.Runnable}}
-use Rattle.exec_machine.specs.{declared.{event.Event.{Event, TheVariants.{Turn, Close, Stop, End}}, state.WorkerPhase.WorkerPhase}, Choice.Choice.{Plain, Passes}, Closing.{gone_with, is_over_or_root}, Tests.{is_asleep, all_left}}
-use Rattle.exec_moves.specs.{declared.place.{Place.Place, AfterCallbacks.AfterCallbacks, InCallbacks.InCallbacks, InClosing.InClosing}, Close.{after_visit, is_held_here}}
-use Rattle.exec_steps.{specs.{declared.parts.{seat.Seat.Seat as Chair, shared.Shared.Shared, worker.Worker.Worker}, Phased.{IsGoing, TurnsChair, stage_of}, Sound.{SoundAt, IsAlone}, Spots.Spot, View.{visible, common_of, things_of, task_seen}, Works.{SameShared, Steps}}, proofs.{Facts.{set_there, same_thing}, Hearing.unheard, Shutting.{mapped_all, none_numbered, same_by, first_alone, now_closing, now_done, gone_before, unheld, positive, visit_free, alone_on, sound_on, phased_on, held_nothing, onward, told_as, root_there, seats_on, stays}, Turning.set_found, Seats.{seats_all, own_seat}}}
+-- The first steps of a closing, each as a step of the machine: worker zero closes what is the pool's, and stops it.
+use Rattle.std.proofs.{Common.{◌≡◌, ◌⊎◌, inl, inr, ℕ, ◌-◌, ◌==◌, ◌||◌, ◌<◌, Bool, true, false, not, List, [], length, map, Option, None, Some, option_map, refl, sym, ap, subst, ◌∙◌, arith, slice_get, slice_set, nat_lt, if◌then◌else◌, slice_index_or}, lemmas.{Bool.{false≢true, eq-eqb, Decides.nat_tests}, List.length-set, Option.{get_or_from_slice_get, slice_get-map}}}
+use Rattle.exec_words.specs.{Global.Global, Queue.Queue, Reserved.Reserved, declared.inbox.Message.Message}
+use Rattle.exec_task.specs.declared.{body.Said.Said, runnable.Runnable.Runnable, task.Phase.Phase}
+use Rattle.exec_machine.specs.{declared.{config.Configuration.Configuration, event.Event.{Event, TheVariants.{Turn, Close, Stop}}, state.{Next.Next, WorkerPhase.WorkerPhase}}, Choice.{Choice, Choice.Plain}, Closing.letters_to_roots, Progress.Plan, Tests.{has_ended, is_closing, is_done, is_open}, World.{no_task, task_of}}
+use Rattle.exec_moves.specs.{declared.{handing.{AfterPop.AfterPop, InPop.InPop}, place.{InClosing.InClosing, Place.Place}}, Move.move_at, Parts.{first_pop, has_others, tells_from}, Seen.{next_at, serves_at}}
+use Rattle.exec_steps.{specs.{declared.parts.{mail.Subject.Subject, seat.Seat.Seat as Chair, shared.Shared.Shared, task_slot.TaskSlot.TaskSlot, worker.Worker.Worker}, Phased.{IsGoing, IsPhased, IsPrepared, Stage, TurnsChair, closes_at, closing_in, has_left, has_shut, has_stopped, is_complete, root_over, stage_of}, Places.{drops_at, no_drops}, Roles.owns_runner, Sound.{Aims, IsSeated, SoundAt, has_wakes_at}, Spots.Spot, View.{Views, common_of, desk_of, own_of, owed_at, phase_seen, seat_seen, seats_seen, task_seen, things_with, visible, with_view}, Works.{Steps, Suits, Works}}, proofs.{Aside.{SparesSeats, queue_of_chair, queues_set, seats_own, seats_same}, Facts.{by_number, not_same, or_right, same_number, set_there}, Hearing.unheard, PoolKept.{gates_same, gates_set}, Seats.{chair_set, own_seat}, Shutting.{Closes, Empties, Follows, GoesOnlyOn, Pools, Ready, beside_closing, onward, pools_calm, seats_show, shown_as, sound_closing}, Turning.{set_found, view_found}}}
+
+pub now_closing : (p : WorkerPhase) → is_open p ≡ false → has_ended p ≡ false → is_closing p ≡ true
+now_closing WorkerPhase.Open h k = absurd (false≢true (sym h))
+now_closing WorkerPhase.Closing h k = refl
+now_closing WorkerPhase.Ended h k = absurd (false≢true (sym k))
+
+pub now_done : {B : Type 0} (p : Phase B) (i : ℕ) → is_done (phase_seen p i) ≡ is_complete p
+now_done (Phase.Idle b) i = refl
+now_done (Phase.Queued b) i = refl
+now_done Phase.Running i = refl
+now_done Phase.Notified i = refl
+now_done Phase.Complete i = refl
+
+-- the places that a closing leads to
+pub follows_in : (x : InClosing) → Follows (Place.Closing x)
+follows_in x = record { polls = refl; served = refl; unarmed = refl; begins = refl; hands_on = refl; calls = refl; searches = refl; claims = refl; counts = refl; published = refl; queue = λ own none. none; batch = λ ms none. none }
+
+pub follows_pop : (others : Bool) → Follows (if others then Place.Pop InPop.LoadPopHead AfterPop.Discard else Place.Pop InPop.PopAlone AfterPop.Discard)
+follows_pop true = record { polls = refl; served = refl; unarmed = refl; begins = refl; hands_on = refl; calls = refl; searches = refl; claims = refl; counts = refl; published = refl; queue = λ own none. none; batch = λ ms none. none }
+follows_pop false = record { polls = refl; served = refl; unarmed = refl; begins = refl; hands_on = refl; calls = refl; searches = refl; claims = refl; counts = refl; published = refl; queue = λ own none. none; batch = λ ms none. none }
 
 module _ {B L : Type 0} (left : B → L) (spot : L → Option Said → Spot) where
-  pub closing_began : (w w' : Worker) (s s' : Shared B) (e : Event) → SoundAt (Place.Closing InClosing.Close) w s → e ≡ Close
-      → w' ≡ record w { place = Place.Closing InClosing.CloseQueue; home = record w.home { closing = true } } → TurnsChair w.index (λ chair. record chair { phase = WorkerPhase.Closing }) s s'
-      → s' ≡ record s { seats = s'.seats; set = record s.set { closed = true } } → Steps left spot w s e w' s'
-  closing_began w w' s s' e sound event goes turns kept =
-      let w1 : Worker = record w { place = Place.Closing InClosing.CloseQueue; home = record w.home { closing = true } } in
-      let s1 : Shared B = record s { seats = s'.seats; set = record s.set { closed = true } } in
-      let seat = sound.alone.seat in
-      let chair : Chair = record seat { phase = WorkerPhase.Closing } in
-      let items : s'.seats.items ≡ slice_set s.seats.items w.index chair = turns seat sound.alone.there in
-      let found : slice_get s'.seats.items w.index ≡ Some chair = ap (λ xs. slice_get xs w.index) items ∙ set_there s.seats.items w.index chair seat sound.alone.there in
-      let alone = alone_on w.index s.seats.items s'.seats.items s.global.values chair sound.alone (record { queue = refl; messages = refl; waker = refl }) items in
-      let phased = sound.phased seat sound.alone.there in
-      let things : things_of w.index s ≡ things_of w.index s1 = rw (found, sound.alone.there) refl in
-      told_as left spot w w1 w' s s1 s' Close e event goes kept (
-        (λ p vs suits.
-            let seen = common_of left spot p vs s in
-            let mine = own_seat left spot p vs w s seat suits sound.alone.there in
-            let root = root_there left spot p vs s w.root sound.runnable.root sound.runnable.there in
+  -- one of the own closing, by what it does to the machine
+  pub closed_by : (x : InClosing) (q : Place) (closes : Bool) (batch : Reserved (Message Subject Subject)) (n : ℕ) (w w' : Worker) (s s' : Shared B) (e : Event) → SoundAt (Place.Closing x) w s → Follows q → Ready q closes batch n w s s' → GoesOnlyOn w.index s s' → Empties s s' → SparesSeats w.index s.seats.items s'.seats.items
+      → Pools q closes batch n w s s' → map queue_of_chair s'.seats.items ≡ map queue_of_chair s.seats.items → w' ≡ onward q closes batch n w → ((p : Plan) (vs : Views) → Suits p vs w s → Works left spot p vs w s e (onward q closes batch n w) s') → Steps left spot w s e w' s'
+  closed_by x q closes batch n w w' s s' e sound to ready on empties seats pools queues worker works =
+      subst (λ v. Steps left spot w s e v s') (sym worker)
+      (works, sound_closing x q closes batch n w s s' sound to ready, unheard refl (ap (λ (z : Shared B). z.config) ready.kept) (ap (λ (z : Shared B). z.tasks.items) ready.kept), beside_closing x q closes batch n w s s' sound to ready.kept on empties seats pools queues)
+
+  pub root_there : (p : Plan) (vs : Views) (s : Shared B) (t : ℕ) (slot : TaskSlot B) → slice_get s.tasks.items t ≡ Some slot → task_of (common_of left spot p vs s) t ≡ task_seen left spot slot
+  root_there p vs s t slot there =
+      get_or_from_slice_get (map (task_seen left spot) s.tasks.items) t (task_seen left spot slot) no_task (slice_get-map (task_seen left spot) s.tasks.items t ∙ ap (option_map (task_seen left spot)) there)
+
+  -- what is seen of the seats once the own chair has changed
+  pub seats_on : (p : Plan) (vs : Views) (w : Worker) (s s' : Shared B) (chair' : Chair) → Suits p vs w s → s'.seats.items ≡ slice_set s.seats.items w.index chair'
+      → seats_seen vs.workers s'.seats.items ≡ slice_set (seats_seen vs.workers s.seats.items) w.index (seat_seen (visible w) chair')
+  seats_on p vs w s s' chair' suits items = ap (seats_seen vs.workers) items ∙ chair_set vs.workers s.seats.items w.index (visible w) chair' suits.seen
+
+  module _ (w w' : Worker) (s s' : Shared B) (e : Event) where
+    -- THE CLOSING BEGINS
+
+    pub closing_began : SoundAt (Place.Closing InClosing.Close) w s → e ≡ Close
+        → w' ≡ record w { place = (if owns_runner w.role then Place.Closing InClosing.CloseQueue else first_pop s.config AfterPop.Discard); home = record w.home { closing = true } }
+        → TurnsChair w.index (λ chair. record chair { phase = WorkerPhase.Closing }) s s' → s' ≡ record s { seats = s'.seats; set = record s.set { closed = s.set.closed || owns_runner w.role } } → Steps left spot w s e w' s'
+    closing_began sound event goes turns kept = by (w.index == 0) refl
+      where
+        seat : Chair
+        seat = sound.seated.seat
+
+        there : slice_get s.seats.items w.index ≡ Some seat
+        there = sound.seated.there
+
+        chair : Chair
+        chair = record seat { phase = WorkerPhase.Closing }
+
+        items : s'.seats.items ≡ slice_set s.seats.items w.index chair
+        items = turns seat there
+
+        found : slice_get s'.seats.items w.index ≡ Some chair
+        found = ap (λ xs. slice_get xs w.index) items ∙ set_there s.seats.items w.index chair seat there
+
+        phased : IsPhased w.index false (Some InClosing.Close) w.home.closing w.root w.names.unreleased (stage_of seat s) s.tasks.items
+        phased = sound.phased seat there
+
+        closes : Closes s s'
+        closes = subst (λ (z : Shared B). z ≡ record s { seats = z.seats; set = z.set; global = z.global; barrier_open = z.barrier_open; stopped = z.stopped }) (sym kept) refl
+
+        now_closed : s'.set.closed ≡ (s.set.closed || (w.index == 0))
+        now_closed = ap (λ (z : Shared B). z.set.closed) kept ∙ ap (λ b. s.set.closed || b) sound.role
+
+        stopped : s'.stopped ≡ s.stopped
+        stopped = ap (λ (z : Shared B). z.stopped) kept
+
+        shards : length s'.set.shards ≡ length s.set.shards
+        shards = ap (λ (z : Shared B). length z.set.shards) kept
+
+        all_shards : s'.set.shards ≡ s.set.shards
+        all_shards = ap (λ (z : Shared B). z.set.shards) kept
+
+        closed_still : (b c : Bool) → b ≡ true → (b || c) ≡ true
+        closed_still true c h = refl
+        closed_still false c h = absurd (false≢true h)
+
+        same_still : (b c : Bool) → c ≡ false → (b || c) ≡ b
+        same_still true c h = refl
+        same_still false c h = h
+
+        on : GoesOnlyOn w.index s s'
+        on = record {
+          stopped = λ h. stopped ∙ h;
+          closed = λ h. now_closed ∙ closed_still s.set.closed (w.index == 0) h;
+          by_zero = λ other. (stopped, now_closed ∙ same_still s.set.closed (w.index == 0) (not_zero w.index other));
+          shards = shards;
+          emptied = λ shut k none. ap (λ xs. slice_index_or xs k []) all_shards ∙ none;
+        }
+          where
+            not_zero : (i : ℕ) → (i ≡ 0 → ⊥) → (i == 0) ≡ false
+            not_zero i other = not_same i 0 other
+
+        seats : SparesSeats w.index s.seats.items s'.seats.items
+        seats = seats_own w.index s.seats.items s'.seats.items seat chair items there (omega arith)
+
+        queues : map queue_of_chair s'.seats.items ≡ map queue_of_chair s.seats.items
+        queues = ap (λ xs. map queue_of_chair xs) items ∙ queues_set s.seats.items w.index seat chair there refl
+
+        seated : IsSeated w.index false s.config.workers s'.seats.items
+        seated = record { many = ap length items ∙ length-set s.seats.items w.index chair ∙ sound.seated.many; seat = chair; there = found; unarmed = sound.seated.unarmed; mail = sound.seated.mail }
+
+        held : (own : Chair) → slice_get s'.seats.items w.index ≡ Some own → own.queue.held ≡ []
+        held own at_own = let is : chair ≡ own = cc (found, at_own) in rw (← is) (sound.queue seat there)
+
+        -- where it leads, by whether it is worker zero
+        stage : (own : Chair) → slice_get s'.seats.items w.index ≡ Some own → stage_of own s' ≡ record { phase = WorkerPhase.Closing; pool = seat.pool; left = seat.left; shut = seat.mailbox.inbox.closed; stopped = s.stopped; set = record s.set { closed = s.set.closed || (w.index == 0) } }
+        stage own at_own = let is : chair ≡ own = cc (found, at_own) in rw (← is, stopped, ap (λ (z : Shared B). z.set) kept, sound.role) refl
+
+        to : (q : Place) → Follows q → drops_at q ≡ no_drops → Ready q true w.batch w.processed w s s' → w' ≡ onward q true w.batch w.processed w → ((p : Plan) (vs : Views) → Suits p vs w s → Works left spot p vs w s e (onward q true w.batch w.processed w) s') → Steps left spot w s e w' s'
+        to q follows drops ready worker works =
+            closed_by InClosing.Close q true w.batch w.processed w w' s s' e sound follows ready on (inl (ap (λ (z : Shared B). z.global) kept)) seats
+            (pools_calm InClosing.Close q true w.batch w.processed w s s' sound follows drops (gates_set w.index s.seats.items s'.seats.items seat chair items there (record { left = refl; pool = refl; closed = refl; mail = λ h. h })) all_shards on.closed)
+            queues worker works
+
+        things : (vs : Views) → things_with vs s' ≡ things_with vs s
+        things vs = ap (λ (z : Shared B). things_with vs z) kept ∙ seats_show vs w.index s s'.seats.items seat chair there items refl refl refl refl
+
+        quiet : (q : Place) → has_wakes_at q ≡ false → w.home.deferred.notes.wakes.items ≡ []
+        quiet q h = sound.quiet refl
+
+        at_zero : (w.index == 0) ≡ true → Steps left spot w s e w' s'
+        at_zero is =
+            let q : Place = Place.Closing InClosing.CloseQueue in
+            let ready : Ready q true w.batch w.processed w s s' = record {
+              kept = closes;
+              seated = seated;
+              queue = held;
+              aims = same_number w.index 0 is;
+              none = sound.batch;
+              place = sound.batch_place;
+              few = sound.processed;
+              quiet = quiet q;
+              shards = shards;
+              phased = λ own at_own.
+                  subst (λ st. IsPhased w.index true (Some InClosing.CloseQueue) true w.root w.names.unreleased st s.tasks.items) (sym (stage own at_own))
+                  (record {
+                    told = refl;
+                    opened = refl;
+                    ended = λ h. absurd (false≢true h);
+                    root = phased.root;
+                    pool = phased.pool;
+                    left = phased.left;
+                    shut = phased.shut;
+                    by_zero = λ zero. ((phased.by_zero zero).0, or_right s.set.closed (w.index == 0) is);
+                    by_other = λ some over. phased.by_other some refl;
+                    closed = λ h. closed_still s.set.closed (w.index == 0) (phased.closed h);
+                    prepared = tt;
+                  });
+            } in
+            to q (follows_in InClosing.CloseQueue) refl ready (goes ∙ rw (sound.role, is) refl)
+            (λ p vs suits.
+            let cs = common_of left spot p vs s in
+            let mine = own_seat left spot p vs w s seat suits there in
+            let root = root_there p vs s w.root sound.runnable.root sound.runnable.there in
+            let again = view_found vs w.index (visible w) suits.seen in
             record {
               choice = Plain;
-              moves = rw (sound.here, ← things) refl;
-              may = rw sound.here (refl, (rw mine phased.opened, (rw (root, sound.runnable.home, eq-eqb w.index w.index refl) refl, (rw root (now_done sound.runnable.root.cell.phase sound.runnable.root.poller ∙ phased.root sound.runnable.root sound.runnable.there), tt))));
-              own = rw (sound.here, sound.index) refl;
-              common = rw (seats_on left spot p vs w s s' chair suits items, mine, phased.set, sound.index) refl;
-            }),
-        sound_on InClosing.Close (Place.Closing InClosing.CloseQueue) w w.batch true s s1 sound refl sound.batch alone
-            (phased_on true (Some InClosing.CloseQueue) true w.root w.names.unreleased w.index s1 chair s.tasks.items found (record {
-              told = refl;
-              opened = refl;
-              ended = λ h. absurd (false≢true h);
-              root = phased.root;
-              lone = phased.lone;
-              pool = phased.pool;
-              stopped = phased.stopped;
-              left = phased.left;
-              shut = phased.shut;
-              set = refl;
-              empty = phased.empty;
-              prepared = tt;
-            })),
-        unheard refl refl refl,
-      )
+              moves =
+                  subst (λ y. move_at p.config w.index (own_of w) cs (desk_of w) (things_with vs s) y ≡ record { event = e; choice = Plain; desk = desk_of (onward q true w.batch w.processed w); thing = things_with (with_view vs w.index (visible w)) s' }) (sym sound.here)
+                  (shown_as _ (λ v. record { event = e; choice = Plain; desk = desk_of (onward q true w.batch w.processed w); thing = things_with v s' }) vs _ again
+                  (rw (event, is) (ap (λ x. record { event = Close; choice = Plain; desk = desk_of (onward q true w.batch w.processed w); thing = x }) (sym (things vs)))));
+              may = rw (event, sound.here) (refl, (rw mine phased.opened, (rw (root, sound.runnable.home, eq-eqb w.index w.index refl) refl, (rw root (now_done sound.runnable.root.cell.phase sound.runnable.root.poller ∙ phased.root sound.runnable.root sound.runnable.there), tt))));
+              own = rw (event, sound.here, is) refl;
+              common = rw event (ap (λ v. common_of left spot p v s') again ∙ ap (common_of left spot p vs) kept ∙ rw (seats_on p vs w s s' chair suits items, sound.role, mine) refl);
+            })
 
-  pub queue_closed : (w w' : Worker) (s s' : Shared B) (e : Event) → SoundAt (Place.Closing InClosing.CloseQueue) w s → IsGoing w.index s.seats.items → e ≡ Turn
-      → w' ≡ record w { place = Place.Closing InClosing.OpenBarrier } → s' ≡ record s { global = record { values = []; places = 0; closed = true } } → Steps left spot w s e w' s'
-  queue_closed w w' s s' e sound going event goes kept =
-      let none : Global Runnable = record { values = []; places = 0; closed = true } in
-      told_as left spot w (record w { place = Place.Closing InClosing.OpenBarrier }) w' s (record s { global = none }) s' Turn e event goes kept (
-        (λ p vs suits. record {
-          choice = Plain;
-          moves = rw sound.here refl;
-          may = tt;
-          own = rw sound.here refl;
-          common = rw (sound.here, set_found vs w.index (visible w) suits.seen) refl;
-        }),
-        stays InClosing.CloseQueue InClosing.OpenBarrier w s none s.barrier_open s.stopped sound refl refl going refl (sound.phased sound.alone.seat sound.alone.there).stopped refl refl tt,
-        unheard refl refl refl,
-      )
-
-  pub barrier_opened : (w w' : Worker) (s s' : Shared B) (e : Event) → SoundAt (Place.Closing InClosing.OpenBarrier) w s → IsGoing w.index s.seats.items → e ≡ Turn
-      → w' ≡ record w { place = Place.Closing InClosing.Stop } → s' ≡ record s { barrier_open = true } → Steps left spot w s e w' s'
-  barrier_opened w w' s s' e sound going event goes kept =
-      told_as left spot w (record w { place = Place.Closing InClosing.Stop }) w' s (record s { barrier_open = true }) s' Turn e event goes kept (
-        (λ p vs suits. record {
-          choice = Plain;
-          moves = rw sound.here refl;
-          may = tt;
-          own = rw sound.here refl;
-          common = rw (sound.here, set_found vs w.index (visible w) suits.seen) refl;
-        }),
-        stays InClosing.OpenBarrier InClosing.Stop w s s.global true s.stopped sound refl refl going sound.alone.elsewhere (sound.phased sound.alone.seat sound.alone.there).stopped refl refl tt,
-        unheard refl refl refl,
-      )
-
-  pub pool_stopped : (w w' : Worker) (s s' : Shared B) (e : Event) → SoundAt (Place.Closing InClosing.Stop) w s → IsGoing w.index s.seats.items → e ≡ Stop
-      → w' ≡ record w { place = Place.Closing InClosing.Discard } → s' ≡ record s { stopped = true } → Steps left spot w s e w' s'
-  pool_stopped w w' s s' e sound going event goes kept =
-      let seat = sound.alone.seat in
-      let phased = sound.phased seat sound.alone.there in
-      told_as left spot w (record w { place = Place.Closing InClosing.Discard }) w' s (record s { stopped = true }) s' Stop e event goes kept (
-        (λ p vs suits.
-            let mine = own_seat left spot p vs w s seat suits sound.alone.there in
+        elsewhere : (w.index == 0) ≡ false → (others : Bool) → has_others s.config ≡ others → (q : Place) → first_pop s.config AfterPop.Discard ≡ q → closes_at q ≡ true → closing_in q ≡ Some (InClosing.TellRoot 0) → Aims q s.config w.index s'.seats.items → Follows q → next_at q ≡ Next.Free → serves_at q ≡ false → owed_at w.workers q ≡ [] → drops_at q ≡ no_drops → Steps left spot w s e w' s'
+        elsewhere is others which q first closes_there closing aims follows free unserved owes drops =
+            let ready : Ready q true w.batch w.processed w s s' = record {
+              kept = closes;
+              seated = seated;
+              queue = held;
+              aims = aims;
+              none = sound.batch;
+              place = sound.batch_place;
+              few = sound.processed;
+              quiet = quiet q;
+              shards = shards;
+              phased = λ own at_own.
+                  subst (λ st. IsPhased w.index (closes_at q) (closing_in q) true w.root w.names.unreleased st s.tasks.items) (sym (stage own at_own))
+                  (rw (closes_there, closing)
+                  (record {
+                    told = refl;
+                    opened = refl;
+                    ended = λ h. absurd (false≢true h);
+                    root = phased.root;
+                    pool = phased.pool;
+                    left = phased.left;
+                    shut = phased.shut;
+                    by_zero = λ zero. absurd (false≢true (sym is ∙ eq-eqb w.index 0 zero));
+                    by_other = λ some over. phased.by_other some refl;
+                    closed = λ h. closed_still s.set.closed (w.index == 0) (phased.closed h);
+                    prepared = tt;
+                  }));
+            } in
+            to q follows drops ready (goes ∙ rw (sound.role, is, first) refl)
+            (λ p vs suits.
+            let cs = common_of left spot p vs s in
+            let mine = own_seat left spot p vs w s seat suits there in
+            let root = root_there p vs s w.root sound.runnable.root sound.runnable.there in
+            let again = view_found vs w.index (visible w) suits.seen in
             record {
               choice = Plain;
-              moves = rw sound.here refl;
-              may = rw sound.here (refl, (rw sound.index refl, (rw mine (now_closing seat.phase phased.opened (going seat sound.alone.there)), (rw phased.stopped refl, tt))));
-              own = rw (sound.here, ← suits.config, sound.config.one_worker) refl;
-              common = rw (set_found vs w.index (visible w) suits.seen) refl;
-            }),
-        stays InClosing.Stop InClosing.Discard w s s.global s.barrier_open true sound refl refl going sound.alone.elsewhere refl refl refl tt,
-        unheard refl refl refl,
-      )
+              moves =
+                  subst (λ y. move_at p.config w.index (own_of w) cs (desk_of w) (things_with vs s) y ≡ record { event = e; choice = Plain; desk = desk_of (onward q true w.batch w.processed w); thing = things_with (with_view vs w.index (visible w)) s' }) (sym sound.here)
+                  (shown_as _ (λ v. record { event = e; choice = Plain; desk = desk_of (onward q true w.batch w.processed w); thing = things_with v s' }) vs _ again
+                  (rw (event, is, ← suits.config, first) (ap (λ x. record { event = Close; choice = Plain; desk = desk_of (onward q true w.batch w.processed w); thing = x }) (sym (things vs)))));
+              may = rw (event, sound.here) (refl, (rw mine phased.opened, (rw (root, sound.runnable.home, eq-eqb w.index w.index refl) refl, (rw root (now_done sound.runnable.root.cell.phase sound.runnable.root.poller ∙ phased.root sound.runnable.root sound.runnable.there), tt))));
+              own = rw (event, sound.here, is, mine, phased.pool, follows.polls, free, unserved, owes) refl;
+              common = rw event (ap (λ v. common_of left spot p v s') again ∙ ap (common_of left spot p vs) kept ∙ rw (seats_on p vs w s s' chair suits items, sound.role, mine) refl);
+            })
 
-  pub queue_emptied : (w w' : Worker) (s s' : Shared B) (e : Event) → SoundAt (Place.Closing InClosing.Discard) w s → IsGoing w.index s.seats.items → e ≡ Turn
-      → w' ≡ record w { place = Place.Closing (InClosing.Visit (drain_of s.set w.index)) } → IsFor (drain_of s.set w.index) s.set → SameShared s s' → Steps left spot w s e w' s'
-  queue_emptied w w' s s' e sound going event goes its same =
-      let q : Place = Place.Closing (InClosing.Visit (drain_of s.set w.index)) in
-      let things : things_of w.index (record s { seats = s'.seats }) ≡ things_of w.index s = rw same.seats refl in
-      let phased = sound.phased sound.alone.seat sound.alone.there in
-      let holds : SoundAt q (record w { place = q }) s =
-      stays InClosing.Discard (InClosing.Visit (drain_of s.set w.index)) w s s.global s.barrier_open s.stopped sound refl refl going sound.alone.elsewhere phased.stopped refl refl (its, omega (arith, its.there)) in
-      told_as left spot w (record w { place = q }) w' s (record s { seats = s'.seats }) s' Turn e event goes same.kept (
-        (λ p vs suits. record {
-          choice = Plain;
-          moves = rw (sound.here, things, sound.alone.there, sound.alone.run_queue, length-map) refl;
-          may = tt;
-          own = rw sound.here refl;
-          common = rw (sound.here, set_found vs w.index (visible w) suits.seen, same.seats) refl;
-        }),
-        sound_on InClosing.Discard q w w.batch w.home.closing s (record s { seats = s'.seats }) sound refl sound.batch
-            (subst (λ xs. IsAlone w.index false xs s.global.values) (sym same.seats) sound.alone)
-            (λ chair there. holds.phased chair (subst (λ xs. slice_get xs w.index ≡ Some chair) same.seats there)),
-        unheard refl refl refl,
-      )
+        by_others : (w.index == 0) ≡ false → (others : Bool) → has_others s.config ≡ others → Steps left spot w s e w' s'
+        by_others is true which = elsewhere is true which (Place.Pop InPop.LoadPopHead AfterPop.Discard) (rw which refl) refl refl tt (follows_pop true) refl refl refl refl
+        by_others is false which = elsewhere is false which (Place.Pop InPop.PopAlone AfterPop.Discard) (rw which refl) refl refl tt (follows_pop false) refl refl refl refl
 
-  -- the drain after a visit that found nothing, by whether it is over
-  visited_by : (b : Bool) (drain : Drain) (w : Worker) (s : Shared B) → SoundAt (Place.Closing (InClosing.Visit drain)) w s → IsGoing w.index s.seats.items → ((passed (length s.set.shards) drain).left == 0) ≡ b
-      → IsFor (passed (length s.set.shards) drain) s.set
-      → SoundAt (Place.Closing (if b then InClosing.LeaveBarrier else InClosing.Visit (passed (length s.set.shards) drain))) (record w { place = Place.Closing (if b then InClosing.LeaveBarrier else InClosing.Visit (passed (length s.set.shards) drain)) }) s
-  visited_by true drain w s sound going over its =
-      stays (InClosing.Visit drain) InClosing.LeaveBarrier w s s.global s.barrier_open s.stopped sound refl refl going sound.alone.elsewhere (sound.phased sound.alone.seat sound.alone.there).stopped refl refl tt
-  visited_by false drain w s sound going over its =
-      stays (InClosing.Visit drain) (InClosing.Visit (passed (length s.set.shards) drain)) w s s.global s.barrier_open s.stopped sound refl refl going sound.alone.elsewhere (sound.phased sound.alone.seat sound.alone.there).stopped refl refl
-      (its, positive (drain.left - 1) over)
+        by : (zero : Bool) → (w.index == 0) ≡ zero → Steps left spot w s e w' s'
+        by true is = at_zero is
+        by false is = by_others is (has_others s.config) refl
 
-  pub shard_visited : (drain : Drain) (w w' : Worker) (s : Shared B) (set' : Set (Unit {0})) (e : Event) → SoundAt (Place.Closing (InClosing.Visit drain)) w s → IsGoing w.index s.seats.items → e ≡ Turn
-      → w' ≡ record w { place = Place.Closing (after_visit (passed (length s.set.shards) drain)) } → IsFor (passed (length s.set.shards) drain) s.set → set' ≡ s.set → Steps left spot w s e w' (record s { set = set' })
-  shard_visited drain w w' s set' e sound going event goes its same =
-      let q : Place = Place.Closing (after_visit (passed (length s.set.shards) drain)) in
-      told_as left spot w (record w { place = q }) w' s s (record s { set = set' }) Turn e event goes (ap (λ x. record s { set = x }) same) (
-        (λ p vs suits. record {
-          choice = Plain;
-          moves = rw (sound.here, length-map, set-get_or) refl;
-          may = tt;
-          own = rw (sound.here, visit_free (passed (length s.set.shards) drain)) refl;
-          common = rw (sound.here, set_found vs w.index (visible w) suits.seen) refl;
-        }),
-        visited_by ((passed (length s.set.shards) drain).left == 0) drain w s sound going refl its,
-        unheard refl refl refl,
-      )
+    -- WORKER ZERO closes the global queue, opens the barrier and stops the pool: nothing of the seats changes
 
-  pub barrier_left : (w w' : Worker) (s s' : Shared B) (e : Event) → SoundAt (Place.Closing InClosing.LeaveBarrier) w s → IsGoing w.index s.seats.items → e ≡ Turn
-      → w' ≡ record w { place = Place.Closing InClosing.CloseMailbox } → TurnsChair w.index (λ chair. record chair { left = true }) s s' → s' ≡ record s { seats = s'.seats } → Steps left spot w s e w' s'
-  barrier_left w w' s s' e sound going event goes turns kept =
-      let q : Place = Place.Closing InClosing.CloseMailbox in
-      let s1 : Shared B = record s { seats = s'.seats } in
-      let seat = sound.alone.seat in
-      let chair : Chair = record seat { left = true } in
-      let items : s'.seats.items ≡ slice_set s.seats.items w.index chair = turns seat sound.alone.there in
-      let found : slice_get s'.seats.items w.index ≡ Some chair = ap (λ xs. slice_get xs w.index) items ∙ set_there s.seats.items w.index chair seat sound.alone.there in
-      let alone = alone_on w.index s.seats.items s'.seats.items s.global.values chair sound.alone (record { queue = refl; messages = refl; waker = refl }) items in
-      let phased = sound.phased seat sound.alone.there in
-      let things : things_of w.index s ≡ things_of w.index s1 = rw (found, sound.alone.there) refl in
-      told_as left spot w (record w { place = q }) w' s s1 s' Turn e event goes kept (
+    pub stays : (x y : InClosing) → SoundAt (Place.Closing x) w s → IsGoing w.index s.seats.items → Closes s s' → s'.seats ≡ s.seats → s'.set.closed ≡ s.set.closed → length s'.set.shards ≡ length s.set.shards → closes_at (Place.Closing x) ≡ true → has_left true (Some y) ≡ has_left true (Some x) → has_shut true (Some y) ≡ has_shut true (Some x)
+        → (w.index ≡ 0 → s'.stopped ≡ has_stopped true (Some y)) → (s.stopped ≡ true → s'.stopped ≡ true) → (q : Place) → closes_at q ≡ true → closing_in q ≡ Some y → root_over true (Some x) ≡ true → root_over true (Some y) ≡ true → IsPrepared (Some y) w.names.unreleased s'.set → has_wakes_at (Place.Closing x) ≡ false
+        → Aims q s.config w.index s.seats.items → Ready q w.home.closing w.batch w.processed w s s'
+    stays x y sound going kept seats same more closes leaves shuts zero stopped q closes_there closing over over_then prepared quiet aims =
+        record {
+          kept = kept;
+          seated = subst (λ xs. IsSeated w.index false s.config.workers xs) (sym (ap (λ v. v.items) seats)) sound.seated;
+          queue = λ chair there. sound.queue chair (subst (λ v. slice_get v.items w.index ≡ Some chair) seats there);
+          aims = subst (λ v. Aims q s.config w.index v.items) (sym seats) aims;
+          none = sound.batch;
+          place = sound.batch_place;
+          few = sound.processed;
+          quiet = λ h. sound.quiet quiet;
+          shards = more;
+          phased = λ chair there.
+              let at_own : slice_get s.seats.items w.index ≡ Some chair = subst (λ v. slice_get v.items w.index ≡ Some chair) seats there in
+              let it : IsPhased w.index true (Some x) w.home.closing w.root w.names.unreleased (stage_of chair s) s.tasks.items = subst (λ b. IsPhased w.index b (Some x) w.home.closing w.root w.names.unreleased (stage_of chair s) s.tasks.items) closes (sound.phased chair at_own) in
+              rw (closes_there, closing)
+              (record {
+                told = it.told;
+                opened = it.opened;
+                ended = λ h. absurd (false≢true (sym (going chair at_own) ∙ h));
+                root = λ slot found. it.root slot found ∙ over ∙ sym over_then;
+                pool = it.pool;
+                left = it.left ∙ sym leaves;
+                shut = it.shut ∙ sym shuts;
+                by_zero = λ is. (zero is, same ∙ (it.by_zero is).1);
+                by_other = λ some h. stopped (it.by_other some over);
+                closed = λ h. same ∙ closed_by_now it h;
+                prepared = prepared;
+              });
+        }
+      where
+        -- the set is closed: worker zero has closed it, and any other closes once the pool is stopped
+        closed_by_now : {st : Stage} → IsPhased w.index true (Some x) w.home.closing w.root w.names.unreleased st s.tasks.items → s'.stopped ≡ true → st.set.closed ≡ true
+        closed_by_now it h =
+            by_number w.index 0
+            (λ other. it.closed (it.by_other (omega (arith, other)) over))
+            (λ is. (it.by_zero is).1)
+
+    -- only worker zero
+    alone : w.index ≡ 0 → s'.set ≡ s.set → (s.stopped ≡ true → s'.stopped ≡ true) → GoesOnlyOn w.index s s'
+    alone zero set stopped =
+        record { stopped = stopped; closed = λ h. ap (λ z. z.closed) set ∙ h; by_zero = λ other. absurd (other zero); shards = ap (λ z. length z.shards) set; emptied = λ shut k none. ap (λ z. slice_index_or z.shards k []) set ∙ none }
+
+    pub calm : (x : InClosing) (q : Place) → SoundAt (Place.Closing x) w s → Follows q → drops_at q ≡ drops_at (Place.Closing x) → s'.seats ≡ s.seats → s'.set ≡ s.set → Pools q w.home.closing w.batch w.processed w s s'
+    calm x q sound follows drops seats set =
+        pools_calm x q w.home.closing w.batch w.processed w s s' sound follows drops (gates_same s.seats.items s'.seats.items (ap (λ v. v.items) seats)) (ap (λ z. z.shards) set) (λ h. ap (λ z. z.closed) set ∙ h)
+
+    pub unset : s'.seats ≡ s.seats → SparesSeats w.index s.seats.items s'.seats.items
+    unset seats = seats_same w.index s.seats.items s'.seats.items (ap (λ v. v.items) seats)
+
+    pub queue_closed : SoundAt (Place.Closing InClosing.CloseQueue) w s → IsGoing w.index s.seats.items → e ≡ Turn → w' ≡ record w { place = Place.Closing InClosing.OpenBarrier } → s' ≡ record s { global = record { values = []; places = 0; closed = true } } → Steps left spot w s e w' s'
+    queue_closed sound going event goes kept =
+        let q : Place = Place.Closing InClosing.OpenBarrier in
+        let seats : s'.seats ≡ s.seats = ap (λ (z : Shared B). z.seats) kept in
+        let set : s'.set ≡ s.set = ap (λ (z : Shared B). z.set) kept in
+        let stop : s'.stopped ≡ s.stopped = ap (λ (z : Shared B). z.stopped) kept in
+        let closes : Closes s s' = subst (λ (z : Shared B). z ≡ record s { seats = z.seats; set = z.set; global = z.global; barrier_open = z.barrier_open; stopped = z.stopped }) (sym kept) refl in
+        let phased = sound.phased sound.seated.seat sound.seated.there in
+        closed_by InClosing.CloseQueue q w.home.closing w.batch w.processed w w' s s' e sound (follows_in InClosing.OpenBarrier)
+        (stays InClosing.CloseQueue InClosing.OpenBarrier sound going closes seats (ap (λ z. z.closed) set) (ap (λ z. length z.shards) set) refl refl refl (λ is. stop ∙ (phased.by_zero is).0) (λ h. stop ∙ h) q refl refl refl refl tt refl sound.aims)
+        (alone sound.aims set (λ h. stop ∙ h)) (inr (ap (λ (z : Shared B). z.global.values) kept, ap (λ (z : Shared B). z.global.closed) kept)) (unset seats) (calm InClosing.CloseQueue q sound (follows_in InClosing.OpenBarrier) refl seats set) (ap (λ v. map queue_of_chair v.items) seats) goes
         (λ p vs suits.
-            let mine = own_seat left spot p vs w s seat suits sound.alone.there in
-            record {
-              choice = Passes;
-              moves = rw (sound.here, ← things) refl;
-              may = rw sound.here (refl, (rw mine (now_closing seat.phase phased.opened (going seat sound.alone.there)), (rw mine phased.pool, (rw mine (ap not phased.left), (phased.stopped, tt)))));
-              own = rw sound.here refl;
-              common = rw (seats_on left spot p vs w s s' chair suits items, mine) refl;
-            }),
-        sound_on InClosing.LeaveBarrier q w w.batch w.home.closing s s1 sound refl sound.batch alone
-            (phased_on true (Some InClosing.CloseMailbox) w.home.closing w.root w.names.unreleased w.index s1 chair s.tasks.items found
-            (onward InClosing.LeaveBarrier (Some InClosing.CloseMailbox) w.home.closing w.root w.names.unreleased (stage_of seat s) s.stopped true seat.mailbox.inbox.closed s.tasks.items phased (going seat sound.alone.there) phased.stopped refl phased.shut tt)),
-        unheard refl refl refl,
-      )
+        let again = view_found vs w.index (visible w) suits.seen in
+        record {
+          choice = Plain;
+          moves =
+              subst (λ y. move_at p.config w.index (own_of w) (common_of left spot p vs s) (desk_of w) (things_with vs s) y ≡ record { event = e; choice = Plain; desk = desk_of (record w { place = q }); thing = things_with (with_view vs w.index (visible w)) s' }) (sym sound.here)
+              (shown_as _ (λ v. record { event = e; choice = Plain; desk = desk_of (record w { place = q }); thing = things_with v s' }) vs _ again
+              (rw event (ap (λ (z : Shared B). record { event = Turn; choice = Plain; desk = desk_of (record w { place = q }); thing = things_with vs z }) (sym kept))));
+          may = rw event tt;
+          own = rw (event, sound.here) refl;
+          common = rw event (ap (λ v. common_of left spot p v s') again ∙ ap (common_of left spot p vs) kept ∙ rw sound.here refl);
+        })
 
-  pub mailbox_closed : (w w' : Worker) (s s' : Shared B) (e : Event) → SoundAt (Place.Closing InClosing.CloseMailbox) w s → IsGoing w.index s.seats.items → e ≡ Turn
-      → w' ≡ record w { place = Place.Callbacks InCallbacks.TakeBatch AfterCallbacks.Drain } → TurnsChair w.index (λ chair. record chair { mailbox = record chair.mailbox { inbox = shut chair.mailbox.inbox } }) s s' → s' ≡ record s { seats = s'.seats } → Steps left spot w s e w' s'
-  mailbox_closed w w' s s' e sound going event goes turns kept =
-      let q : Place = Place.Callbacks InCallbacks.TakeBatch AfterCallbacks.Drain in
-      let s1 : Shared B = record s { seats = s'.seats } in
-      let seat = sound.alone.seat in
-      let chair : Chair = record seat { mailbox = record seat.mailbox { inbox = shut seat.mailbox.inbox } } in
-      let items : s'.seats.items ≡ slice_set s.seats.items w.index chair = turns seat sound.alone.there in
-      let found : slice_get s'.seats.items w.index ≡ Some chair = ap (λ xs. slice_get xs w.index) items ∙ set_there s.seats.items w.index chair seat sound.alone.there in
-      let alone = alone_on w.index s.seats.items s'.seats.items s.global.values chair sound.alone (record { queue = refl; messages = refl; waker = refl }) items in
-      let phased = sound.phased seat sound.alone.there in
-      let nothing = held_nothing InClosing.CloseMailbox w s sound refl in
-      let things : things_of w.index s ≡ things_of w.index s1 = rw (found, sound.alone.there) refl in
-      let held = none_numbered (λ n r. is_held_here w.index r) (λ r. r.shown) 0 s.requests.items (λ m k r there. unheld w.index r.shown (nothing.unobserved k r there)) in
-      let asleep = none_numbered (λ n z. is_asleep w.index z) (λ z. z.shown) 0 s.sleepers.items (λ m k z there. nothing.awake k z there) in
-      told_as left spot w (record w { place = q }) w' s s1 s' Turn e event goes kept (
+    pub barrier_opened : SoundAt (Place.Closing InClosing.OpenBarrier) w s → IsGoing w.index s.seats.items → e ≡ Turn → w' ≡ record w { place = Place.Closing InClosing.Stop } → s' ≡ record s { barrier_open = true } → Steps left spot w s e w' s'
+    barrier_opened sound going event goes kept =
+        let q : Place = Place.Closing InClosing.Stop in
+        let seats : s'.seats ≡ s.seats = ap (λ (z : Shared B). z.seats) kept in
+        let set : s'.set ≡ s.set = ap (λ (z : Shared B). z.set) kept in
+        let stop : s'.stopped ≡ s.stopped = ap (λ (z : Shared B). z.stopped) kept in
+        let closes : Closes s s' = subst (λ (z : Shared B). z ≡ record s { seats = z.seats; set = z.set; global = z.global; barrier_open = z.barrier_open; stopped = z.stopped }) (sym kept) refl in
+        let phased = sound.phased sound.seated.seat sound.seated.there in
+        closed_by InClosing.OpenBarrier q w.home.closing w.batch w.processed w w' s s' e sound (follows_in InClosing.Stop)
+        (stays InClosing.OpenBarrier InClosing.Stop sound going closes seats (ap (λ z. z.closed) set) (ap (λ z. length z.shards) set) refl refl refl (λ is. stop ∙ (phased.by_zero is).0) (λ h. stop ∙ h) q refl refl refl refl tt refl sound.aims)
+        (alone sound.aims set (λ h. stop ∙ h)) (inl (ap (λ (z : Shared B). z.global) kept)) (unset seats) (calm InClosing.OpenBarrier q sound (follows_in InClosing.Stop) refl seats set) (ap (λ v. map queue_of_chair v.items) seats) goes
         (λ p vs suits.
-            let mine = own_seat left spot p vs w s seat suits sound.alone.there in
+        let again = view_found vs w.index (visible w) suits.seen in
+        record {
+          choice = Plain;
+          moves =
+              subst (λ y. move_at p.config w.index (own_of w) (common_of left spot p vs s) (desk_of w) (things_with vs s) y ≡ record { event = e; choice = Plain; desk = desk_of (record w { place = q }); thing = things_with (with_view vs w.index (visible w)) s' }) (sym sound.here)
+              (shown_as _ (λ v. record { event = e; choice = Plain; desk = desk_of (record w { place = q }); thing = things_with v s' }) vs _ again
+              (rw event (ap (λ (z : Shared B). record { event = Turn; choice = Plain; desk = desk_of (record w { place = q }); thing = things_with vs z }) (sym kept))));
+          may = rw event tt;
+          own = rw (event, sound.here) refl;
+          common = rw event (ap (λ v. common_of left spot p v s') again ∙ ap (common_of left spot p vs) kept ∙ rw sound.here refl);
+        })
+
+    -- The pool is stopped, and the roots of others are told next, or the own queue is emptied.
+    pub pool_stopped : SoundAt (Place.Closing InClosing.Stop) w s → IsGoing w.index s.seats.items → e ≡ Stop → w' ≡ record w { place = tells_from s.config 1 } → s' ≡ record s { stopped = true } → Steps left spot w s e w' s'
+    pool_stopped sound going event goes kept = by (nat_lt 1 s.config.workers) refl
+      where
+        seats : s'.seats ≡ s.seats
+        seats = ap (λ (z : Shared B). z.seats) kept
+
+        set : s'.set ≡ s.set
+        set = ap (λ (z : Shared B). z.set) kept
+
+        stop : s'.stopped ≡ true
+        stop = ap (λ (z : Shared B). z.stopped) kept
+
+        closes : Closes s s'
+        closes = subst (λ (z : Shared B). z ≡ record s { seats = z.seats; set = z.set; global = z.global; barrier_open = z.barrier_open; stopped = z.stopped }) (sym kept) refl
+
+        phased : IsPhased w.index true (Some InClosing.Stop) w.home.closing w.root w.names.unreleased (stage_of sound.seated.seat s) s.tasks.items
+        phased = sound.phased sound.seated.seat sound.seated.there
+
+        leads : (n : ℕ) (q : Place) → tells_from s.config 1 ≡ q → closes_at q ≡ true → closing_in q ≡ Some (InClosing.TellRoot n) → Follows q → next_at q ≡ Next.Free → serves_at q ≡ false → owed_at w.workers q ≡ letters_to_roots (w.workers - 1) 1 → Aims q s.config w.index s.seats.items → drops_at q ≡ no_drops → Steps left spot w s e w' s'
+        leads n q is closes_there closing follows free unserved owes aims drops =
+            closed_by InClosing.Stop q w.home.closing w.batch w.processed w w' s s' e sound follows
+            (stays InClosing.Stop (InClosing.TellRoot n) sound going closes seats (ap (λ z. z.closed) set) (ap (λ z. length z.shards) set) refl refl refl (λ zero. stop) (λ h. stop) q closes_there closing refl refl tt refl aims)
+            (alone sound.aims set (λ h. stop)) (inl (ap (λ (z : Shared B). z.global) kept)) (unset seats) (calm InClosing.Stop q sound follows drops seats set) (ap (λ v. map queue_of_chair v.items) seats) (goes ∙ ap (λ y. record w { place = y }) is)
+            (λ p vs suits.
+            let cs = common_of left spot p vs s in
+            let again = view_found vs w.index (visible w) suits.seen in
+            let mine = own_seat left spot p vs w s sound.seated.seat suits sound.seated.there in
+            let unstopped : s.stopped ≡ false = (phased.by_zero sound.aims).0 in
             record {
               choice = Plain;
-              moves = rw (sound.here, ← things, held, asleep, sound.batch) refl;
-              may = tt;
-              own = rw sound.here refl;
-              common = rw (sound.here, seats_on left spot p vs w s s' chair suits items, mine, sound.alone.inbox) refl;
-            }),
-        sound_on InClosing.CloseMailbox q w w.batch w.home.closing s s1 sound refl sound.batch alone
-            (phased_on true None w.home.closing w.root w.names.unreleased w.index s1 chair s.tasks.items found
-            (onward InClosing.CloseMailbox None w.home.closing w.root w.names.unreleased (stage_of seat s) s.stopped seat.left true s.tasks.items phased (going seat sound.alone.there) phased.stopped phased.left refl tt)),
-        unheard refl refl refl,
-      )
+              moves =
+                  subst (λ y. move_at p.config w.index (own_of w) cs (desk_of w) (things_with vs s) y ≡ record { event = e; choice = Plain; desk = desk_of (record w { place = q }); thing = things_with (with_view vs w.index (visible w)) s' }) (sym sound.here)
+                  (shown_as _ (λ v. record { event = e; choice = Plain; desk = desk_of (record w { place = q }); thing = things_with v s' }) vs _ again
+                  (rw (event, ← suits.config, is) (ap (λ (z : Shared B). record { event = Stop; choice = Plain; desk = desk_of (record w { place = q }); thing = things_with vs z }) (sym kept))));
+              may = rw (event, sound.here) (refl, (rw sound.aims refl, (rw mine (now_closing sound.seated.seat.phase phased.opened (going sound.seated.seat sound.seated.there)), (rw unstopped refl, tt))));
+              own = rw (event, sound.here, follows.polls, free, unserved, owes, ← suits.config, sound.workers) refl;
+              common = rw event (ap (λ v. common_of left spot p v s') again ∙ ap (common_of left spot p vs) kept);
+            })
 
-  pub worker_ended : (w w' : Worker) (s s' : Shared B) (e : Event) → SoundAt (Place.Closing InClosing.End) w s → IsGoing w.index s.seats.items → e ≡ End
-      → w' ≡ record w { place = Place.Closing InClosing.End } → TurnsChair w.index (λ chair. record chair { phase = WorkerPhase.Ended }) s s' → s' ≡ record s { seats = s'.seats } → Steps left spot w s e w' s'
-  worker_ended w w' s s' e sound going event goes turns kept =
-      let q : Place = Place.Closing InClosing.End in
-      let s1 : Shared B = record s { seats = s'.seats } in
-      let seat = sound.alone.seat in
-      let chair : Chair = record seat { phase = WorkerPhase.Ended } in
-      let items : s'.seats.items ≡ slice_set s.seats.items w.index chair = turns seat sound.alone.there in
-      let found : slice_get s'.seats.items w.index ≡ Some chair = ap (λ xs. slice_get xs w.index) items ∙ set_there s.seats.items w.index chair seat sound.alone.there in
-      let alone = alone_on w.index s.seats.items s'.seats.items s.global.values chair sound.alone (record { queue = refl; messages = refl; waker = refl }) items in
-      let phased = sound.phased seat sound.alone.there in
-      let nothing = held_nothing InClosing.End w s sound refl in
-      let things : things_of w.index s ≡ things_of w.index s1 = rw (found, sound.alone.there) refl in
-      let gone = same_by (gone_with w.index) (λ z. z.shown) s.sleepers.items (λ k z there. gone_before w.index z.shown (nothing.awake k z there)) in
-      told_as left spot w (record w { place = q }) w' s s1 s' End e event goes kept (
-        (λ p vs suits.
-            let seen = common_of left spot p vs s in
-            let mine = own_seat left spot p vs w s seat suits sound.alone.there in
-            let here : (k : ℕ) (c : Chair) → slice_get s.seats.items k ≡ Some c → c ≡ seat = λ k c found.
-            let same : w.index ≡ k = first_alone (length s.seats.items) w.index k sound.alone.only (slice_get_within s.seats.items w.index seat sound.alone.there) (slice_get_within s.seats.items k c found) in
-            same_thing c seat (sym found ∙ ap (λ n. slice_get s.seats.items n) (sym same) ∙ sound.alone.there) in
-            let all : all_left seen ≡ true =
-            seats_all (λ x. x.left || not x.pool) vs s.seats.items (λ k v c found. rw (here k c found, phased.left) refl) in
-            let over : list_all is_over_or_root (map (task_seen left spot) s.tasks.items) ≡ true =
-            mapped_all is_over_or_root (task_seen left spot) s.tasks.items (λ k slot found.
-            let root : slot ≡ sound.runnable.root = same_thing slot sound.runnable.root (sym found ∙ ap (λ n. slice_get s.tasks.items n) (phased.lone k slot found) ∙ sound.runnable.there) in
-            rw (root, sound.runnable.home) refl) in
-            record {
-              choice = Plain;
-              moves = rw (sound.here, ← things) refl;
-              may = rw sound.here (refl, (rw mine (now_closing seat.phase phased.opened (going seat sound.alone.there)), (rw mine phased.shut, (rw phased.prepared refl, (rw (mine, phased.pool, all, over) refl, tt)))));
-              own = rw sound.here refl;
-              common = rw (seats_on left spot p vs w s s' chair suits items, mine, sound.alone.inbox, gone) refl;
-            }),
-        sound_on InClosing.End q w w.batch w.home.closing s s1 sound refl sound.batch alone
-            (phased_on true (Some InClosing.End) w.home.closing w.root w.names.unreleased w.index s1 chair s.tasks.items found (assumption phased)),
-        unheard refl refl refl,
-      )
+        by : (others : Bool) → nat_lt 1 s.config.workers ≡ others → Steps left spot w s e w' s'
+        by true is =
+            let some : 1 < s.config.workers = grind (arith, nat_tests, is) in
+            leads 1 (Place.Closing (InClosing.TellRoot 1)) (rw is refl) refl refl (follows_in (InClosing.TellRoot 1)) refl refl refl (omega (arith, sound.aims), some) refl
+        by false is =
+            let none : w.workers - 1 ≡ 0 = grind (arith, nat_tests, is, sound.workers) in
+            leads 0 (Place.Pop InPop.PopAlone AfterPop.Discard) (rw is refl) refl refl (follows_pop false) refl refl (rw none refl) tt refl

@@ -108,14 +108,13 @@ module _ (i t until : ℕ) (n n' : Names) (d : Driving Reply Reply) (zs zs' : Sl
         telling = rw one.untold flown.telling;
         entries = rw (one.staged, one.untold) flown.entries;
         permits = flown.permits;
-        ours = flown.ours;
         plain = flown.plain;
         landed = landed_on n n' d d rs rs (operations d.ring) flown.landed
             (λ id it r given at flies there landed. record { it' = it; r' = r; live = at; flies = refl; same = refl; number = ap (λ ns. number_in ns id) one.requests; there = there; phase = refl });
         enrolling = flown.enrolling;
-        acks = flown.acks;
+        polled = flown.polled;
         owning = flown.owning;
-        uncancelled = λ id r among there. flown.uncancelled id r among (rw (← one.requests) there);
+        uncancelled = λ id r among there mine. flown.uncancelled id r among (rw (← one.requests) there) mine;
       }
 
   -- it waits for that sleeper alone

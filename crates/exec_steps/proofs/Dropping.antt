@@ -6,8 +6,8 @@ use Rattle.exec_request.specs.{Requests.{asked_of, goes_on_alone, output_of}, St
 use Rattle.exec_waiters.{specs.{Events.{cancelled as cancelled_of, told_by_finish, told_to, untaken, told_by_orphan, orphaned_from, asks_cancel_by_orphan}, States.{waiter_at, waiter_of, is_held_by, flying_count, tick_in}, Told.{Told, Tells, nothing_told}, declared.{observer.Observer.{Observer, TheVariants.{Local, Orphaned}}, waiter.{Entry.{Entry, TheVariants.{Pending, Ready}}, Waiter.Waiter}, waiter_id.WaiterId.WaiterId}}, proofs.Changes.{entry_of, one_if}}
 use Rattle.exec_driver.specs.{Driving.{Driving, request_at, is_queued as is_listed_queued, is_unenrolled, is_cancelled}, Lists.{is_among, without}, Punctual.IsPunctual, Steps.{both, cancelling, cancelled_at, cancelled_from, ended, timed_out, told_by_cancel, without_observer}}
 use Rattle.exec_machine.specs.{declared.state.{Request.Request, RequestPhase.RequestPhase, Waiting.Waiting}, Requests.{dropped, ends_by_drop, is_cancelled_by_drop, joined_if, left_if, resolved}, Tests.{is_in_flight, is_kept, is_queued, is_resolved}}
-use Rattle.exec_moves.specs.declared.place.{AfterCallbacks.AfterCallbacks, InCallbacks.InCallbacks, InPoll.InPoll, Place.Place}
-use Rattle.exec_steps.{specs.{declared.parts.{mail.Reply.Reply, record.Record.Record, shared.Shared.Shared, task_slot.TaskSlot.TaskSlot, worker.Worker.Worker}, Awaits.{LetsGo, drops}, Flown.{IsPlain, IsUpTo, longest}, Phased.is_complete, Polls.unobserved, Records.number_in, Rooted.IsNear, Serving.{changed_at, changed_in}, Sound.{IsAlike, IsTold, tellers}, View.{driver_of, numbers_of}}, proofs.{Facts.set_there, Cancelling.among_last, Changing.{changes_one, flying_after}, Ends.{flying_ended, numbers_without}, Expiring.{flies_not_queued, unticked_start, unticked_tick}, Getting.{Without, same_flying, same_pending}, Late.stands, Letting.{KeepsActing, alike_cancelled, alike_orphaned, let_cancel, let_shared, let_worker, lets_pending, lets_ready, punctual_watched, told_output, without_waiter}, Ousting.keeps_ended, Over.OneEnds, Resolving.{live_fewer, places_fewer, slab_after, told_once, unticked_at}, Starting.{queued_phase, writes_bytes}, Timed.told_still, Watching.{now_there, watched}, Orders.{alike_self, alike_unticked}}}
+use Rattle.exec_moves.specs.{declared.handing.{AfterCallbacks.AfterCallbacks}, declared.place.{InCallbacks.InCallbacks, InPoll.InPoll, Place.Place}}
+use Rattle.exec_steps.{specs.{declared.parts.{mail.Reply.Reply, record.Record.Record, shared.Shared.Shared, task_slot.TaskSlot.TaskSlot, worker.Worker.Worker}, Awaits.{LetsGo, drops}, Flown.{IsPlain, IsUpTo, longest}, Phased.is_complete, Polls.unobserved, Records.number_in, Rooted.IsNear, Serving.{changed_at, changed_in}, Sound.{IsAlike, IsTold, tellers}, View.{driver_of, numbers_of}}, proofs.{Mine.live_mine, Facts.set_there, Cancelling.among_last, Changing.{changes_one, flying_after}, Ends.{flying_ended, numbers_without}, Expiring.{flies_not_queued, unticked_start, unticked_tick}, Getting.{Without, same_flying, same_pending}, Late.stands, Letting.{KeepsActing, alike_cancelled, alike_orphaned, let_cancel, let_shared, let_worker, lets_pending, lets_ready, punctual_watched, told_output, without_waiter}, Ousting.keeps_ended, Over.OneEnds, Resolving.{live_fewer, places_fewer, slab_after, told_once, unticked_at}, Starting.{queued_phase, writes_bytes}, Timed.told_still, Watching.{now_there, watched}, Orders.{alike_self, alike_unticked}}}
 
 -- A REQUEST THAT MAY BE THERE is cancelled where nobody holds it
 
@@ -156,7 +156,7 @@ module _ {B : Type 0} (w v : Worker) (s s' : Shared B) (slot slot' : TaskSlot B)
       let it1 = without_waiter it in
       let value : value_at d.requests id ≡ Some (Pending it) = entry_of (value_at d.requests id) it live in
       let a = keeps.named.alike id it r live at_number in
-      let plain = keeps.flown.plain (number_in w.names.requests.items id) r at_number (keeps.flown.ours (number_in w.names.requests.items id) r at_number) in
+      let plain = keeps.flown.plain (number_in w.names.requests.items id) r at_number (live_mine w.index w.names d w.home.timers s.requests.items s.sleepers.items keeps.named id it r live at_number) in
       let one = (keeps.rooted.root slot there).held without.place (number_in w.names.requests.items id) without.at in
       let is_r : one.0 ≡ r = cc (one.1, at_number) in
       let held : is_held_by it.observer ≡ true = sym a.observed ∙ ap (λ y. y.shown.observed) (sym is_r) ∙ one.2.observed in
@@ -220,7 +220,7 @@ module _ {B : Type 0} (w v : Worker) (s s' : Shared B) (slot slot' : TaskSlot B)
       let tells : Tells w.home.deferred v.home.deferred nothing_told = subst (λ x. Tells w.home.deferred v.home.deferred x) (ap (λ b. if b then nothing_told else told_by_finish r.id.0 it1 timed_out None) flies) going.tells in
       let ends : ends_by_drop r.shown ≡ false = ap (λ b. b && not (is_kept r.shown.operation.kind)) (flies_not_queued r.shown.phase (a.flying ∙ flies)) in
       let unasked : is_cancelled_by_drop r.shown ≡ false = rw (a.flying, flies, going.lets_it, a.cancelled, asked) refl in
-      let by = watched w.names d d1 s.requests.items r.id.0 it it1 r unobserved going.live at_number refl refl a.open_still refl refl refl (λ h. h) (λ t h. h) (alike_orphaned d.wheel.start d.wheel.tick it r a) refl refl refl (alike_self d.wheel) refl (λ x among. inl among) in
+      let by = watched w.names d d1 s.requests.items r.id.0 it it1 r unobserved going.live at_number refl refl a.open_still refl refl refl (λ h. h) (λ t h. h) (alike_orphaned d.wheel.start d.wheel.tick it r a) refl refl refl refl (alike_self d.wheel) refl (λ x among. inl among) in
       let again = lets_pending w s s' slot slot' r.id.0 keeps there tasks without no_timer no_request still_waits complete v.home.deferred r it it1 unobserved d1 going.live refl by refl (subst IsPunctual drv (lets.punctual keeps.due.punctual)) (keeps.due.told refl) keeps.due.wheel
       (told_still w.names.ended.items (tellers d.requests w.home.timers) w.home.deferred v.home.deferred tells keeps.told) (tells.notes.wakes_added ∙ append-nil w.home.deferred.notes.wakes.items ∙ keeps.quiet refl) in
       flies_on it going flies unobserved it1 d1 drv refl refl again (ap (λ q. record r { shown = q }) (not_gone r.shown ends unasked)) ends refl refl refl refl
@@ -246,7 +246,7 @@ module _ {B : Type 0} (w v : Worker) (s s' : Shared B) (slot slot' : TaskSlot B)
       let cancels_it : is_cancelled_by_drop r.shown ≡ true = rw (a.flying, flies, going.lets_it, uncancelled) refl in
       let same : drops r ≡ let_cancel r = ap (λ q. record r { shown = q }) (cancels_now r.shown ends cancels_it) in
       let slab : d'.requests ≡ written d.requests id (Pending it') = written_twice d.requests id (Pending it1) (Pending it') in
-      let by = watched w.names d d' s.requests.items id it it' r let_cancel going.live at_number refl refl a.open_still slab refl refl (λ h. absurd (false≢true h)) (λ t h. let no : None ≡ Some t = h in absurd (cc)) (alike_cancelled d.wheel.start d.wheel.tick it r flies a) refl
+      let by = watched w.names d d' s.requests.items id it it' r let_cancel going.live at_number refl refl a.open_still slab refl refl (λ h. absurd (false≢true h)) (λ t h. let no : None ≡ Some t = h in absurd (cc)) (alike_cancelled d.wheel.start d.wheel.tick it r flies a) refl refl
       (unticked_start d.wheel (tick_in it.state)) (unticked_tick d.wheel (tick_in it.state)) (alike_unticked d.wheel (tick_in it.state)) refl
       (λ x among. ⊎_elim (λ was. inl was) (λ is. inr (is, asks_once r.shown.cancel_staged r.shown.cancelled a.told_once uncancelled)) (among_last x r.id d.lists.cancels among)) in
       let again = lets_pending w s s' slot slot' id keeps there tasks without no_timer no_request still_waits complete v.home.deferred r it it' let_cancel d' going.live slab by refl (subst IsPunctual drv (lets.punctual keeps.due.punctual)) (ap (unlisted r.id) (keeps.due.told refl))
@@ -277,7 +277,7 @@ module _ {B : Type 0} (w v : Worker) (s s' : Shared B) (slot slot' : TaskSlot B)
       let unasked : is_cancelled_by_drop r.shown ≡ false = ap (λ b. b && not (is_kept r.shown.operation.kind) && not r.shown.cancelled) (a.flying ∙ idle) in
       let rs1 = rs_let unobserved in
       let r1 = unobserved r in
-      let by = watched w.names d d1 s.requests.items id it it1 r unobserved going.live at_number refl refl a.open_still refl refl refl (λ h. h) (λ t h. h) (alike_orphaned d.wheel.start d.wheel.tick it r a) refl refl refl (alike_self d.wheel) refl (λ x among. inl among) in
+      let by = watched w.names d d1 s.requests.items id it it1 r unobserved going.live at_number refl refl a.open_still refl refl refl (λ h. h) (λ t h. h) (alike_orphaned d.wheel.start d.wheel.tick it r a) refl refl refl refl (alike_self d.wheel) refl (λ x among. inl among) in
       let mid = lets_pending w s s' slot slot' id keeps there tasks without no_timer no_request still_waits complete w.home.deferred r it it1 unobserved d1 going.live refl by refl (punctual_watched d d1 id it it1 going.live refl refl keeps.due.punctual) (keeps.due.told refl) keeps.due.wheel keeps.told (keeps.quiet refl) in
       let here : slice_get rs1 kk ≡ Some r1 = now_there w.index w.names 0 d d1 w.home.timers s.requests.items rs1 s.sleepers.items id r unobserved by in
       let w1 : Worker = record (let_worker w w.names w.home.deferred) { place = Place.Poll w.root InPoll.Act } in
@@ -287,7 +287,7 @@ module _ {B : Type 0} (w v : Worker) (s s' : Shared B) (slot slot' : TaskSlot B)
       let over = keeps_ended w1 (let_shared s s') d1 d' w.home.timers rs1 s.sleepers.items id it1 r1 ends_now (Failure Timeout) told (Place.Callbacks InCallbacks.TakeBatch AfterCallbacks.Look) v.names left t one mid
       slot' at_root (record { once = told_once id it1 timed_out None tt; wakes = refl }) tells ended_by lets.capacity idle
       (record { bounded = going.plain.bounded; moved = going.plain.moved; first_part = going.plain.first_part; unhinted = going.plain.unhinted; ungated = refl; deadline = going.plain.deadline })
-      (λ held. absurd (false≢true held)) refl refl (unticked_start d.wheel (tick_in it.state)) (unticked_tick d.wheel (tick_in it.state)) (subst IsPunctual drv (lets.punctual keeps.due.punctual)) (λ h. ap (unlisted r.id) (keeps.due.told refl))
+      (λ held. absurd (false≢true held)) refl refl refl (unticked_start d.wheel (tick_in it.state)) (unticked_tick d.wheel (tick_in it.state)) (subst IsPunctual drv (lets.punctual keeps.due.punctual)) (λ h. ap (unlisted r.id) (keeps.due.told refl))
       (unticked_at s.config w.moments.start w.moments.sampled d.wheel (tick_in it.state) keeps.due.wheel) (alike_unticked d.wheel (tick_in it.state)) refl refl in
       let wakes : left.notes.wakes.items ≡ w.home.deferred.notes.wakes.items = tells.notes.wakes_added ∙ append-nil w.home.deferred.notes.wakes.items in
       let now : KeepsActing (let_worker w v.names left) d' (changed_at rs1 kk ends_now) (let_shared s s') =

@@ -6,7 +6,7 @@ use Rattle.exec_waiters.specs.{States.{pending_count, flying_count, waiter_of}, 
 use Rattle.exec_driver.specs.{Driving.Driving, Opens.OpenState}
 use Rattle.exec_machine.specs.{declared.state.{MailMessage.TheVariants.CancelRequest, Request.Request, Waiting.Waiting}, Requests.{dropped, ends_by_drop, is_cancelled_by_drop, joined_if, left_if, own_after_drop, resolved}, Tasks.{own_after_drops, owes, requests_after_drops}, Tests.{is_kept, is_queued, is_resolved}, World.{Own, Common, no_request, request_of}}
 use Rattle.exec_moves.specs.{Callback.told_of_drop, Poll.told_of_all, State.Desk}
-use Rattle.exec_steps.{specs.{declared.parts.{mail.Reply.Reply, record.Record.Record, shared.Shared.Shared, task_slot.TaskSlot.TaskSlot, worker.Worker.Worker}, Awaits.{LetsGo, MayLetGo, drops}, Ending.{LetsGoAll, MayLetGoAll}, Records.number_in, Rooted.IsHeld, Serving.{changed_at, changed_in}, View.{driver_of, numbers_of, open_seen, own_of}}, proofs.{Facts.set_there, Calling.request_seen, Dating.{one_pending, room_by}, Dropping.{BecomesOf, becomes}, Getting.{Without, without_first}, Keys.{name_in, names_kept, same_opens}, Letting.KeepsActing, Resolving.{live_fewer, places_fewer, slab_after}}}
+use Rattle.exec_steps.{specs.{declared.parts.{mail.Reply.Reply, record.Record.Record, shared.Shared.Shared, task_slot.TaskSlot.TaskSlot, worker.Worker.Worker}, Awaits.{LetsGo, MayLetGo, drops}, Ending.{LetsGoAll, MayLetGoAll}, Records.number_in, Rooted.IsHeld, Serving.{changed_at, changed_in}, View.{driver_of, numbers_of, open_seen, own_of}}, proofs.{Facts.set_there, Recorded.request_seen, Dating.{one_pending, room_by}, Dropping.{BecomesOf, becomes}, Getting.{Without, without_first}, Keys.{name_in, names_kept, same_opens}, Letting.KeepsActing, Own.{KeepsRecords, record_set, records_same}, Resolving.{live_fewer, places_fewer, slab_after}}}
 
 set_apart : {A : Type 0} (xs : List A) (i j : ℕ) (a : A) → (i ≡ j → ⊥) → slice_get (slice_set xs i a) j ≡ slice_get xs j
 set_apart [] i j a apart = refl
@@ -14,6 +14,14 @@ set_apart (x ∷ xs) zero zero a apart = absurd (apart refl)
 set_apart (x ∷ xs) zero (suc j) a apart = refl
 set_apart (x ∷ xs) (suc i) zero a apart = refl
 set_apart (x ∷ xs) (suc i) (suc j) a apart = set_apart xs i j a (λ e. apart (ap suc e))
+
+-- records of other workers stay, and stay again
+records_then : (i : ℕ) (xs ys zs : List Record) → KeepsRecords i xs ys → KeepsRecords i ys zs → KeepsRecords i xs zs
+records_then i xs ys zs one two =
+    record {
+      kept = λ k r there other. two.kept k r (one.kept k r there other) other;
+      only = λ k r there other. one.only k r (two.only k r there other) other;
+    }
 
 dropped_worker : (q : Request) → (dropped q).worker ≡ q.worker
 dropped_worker q = by (ends_by_drop q) (is_cancelled_by_drop q)
@@ -133,6 +141,7 @@ module _ {B : Type 0} where
     pub s' : Shared B
     pub acting : IsActing [] slot' v (driver_of v) s'
     pub requests : s'.requests.items ≡ rs
+    pub records : KeepsRecords w.index s.requests.items rs
     pub tasks : s'.tasks.items ≡ slice_set s.tasks.items w.root slot'
     pub kept : s' ≡ record s { tasks = s'.tasks; requests = s'.requests }
     pub same : slot' ≡ record slot { held = slot'.held }
@@ -174,6 +183,7 @@ module _ {B : Type 0} where
         s' = s;
         acting = h;
         requests = refl;
+        records = records_same w.index s.requests.items s.requests.items refl;
         tasks = sym (ap (slice_set s.tasks.items w.root) (sym (get_or_from_slice_get s.tasks.items w.root slot slot h.there)) ∙ set-get_or s.tasks.items w.root slot);
         kept = refl;
         same = refl;
@@ -210,6 +220,9 @@ module _ {B : Type 0} where
         s' = ih.s';
         acting = ih.acting;
         requests = ih.requests;
+        records = records_then w.index s.requests.items it.s'.requests.items rs
+            (subst (KeepsRecords w.index s.requests.items) (sym step) (record_set w.index k s.requests.items r (drops r) lets.request mine (dropped_worker r.shown ∙ mine)))
+            (subst (λ i. KeepsRecords i it.s'.requests.items rs) index ih.records);
         tasks = ih.tasks ∙ ap (λ t. slice_set it.s'.tasks.items t ih.slot') root ∙ ap (λ ts. slice_set ts w.root ih.slot') it.tasks ∙ set-set s.tasks.items w.root it.slot' ih.slot';
         kept = ih.kept ∙ ap (λ (x : Shared B). record x { tasks = ih.s'.tasks; requests = ih.s'.requests }) it.kept;
         same = ih.same ∙ ap (λ (o : TaskSlot B). record o { held = ih.slot'.held }) it.same;

@@ -7,8 +7,8 @@ use Rattle.exec_ring.specs.Stores.{Reserves}
 use Rattle.exec_waiters.specs.{Events.{finished, told_by_finish}, States.{counts_pending, pending_count}, Told.{Tells, nothing_told}, declared.{observer.Observer.TheVariants.Local, waiter.{Entry.TheVariants.Pending, Waiter.Waiter}}}
 use Rattle.exec_driver.specs.{Admission.with_rooms, Driving.{Driving, seen}, Lists.{withdrawn, without}, Placed.ListsRequests, Punctual.IsPunctual, Steps.{footprint_of, is_late, newcomer, placed_at, taken_in, timed_out, told_at_admission}}
 use Rattle.exec_machine.specs.{declared.{event.Event.Event, state.{Request.Request, RequestPhase.RequestPhase, Waiting.Waiting}}, Requests.{new_request, outcome_if_late, resolved, resolved_if}}
-use Rattle.exec_moves.specs.declared.place.{Place.Place, AfterCallbacks.AfterCallbacks, InCallbacks.InCallbacks, InPoll.InPoll}
-use Rattle.exec_steps.{specs.{declared.parts.{mail.Reply.Reply, names.Names.Names, record.Record.Record, shared.Shared.Shared, task_slot.TaskSlot.TaskSlot, worker.Worker.Worker}, Admitting.{Registers, most_told}, Due.{IsWheelAt, wheel_moment}, Ordered.went_round, Phased.is_complete, Records.{number_in, plain_operation}, Rooted.{Holds, IsRooted}, Scripts.IsPlainRequest, Serving.{changed_at, changed_in}, Sound.{SoundAt, AreOver, AreOwed, IsTold, tellers}, View.driver_of}, proofs.{Facts.set_there, Enlisting.{cancels_are, due_are, enrolments_are, driver_then, placed_late, placed_queued, queued_driver, taken_by}, Growing.{Grows, few_tellers, told_same}, Late.tells_error, Newcomer.{OneComes, carried_next, flown_next, holds_next, is_here, named_next, order_next, over_next, punctual_next, timed_next}, Orders.{TurnsAlike, alike_self}, Ousting.keeps_ended, Over.OneEnds, Performing.going_on, Plainly.{late_is, plainly}, Resolving.{SlabAfter, places_fewer, slab_after, told_once}, Rooted.rooted_set, Serving.KeepsBy, Taken.{Takes, got_new}, Timed.keeps_untold}}
+use Rattle.exec_moves.specs.{declared.handing.{AfterCallbacks.AfterCallbacks}, declared.place.{Place.Place, InCallbacks.InCallbacks, InPoll.InPoll}}
+use Rattle.exec_steps.{specs.{declared.parts.{mail.Reply.Reply, names.Names.Names, record.Record.Record, shared.Shared.Shared, task_slot.TaskSlot.TaskSlot, worker.Worker.Worker}, Admitting.{Registers, most_told}, Due.{IsWheelAt, wheel_moment}, Ordered.went_round, Phased.is_complete, Places.polled_in, Records.{number_in, plain_operation}, Rooted.{Holds, IsRooted, ends_poll}, Scripts.IsPlainRequest, Serving.{changed_at, changed_in}, Sound.{SoundAt, AreOver, AreOwed, IsTold, Stands, tellers}, View.driver_of}, proofs.{Facts.set_there, Here.going_on, Enlisting.{cancels_are, due_are, enrolments_are, driver_then, placed_late, placed_queued, queued_driver, taken_by}, Growing.{few_tellers, told_same}, RootGrown.Grows, Late.tells_error, Newcomer.{OneComes, carried_next, flown_next, holds_next, is_here, named_next, order_next, over_next, punctual_next, timed_next}, Orders.{TurnsAlike, alike_self}, Ousting.keeps_ended, Over.OneEnds, Plainly.{late_is, plainly}, Polling.in_own_poll, Resolving.{SlabAfter, places_fewer, slab_after, told_once}, Rooted.rooted_set, Serving.KeepsBy, Taken.{Takes, got_new}, Untold.keeps_untold}}
 
 set_last : {A : Type 0} (xs : List A) (x y : A) → slice_set (xs ++ x ∷ []) (length xs) y ≡ xs ++ y ∷ []
 set_last [] x y = refl
@@ -97,6 +97,7 @@ module _ {B : Type 0} (w w' : Worker) (s0 sx s' : Shared B) (q : Asking) (e : Ev
         plain = record { bounded = is.bounded; moved = omega arith; first_part = refl; unhinted = refl; ungated = refl; deadline = near };
         lists = subst (λ (x : Driving Reply Reply). ListsRequests x) driver_was reg.takes.lists;
         ring = refl;
+        armed = refl;
         wheel = refl;
         cancels = cancels_are reg.id (deadline_of q) d.lists;
         due = due_are reg.id (deadline_of q) d.lists;
@@ -146,9 +147,12 @@ module _ {B : Type 0} (w w' : Worker) (s0 sx s' : Shared B) (q : Asking) (e : Ev
       let one = one_comes in
       let named = sound.named in
       let due = sound.due in
-      let old = sound.tied.stands slot grows.there in
+      let acts : polled_in w.root (Place.Poll w.root InPoll.Act) ≡ Some InPoll.Act = in_own_poll w.root (Some w.root) InPoll.Act refl in
+      let old : Stands (Some InPoll.Act) w.index slot = subst (λ y. Stands y w.index slot) acts (sound.tied.stands slot grows.there) in
+      let holding : Holds false w.index w.root slot.held.items slot.waiting (is_complete slot.cell.phase) w.names d w.home.timers rs s0.sleepers.items =
+      subst (λ y. Holds (ends_poll y) w.index w.root slot.held.items slot.waiting (is_complete slot.cell.phase) w.names d w.home.timers rs s0.sleepers.items) acts (sound.rooted.root slot grows.there) in
       let before : Holds false w.index w.root slot.held.items Waiting.Nothing (is_complete slot.cell.phase) w.names d w.home.timers rs s0.sleepers.items =
-      subst (λ u. Holds false w.index w.root slot.held.items u (is_complete slot.cell.phase) w.names d w.home.timers rs s0.sleepers.items) old.waits (sound.rooted.root slot grows.there) in
+      subst (λ u. Holds false w.index w.root slot.held.items u (is_complete slot.cell.phase) w.names d w.home.timers rs s0.sleepers.items) old.waits holding in
       let going = going_on slot.cell.phase old.polled in
       let now : Holds false w.index w.root (slot.held.items ++ length rs ∷ []) Waiting.Nothing (is_complete slot.cell.phase) names_made driver_made w.home.timers (rs ++ record_made ∷ []) s0.sleepers.items =
       holds_next w.index w.names names_made d driver_made w.home.timers rs s0.sleepers.items reg.id.0 waiter_made record_made one w.root slot.held.items (is_complete slot.cell.phase) going named before in
@@ -244,7 +248,7 @@ module _ {B : Type 0} (w w' : Worker) (s0 sx s' : Shared B) (q : Asking) (e : Ev
       slot' found (record { once = told_once reg.id.0 waiter_made timed_out None tt; wakes = refl }) tells ended reg.names.capacity refl
       (record { bounded = p.bounded; moved = p.moved; first_part = p.first_part; unhinted = p.unhinted; ungated = refl; deadline = p.deadline })
       (λ h. sym (tells_error q (asked_of q).length Timeout (plainly q plain).bounded))
-      (ap (λ x. x.ring) driver) (ap (λ x. x.lists) driver) (ap (λ x. x.wheel.start) driver) (ap (λ x. x.wheel.tick) driver)
+      (ap (λ x. x.ring) driver) (ap (λ x. x.armed) driver) (ap (λ x. x.lists) driver) (ap (λ x. x.wheel.start) driver) (ap (λ x. x.wheel.tick) driver)
       (reg.takes.punctual (subst (λ (x : Driving Reply Reply). IsPunctual x) (sym driver_was) sound.due.punctual))
       (λ h. ap (λ x. x.lists.due) driver ∙ ap (without reg.id) (one.due ∙ sound.due.told refl))
       (subst (λ (x : Driving Reply Reply). IsWheelAt s0.config w.moments.start (wheel_moment None w.moments) x.wheel) (sym driver) sound.due.wheel)

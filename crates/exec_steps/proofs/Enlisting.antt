@@ -1,5 +1,5 @@
 -- A request that the root made: what holds again, once it is queued, and where it is over at once.
-use Rattle.std.{proofs.{Common.{◌≡◌, ℕ, ◌+◌, ◌^◌, ◌<◌, ◌≤◌, Bool, true, false, not, List, [], ◌∷◌, ◌++◌, length, Option, Some, None, refl, sym, ap, subst, ◌∙◌, arith, inr, slice_get, slice_set, if◌then◌else◌}, lemmas.List.{append-nil, set_past, Elements.filter-append}}, specs.Vec.vec_capacity}
+use Rattle.std.{proofs.{Common.{◌≡◌, ℕ, ◌^◌, ◌<◌, ◌≤◌, Bool, true, false, not, List, [], ◌∷◌, ◌++◌, length, Option, Some, None, refl, sym, ap, subst, ◌∙◌, arith, inr, slice_get, slice_set, if◌then◌else◌}, lemmas.List.{append-nil, set_past, Elements.filter-append}}, specs.Vec.vec_capacity}
 use Rattle.exec_base.{specs.{Slab.{Slab, slot_at, generation_of, filled, inserted, next_id, written, IsPast, TakesId}, declared.slab.{Id.Id, Slot.TheVariants.Live}}, proofs.Slots.{NextIs, some_of_if}}
 use Rattle.exec_outcomes.specs.{declared.outcome.Outcome.Outcome, Accounts.is_durable}
 use Rattle.exec_request.specs.{Requests.{deadline_of, gate_of, output_of}, declared.request.Request.Request as Asking}

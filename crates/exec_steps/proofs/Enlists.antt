@@ -8,7 +8,7 @@ use Rattle.exec_waiters.specs.{Events.told_by_finish, States.{counts_flying, fly
 use Rattle.exec_driver.specs.{Admission.with_rooms, Driving.{Driving, is_cancelled, is_queued, is_unenrolled}, Lists.{is_among, without}, Steps.{ended, in_place, is_late, newcomer, taken_in, timed_out, with_deadline}}
 use Rattle.exec_machine.specs.{declared.{event.Event.Event, state.Next.Next}, Requests.{own_after_admit, outcome_if_late}, Same.is_none, World.Own}
 use Rattle.exec_moves.specs.declared.place.{InPoll.InPoll, Place.Place}
-use Rattle.exec_steps.{specs.{declared.parts.{mail.Reply.Reply, shared.Shared.Shared, task_slot.TaskSlot.TaskSlot, worker.Worker.Worker}, Admitting.Registers, Flown.operations, Records.{number_in, plain_operation}, Scripts.IsPlainRequest, Sound.SoundAt, View.{desk_of, driver_of, landed_in, numbers_of, own_of, trailing, visible}}, proofs.{Facts.{same_self, or_left}, Asked.flat, Ends.{flying_ended, later_in, numbers_without}, Enlisted.{driver_is, driver_late, driver_made, names_made, one_comes, record_made, tells_now, wakes_now}, Enlisting.{enrolments_are, placed_queued, queued_are}, Flown.numbers_on, Growing.{desk_by, own_by}, Late.stands, Newcomer.{OneComes, flies_on, is_here, number_here, number_there}, Taken.enrolled_if, Plainly.{late_is, plainly}}}
+use Rattle.exec_steps.{specs.{declared.parts.{mail.Reply.Reply, shared.Shared.Shared, task_slot.TaskSlot.TaskSlot, worker.Worker.Worker}, Admitting.Registers, Flown.operations, Records.{number_in, plain_operation}, Scripts.IsPlainRequest, Sound.SoundAt, View.{Visible, desk_of, driver_of, landed_in, message_of, numbers_of, own_of, trailing, visible, wake_poll_in}}, proofs.{Facts.{same_self, or_left}, Asked.flat, Ends.{flying_ended, later_in, numbers_without}, Enlisted.{driver_is, driver_late, driver_made, names_made, one_comes, record_made, tells_now, wakes_now}, Enlisting.{enrolments_are, placed_queued, queued_are}, Flown.numbers_on, RootGrown.{desk_by, own_by}, Mine.stands, Newcomer.{OneComes, flies_on, is_here, number_here, number_there}, Taken.enrolled_if, Plainly.{late_is, plainly}}}
 
 -- a placing leaves the ring
 ring_placed : (d : Driving Reply Reply) (id : WaiterId) (w : Waiter Reply Reply) (o g : Option ℕ) (b : Bool)
@@ -164,8 +164,9 @@ module _ {B : Type 0} (w w' : Worker) (s sx s' : Shared B) (q : Asking) (e : Eve
       let n' = names_made w w' s sx s' q e slot reg.slot' sound reg plain near in
       let d' = driver_made w w' s sx s' q e slot reg.slot' sound reg plain near in
       let r' = record_made w w' s sx s' q e slot reg.slot' sound reg plain near in
+      let shown : List ℕ → RingState → Visible = λ landed r. record { busy = r.busy; landed = landed; wakes = wake_poll_in r; taken = map message_of w.batch.values } in
       ap visible (flat w w' s sx s' q e slot sound reg plain near)
-      ∙ ap (λ (r : RingState). record { busy = r.busy; landed = landed_in w'.names.requests.items r }) rings.0
-      ∙ ap (λ xs. record { busy = (driver_of w).ring.busy; landed = xs })
+      ∙ ap (λ (r : RingState). shown (landed_in w'.names.requests.items r) r) rings.0
+      ∙ ap (λ xs. shown xs (driver_of w).ring)
       (numbers_on w.names n' (driver_of w) d' s.requests.items (s.requests.items ++ r' ∷ []) (operations (driver_of w).ring) sound.flown.landed
       (flies_on w.index w.names n' (driver_of w) d' w.home.timers s.requests.items s.sleepers.items reg.id.0 (newcomer q (Local None)) r' one))

@@ -1,87 +1,47 @@
 -- An enter of a worker, from any place where it may let the kernel work, is a step of it.
-use Rattle.std.proofs.Common.{◌≡◌, ℕ, ◌+◌, ◌≤◌, Bool, true, false, not, List, [], length, map, filter, Option, None, refl, sym, ap, subst, ◌∙◌, arith, slice_set}
+use Rattle.std.proofs.Common.{◌≡◌, ℕ, ◌+◌, ◌≤◌, Bool, true, false, not, List, [], length, map, Option, None, Some, refl, sym, ap, subst, ◌∙◌, arith, slice_get, slice_set, if◌then◌else◌}
 use Rattle.exec_ring.specs.{Kernels.{all_taken, entered as entered_ring}, Rings.{RingState, completions}}
-use Rattle.exec_waiters.specs.States.{flying_count, pending_count}
-use Rattle.exec_driver.specs.{Driving.Driving, Steps.is_control}
+use Rattle.exec_base.specs.Slab.{value_at}
+use Rattle.exec_waiters.{specs.States.pending_count, proofs.Changes.entry_of}
+use Rattle.exec_driver.specs.Driving.{Driving}
 use Rattle.exec_task.specs.declared.body.Said.{Said}
-use Rattle.exec_machine.specs.{declared.{event.Event.{Event, TheVariants.{Enter, Busy}}, state.Request.Request}, Choice.{Choice, Choice.Plain}, World.{Own, Seat, Open, Common}, Progress.Plan, Requests.flown}
-use Rattle.exec_moves.specs.{declared.place.{Stay.Stay, Service.Service, Place.Place, InService.InService, InRingWait.InRingWait, Reaping.Reaping}, State.{Desk, Things, Moved}, Move.move_at, Seen.{polls_at, next_at, serves_at}, Serve.enter}
-use Rattle.exec_steps.{specs.{declared.parts.{mail.Reply.Reply, shared.Shared.Shared, worker.{PutOff.PutOff, Worker.Worker}}, Carried.IsCarried, Serving.{Enters, flown_in}, Sound.{SoundAt, IsNamed, IsSubmitted, served_in}, Due.{IsWheelAt, may_be_due}, Flown.{AreAcks, operations}, Rooted.IsRooted, Spots.Spot, View.{Visible, visible, own_of, desk_of, driver_of, common_of, things_of, seats_seen, seat_seen, open_seen, numbers_of, number_told, trailing}, Works.{Works, Suits, Steps}}, proofs.{Seats.own_seat, Carrier.carried_entered, Conveying.carried_ring, Hearing.unheard, Turning.set_found, Serving.{calm, Follows, Serves, KeepsBy, keeps_all, seats_set, sound_again}, Flying.all_flown, Keys.{same_opens, flown_names}, Rings.all_acknowledged, Entering.{submitted_busy, submitted_free, named_beside, named_free, all_go, timed_flown, flown_entered}, Going.{over_on, owed_on, rooted_on}}}
+use Rattle.exec_machine.specs.{declared.{event.Event.{Event, TheVariants.{Enter, Busy}}, state.Request.Request}, Choice.Choice.Plain, World.{Own, Seat, Common, seat_of}, Progress.Plan, Requests.flown}
+use Rattle.exec_moves.specs.{declared.idling.{Stay.Stay, InRingWait.InRingWait}, declared.place.{Service.Service, Place.Place, InService.InService, Reaping.Reaping}, State.{Desk, Things, Moved, wake_poll_of, taken_in as poll_taken}, Thing.{ring_of, set_wake_poll, with_ring}, Move.move_at, Seen.{polls_at, next_at, serves_at}, Serve.{Ring, at_place, enter}}
+use Rattle.exec_steps.{specs.{declared.parts.{mail.Reply.Reply, shared.Shared.Shared, worker.{PutOff.PutOff, Worker.Worker}}, Carried.IsCarried, Raises.Enters, Records.number_in, Serving.{EntersRing, flown_in}, Sound.{SoundAt, IsNamed, IsSubmitted, served_in}, Due.{IsWheelAt, may_be_due}, Flown.{IsPolled, operations}, Rooted.IsRooted, Spots.Spot, View.{Views, visible, with_view, own_of, desk_of, driver_of, common_of, seat_seen, open_seen, number_told, things_with, trailing, wake_poll_in}, Works.{Suits, Steps}}, proofs.{Seats.own_seat, Carrier.carried_entered, Conveying.carried_ring, Serving.{calm, Follows, Serves, SparesRecords, Keeps, KeepsBy, keeps_all, serves_to, spares_same}, Flying.all_flown, Keys.{same_opens, flown_names}, Raising.{lists_taken, none_waits, poll_shows, poll_shown, raised_first, seats_set, sound_taken}, Seeing.{Sees, common_same, served, shows}, Shown.{desk_with, own_with, visible_with}, WokenEntered.{all_acknowledged, enter_polled, enter_shown}, Entering.{submitted_busy, submitted_free, named_beside, named_free, all_go, timed_flown, flown_entered, others_flown, others_were}, Going.{over_on, owed_on, rooted_on}}}
 
--- what a move makes, and what is seen of a ring
-abbrev pub made : Event → Choice → Desk → Things → Moved Things
-made e c d x = record { event = e; choice = c; desk = d; thing = x }
+-- the ring that a worker shows, where no wake waits at its seat
+abbrev pub ring_seen : Worker → Ring
+ring_seen w = record { busy = (visible w).busy; landed = (visible w).landed; wakes = (visible w).wakes }
 
-abbrev seen_as : List ℕ → RingState → Visible
-seen_as numbers r = record { busy = r.busy; landed = map (number_told numbers) (filter (λ c. not (is_control c)) (completions r)) }
+-- what a move on the ring makes where it leads on to this place, with what is put off
+abbrev pub led_to : Place → PutOff → Moved Ring → Moved Ring
+led_to q o m = record m { desk = record m.desk { place = q; may_put_off = o.defer; put_off = o.«enter» } }
 
--- what is seen of a worker by its driver, at another place and with other cancels to be told
-own_with : Worker → Place → List ℕ → Driving Reply Reply → Own
-own_with w q untold d =
-    record (own_of w) {
-      serving = serves_at q;
-      polls = polls_at q;
-      next = next_at q;
-      untold = untold;
-      ready = numbers_of w.names.requests.items d.lists.queued;
-      unenrolled = numbers_of w.names.requests.items d.lists.enrolments;
-      cancels = numbers_of w.names.requests.items d.lists.cancels;
-      in_flight = flying_count d.requests;
-    }
+module _ {B : Type 0} where
+  -- From a place of which the move is an enter and where it leads.
+  abbrev pub MovesBy : {L : Type 0} (left : B → L) (spot : L → Option Said → Spot) → Place → Worker → Worker → Shared B → Type 0
+  MovesBy left spot q w w' s =
+      (p : Plan) (vs : Views) → Suits p vs w s → ring_of (common_of left spot p vs s) (things_with vs s) w.index ≡ ring_seen w
+      → move_at p.config w.index (own_of w) (common_of left spot p vs s) (desk_of w) (things_with vs s) q ≡ with_ring w.index (things_with vs s) (led_to w'.place w'.put_off (enter (own_of w) (desk_of w) (ring_seen w)))
 
-desk_with : Worker → Place → PutOff → Driving Reply Reply → Desk
-desk_with w q o d = record (desk_of w) { place = q; may_put_off = o.defer; put_off = o.«enter»; entries = length d.ring.staged; polled = d.armed; others = trailing 0 (completions d.ring) }
-
-visible_with : Worker → Driving Reply Reply → Visible
-visible_with w d = seen_as w.names.requests.items d.ring
-
-module _ {B : Type 0} (w w' : Worker) (s s' : Shared B) (e : Event) (it : Enters w s e (record w' { place = w.place; put_off = w.put_off }) s') where
-  shape : w' ≡ record w { place = w'.place; put_off = w'.put_off; home = record w.home { driver = w'.home.driver }; names = record w.names { staged = w'.names.staged; untold = w'.names.untold } }
+module _ {B : Type 0} (w w' : Worker) (s s' : Shared B) (e : Event) (it : EntersRing w s e (record w' { place = w.place; put_off = w.put_off }) s') where
+  pub shape : w' ≡ record w { place = w'.place; put_off = w'.put_off; home = record w.home { driver = w'.home.driver }; names = record w.names { staged = w'.names.staged; untold = w'.names.untold } }
   shape = ap (λ (v : Worker). record v { place = w'.place; put_off = w'.put_off }) it.worker
-
-  own_shows : own_of w' ≡ record (own_of w) { serving = serves_at w'.place; polls = polls_at w'.place; next = next_at w'.place; untold = w'.names.untold.items }
-  unfolding own_with
-  own_shows = ap own_of shape ∙ ap (own_with w w'.place w'.names.untold.items) it.driver
-
-  desk_shows : desk_of w' ≡ record (desk_of w) { place = w'.place; may_put_off = w'.put_off.defer; put_off = w'.put_off.«enter»; entries = length (entered_ring (driver_of w).ring).staged; others = trailing 0 (completions (entered_ring (driver_of w).ring)) }
-  unfolding desk_with
-  desk_shows = ap desk_of shape ∙ ap (desk_with w w'.place w'.put_off) it.driver
-
-  visible_shows : visible w' ≡ seen_as w.names.requests.items (entered_ring (driver_of w).ring)
-  unfolding visible_with
-  visible_shows = ap visible shape ∙ ap (visible_with w) it.driver
-
-  things_show : things_of w'.index s' ≡ things_of w.index s
-  things_show = ap (λ v. things_of v.index s') shape ∙ ap (things_of w.index) it.shared
 
   entered_serves : (q : Place) → Follows q w'.place → Serves q w w' s s'
   entered_serves q to =
-      record {
-        worker = subst (λ v. v ≡ record w { place = v.place; home = record w.home { driver = v.home.driver; timers = v.home.timers; deferred = v.home.deferred }; names = record w.names { ended = v.names.ended; staged = v.names.staged; untold = v.names.untold }; put_off = v.put_off }) (sym shape) refl;
-        shared = subst (λ t. t ≡ record s { requests = t.requests; sleepers = t.sleepers }) (sym it.shared) refl;
-        from = to.from;
-        to = to.to;
-        armed = to.armed;
-        closes = to.closes;
-      }
+      serves_to q w'.place w w' s s'
+      (subst (λ v. v ≡ record w { place = v.place; home = record w.home { driver = v.home.driver; timers = v.home.timers; deferred = v.home.deferred }; names = record w.names { ended = v.names.ended; staged = v.names.staged; untold = v.names.untold }; put_off = v.put_off }) (sym shape) refl)
+      (subst (λ t. t ≡ record s { requests = t.requests; sleepers = t.sleepers }) (sym it.shared) refl) refl to
 
-module _ {B L : Type 0} (left : B → L) (spot : L → Option Said → Spot) where
-  -- of all, other seats and requests
-  seen_with : Common → List Seat → List Request → List Open → Common
-  seen_with c seats requests opens = record c { seats = seats; requests = requests; opens = opens }
-
-  common_by : (p : Plan) (vs : List Visible) (s s' : Shared B) → s' ≡ record s { requests = s'.requests }
-      → common_of left spot p vs s' ≡ record (common_of left spot p vs s) { requests = map (λ r. r.shown) s'.requests.items; opens = map (open_seen s'.requests.items) s.opens }
-  common_by p vs s s' same = ap (common_of left spot p vs) same
-
-  -- what holds again, where the ring has acknowledged so many cancels, if any
-  holds : (q : Place) (w w' : Worker) (s s' : Shared B) (e : Event) (r : RingState) (ks : List ℕ) → SoundAt q w s → Follows q w'.place → (may_be_due (served_in w'.place) ≡ false → (driver_of w).lists.due ≡ []) → Enters w s e (record w' { place = w.place; put_off = w.put_off }) s'
-      → entered_ring (driver_of w).ring ≡ r → r.size ≡ (driver_of w).ring.size → AreAcks r.posted → operations r ≡ operations (driver_of w).ring
+  -- what holds again, with another ring and these that fly
+  keeps_entered : (q : Place) (r : RingState) (ks : List ℕ) → SoundAt q w s → Follows q w'.place → (may_be_due (served_in w'.place) ≡ false → (driver_of w).lists.due ≡ [])
+      → entered_ring (driver_of w).ring ≡ r → r.size ≡ (driver_of w).ring.size → IsPolled r (driver_of w).armed → operations r ≡ operations (driver_of w).ring
       → length w'.names.staged.items + length w'.names.untold.items ≤ length r.staged → s'.requests.items ≡ flown_in ks s.requests.items
       → IsNamed w.index w'.names (record (driver_of w) { ring = r; landings = (driver_of w').landings }) w.home.timers s'.requests.items s.sleepers.items
-      → IsCarried w.names.requests.items (driver_of w).requests r (flown_in ks s.requests.items) s.store → SoundAt w'.place w' s'
-  holds q w w' s s' e r ks sound to told it ring sized acks same entries records named carried =
-      let worker = shape w w' s s' e it in
+      → IsCarried w.names.requests.items (driver_of w).requests r (flown_in ks s.requests.items) s.store → Keeps w' s'
+  keeps_entered q r ks sound to told ring sized polled same entries records named carried =
+      let worker = shape in
       let d' : Driving Reply Reply = record (driver_of w) { ring = r; landings = (driver_of w').landings } in
       let w1 : Worker = record w { place = w'.place; put_off = w'.put_off; names = record w.names { staged = w'.names.staged; untold = w'.names.untold } } in
       let flown = flown_in ks s.requests.items in
@@ -98,182 +58,249 @@ module _ {B L : Type 0} (left : B → L) (spot : L → Option Said → Spot) whe
         due = record { punctual = record { ahead = due.punctual.ahead }; told = told; wheel = subst (λ m. IsWheelAt s.config w.moments.start m (driver_of w).wheel) (sym (to.moment w.moments)) due.wheel; timed = timed; asleep = record { alike = due.asleep.alike; there = due.asleep.there; named = due.asleep.named }; order = due.order };
         flown =
             flown_entered (served_in q) (served_in w'.place) w.index w.names w1.names (driver_of w) r (driver_of w').landings ks s.requests.items
-            sound.flown to.permits refl refl refl it.staged_room it.untold_room sized acks same entries;
+            sound.flown to.permits refl refl refl it.staged_room it.untold_room sized polled same entries;
         carried = carried;
         rooted =
             rooted_on s.requests.items flown go None w.index w.root w.names w1.names (driver_of w) d' w.home.timers s.tasks.items s.sleepers.items
-            (subst (λ x. IsRooted x w.index w.root w.names (driver_of w) w.home.timers s.tasks.items s.requests.items s.sleepers.items) (calm q to.from).stands sound.rooted)
+            (subst (λ x. IsRooted x w.index w.root w.names (driver_of w) w.home.timers s.tasks.items s.requests.items s.sleepers.items) ((calm q to.from).stands w.root) sound.rooted)
             refl refl refl (λ id h. h) (λ id o h. h);
         owed = owed_on s.requests.items flown go w.index w.root w.home.deferred.notes.wakes.items s.tasks.items s.sleepers.items sound.tied.owed;
       } in
-      sound_again q w w' s s' sound (entered_serves w w' s s' e it q to) (keeps_all w w' s s' flown d' worker it.shared driver records keeps)
+      keeps_all w w' s s' flown d' worker it.shared driver records keeps
 
-  -- From a place of which the move is an enter and where it leads.
-  abbrev pub MovesBy : Place → Worker → Worker → Shared B → Type 0
-  MovesBy q w w' s =
-      (p : Plan) (vs : List Visible) → Suits p vs w s → move_at p.config w.index (own_of w) (common_of left spot p vs s) (desk_of w) (things_of w.index s) q
-      ≡ made (enter (own_of w) (desk_of w) (driver_of w).ring.busy).event (enter (own_of w) (desk_of w) (driver_of w).ring.busy).choice (record (enter (own_of w) (desk_of w) (driver_of w).ring.busy).desk { place = w'.place; may_put_off = w'.put_off.defer; put_off = w'.put_off.«enter» }) (things_of w.index s)
+module _ {B L : Type 0} (left : B → L) (spot : L → Option Said → Spot) where
+  -- the ring that the machine's move names
+  pub ring_there : (q : Place) (w : Worker) (s : Shared B) (sound : SoundAt q w s) → sound.seated.seat.raised ≡ 0 → (p : Plan) (vs : Views) → Suits p vs w s
+      → ring_of (common_of left spot p vs s) (things_with vs s) w.index ≡ ring_seen w
+  ring_there q w s sound none p vs suits =
+      let chair = sound.seated.seat in
+      let there = sound.seated.there in
+      ap (λ (x : Seat). record { busy = x.busy; landed = x.landed; wakes = wake_poll_of (things_with vs s) w.index }) (own_seat left spot p vs w s chair suits there)
+      ∙ ap (λ x. record { busy = (visible w).busy; landed = (visible w).landed; wakes = x }) (poll_shown vs w.index s chair there none (visible w) suits.seen)
 
-  busy_entered : (q : Place) (w w' : Worker) (s s' : Shared B) (e : Event) → SoundAt q w s → Follows q w'.place → (may_be_due (served_in w'.place) ≡ false → (driver_of w).lists.due ≡ []) → Enters w s e (record w' { place = w.place; put_off = w.put_off }) s'
-      → MovesBy q w w' s → (driver_of w).ring.busy ≡ true → Steps left spot w s e w' s'
-  busy_entered q w w' s s' e sound on told it moves busy =
+  common_by : (p : Plan) (vs : Views) (s s' : Shared B) → s' ≡ record s { requests = s'.requests }
+      → common_of left spot p vs s' ≡ record (common_of left spot p vs s) { requests = map (λ r. r.shown) s'.requests.items; opens = map (open_seen s'.requests.items) s.opens }
+  common_by p vs s s' same = ap (common_of left spot p vs) same
+
+  busy_entered : (q : Place) (w w' : Worker) (s s' : Shared B) (e : Event) → (sound : SoundAt q w s) → sound.seated.seat.raised ≡ 0 → Follows q w'.place → (may_be_due (served_in w'.place) ≡ false → (driver_of w).lists.due ≡ [])
+      → EntersRing w s e (record w' { place = w.place; put_off = w.put_off }) s' → MovesBy left spot q w w' s → (driver_of w).ring.busy ≡ true → Steps left spot w s e w' s'
+  busy_entered q w w' s s' e sound waits on told it moves busy =
       let from = calm q on.from in
       let to = calm w'.place on.to in
-      let serves = on.serves in
       let i = w.index in
       let r = (driver_of w).ring in
-      let me = own_of w in
-      let d = desk_of w in
-      let ring : entered_ring r ≡ record r { busy = false } = rw busy refl in
+      let r' : RingState = record r { busy = false } in
+      let d' : Driving Reply Reply = record (driver_of w) { ring = r'; landings = (driver_of w').landings } in
+      let ring : entered_ring r ≡ r' = ap (λ b. if b then (record r { busy = false }) else all_taken r) busy in
       let worker = shape w w' s s' e it in
-      let untold : w'.names.untold.items ≡ w.names.untold.items = it.untold ∙ rw busy refl in
-      let staged : w'.names.staged.items ≡ w.names.staged.items = it.staged ∙ rw busy refl in
-      let records : s'.requests.items ≡ s.requests.items = it.records ∙ rw busy refl in
-      let desk : desk_of w' ≡ record d { place = w'.place; may_put_off = w'.put_off.defer; put_off = w'.put_off.«enter» } = desk_shows w w' s s' e it ∙ ap (λ x. record d { place = w'.place; may_put_off = w'.put_off.defer; put_off = w'.put_off.«enter»; entries = length x.staged; others = trailing 0 (completions x) }) ring in
-      let seen : visible w' ≡ record (visible w) { busy = false } = visible_shows w w' s s' e it ∙ ap (seen_as w.names.requests.items) ring in
-      let named : IsNamed i w'.names (record (driver_of w) { ring = record r { busy = false }; landings = (driver_of w').landings }) w.home.timers s'.requests.items s.sleepers.items =
-      subst (λ rs. IsNamed i w'.names (record (driver_of w) { ring = record r { busy = false }; landings = (driver_of w').landings }) w.home.timers rs s.sleepers.items) (sym records)
-      (named_beside i w.names (driver_of w) w.home.timers s.requests.items s.sleepers.items sound.named w'.names (record r { busy = false }) (driver_of w').landings (ap (λ v. v.names.requests.items) worker) (ap (λ v. v.names.timers.items) worker)
-      (subst (λ ks. IsSubmitted i ks w'.names.untold.items (record r { busy = false }) s.requests.items) (sym staged)
-      (subst (λ ks. IsSubmitted i w.names.staged.items ks (record r { busy = false }) s.requests.items) (sym untold)
+      let untold : w'.names.untold.items ≡ w.names.untold.items = it.untold ∙ ap (λ b. if b then w.names.untold.items else []) busy in
+      let staged : w'.names.staged.items ≡ w.names.staged.items = it.staged ∙ ap (λ b. if b then w.names.staged.items else []) busy in
+      let records : s'.requests.items ≡ s.requests.items = it.records ∙ ap (λ b. if b then s.requests.items else flown_in w.names.staged.items s.requests.items) busy in
+      let driver : driver_of w' ≡ d' = it.driver ∙ ap (λ x. record (driver_of w) { ring = x; landings = (driver_of w').landings }) ring in
+      let serves = entered_serves w w' s s' e it q on in
+      let show = shows q w w' s s' d' serves driver in
+      let named : IsNamed i w'.names d' w.home.timers s'.requests.items s.sleepers.items =
+      subst (λ rs. IsNamed i w'.names d' w.home.timers rs s.sleepers.items) (sym records)
+      (named_beside i w.names (driver_of w) w.home.timers s.requests.items s.sleepers.items sound.named w'.names r' (driver_of w').landings (ap (λ v. v.names.requests.items) worker) (ap (λ v. v.names.timers.items) worker)
+      (subst (λ ks. IsSubmitted i ks w'.names.untold.items r' s.requests.items) (sym staged)
+      (subst (λ ks. IsSubmitted i w.names.staged.items ks r' s.requests.items) (sym untold)
       (submitted_busy i w.names (driver_of w) w.home.timers s.requests.items s.sleepers.items sound.named)))) in
-      let works : (p : Plan) (vs : List Visible) → Suits p vs w s → Works left spot p vs w s Busy w' s' = λ p vs suits.
-      let chair = sound.alone.seat in
-      let there = sound.alone.there in
+      let keeps : Keeps w' s' =
+      keeps_entered w w' s s' e it q r' [] sound on told ring refl sound.flown.polled refl (subst (λ n. n ≤ length r.staged) (sym (ap (λ (ks : List ℕ). length ks + length w'.names.untold.items) staged ∙ ap (λ (ks : List ℕ). length w.names.staged.items + length ks) untold)) sound.flown.entries) records named
+      (carried_ring w.names.requests.items (driver_of w).requests r s.requests.items s.store sound.carried r' (λ v small. refl) (λ v small. refl)) in
+      let spares : SparesRecords i s s' = spares_same i s s' records (ap (λ (x : Shared B). x.sleepers.items) it.shared) in
+      let seen : visible w' ≡ record (visible w) { busy = false } = show.seen in
+      subst (λ x. Steps left spot w s x w' s') (sym (it.event ∙ ap (λ b. if b then Busy else Enter) busy))
+      (served left spot q w w' s s' Busy sound serves keeps spares
+      (λ p vs suits.
+      let chair = sound.seated.seat in
+      let there = sound.seated.there in
       let all = common_of left spot p vs s in
-      let vs' = slice_set vs i (visible w') in
-      record {
-        choice = Plain;
+      let me = own_of w in
+      let x = things_with vs s in
+      let here : record w { place = q } ≡ w = ap (λ y. record w { place = y }) (sym sound.here) in
+      let vs' = with_view vs i (visible w') in
+      let desk : desk_of w' ≡ record (desk_of w) { place = w'.place; may_put_off = w'.put_off.defer; put_off = w'.put_off.«enter» } = show.desk ∙ ap (λ (v : Worker). desk_with w w'.place w'.put_off v.home.deferred d') worker in
+      let things : things_with vs' s' ≡ set_wake_poll i x (visible w).wakes =
+      ap (things_with vs') it.shared ∙ poll_shows vs i s chair there waits (visible w') ∙ ap (λ v. set_wake_poll i x v.wakes) seen in
+      let enters : enter me (desk_of w) (ring_seen w) ≡ record { event = Busy; choice = Plain; desk = desk_of w; thing = record (ring_seen w) { busy = false } } =
+      rw busy refl in
+      subst (λ v. Sees left spot q v w' s s' Busy p vs) (sym here) (record {
         moves =
-            subst (λ here. move_at p.config i me all d (things_of i s) here ≡ made Busy Plain (desk_of w') (things_of w'.index s')) (sym sound.here)
-            (moves p vs suits
-            ∙ ap (λ b. made (enter me d b).event (enter me d b).choice (record (enter me d b).desk { place = w'.place; may_put_off = w'.put_off.defer; put_off = w'.put_off.«enter» }) (things_of i s)) busy
-            ∙ ap (λ x. made Busy Plain x (things_of i s)) (sym desk)
-            ∙ ap (made Busy Plain (desk_of w')) (sym (things_show w w' s s' e it)));
-        may = (rw (sound.here, from.polls, from.free) refl, (ap (λ x. x.busy) (own_seat left spot p vs w s chair suits there) ∙ busy, tt));
-        own = own_shows w w' s s' e it ∙ rw (untold, serves, to.polls, to.free, sound.here, from.polls, from.free) refl;
+            moves p vs suits (ring_there q w s sound waits p vs suits)
+            ∙ ap (λ m. with_ring i x (led_to w'.place w'.put_off m)) enters
+            ∙ ap (λ y. record { event = Busy; choice = Plain; desk = y; thing = set_wake_poll i x (visible w).wakes }) (sym desk)
+            ∙ ap (λ y. record { event = Busy; choice = Plain; desk = desk_of w'; thing = y }) (sym things);
+        may = (rw (sound.here, from.polls, from.free, from.owes w.workers) refl, (ap (λ y. y.busy) (own_seat left spot p vs w s chair suits there) ∙ busy, tt));
+        own =
+            show.own ∙ ap (λ (v : Worker). own_with w w'.place v.names.ended.items w'.names.untold.items d') worker ∙ ap (λ ks. own_with w w'.place w.names.ended.items ks d') untold
+            ∙ rw (on.serves, to.polls, to.free, to.owes w.workers, sound.here, from.polls, from.free, from.owes w.workers) refl;
         common =
             common_by p vs' s s' it.shared
-            ∙ ap (λ rs. record (common_of left spot p vs' s) { requests = map (λ x. x.shown) rs; opens = map (open_seen rs) s.opens }) records
-            ∙ ap (λ x. record all { seats = x })
-            (seats_set vs s.seats.items i (visible w') chair there
-            ∙ ap (λ x. slice_set (seats_seen vs s.seats.items) i x)
-            (ap (λ v. seat_seen v chair) seen ∙ ap (λ (x : Seat). record x { busy = false }) (sym (own_seat left spot p vs w s chair suits there))));
-      } in
-      subst (λ x. Steps left spot w s x w' s') (sym (it.event ∙ rw busy refl)) (
-        works,
-        holds q w w' s s' e (record r { busy = false }) [] sound on told it ring refl sound.flown.acks refl (rw (staged, untold) sound.flown.entries) records named
-            (carried_ring w.names.requests.items (driver_of w).requests r s.requests.items s.store sound.carried (record r { busy = false }) (λ v small. refl) (λ v small. refl)),
-        unheard (ap (λ v. v.root) worker) (ap (λ x. x.config) it.shared) (ap (λ x. x.tasks.items) it.shared),
-      )
+            ∙ ap (λ rs. record (common_of left spot p vs' s) { requests = map (λ y. y.shown) rs; opens = map (open_seen rs) s.opens }) records
+            ∙ ap (λ y. record all { seats = y })
+            (seats_set vs.workers s.seats.items i (visible w') chair there
+            ∙ ap (λ y. slice_set (all.seats) i y)
+            (ap (λ v. seat_seen v chair) seen ∙ ap (λ (y : Seat). record y { busy = false }) (sym (own_seat left spot p vs w s chair suits there))));
+      })))
 
-  free_entered : (q : Place) (w w' : Worker) (s s' : Shared B) (e : Event) → SoundAt q w s → Follows q w'.place → (may_be_due (served_in w'.place) ≡ false → (driver_of w).lists.due ≡ []) → Enters w s e (record w' { place = w.place; put_off = w.put_off }) s'
-      → MovesBy q w w' s → (driver_of w).ring.busy ≡ false → Steps left spot w s e w' s'
-  free_entered q w w' s s' e sound on told it moves busy =
+  free_entered : (q : Place) (w w' : Worker) (s s' : Shared B) (e : Event) → (sound : SoundAt q w s) → sound.seated.seat.raised ≡ 0 → Follows q w'.place → (may_be_due (served_in w'.place) ≡ false → (driver_of w).lists.due ≡ [])
+      → EntersRing w s e (record w' { place = w.place; put_off = w.put_off }) s' → MovesBy left spot q w w' s → (driver_of w).ring.busy ≡ false → Steps left spot w s e w' s'
+  free_entered q w w' s s' e sound waits on told it moves busy =
       let from = calm q on.from in
       let to = calm w'.place on.to in
-      let serves = on.serves in
       let i = w.index in
       let r = (driver_of w).ring in
-      let me = own_of w in
-      let d = desk_of w in
+      let r' : RingState = all_taken r in
+      let d' : Driving Reply Reply = record (driver_of w) { ring = r'; landings = (driver_of w').landings } in
       let sub = sound.named.submitted in
       let flown_now = flown_in w.names.staged.items s.requests.items in
-      let ring : entered_ring r ≡ all_taken r = rw busy refl in
-      let taken = all_acknowledged r sub.unraised sub.tagged in
+      let ring : entered_ring r ≡ r' = ap (λ b. if b then (record r { busy = false }) else all_taken r) busy in
+      let taken = all_acknowledged r (driver_of w).armed sound.flown.polled sub.tagged in
       let worker = shape w w' s s' e it in
-      let untold : w'.names.untold.items ≡ [] = it.untold ∙ rw busy refl in
-      let staged : w'.names.staged.items ≡ [] = it.staged ∙ rw busy refl in
-      let records : s'.requests.items ≡ flown_now = it.records ∙ rw busy refl in
-      let desk : desk_of w' ≡ record d { place = w'.place; may_put_off = w'.put_off.defer; put_off = w'.put_off.«enter»; entries = 0; others = d.others + length w.names.untold.items } =
-      desk_shows w w' s s' e it
-      ∙ ap (λ x. record d { place = w'.place; may_put_off = w'.put_off.defer; put_off = w'.put_off.«enter»; entries = length x.staged; others = trailing 0 (completions x) }) ring
-      ∙ ap (λ x. record d { place = w'.place; may_put_off = w'.put_off.defer; put_off = w'.put_off.«enter»; entries = length x; others = trailing 0 (completions (all_taken r)) }) taken.staged
-      ∙ ap (λ x. record d { place = w'.place; may_put_off = w'.put_off.defer; put_off = w'.put_off.«enter»; entries = 0; others = x }) (taken.others ∙ ap (λ n. trailing 0 (completions r) + n) sub.cancels) in
-      let seen : visible w' ≡ visible w =
-      visible_shows w w' s s' e it
-      ∙ ap (seen_as w.names.requests.items) ring
-      ∙ ap (λ b. record (visible w) { busy = b; landed = map (number_told w.names.requests.items) (filter (λ c. not (is_control c)) (completions (all_taken r))) }) taken.busy
-      ∙ ap (λ cs. record (visible w) { landed = map (number_told w.names.requests.items) cs }) taken.landed in
-      let named : IsNamed i w'.names (record (driver_of w) { ring = all_taken r; landings = (driver_of w').landings }) w.home.timers s'.requests.items s.sleepers.items =
-      subst (λ rs. IsNamed i w'.names (record (driver_of w) { ring = all_taken r; landings = (driver_of w').landings }) w.home.timers rs s.sleepers.items) (sym records)
-      (named_free i w.names (driver_of w) w.home.timers s.requests.items s.sleepers.items sound.named w'.names (all_taken r) (driver_of w').landings (ap (λ v. v.names.requests.items) worker) (ap (λ v. v.names.timers.items) worker)
-      (subst (λ ks. IsSubmitted i ks w'.names.untold.items (all_taken r) flown_now) (sym staged)
-      (subst (λ ks. IsSubmitted i [] ks (all_taken r) flown_now) (sym untold)
-      (submitted_free i w.names (driver_of w) w.home.timers s.requests.items s.sleepers.items sound.named (all_taken r) taken)))) in
-      let works : (p : Plan) (vs : List Visible) → Suits p vs w s → Works left spot p vs w s Enter w' s' = λ p vs suits.
-      let chair = sound.alone.seat in
-      let there = sound.alone.there in
-      let all = common_of left spot p vs s in
-      record {
-        choice = Plain;
-        moves =
-            subst (λ here. move_at p.config i me all d (things_of i s) here ≡ made Enter Plain (desk_of w') (things_of w'.index s')) (sym sound.here)
-            (moves p vs suits
-            ∙ ap (λ b. made (enter me d b).event (enter me d b).choice (record (enter me d b).desk { place = w'.place; may_put_off = w'.put_off.defer; put_off = w'.put_off.«enter» }) (things_of i s)) busy
-            ∙ ap (λ x. made Enter Plain x (things_of i s)) (sym desk)
-            ∙ ap (made Enter Plain (desk_of w')) (sym (things_show w w' s s' e it)));
-        may = (rw (sound.here, from.polls, from.free) refl, (ap (λ x. not x.busy) (own_seat left spot p vs w s chair suits there) ∙ ap not busy, tt));
-        own = own_shows w w' s s' e it ∙ rw (untold, serves, to.polls, to.free, sound.here, from.polls, from.free) refl;
-        common =
-            ap (λ v. common_of left spot p v s') (ap (λ x. slice_set vs i x) seen ∙ set_found vs i (visible w) suits.seen)
-            ∙ common_by p vs s s' it.shared
-            ∙ ap (λ rs. record all { requests = map (λ x. x.shown) rs; opens = map (open_seen rs) s.opens }) records
-            ∙ ap (λ rs. record all { requests = rs; opens = map (open_seen flown_now) s.opens }) (all_flown i w.names.staged.items s.requests.items sub.own sub.all)
-            ∙ ap (λ os. record all { requests = map (flown i) (map (λ x. x.shown) s.requests.items); opens = os }) (same_opens s.requests.items flown_now (flown_names w.names.staged.items s.requests.items) s.opens);
+      let untold : w'.names.untold.items ≡ [] = it.untold ∙ ap (λ b. if b then w.names.untold.items else []) busy in
+      let staged : w'.names.staged.items ≡ [] = it.staged ∙ ap (λ b. if b then w.names.staged.items else []) busy in
+      let records : s'.requests.items ≡ flown_now = it.records ∙ ap (λ b. if b then s.requests.items else flown_in w.names.staged.items s.requests.items) busy in
+      let driver : driver_of w' ≡ d' = it.driver ∙ ap (λ x. record (driver_of w) { ring = x; landings = (driver_of w').landings }) ring in
+      let serves = entered_serves w w' s s' e it q on in
+      let show = shows q w w' s s' d' serves driver in
+      let named : IsNamed i w'.names d' w.home.timers s'.requests.items s.sleepers.items =
+      subst (λ rs. IsNamed i w'.names d' w.home.timers rs s.sleepers.items) (sym records)
+      (named_free i w.names (driver_of w) w.home.timers s.requests.items s.sleepers.items sound.named w'.names r' (driver_of w').landings (ap (λ v. v.names.requests.items) worker) (ap (λ v. v.names.timers.items) worker)
+      (subst (λ ks. IsSubmitted i ks w'.names.untold.items r' flown_now) (sym staged)
+      (subst (λ ks. IsSubmitted i [] ks r' flown_now) (sym untold)
+      (submitted_free i w.names (driver_of w) w.home.timers s.requests.items s.sleepers.items sound.named r' taken.staged)))) in
+      let none_left : length w'.names.staged.items + length w'.names.untold.items ≤ length r'.staged =
+      subst (λ (ks : List ℕ). length ks + length w'.names.untold.items ≤ length r'.staged) (sym staged) (subst (λ (ks : List ℕ). 0 + length ks ≤ length r'.staged) (sym untold) (omega arith)) in
+      let keeps : Keeps w' s' =
+      keeps_entered w w' s s' e it q r' w.names.staged.items sound on told ring taken.size (enter_polled r (driver_of w).armed sound.flown.polled sub.tagged) taken.landed none_left records named
+      (carried_entered w.names.requests.items (driver_of w).requests r s.requests.items s.store sound.carried w.names.staged.items
+      (λ id it x live at is.
+      let mine = sound.named.requests id (rw (entry_of (value_at (driver_of w).requests id) it live) refl) in
+      let same : mine.0 ≡ x = cc (mine.1, at) in
+      sub.all (number_in w.names.requests.items id) x at (sym (ap (λ y. y.shown.worker) same) ∙ mine.3) is) taken.staged) in
+      let spares : SparesRecords i s s' = record {
+        records = λ k x there other. ap (λ rs. slice_get rs k) records ∙ others_flown i w.names (driver_of w) w.home.timers s.requests.items s.sleepers.items sound.named k x there other;
+        records_only = λ k x there other. others_were i w.names (driver_of w) w.home.timers s.requests.items s.sleepers.items sound.named k x (ap (λ rs. slice_get rs k) (sym records) ∙ there) other;
+        sleepers = λ k z there other. ap (λ (y : Shared B). slice_get y.sleepers.items k) it.shared ∙ there;
+        sleepers_only = λ k z there other. ap (λ (y : Shared B). slice_get y.sleepers.items k) (sym it.shared) ∙ there;
       } in
-      subst (λ x. Steps left spot w s x w' s') (sym (it.event ∙ rw busy refl)) (
-        works,
-        holds q w w' s s' e (all_taken r) w.names.staged.items sound on told it ring taken.size (taken.acks sound.flown.acks) taken.landed (rw (staged, untold, taken.staged) (omega arith)) records named
-            (carried_entered w.names.requests.items (driver_of w).requests r s.requests.items s.store sound.carried w.names.staged.items (λ k x there is. sub.all k x there (sound.flown.ours k x there) is) taken.staged),
-        unheard (ap (λ v. v.root) worker) (ap (λ x. x.config) it.shared) (ap (λ x. x.tasks.items) it.shared),
-      )
+      let seen : visible w' ≡ record (visible w) { wakes = poll_taken (driver_of w).armed (visible w).wakes } =
+      show.seen
+      ∙ ap (λ b. record (visible w) { busy = b; landed = map (number_told w.names.requests.items) (operations r'); wakes = wake_poll_in r' }) taken.busy
+      ∙ ap (λ cs. record (visible w) { landed = map (number_told w.names.requests.items) cs; wakes = wake_poll_in r' }) taken.landed
+      ∙ ap (λ y. record (visible w) { wakes = y }) (enter_shown r (driver_of w).armed sound.flown.polled sub.tagged) in
+      subst (λ x. Steps left spot w s x w' s') (sym (it.event ∙ ap (λ b. if b then Busy else Enter) busy))
+      (served left spot q w w' s s' Enter sound serves keeps spares
+      (λ p vs suits.
+      let chair = sound.seated.seat in
+      let there = sound.seated.there in
+      let all = common_of left spot p vs s in
+      let me = own_of w in
+      let x = things_with vs s in
+      let here : record w { place = q } ≡ w = ap (λ y. record w { place = y }) (sym sound.here) in
+      let vs' = with_view vs i (visible w') in
+      let desk : desk_of w' ≡ record (desk_of w) { place = w'.place; may_put_off = w'.put_off.defer; put_off = w'.put_off.«enter»; entries = 0; others = (desk_of w).others + length w.names.untold.items } =
+      show.desk ∙ ap (λ (v : Worker). desk_with w w'.place w'.put_off v.home.deferred d') worker
+      ∙ ap (λ es. record (desk_of w) { place = w'.place; may_put_off = w'.put_off.defer; put_off = w'.put_off.«enter»; entries = length es; others = trailing 0 (completions r') }) taken.staged
+      ∙ ap (λ n. record (desk_of w) { place = w'.place; may_put_off = w'.put_off.defer; put_off = w'.put_off.«enter»; entries = 0; others = n }) (taken.others ∙ ap (λ n. trailing 0 (completions r) + n) sub.cancels) in
+      let things : things_with vs' s' ≡ set_wake_poll i x (poll_taken (driver_of w).armed (visible w).wakes) =
+      ap (things_with vs') it.shared ∙ poll_shows vs i s chair there waits (visible w') ∙ ap (λ v. set_wake_poll i x v.wakes) seen in
+      let enters : enter me (desk_of w) (ring_seen w)
+      ≡ record { event = Enter; choice = Plain; desk = record (desk_of w) { entries = 0; others = (desk_of w).others + length w.names.untold.items }; thing = record (ring_seen w) { wakes = poll_taken (driver_of w).armed (visible w).wakes } } =
+      rw busy refl in
+      subst (λ v. Sees left spot q v w' s s' Enter p vs) (sym here) (record {
+        moves =
+            moves p vs suits (ring_there q w s sound waits p vs suits)
+            ∙ ap (λ m. with_ring i x (led_to w'.place w'.put_off m)) enters
+            ∙ ap (λ y. record { event = Enter; choice = Plain; desk = y; thing = set_wake_poll i x (poll_taken (driver_of w).armed (visible w).wakes) }) (sym desk)
+            ∙ ap (λ y. record { event = Enter; choice = Plain; desk = desk_of w'; thing = y }) (sym things);
+        may = (rw (sound.here, from.polls, from.free, from.owes w.workers) refl, (ap (λ y. not y.busy) (own_seat left spot p vs w s chair suits there) ∙ ap not busy, tt));
+        own =
+            show.own ∙ ap (λ (v : Worker). own_with w w'.place v.names.ended.items w'.names.untold.items d') worker ∙ ap (λ ks. own_with w w'.place w.names.ended.items ks d') untold
+            ∙ rw (on.serves, to.polls, to.free, to.owes w.workers, sound.here, from.polls, from.free, from.owes w.workers) refl;
+        common =
+            common_by p vs' s s' it.shared
+            ∙ ap (λ rs. record (common_of left spot p vs' s) { requests = map (λ y. y.shown) rs; opens = map (open_seen rs) s.opens }) records
+            ∙ ap (λ (y : Common). record y { requests = map (λ z. z.shown) flown_now; opens = map (open_seen flown_now) s.opens }) (common_same left spot p vs w w' s suits (λ c. ap (λ v. seat_seen v c) seen))
+            ∙ ap (λ rs. record all { requests = rs; opens = map (open_seen flown_now) s.opens }) (all_flown i w.names.staged.items s.requests.items sub.own sub.all)
+            ∙ ap (λ os. record all { requests = map (flown i) (map (λ y. y.shown) s.requests.items); opens = os }) (same_opens s.requests.items flown_now (flown_names w.names.staged.items s.requests.items) s.opens);
+      })))
 
-  pub entered : (q : Place) (w w' : Worker) (s s' : Shared B) (e : Event) → SoundAt q w s → Follows q w'.place → (may_be_due (served_in w'.place) ≡ false → (driver_of w).lists.due ≡ []) → Enters w s e (record w' { place = w.place; put_off = w.put_off }) s'
-      → MovesBy q w w' s → Steps left spot w s e w' s'
-  entered q w w' s s' e sound on told it moves =
+  -- once no wake waits at the seat
+  entered_then : (q : Place) (w w' : Worker) (s s' : Shared B) (e : Event) → (sound : SoundAt q w s) → sound.seated.seat.raised ≡ 0 → Follows q w'.place → (may_be_due (served_in w'.place) ≡ false → (driver_of w).lists.due ≡ [])
+      → EntersRing w s e (record w' { place = w.place; put_off = w.put_off }) s' → MovesBy left spot q w w' s → Steps left spot w s e w' s'
+  entered_then q w w' s s' e sound waits on told it moves =
       elim ((driver_of w).ring.busy) as (λ b. (driver_of w).ring.busy ≡ b → Steps left spot w s e w' s') [
-        | true ↦ busy_entered q w w' s s' e sound on told it moves
-        | false ↦ free_entered q w w' s s' e sound on told it moves
+        | true ↦ busy_entered q w w' s s' e sound waits on told it moves
+        | false ↦ free_entered q w w' s s' e sound waits on told it moves
       ] refl
 
+  pub entered : (q : Place) (w w' : Worker) (s s' : Shared B) (e : Event) → SoundAt q w s → Follows q w'.place → (may_be_due (served_in w'.place) ≡ false → (driver_of w).lists.due ≡ [])
+      → (it : Enters w s e (record w' { place = w.place; put_off = w.put_off }) s') → MovesBy left spot q it.mid w' it.rested → Steps left spot w s e w' s'
+  entered q w w' s s' e sound on told it moves =
+      let w1 = it.mid in
+      let s1 = it.rested in
+      let holds = sound_taken q w w1 s s1 sound it.takes in
+      let lists : (driver_of w1).lists ≡ (driver_of w).lists = lists_taken q w w1 s s1 sound it.takes in
+      let place : w.place ≡ w1.place = ap (λ x. x.place) (sym it.takes.worker) in
+      let put : w.put_off ≡ w1.put_off = ap (λ x. x.put_off) (sym it.takes.worker) in
+      raised_first q w w1 s s1 sound it.takes left spot w' s' e
+      (entered_then q w1 w' s1 s' e holds (none_waits q w w1 s s1 sound it.takes holds) on (λ h. ap (λ l. l.due) lists ∙ told h)
+      (subst (λ y. EntersRing w1 s1 e (record w' { place = y; put_off = w1.put_off }) s') place (subst (λ o. EntersRing w1 s1 e (record w' { place = w.place; put_off = o }) s') put it.enters)) moves)
+
   -- where nothing is put off, nor was
-  pub without_putting_off : (w w' : Worker) (s s' : Shared B) (e : Event) → Enters w s e (record w' { place = w.place }) s' → Enters w s e (record w' { place = w.place; put_off = w.put_off }) s'
-  without_putting_off w w' s s' e it = subst (λ o. Enters w s e (record w' { place = w.place; put_off = o }) s') (ap (λ v. v.put_off) it.worker) it
+  pub without_putting_off : (w w' : Worker) (s s' : Shared B) (e : Event) → (it : Enters w s e (record w' { place = w.place }) s') → w'.put_off ≡ w.put_off
+  without_putting_off w w' s s' e it = ap (λ v. v.put_off) it.enters.worker ∙ ap (λ v. v.put_off) it.takes.worker
 
-  -- what is put off stays so
-  enter_there : (me : Own) (d : Desk) (p : Place) (x : Things) (b : Bool)
-      → made (enter me d b).event (enter me d b).choice (record (enter me d b).desk { place = p }) x ≡ made (enter me d b).event (enter me d b).choice (record (enter me d b).desk { place = p; may_put_off = d.may_put_off; put_off = d.put_off }) x
-  enter_there me d p x true = refl
-  enter_there me d p x false = refl
-
-  enter_from : (me : Own) (d : Desk) (p : Place) (x : Things) (b : Bool)
-      → made (enter me (record d { place = p }) b).event (enter me (record d { place = p }) b).choice (enter me (record d { place = p }) b).desk x ≡ made (enter me d b).event (enter me d b).choice (record (enter me d b).desk { place = p; may_put_off = d.may_put_off; put_off = d.put_off }) x
-  enter_from me d p x true = refl
-  enter_from me d p x false = refl
+  abbrev pub with_put_off : (w w' : Worker) (s s' : Shared B) (e : Event) → (it : Enters w s e (record w' { place = w.place }) s') → w'.put_off ≡ w.put_off → Enters w s e (record w' { place = w.place; put_off = w.put_off }) s'
+  with_put_off w w' s s' e it same =
+      record { mid = it.mid; rested = it.rested; takes = it.takes; enters = subst (λ o. EntersRing it.mid it.rested e (record w' { place = w.place; put_off = o }) s') same it.enters }
 
   -- THE LAST ENTER OF A SERVICE
   follows_last : (v : Service) → Follows (Place.Service InService.EnterLast v) (Place.Service (InService.Reap Reaping.Last) v)
-  follows_last v = record { from = refl; to = refl; serves = refl; armed = refl; closes = refl; wakes = refl; permits = refl; moment = λ m. refl }
+  follows_last v = record { from = refl; to = refl; serves = refl; armed = refl; closes = refl; wakes = refl; permits = refl; moment = λ m. refl; searches = refl; published = refl }
 
-  pub last_entered : (v : Service) (w w' : Worker) (s s' : Shared B) (e : Event) → SoundAt (Place.Service InService.EnterLast v) w s → Enters w s e (record w' { place = w.place }) s'
+  enter_there : (me : Own) (d : Desk) (p : Place) (i : ℕ) (x : Things) (y : Ring) → with_ring i x (at_place p (enter me d y)) ≡ with_ring i x (led_to p (record { defer = d.may_put_off; «enter» = d.put_off }) (enter me d y))
+  enter_there me d p i x y = by y.busy refl
+    where
+      by : (b : Bool) → y.busy ≡ b → with_ring i x (at_place p (enter me d y)) ≡ with_ring i x (led_to p (record { defer = d.may_put_off; «enter» = d.put_off }) (enter me d y))
+      by true is = rw is refl
+      by false is = rw is refl
+
+  pub last_entered : (v : Service) (w w' : Worker) (s s' : Shared B) (e : Event) → SoundAt (Place.Service InService.EnterLast v) w s → (it : Enters w s e (record w' { place = w.place }) s')
       → w'.place ≡ Place.Service (InService.Reap Reaping.Last) v → Steps left spot w s e w' s'
   last_entered v w w' s s' e sound it there =
       let q : Place = Place.Service InService.EnterLast v in
-      let chair = sound.alone.seat in
-      let same : w'.put_off ≡ w.put_off = ap (λ v. v.put_off) it.worker in
-      entered q w w' s s' e sound (subst (λ p. Follows q p) (sym there) (follows_last v)) (λ h. sound.due.told refl) (without_putting_off w w' s s' e it)
-      (λ p vs suits. rw (there, same, own_seat left spot p vs w s chair suits sound.alone.there) (enter_there (own_of w) (desk_of w) (Place.Service (InService.Reap Reaping.Last) v) (things_of w.index s) (driver_of w).ring.busy))
+      let same : w'.put_off ≡ w.put_off = without_putting_off w w' s s' e it in
+      let mid_put : w'.put_off ≡ it.mid.put_off = ap (λ x. x.put_off) it.enters.worker in
+      entered q w w' s s' e sound (subst (λ p. Follows q p) (sym there) (follows_last v)) (λ h. sound.due.told refl) (with_put_off w w' s s' e it same)
+      (λ p vs suits ring.
+      ap (λ y. with_ring it.mid.index (things_with vs it.rested) (at_place (Place.Service (InService.Reap Reaping.Last) v) (enter (own_of it.mid) (desk_of it.mid) y))) ring
+      ∙ enter_there (own_of it.mid) (desk_of it.mid) (Place.Service (InService.Reap Reaping.Last) v) it.mid.index (things_with vs it.rested) (ring_seen it.mid)
+      ∙ ap (λ o. with_ring it.mid.index (things_with vs it.rested) (led_to (Place.Service (InService.Reap Reaping.Last) v) o (enter (own_of it.mid) (desk_of it.mid) (ring_seen it.mid)))) (sym mid_put)
+      ∙ ap (λ y. with_ring it.mid.index (things_with vs it.rested) (led_to y w'.put_off (enter (own_of it.mid) (desk_of it.mid) (ring_seen it.mid)))) (sym there))
 
   -- THE ENTER OF A FULL RING, BEFORE A WAIT
   follows_full : (y : Stay) → Follows (Place.RingWait InRingWait.EnterFullRing y) (Place.RingWait InRingWait.TestRing y)
-  follows_full y = record { from = refl; to = refl; serves = refl; armed = refl; closes = refl; wakes = refl; permits = refl; moment = λ m. refl }
+  follows_full y = record { from = refl; to = refl; serves = refl; armed = refl; closes = refl; wakes = refl; permits = refl; moment = λ m. refl; searches = refl; published = refl }
 
-  pub full_ring_entered : (y : Stay) (w w' : Worker) (s s' : Shared B) (e : Event) → SoundAt (Place.RingWait InRingWait.EnterFullRing y) w s → Enters w s e (record w' { place = w.place }) s'
+  enter_from : (me : Own) (d : Desk) (p : Place) (i : ℕ) (x : Things) (y : Ring) → with_ring i x (enter me (record d { place = p }) y) ≡ with_ring i x (led_to p (record { defer = d.may_put_off; «enter» = d.put_off }) (enter me d y))
+  enter_from me d p i x y = by y.busy refl
+    where
+      by : (b : Bool) → y.busy ≡ b → with_ring i x (enter me (record d { place = p }) y) ≡ with_ring i x (led_to p (record { defer = d.may_put_off; «enter» = d.put_off }) (enter me d y))
+      by true is = rw is refl
+      by false is = rw is refl
+
+  pub full_ring_entered : (y : Stay) (w w' : Worker) (s s' : Shared B) (e : Event) → SoundAt (Place.RingWait InRingWait.EnterFullRing y) w s → (it : Enters w s e (record w' { place = w.place }) s')
       → w'.place ≡ Place.RingWait InRingWait.TestRing y → Steps left spot w s e w' s'
   full_ring_entered y w w' s s' e sound it there =
       let q : Place = Place.RingWait InRingWait.EnterFullRing y in
-      let chair = sound.alone.seat in
-      let same : w'.put_off ≡ w.put_off = ap (λ v. v.put_off) it.worker in
-      entered q w w' s s' e sound (subst (λ p. Follows q p) (sym there) (follows_full y)) (λ h. sound.due.told refl) (without_putting_off w w' s s' e it)
-      (λ p vs suits. rw (there, same, own_seat left spot p vs w s chair suits sound.alone.there) (enter_from (own_of w) (desk_of w) (Place.RingWait InRingWait.TestRing y) (things_of w.index s) (driver_of w).ring.busy))
+      let same : w'.put_off ≡ w.put_off = without_putting_off w w' s s' e it in
+      let mid_put : w'.put_off ≡ it.mid.put_off = ap (λ x. x.put_off) it.enters.worker in
+      entered q w w' s s' e sound (subst (λ p. Follows q p) (sym there) (follows_full y)) (λ h. sound.due.told refl) (with_put_off w w' s s' e it same)
+      (λ p vs suits ring.
+      ap (λ z. with_ring it.mid.index (things_with vs it.rested) (enter (own_of it.mid) (record (desk_of it.mid) { place = Place.RingWait InRingWait.TestRing y }) z)) ring
+      ∙ enter_from (own_of it.mid) (desk_of it.mid) (Place.RingWait InRingWait.TestRing y) it.mid.index (things_with vs it.rested) (ring_seen it.mid)
+      ∙ ap (λ o. with_ring it.mid.index (things_with vs it.rested) (led_to (Place.RingWait InRingWait.TestRing y) o (enter (own_of it.mid) (desk_of it.mid) (ring_seen it.mid)))) (sym mid_put)
+      ∙ ap (λ z. with_ring it.mid.index (things_with vs it.rested) (led_to z w'.put_off (enter (own_of it.mid) (desk_of it.mid) (ring_seen it.mid)))) (sym there))

@@ -1,5 +1,5 @@
 -- What an enter is to the machine.
-use Rattle.std.{proofs.{Common.{◌≡◌, ℕ, ◌+◌, ◌≤◌, ◌==◌, ◌&&◌, Bool, true, false, List, [], length, Option, Some, None, refl, sym, ap, subst, ◌∙◌, slice_get, if◌then◌else◌}, lemmas.Bool.{false≢true, eq-eqb}}, specs.{Option.option_map, Vec.vec_capacity}}
+use Rattle.std.{proofs.{Common.{◌≡◌, ◌≢◌, ℕ, ◌+◌, ◌≤◌, ◌==◌, ◌&&◌, Bool, true, false, List, [], length, Option, Some, None, refl, sym, ap, subst, ◌∙◌, slice_get, if◌then◌else◌}, lemmas.Bool.{false≢true, eq-eqb}}, specs.{Option.option_map, Vec.vec_capacity}}
 use Rattle.exec_base.specs.Slab.{Slab}
 use Rattle.exec_outcomes.specs.declared.outcome.OpResult.{OpResult}
 use Rattle.exec_time.specs.declared.timers.Sleeper.{Sleeper as Sleeping}
@@ -8,7 +8,7 @@ use Rattle.exec_waiters.specs.{States.waiter_at, declared.waiter.Waiter.Waiter}
 use Rattle.exec_driver.specs.Driving.{Driving}
 use Rattle.exec_machine.specs.{declared.state.{Request.Request, RequestPhase.RequestPhase}, Requests.flown, Tests.{is_staged, is_in_flight, is_resolved}}
 use Rattle.exec_moves.specs.declared.place.InService.{InService}
-use Rattle.exec_steps.{specs.{declared.parts.{mail.Reply.Reply, names.Names.Names, record.Record.Record, sleeping.SleeperRecord.SleeperRecord}, Due.AreTimed, Flown.{AreAcks, IsPlain, HasFlown, operations, passes_permit}, Records.number_in, Serving.{flies, flown_in, cancels_in, is_one_of}, Sound.{IsNamed, IsAlike, IsSubmitted}}, proofs.{Facts.and_right, Flown.landed_on, Going.{GoesOn, AllGoOn, still, same_worker, same_id}, Flying.{flies_if, worker_kept, get_flown}, Rings.Acknowledges}}
+use Rattle.exec_steps.{specs.{declared.parts.{mail.Reply.Reply, names.Names.Names, record.Record.Record, sleeping.SleeperRecord.SleeperRecord}, Due.AreTimed, Flown.{IsPlain, IsPolled, HasFlown, operations, passes_permit}, Records.number_in, Serving.{flies, flown_in, is_one_of}, Sound.{IsNamed, IsAlike, IsSubmitted}}, proofs.{Facts.and_right, Flown.landed_on, Going.{GoesOn, AllGoOn, still, same_worker, same_id}, Flying.{flies_if, worker_kept, get_flown}}}
 
 -- A REQUEST THAT FLIES
 
@@ -150,9 +150,9 @@ timed_flown i n n' ks rs same timed k x there mine =
 pub flown_entered : (x x' : Option InService) (i : ℕ) (n n' : Names) (d : Driving Reply Reply) (ring : RingState) (l : List Landing) (ks : List ℕ) (rs : List Record)
     → HasFlown x i n d rs → passes_permit x' ≡ false → n'.requests ≡ n.requests → n'.ended ≡ n.ended → n'.unreleased ≡ n.unreleased
     → vec_capacity n'.staged ≡ vec_capacity n.staged → vec_capacity n'.untold ≡ vec_capacity n.untold
-    → ring.size ≡ d.ring.size → AreAcks ring.posted → operations ring ≡ operations d.ring → length n'.staged.items + length n'.untold.items ≤ length ring.staged
+    → ring.size ≡ d.ring.size → IsPolled ring d.armed → operations ring ≡ operations d.ring → length n'.staged.items + length n'.untold.items ≤ length ring.staged
     → HasFlown x' i n' (record d { ring = ring; landings = l }) (flown_in ks rs)
-flown_entered x x' i n n' d ring l ks rs flown permits requests ended unreleased staged untold size acks same entries =
+flown_entered x x' i n n' d ring l ks rs flown permits requests ended unreleased staged untold size polled same entries =
     let d' : Driving Reply Reply = record d { ring = ring; landings = l } in
     record {
       ending = rw (ended, unreleased) flown.ending;
@@ -161,15 +161,12 @@ flown_entered x x' i n n' d ring l ks rs flown permits requests ended unreleased
       entries = entries;
       permits = permits;
       enrolling = flown.enrolling;
-      acks = acks;
+      polled = polled;
       owning = λ k y there unresolved.
           let old = was ks rs k y there in
           let b = is_one_of k ks in
           let on : GoesOn old.0 y = subst (λ z. GoesOn old.0 z) (sym old.2) (goes_flies b old.0) in
           ap (λ z. z.shown.released) on.same ∙ flown.owning k old.0 old.1 (sym on.over ∙ unresolved);
-      ours = λ k y there.
-          let old = was ks rs k y there in
-          ap (λ z. z.shown.worker) old.2 ∙ worker_flies (is_one_of k ks) old.0 ∙ flown.ours k old.0 old.1;
       plain = λ k y there mine.
           let old = was ks rs k y there in
           let b = is_one_of k ks in
@@ -181,18 +178,18 @@ flown_entered x x' i n n' d ring l ks rs flown permits requests ended unreleased
           (λ id it r given at flies there landed.
           let k = number_in n.requests.items id in
           record { it' = it; r' = flies_if (is_one_of k ks) r; live = at; flies = refl; same = refl; number = ap (λ v. number_in v.items id) requests; there = flies_there ks rs k r there; phase = landed_flies (is_one_of k ks) r given landed }));
-      uncancelled = λ id y among there.
+      uncancelled = λ id y among there mine.
           let k = number_in n.requests.items id.0 in
           let old = was ks rs k y (ap (λ v. slice_get (flown_in ks rs) (number_in v.items id.0)) (sym requests) ∙ there) in
-          ap (λ z. z.shown.cancel_staged) old.2 ∙ cancel_flies (is_one_of k ks) old.0 ∙ flown.uncancelled id old.0 among old.1;
+          ap (λ z. z.shown.cancel_staged) old.2 ∙ cancel_flies (is_one_of k ks) old.0 ∙ flown.uncancelled id old.0 among old.1 (sym (worker_flies (is_one_of k ks) old.0) ∙ sym (ap (λ z. z.shown.worker) old.2) ∙ mine);
     }
 
 module _ (i : ℕ) (n : Names) (d : Driving Reply Reply) (zs : Slab (Sleeping Reply)) (rs : List Record) (sleepers : List SleeperRecord) (named : IsNamed i n d zs rs sleepers) where
-  pub submitted_free : (r : RingState) → Acknowledges (record d.ring { staged = [] }) r (cancels_in d.ring.staged) → IsSubmitted i [] [] r (flown_in n.staged.items rs)
-  submitted_free r ring =
+  pub submitted_free : (r : RingState) → r.staged ≡ [] → IsSubmitted i [] [] r (flown_in n.staged.items rs)
+  submitted_free r none =
       record {
-        tagged = rw ring.staged tt;
-        cancels = rw ring.staged refl;
+        tagged = rw none tt;
+        cancels = rw none refl;
         known = tt;
         own = λ k x h there. absurd (false≢true h);
         all = λ k x there mine staged.
@@ -200,7 +197,6 @@ module _ (i : ℕ) (n : Names) (d : Driving Reply Reply) (zs : Slab (Sleeping Re
             let still = still_staged (is_one_of k n.staged.items) before.0 (sym (ap (λ y. is_staged y.shown.phase) before.2) ∙ staged) in
             let of_i : before.0.shown.worker ≡ i = sym (worker_flies (is_one_of k n.staged.items) before.0) ∙ sym (ap (λ y. y.shown.worker) before.2) ∙ mine in
             absurd (false≢true (sym still.0 ∙ named.submitted.all k before.0 before.1 of_i still.1));
-        unraised = ring.raised;
       }
 
   pub named_free : (n' : Names) (r : RingState) (l : List Landing) → n'.requests.items ≡ n.requests.items → n'.timers.items ≡ n.timers.items
@@ -245,4 +241,22 @@ module _ (i : ℕ) (n : Names) (d : Driving Reply Reply) (zs : Slab (Sleeping Re
   pub submitted_busy : IsSubmitted i n.staged.items n.untold.items (record d.ring { busy = false }) rs
   submitted_busy =
       let sub = named.submitted in
-      record { tagged = sub.tagged; cancels = sub.cancels; known = sub.known; own = sub.own; all = sub.all; unraised = sub.unraised }
+      record { tagged = sub.tagged; cancels = sub.cancels; known = sub.known; own = sub.own; all = sub.all }
+
+  -- each record of another worker is as it was
+  flown_of_i : (k : ℕ) (r : Record) → slice_get rs k ≡ Some r → r.shown.worker ≢ i → is_one_of k n.staged.items ≡ false
+  flown_of_i k r there other = by (is_one_of k n.staged.items) refl
+    where
+      by : (b : Bool) → is_one_of k n.staged.items ≡ b → is_one_of k n.staged.items ≡ false
+      by true is = absurd (other (named.submitted.own k r is there))
+      by false is = is
+
+  pub others_flown : (k : ℕ) (r : Record) → slice_get rs k ≡ Some r → r.shown.worker ≢ i → slice_get (flown_in n.staged.items rs) k ≡ Some r
+  others_flown k r there other = flies_there n.staged.items rs k r there ∙ ap (λ b. Some (flies_if b r)) (flown_of_i k r there other)
+
+  pub others_were : (k : ℕ) (x : Record) → slice_get (flown_in n.staged.items rs) k ≡ Some x → x.shown.worker ≢ i → slice_get rs k ≡ Some x
+  others_were k x there other =
+      let old = was n.staged.items rs k x there in
+      let before : old.0.shown.worker ≢ i = λ is. other (ap (λ y. y.shown.worker) old.2 ∙ worker_flies (is_one_of k n.staged.items) old.0 ∙ is) in
+      let is : x ≡ old.0 = old.2 ∙ ap (λ b. flies_if b old.0) (flown_of_i k old.0 old.1 before) in
+      old.1 ∙ ap (λ y. Some y) (sym is)

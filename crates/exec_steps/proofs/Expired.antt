@@ -6,9 +6,9 @@ use Rattle.exec_request.specs.{Requests.{asked_of, output_of}, States.asks_cance
 use Rattle.exec_waiters.specs.{Events.{finished, told_by_finish}, States.{tick_in, flying_count}, Told.{Tells, nothing_told, Told}, declared.waiter_id.WaiterId.WaiterId}
 use Rattle.exec_driver.specs.{Driving.{Driving, request_at, is_queued, is_unenrolled, is_cancelled}, Lists.{first_of, rest_of, after_due, without, withdrawn}, Punctual.IsPunctual, Steps.{cancelled_from, cancelling, ended, told_by_cancel, timed_out, unscheduled}}
 use Rattle.exec_task.specs.declared.body.Said.{Said}
-use Rattle.exec_machine.specs.{declared.{event.Event.{Event, TheVariants.Expire}, state.RequestPhase.RequestPhase}, Deadlines.{expired, outcome_at_expiry}, Same.same_end, Tests.is_queued as is_phase_queued, World.request_of, Requests.{joined_if, resolved}}
+use Rattle.exec_machine.specs.{declared.{event.Event.{Event, TheVariants.Expire}, state.RequestPhase.RequestPhase}, Deadlines.{expired, outcome_at_expiry}, Same.same_end, Tests.is_queued as is_phase_queued, World.{Common, request_of}, Requests.{joined_if, resolved}}
 use Rattle.exec_moves.specs.{Move.move_submit, Callback.{told_if_ended, told_of_end, waker_of}, Submit.{due_next, first_due, submits, Due.Expires}, declared.place.{Service.Service, Place.Place, InService.InService}}
-use Rattle.exec_steps.{specs.{declared.parts.{mail.Reply.Reply, shared.Shared.Shared, worker.Worker.Worker}, Due.IsWheelAt, Flown.{IsUpTo, longest}, Records.number_in, Serving.changed_at, Spots.Spot, Submitting.{IsDueIn, IsInOrder}, View.{visible, own_of, desk_of, driver_of, common_of, things_of, numbers_of}, Works.Steps}, proofs.{Serving.{serves_to, IsServed, OthersKept, keeps_home, Serves, Keeps, KeepsBy, calm, kept}, Late.{stands, ends_as, same_error_self, same_place, tells_error, wakes_are}, Calling.request_seen, Seeing.{makes, shows, served, common_changed, desk_with}, Staging.split_first, Turning.set_found, Ends.{desk_ended, flying_ended, numbers_without, without_first}, Orders.alike_unticked, Ousting.keeps_ended, Over.OneEnds, Resolving.{slab_after, told_once, unticked_at}, Starting.queued_phase, Expiring.{HasExpired, comes_to_due, due_first, expires, move_expire, same_change, told_first, unticked_start, unticked_tick}}}
+use Rattle.exec_steps.{specs.{declared.parts.{mail.Reply.Reply, shared.Shared.Shared, worker.Worker.Worker}, Due.IsWheelAt, Flown.{IsUpTo, longest}, Records.number_in, Serving.changed_at, Spots.Spot, Submitting.{IsDueIn, IsInOrder}, View.{Views, visible, with_view, own_of, desk_of, driver_of, common_of, seat_seen, things_with, numbers_of}, Works.Steps}, proofs.{Serving.{serves_to, IsServed, OthersKept, keeps_home, Serves, SparesRecords, Keeps, KeepsBy, calm, kept, spares_one}, Late.{stands, ends_as, same_error_self, same_place, tells_error, wakes_are}, Calling.request_seen, Seeing.{makes, shows, served, common_changed, common_same, things_kept, desk_with}, Staging.{split_first, stages_again}, Ends.{desk_ended, flying_ended, numbers_without, without_first}, Orders.alike_unticked, Ousting.keeps_ended, Over.OneEnds, Resolving.{slab_after, told_once, unticked_at}, Starting.queued_phase, Expiring.{HasExpired, comes_to_due, due_first, expires, move_expire, same_change, told_first, unticked_start, unticked_tick}}}
 
 module _ {B L : Type 0} (left : B → L) (spot : L → Option Said → Spot) where
   pub expiry_ends : (w w' : Worker) (s s' : Shared B) (e : Event) (id : WaiterId) → (new : IsDueIn w s) → IsInOrder w s → (first : first_of (driver_of w).lists.due ≡ Some id) → (due_first w s new id first).it.in_flight ≡ false → HasExpired w w' s s' e id (due_first w s new id first).r → Steps left spot w s e w' s'
@@ -65,14 +65,16 @@ module _ {B L : Type 0} (left : B → L) (spot : L → Option Said → Spot) whe
       sound.runnable.root sound.runnable.there (record { once = told_once id.0 it (Err error) None a.near; wakes = wakes_are id.0 told it.observer a.near }) tells
       ended_by by.capacity idle (record { bounded = plain.bounded; moved = plain.moved; first_part = plain.first_part; unhinted = plain.unhinted; ungated = refl; deadline = plain.deadline })
       (λ held. sym (tells_error it.request who.r.shown.operation.length error bounded_kind))
-      refl refl (unticked_start d.wheel (tick_in it.state)) (unticked_tick d.wheel (tick_in it.state))
+      refl refl refl (unticked_start d.wheel (tick_in it.state)) (unticked_tick d.wheel (tick_in it.state))
       (subst IsPunctual driver by.punctual) (λ h. absurd (false≢true (sym h))) (unticked_at c start now d.wheel (tick_in it.state) wheel) (alike_unticked d.wheel (tick_in it.state)) refl refl in
       let w2 : Worker = record w1 { home = record w1.home { driver = w'.home.driver } } in
       let there : w'.place ≡ q = ap (λ x. x.place) by.worker ∙ sound.here in
       let same2 : w' ≡ w2 = by.worker ∙ ap (λ y. record w { place = y; home = record w.home { driver = w'.home.driver; deferred = deferred }; names = record w.names { ended = w'.names.ended } }) sound.here in
       let keeps : Keeps w' s' = keeps_home w1 w' s s' rs' d' same2 by.shared driver records kept_now in
-      let serves : Serves q w w' s s' = serves_to q q w w' s s' (subst (IsServed w) (sym by.worker) refl) (subst (OthersKept s) (sym by.shared) refl) there refl refl refl refl in
+      let serves : Serves q w w' s s' = serves_to q q w w' s s' (subst (IsServed w) (sym by.worker) refl) (subst (OthersKept s) (sym by.shared) refl) there (stages_again gate v) in
       let show = shows q w w' s s' d' serves driver in
+      let seen : visible w' ≡ visible w = show.seen in
+      let spares : SparesRecords w.index s s' = spares_one w.index s s' k who.r (ends_as outcome) records (ap (λ (y : Shared B). y.sleepers.items) by.shared) who.there who.worker (λ y. refl) in
       let flying : flying_count d'.requests ≡ flying_count d.requests = flying_ended d.requests id.0 it (Err error) None who.live idle in
       let apart : (x : WaiterId) → IsSome (value_at d.requests x.0) → x.0 ≢ id.0 → number_in n x.0 ≡ k → ⊥ = λ x some differs same.
       let one_r = sound.named.requests x.0 some in
@@ -85,7 +87,7 @@ module _ {B L : Type 0} (left : B → L) (spot : L → Option Said → Spot) whe
       let cancels : numbers_of n (without id d.lists.cancels) ≡ filter (λ j. not (j == k)) (numbers_of n d.lists.cancels) =
       numbers_without n id d.lists.cancels (λ x among. apart x (stands d x is_cancelled (request_at d x) refl refl (new.submits.lists.cancels x among))) in
       subst (λ x. Steps left spot w s x w' s') (sym (by.event ∙ ap (Expire k) ends))
-      (served left spot q w w' s s' (Expire k (Some outcome)) sound serves keeps
+      (served left spot q w w' s s' (Expire k (Some outcome)) sound serves keeps spares
       (λ p vs suits.
       let cp = p.config in
       let all = common_of left spot p vs s in
@@ -99,14 +101,15 @@ module _ {B L : Type 0} (left : B → L) (spot : L → Option Said → Spot) whe
       same_place who.r.shown.observed q (record (desk_of w0) { wakes = (desk_of w0).wakes ++ waker_of who.r.shown.waiter }) (record (desk_of w0) { outputs = (desk_of w0).outputs + 1 }) refl refl in
       record {
         moves =
-            ap (move_submit cp w.index (own_of w0) all (desk_of w0) (things_of w.index s) gate v) due
-            ∙ ap (move_expire (desk_of w0) (things_of w.index s) gate v k) request
-            ∙ ap (λ o. makes (Expire k o) (submits v gate (told_if_ended o who.r.shown (desk_of w0))) (things_of w.index s)) ends
-            ∙ ap (λ x. makes (Expire k (Some outcome)) x (things_of w.index s)) (placed ∙ sym desk);
+            ap (move_submit cp w.index (own_of w0) all (desk_of w0) (things_with vs s) gate v) due
+            ∙ ap (move_expire (desk_of w0) (things_with vs s) gate v k) request
+            ∙ ap (λ o. makes (Expire k o) (submits v gate (told_if_ended o who.r.shown (desk_of w0))) (things_with vs s)) ends
+            ∙ ap (λ x. makes (Expire k (Some outcome)) x (things_with vs s)) (placed ∙ sym desk)
+            ∙ ap (makes (Expire k (Some outcome)) (desk_of w')) (sym (things_kept vs w.index (visible w) (visible w') s s' suits.seen (ap (λ y. y.wakes) seen) serves.shared));
         may = (refl, (told_first cp (own_of w0) w.index all.requests k found, (ap (same_end (Some outcome)) (ap outcome_at_expiry request ∙ ends) ∙ same_error_self error, tt)));
         own = show.own ∙ rw (there, ended_by, ap (λ x. x.names.untold) by.worker, ready, unenrolled, cancels, flying) refl;
         common =
-            ap (λ us. common_of left spot p us s') (ap (λ x. slice_set vs w.index x) show.seen ∙ set_found vs w.index (visible w) suits.seen)
-            ∙ common_changed left spot p vs s s' k who.r (ends_as outcome) by.shared records who.there (λ x. refl)
+            common_changed left spot p (with_view vs w.index (visible w')) s s' k who.r (ends_as outcome) by.shared records who.there (λ x. refl)
+            ∙ ap (λ (x : Common). record x { requests = slice_set (map (λ r. r.shown) rs) k ((ends_as outcome) who.r).shown }) (common_same left spot p vs w w' s suits (λ c'. ap (λ y. seat_seen y c') seen))
             ∙ ap (λ x. record all { requests = slice_set (map (λ r. r.shown) rs) k (resolved outcome x) }) (sym request);
       }))

@@ -1,5 +1,5 @@
 -- Small facts that many proofs cite: of numbers, tests, what is there, and names.
-use Rattle.std.proofs.{Common.{sym, ◌≢◌, inl, inr, ◌≡◌, ℕ, suc, ◌==◌, ◌&&◌, ◌||◌, not, Bool, true, false, List, Option, Some, None, is_some, slice_get, slice_set, refl, ap, ◌∙◌, arith, length}, lemmas.{Bool.{false≢true, eq-eqb, Decides.nat_tests}, List.{get_or-set_same, length-set}, Option.{slice_get_within, slice_get-get_or}}}
+use Rattle.std.proofs.{Common.{sym, ◌≢◌, inl, inr, ◌≡◌, ℕ, zero, suc, [], ◌∷◌, ◌==◌, ◌&&◌, ◌||◌, not, Bool, true, false, List, Option, Some, None, is_some, slice_get, slice_set, refl, ap, ◌∙◌, arith, length}, lemmas.{Bool.{cases_eq, false≢true, eq-eqb, Decides.nat_tests}, List.{get_or-set_same, length-set}, Option.{slice_get_within, slice_get-get_or}}}
 use Rattle.exec_base.{specs.declared.slab.Id.Id, proofs.Slots.id_cases}
 use Rattle.exec_waiters.specs.declared.waiter_id.WaiterId.{WaiterId}
 use Rattle.exec_driver.specs.Lists.{is_same}
@@ -67,6 +67,22 @@ pub set_there : {A : Type 0} (xs : List A) (i : ℕ) (x y : A) → slice_get xs 
 set_there xs i x y there =
     let within = slice_get_within xs i y there in
     slice_get-get_or (slice_set xs i x) i x (rw length-set within) ∙ ap (λ z. Some z) (get_or-set_same xs i x x within)
+
+-- and at any other place
+pub set_elsewhere : {A : Type 0} (xs : List A) (i k : ℕ) (x : A) → k ≢ i → slice_get (slice_set xs i x) k ≡ slice_get xs k
+set_elsewhere [] i k x other = refl
+set_elsewhere (y ∷ ys) zero zero x other = absurd (other refl)
+set_elsewhere (y ∷ ys) zero (suc k) x other = refl
+set_elsewhere (y ∷ ys) (suc i) zero x other = refl
+set_elsewhere (y ∷ ys) (suc i) (suc k) x other = set_elsewhere ys i k x (λ same. other (ap suc same))
+
+-- by whether a number is another
+pub by_number : {P : Type 0} (k i : ℕ) → (k ≢ i → P) → (k ≡ i → P) → P
+by_number k i other same =
+    elim (cases_eq k i) [
+      | inl is ↦ same is
+      | inr apart ↦ other apart
+    ]
 
 -- NAMES
 

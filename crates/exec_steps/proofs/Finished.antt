@@ -8,7 +8,7 @@ use Rattle.exec_waiters.{specs.{Ids.user_data_of, States.{waiter_at, tick_in, wa
 use Rattle.exec_driver.specs.{Driving.Driving, Lists.{without, withdrawn}, Punctual.IsPunctual, Steps.unscheduled}
 use Rattle.exec_machine.specs.{declared.event.Event.TheVariants.Reap, Requests.{judged_of, reaped, asked_of as asked_in, cursor_of as cursor_in}}
 use Rattle.exec_moves.specs.{declared.place.{Place.Place, Reaping.Reaping, Service.Service, InService.InService}, Serve.{after_permit, back_from_reap}, State.Desk}
-use Rattle.exec_steps.{specs.{declared.parts.{mail.Reply.Reply, names.Names.Names, record.Record.Record, shared.Shared.Shared, worker.Worker.Worker}, Carried.IsUnderWay, Due.{IsWheelAt, wheel_moment}, Flown.{AreLanded, HasLanded, IsPlain, IsUpTo, longest, operations}, Records.number_in, Serving.{changed_at, is_one_of}, Sound.{SoundAt, IsAlike, served_in}, View.{driver_of, number_told}, Rooted.outcome_told}, proofs.{Facts.not_same, Changing.{changes_one, live_still, pending_still}, Flown.landed_on, Judging.first_still, Marking.{mark_if, marked}, Serving.{KeepsBy, calm, kept}, Starting.{fills, reads, writes_bytes}, Trailing.RingAfter, Requeued.{landed_rest, lawful_shown, moved_fits, number_landed}, Late.wakes_are, Orders.{TurnsAlike, alike_unticked, past_written}, Ousting.keeps_over, Over.OneEnds, Resolving.{SlabAfter, slab_after, told_once, unticked_at}, Returned.{follows_back, not_due}}}
+use Rattle.exec_steps.{specs.{declared.parts.{mail.Reply.Reply, names.Names.Names, record.Record.Record, shared.Shared.Shared, worker.Worker.Worker}, Carried.IsUnderWay, Due.{IsWheelAt, wheel_moment}, Flown.{AreLanded, HasLanded, IsPlain, IsUpTo, longest, operations}, Records.number_in, Serving.{changed_at, is_one_of}, Sound.{SoundAt, IsAlike, served_in}, View.{driver_of, number_told}, Rooted.outcome_told}, proofs.{Facts.not_same, Changing.{changes_one, live_still, pending_still}, Flown.landed_on, Judging.first_still, Marking.{mark_if, marked}, Serving.{KeepsBy, calm, kept}, Starting.{fills, reads, writes_bytes}, Swept.RingAfter, Mine.live_mine, Requeued.{landed_rest, lawful_shown, moved_fits, number_landed}, Late.wakes_are, Orders.{TurnsAlike, alike_unticked, past_written}, Ousting.keeps_over, Over.OneEnds, Resolving.{SlabAfter, slab_after, told_once, unticked_at}, Returned.{follows_back, not_due}}}
 
 -- WHAT THE DRIVER DID
 
@@ -19,7 +19,7 @@ pub record GoesOver {B : Type 0} (w : Worker) (s : Shared B) (d' : Driving Reply
   pub request : Asking
   pub judges : Judges (asked_of h.it.request) (cursor_of h.it.request) (cursor_of request) (judged_as (hinted_of h.it.request) h.it.state (result_in c.result)) (Some (as_outcome how))
   pub kept : kept_of request ≡ kept_of h.it.request
-  pub ring : RingAfter (driver_of w) d' cs
+  pub ring : RingAfter (number_told w.names.requests.items) (driver_of w) d' cs
   pub requests : d'.requests ≡ finished (written (driver_of w).requests h.id (Pending (record h.it { in_flight = false; request = request }))) h.id (record h.it { in_flight = false; request = request }) how None
   pub lists : d'.lists ≡ withdrawn (record { 0 = h.id }) (driver_of w).lists
   pub wheel : d'.wheel ≡ unscheduled (driver_of w).wheel (tick_in h.it.state)
@@ -64,7 +64,7 @@ module _ {B : Type 0} (rp : Reaping) (v : Service) (w : Worker) (s : Shared B) (
   over_alike = sound.named.alike over.h.id over.h.it over.h.r over.h.live over.h.there
 
   pub over_plain : IsPlain over.h.r.shown
-  over_plain = sound.flown.plain (number_in w.names.requests.items over.h.id) over.h.r over.h.there (sound.flown.ours (number_in w.names.requests.items over.h.id) over.h.r over.h.there)
+  over_plain = sound.flown.plain (number_in w.names.requests.items over.h.id) over.h.r over.h.there (live_mine w.index w.names (driver_of w) w.home.timers s.requests.items s.sleepers.items sound.named over.h.id over.h.it over.h.r over.h.live over.h.there)
 
   pub over_written : waiter_at (written (driver_of w).requests over.h.id (Pending over_waiter)) over.h.id ≡ Some over_waiter
   over_written = (changes_one (driver_of w).requests over.h.id over.h.it over_waiter over.h.live).is_at
@@ -134,6 +134,6 @@ module _ {B : Type 0} (rp : Reaping) (v : Service) (w : Worker) (s : Shared B) (
       keeps_over w s d d' w.home.timers s.requests.items s.sleepers.items over.h.id over.h.it over.h.r (goes_over (result_in c.result) how) (as_outcome how) over_told over_place v' left over_tells one_over (kept q w s sound (calm q refl))
       sound.runnable.root sound.runnable.there (record { once = told_once over.h.id over_waiter how None over_alike.near; wakes = wakes_are over.h.id over_told over.h.it.observer over_alike.near }) tells
       ended capacity plain_over (λ held. sym (tells_ending over.request r.operation.length how bounded))
-      over.ring.size (over.ring.flying, under.0, under.1) over.ring.staged over.ring.raised over.ring.acks (landed_over (record w.names { ended = v'.ended }) refl) over.lists (wheel'.start ∙ sym wheel.start) (wheel'.tick ∙ sym wheel.tick)
+      over.ring.size (over.ring.flying, under.0, under.1) over.ring.staged over.ring.polled (landed_over (record w.names { ended = v'.ended }) refl) over.lists (wheel'.start ∙ sym wheel.start) (wheel'.tick ∙ sym wheel.tick)
       punctual (λ h. ap (λ l. l.due) over.lists ∙ ap (without (record { 0 = over.h.id })) (sound.due.told (not_due rp v)))
       (subst (λ m. IsWheelAt s.config start m d'.wheel) (sym (follows.moment w.moments)) wheel') (subst (TurnsAlike d.wheel) (sym over.wheel) (alike_unticked d.wheel (tick_in over.h.it.state))) follows.permits follows.wakes

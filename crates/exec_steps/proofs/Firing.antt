@@ -4,8 +4,8 @@ use Rattle.exec_base.specs.{Slab.{Slab, value_at}, declared.slab.Id.Id}
 use Rattle.exec_time.specs.{Sleepers.IsDue as IsSleepDue, declared.{notes.Notes.Notes, timers.Sleeper.Sleeper as Sleeping}}
 use Rattle.exec_task.specs.declared.body.Said.{Said}
 use Rattle.exec_machine.specs.{declared.{event.Event.{Event, TheVariants.Serve}, state.{Sleeper.Sleeper, Next.Next}}, Deadlines.is_none_earlier, Tests.{is_asleep, is_open}, World.{Own, Common, seat_of}}
-use Rattle.exec_moves.specs.{Seen.{polls_at, next_at, serves_at}, State.Desk, Serve.{after_service, first_numbered, first_to_fire}, declared.place.{AfterService.AfterService, Service.Service, Place.Place, AfterCallbacks.AfterCallbacks, InCallbacks.InCallbacks, InMail.InMail, InService.InService}}
-use Rattle.exec_steps.{specs.{declared.parts.{mail.Reply.Reply, names.Names.Names, shared.Shared.Shared, sleeping.SleeperRecord.SleeperRecord, worker.Worker.Worker}, Due.AreAsleep, Sound.SoundAt, Spots.Spot, View.{visible, own_of, desk_of, driver_of, common_of, things_of, message_of}, Works.Steps}, proofs.{Serving.{serves_to, IsServed, Follows, Serves, Keeps, KeepsBy}, Ceasing.{keeps_ring, same_ring}, Idling.first_none, Seeing.{makes, served, common_same}}}
+use Rattle.exec_moves.specs.{Seen.{polls_at, next_at, serves_at}, State.Desk, Serve.{after_service, first_numbered, first_to_fire}, declared.{handing.AfterCallbacks.AfterCallbacks, place.{AfterService.AfterService, Service.Service, Place.Place, InCallbacks.InCallbacks, InMail.InMail, InService.InService}}}
+use Rattle.exec_steps.{specs.{declared.parts.{mail.Reply.Reply, names.Names.Names, shared.Shared.Shared, sleeping.SleeperRecord.SleeperRecord, worker.Worker.Worker}, Due.AreAsleep, Sound.SoundAt, Spots.Spot, View.{Views, visible, own_of, owed_at, desk_of, driver_of, common_of, seat_seen, things_with, message_of}, Works.Steps}, proofs.{Serving.{serves_to, IsServed, Follows, Serves, Keeps, KeepsBy, spares_same}, Keeping.{keeps_ring, same_ring}, Idling.first_none, Seeing.{makes, served, common_same, things_kept}}}
 
 -- WHO IS NEXT
 
@@ -62,9 +62,9 @@ place_after AfterService.Begin = Place.Callbacks InCallbacks.TakeBatch AfterCall
 place_after AfterService.Finish = Place.Callbacks InCallbacks.TakeBatch AfterCallbacks.Finish
 
 follows_end : (d : Bool) (x : AfterService) → Follows (Place.Service InService.EndService (record { defer = d; back = x })) (place_after x)
-follows_end d AfterService.Mail = record { from = refl; to = refl; serves = refl; armed = refl; closes = refl; wakes = refl; permits = refl; moment = λ m. refl }
-follows_end d AfterService.Begin = record { from = refl; to = refl; serves = refl; armed = refl; closes = refl; wakes = refl; permits = refl; moment = λ m. refl }
-follows_end d AfterService.Finish = record { from = refl; to = refl; serves = refl; armed = refl; closes = refl; wakes = refl; permits = refl; moment = λ m. refl }
+follows_end d AfterService.Mail = record { from = refl; to = refl; serves = refl; armed = refl; closes = refl; wakes = refl; permits = refl; moment = λ m. refl; searches = refl; published = refl }
+follows_end d AfterService.Begin = record { from = refl; to = refl; serves = refl; armed = refl; closes = refl; wakes = refl; permits = refl; moment = λ m. refl; searches = refl; published = refl }
+follows_end d AfterService.Finish = record { from = refl; to = refl; serves = refl; armed = refl; closes = refl; wakes = refl; permits = refl; moment = λ m. refl; searches = refl; published = refl }
 
 -- nothing was taken from the mailbox
 leads_on : (x : AfterService) (d : Desk) → d.batch ≡ [] → after_service x d ≡ place_after x
@@ -90,28 +90,34 @@ module _ {B L : Type 0} (left : B → L) (spot : L → Option Said → Spot) whe
       let goes : after_service v.back (desk_of w) ≡ p = leads_on v.back (desk_of w) (ap (map message_of) sound.batch) in
       let same : w' ≡ record w { place = p } = is ∙ ap (λ x. record w { place = x }) goes in
       let follows = follows_end v.defer v.back in
-      let serves : Serves q w w' s s = serves_to q p w w' s s (subst (IsServed w) (sym same) refl) refl (ap (λ x. x.place) same) refl follows.to follows.armed follows.closes in
+      let serves : Serves q w w' s s = serves_to q p w w' s s (subst (IsServed w) (sym same) refl) refl (ap (λ x. x.place) same) follows in
       let by : KeepsBy (record w { place = p; put_off = w.put_off }) (driver_of w) w.home.timers s.requests.items s.sleepers.items s =
       keeps_ring q p w.put_off w s (driver_of w) sound follows (same_ring (driver_of w)) (λ h. sound.due.told refl) in
       let keeps : Keeps w' s = subst (λ x. Keeps x s) (sym same) by in
       subst (λ x. Steps left spot w s x w' s) (sym event)
-      (served left spot q w w' s s Serve sound serves keeps
+      (served left spot q w w' s s Serve sound serves keeps (spares_same w.index s s refl refl)
       (λ pl vs suits.
       let w0 : Worker = record w { place = q } in
       let all = common_of left spot pl vs s in
       let goes0 : after_service v.back (desk_of w0) ≡ p = leads_on v.back (desk_of w0) (ap (map message_of) sound.batch) in
       let fires = none_fires w.index (own_of w0) all w.names w.home.timers s.sleepers.items refl sound.due.asleep none in
       record {
-        moves = rw fires (ap (λ x. makes Serve (record (desk_of w0) { place = x }) (things_of w.index s)) goes0 ∙ ap (λ x. makes Serve x (things_of w.index s)) (sym (ap desk_of same)));
+        moves = rw fires (ap (λ x. makes Serve (record (desk_of w0) { place = x }) (things_with vs s)) goes0 ∙ ap (λ x. makes Serve x (things_with vs s)) (sym (ap desk_of same))
+            ∙ ap (makes Serve (desk_of w')) (sym (things_kept vs w.index (visible w) (visible w') s s suits.seen (ap (λ v. v.wakes) (ap visible same)) refl)));
         may = (refl, tt);
-        own = ap own_of same ∙ rw (served_by v.back, polls_by v.back, next_by v.back) refl;
-        common = common_same left spot pl vs w w' s suits (ap visible same);
+        own = ap own_of same ∙ rw (served_by v.back, polls_by v.back, next_by v.back, owes_by w.workers v.back) refl;
+        common = common_same left spot pl vs w w' s suits (λ c. ap (λ x. seat_seen x c) (ap visible same));
       }))
     where
       served_by : (x : AfterService) → serves_at (place_after x) ≡ true
       served_by AfterService.Mail = refl
       served_by AfterService.Begin = refl
       served_by AfterService.Finish = refl
+
+      owes_by : (n : ℕ) (x : AfterService) → owed_at n (place_after x) ≡ []
+      owes_by n AfterService.Mail = refl
+      owes_by n AfterService.Begin = refl
+      owes_by n AfterService.Finish = refl
 
       polls_by : (x : AfterService) → polls_at (place_after x) ≡ None
       polls_by AfterService.Mail = refl

@@ -1,59 +1,80 @@
 -- What the taking of the root flag is to the machine.
-use Rattle.std.proofs.{Common.{◌≡◌, ℕ, true, false, Option, Some, None, refl, sym, ap, subst, ◌∙◌, is_some, if◌then◌else◌}, lemmas.Bool.false≢true}
+use Rattle.std.proofs.{Common.{◌≡◌, ◌≢◌, ℕ, ◌+◌, ◌==◌, inl, false, [], ◌∷◌, ◌++◌, Option, Some, None, refl, sym, ap, subst, ◌∙◌, arith, length, option_to_list, slice_get, ◌<◌, ◌≤◌}, lemmas.{Bool.eq-eqb, Option.slice_get_within}}
+use Rattle.exec_base.specs.declared.task_no.TaskNo.{TaskNo}
 use Rattle.exec_task.specs.declared.{body.Said.Said, runnable.Runnable.Runnable}
-use Rattle.exec_machine.specs.{declared.event.Event.{Event, TheVariants.Turn}, Choice.Choice.Plain}
-use Rattle.exec_moves.specs.{declared.place.{Place.Place, AfterCallbacks.AfterCallbacks, InCallbacks.InCallbacks, InPoll.InPoll}, Move.move_at, Pick.{polls, take_root_flag}, State.{Desk, Moved, Own, turns}}
-use Rattle.exec_steps.{specs.{Sound.{HasRunnable, SoundAt, IsRunnable, one_of}, declared.parts.{shared.Shared.Shared, worker.Worker.Worker}, Spots.Spot, View.{visible, own_of, desk_of, common_of, things_of}, Works.{Makes, Steps}}, proofs.{Hearing.unheard, Turning.{by_place, same_shared, set_found, turned_here}}}
+use Rattle.exec_machine.specs.{declared.event.Event.{Event, TheVariants.Turn}}
+use Rattle.exec_moves.specs.{declared.{handing.AfterCallbacks.AfterCallbacks, place.{InCallbacks.InCallbacks, InPoll.InPoll, Place.Place}}}
+use Rattle.exec_steps.{specs.{declared.parts.{seat.Seat.Seat as Chair, shared.Shared.Shared, task_slot.TaskSlot.TaskSlot, worker.Worker.Worker}, Phased.{closes_at, closing_in}, Places.is_armed_at, Pooled.{polling, with_flag}, Sound.{Aims, HasBatch, HasQueue, HasRunnable, IsRunnable, SoundAt, one_of}, Spots.Spot, Whole.{HasOne, may_let_go, runnables_in, stock}, Works.Steps}, proofs.{Facts.not_same, PopLeads.begins_poll, Queued.hands_of, Queueing.{Around, Reaches, poses, rehanded, whole_handed}, Thieves.in_both}}
 
--- the move where the flag is set, and where it isn't
-abbrev by_flag : Option Runnable → ℕ → Desk → Moved Own
-by_flag flag root d = if is_some flag then turns (polls root) (record d { root_ready = false }) tt else turns (Place.Callbacks InCallbacks.TakeBatch AfterCallbacks.Look) d tt
+-- a runnable of another task isn't one of this
+pub none_of : (t : ℕ) (r : Runnable) → (r.task.0 == t) ≡ false → runnables_in t (r ∷ []) ≡ 0
+none_of t r other = rw other refl
 
-module _ {B L : Type 0} (left : B → L) (spot : L → Option Said → Spot) where
-  -- the runnable of the root comes into the hand
-  taken : (r : Runnable) (w : Worker) (s : Shared B) → SoundAt Place.TakeRootFlag w s → w.root_ready ≡ Some r
-      → Steps left spot w s Turn (record w { place = Place.Poll w.root InPoll.BeginPoll; root_ready = None; hand = Some r }) s
-  taken r w s sound flag =
-      let w1 : Worker = record w { place = Place.Poll w.root InPoll.BeginPoll; root_ready = None; hand = Some r } in (
-        (λ p vs suits. record {
-          choice = Plain;
-          moves = subst (λ here. move_at p.config w.index (own_of w) (common_of left spot p vs s) (desk_of w) (things_of w.index s) here ≡ record { event = Turn; choice = Plain; desk = desk_of w1; thing = things_of w.index s }) (sym sound.here)
-              (ap (λ o. record { event = (by_flag o w.root (desk_of w)).event; choice = (by_flag o w.root (desk_of w)).choice; desk = (by_flag o w.root (desk_of w)).desk; thing = things_of w.index s }) flag);
-          may = tt;
-          own = rw sound.here refl;
-          common = rw (sound.here, set_found vs w.index (visible w) suits.seen) refl;
-        }),
-        let runnable : HasRunnable w.index w.root None (Some r) s.tasks.items = record {
-          root = sound.runnable.root;
-          there = sound.runnable.there;
-          home = sound.runnable.home;
-          number = sound.runnable.number;
-          once = subst (λ o. IsRunnable (one_of o w.hand) sound.runnable.root) flag sound.runnable.once;
-          one = λ set. absurd (false≢true set);
-        } in
-            assumption (runnable, sound),
-        unheard refl refl refl,
-      )
+module _ {B : Type 0} where
+  -- the flag has the root's runnable
+  flagged : (w : Worker) (s : Shared B) (r : Runnable) → SoundAt Place.TakeRootFlag w s → w.root_ready ≡ Some r → r.task.0 ≡ w.root
+  flagged w s r sound flag =
+      let once = subst (λ o. IsRunnable (one_of o None) sound.runnable.root) flag sound.runnable.once in
+      ap (λ (x : Runnable). x.task.0) once.0 ∙ ap (λ (n : TaskNo). n.0) sound.runnable.number
 
-  pub root_flag_taken : (w w' : Worker) (s : Shared B) (e : Event) → SoundAt Place.TakeRootFlag w s → Makes (take_root_flag w.root (desk_of w)) e w'
-      → w'.root_ready ≡ None → w'.hand ≡ one_of w.root_ready w.hand → w' ≡ record w { place = w'.place; root_ready = w'.root_ready; hand = w'.hand } → Steps left spot w s e w' s
-  root_flag_taken w w' s e sound makes none hand same =
-      let by : (o : Option Runnable) → w.root_ready ≡ o → Steps left spot w s e w' s = λ o.
-      elim o as (λ x. w.root_ready ≡ x → Steps left spot w s e w' s) [
-        | None ↦ λ flag.
-            let unset : take_root_flag w.root (desk_of w) ≡ turns (Place.Callbacks InCallbacks.TakeBatch AfterCallbacks.Look) (desk_of w) tt = ap (λ x. by_flag x w.root (desk_of w)) flag in
-            let goes : w' ≡ record w { place = w'.place } =
-            same ∙ ap (λ x. record w { place = w'.place; root_ready = x; hand = w'.hand }) (none ∙ sym flag) ∙ ap (λ x. record w { place = w'.place; hand = x }) (hand ∙ ap (λ x. one_of x w.hand) flag) in
-            turned_here left spot Place.TakeRootFlag w w' s s e (turns (Place.Callbacks InCallbacks.TakeBatch AfterCallbacks.Look) (desk_of w) tt) sound refl (by_place w w' s.clock sound.time goes) (same_shared s)
-            (subst (λ m. Makes m e w') unset makes) (record { event = refl; choice = refl; to = record { plain = refl; armed_there = refl; closes_there = refl } })
-            (λ p vs suits. ap (λ m. record { event = m.event; choice = m.choice; desk = m.desk; thing = things_of w.index s }) unset)
-        | Some r ↦ λ flag.
-            let set : take_root_flag w.root (desk_of w) ≡ turns (polls w.root) (record (desk_of w) { root_ready = false }) tt = ap (λ x. by_flag x w.root (desk_of w)) flag in
-            let now : Makes (turns (polls w.root) (record (desk_of w) { root_ready = false }) tt) e w' = subst (λ m. Makes m e w') set makes in
-            let is : w' ≡ record w { place = Place.Poll w.root InPoll.BeginPoll; root_ready = None; hand = Some r } =
-            same ∙ ap (λ x. record w { place = x; root_ready = w'.root_ready; hand = w'.hand }) (ap (λ d. d.place) now.desk)
-            ∙ ap (λ x. record w { place = Place.Poll w.root InPoll.BeginPoll; root_ready = x; hand = w'.hand }) none
-            ∙ ap (λ x. record w { place = Place.Poll w.root InPoll.BeginPoll; root_ready = None; hand = x }) (hand ∙ ap (λ x. one_of x w.hand) flag) in
-            subst (λ v. Steps left spot w s e v s) (sym is) (subst (λ event. Steps left spot w s event (record w { place = Place.Poll w.root InPoll.BeginPoll; root_ready = None; hand = Some r }) s) (sym now.event) (taken r w s sound flag))
-      ] in
-      by w.root_ready refl
+module _ {B L : Type 0} (left : B → L) (spot : L → Option Said → Spot) (w w' : Worker) (s : Shared B) (e : Event) where
+  pub root_flag_taken : SoundAt Place.TakeRootFlag w s → e ≡ Turn → w' ≡ with_flag w.root_ready w → Steps left spot w s e w' s
+  root_flag_taken sound turn goes = by w.root_ready refl goes
+    where
+      around : (p : Place) → is_armed_at p ≡ false → Aims p s.config w.index s.seats.items → ((chair : Chair) → slice_get s.seats.items w.index ≡ Some chair → HasQueue p chair.queue) → HasBatch p w.batch.values → closes_at p ≡ false → closing_in p ≡ None → Around p w s s
+      around p armed aims queue batch closes closing =
+          record { seated = rw armed sound.seated; queue = queue; aims = aims; batch = batch; phased = rw (closes, closing) sound.phased }
+
+      by : (o : Option Runnable) → w.root_ready ≡ o → w' ≡ with_flag o w → Steps left spot w s e w' s
+      by None none goes =
+          let next : Place = Place.Callbacks InCallbacks.TakeBatch AfterCallbacks.Look in
+          let w1 : Worker = record w { place = next } in
+          let to : Reaches Place.TakeRootFlag next w w1 s s = record {
+            same = refl;
+            quiet = λ h. refl;
+            around = around next refl tt sound.queue sound.batch refl refl;
+            carries = record { runnable = sound.runnable; hand = sound.hand; loot = sound.loot; genuine = sound.genuine; stolen = sound.stolen; searching = tt };
+          } in
+          subst (λ v. Steps left spot w s e v s) (sym goes)
+          (rehanded left spot Place.TakeRootFlag w w1 s s.global e sound turn (record { same = refl; read = sound.time.read; asleep = sound.time.asleep }) refl refl refl to
+          (λ others before. whole_handed others w w1 s s.global refl refl (poses Place.TakeRootFlag w w1 s sound to.same refl refl) (λ t slot there home one. one) (λ t more. omega arith) before.queued_there before)
+          (λ p vs suits. rw none refl))
+      by (Some r) flag goes =
+          let w1 : Worker = record (polling r w) { root_ready = None } in
+          let root : r.task.0 ≡ w.root = flagged w s r sound flag in
+          let next : Place = Place.Poll r.task.0 InPoll.BeginPoll in
+          let has : HasRunnable w.index w.root None (Some r) s.tasks.items = record {
+            root = sound.runnable.root;
+            there = sound.runnable.there;
+            home = sound.runnable.home;
+            number = sound.runnable.number;
+            once = subst (λ o. IsRunnable (one_of o None) sound.runnable.root) flag sound.runnable.once;
+            one = λ set. absurd (cc (set));
+          } in
+          let to : Reaches Place.TakeRootFlag w1.place w w1 s s =
+          begins_poll Place.TakeRootFlag r w w1 s s sound refl refl refl refl refl refl (rw (eq-eqb r.task.0 w.root root) has) (inl (ap (λ n. Some n) root))
+          (around next refl tt sound.queue sound.batch refl refl) in
+          -- an ordinary task has as many as before
+          let beside : (t : ℕ) → r.task.0 ≢ t → runnables_in t (hands_of w1) ≡ runnables_in t (hands_of w) =
+          λ t apart.
+          let had : runnables_in t (hands_of w) ≡ runnables_in t w.loot.values = ap (λ o. runnables_in t (option_to_list o ++ w.loot.values)) sound.hand in
+          let has_now : runnables_in t (hands_of w1) ≡ runnables_in t (r ∷ []) + runnables_in t w.loot.values = in_both t (r ∷ []) w.loot.values in
+          omega (arith, had, has_now, none_of t r (not_same r.task.0 t apart)) in
+          let inside : w.root < length s.tasks.items = slice_get_within s.tasks.items w.root sound.runnable.root sound.runnable.there in
+          let most : (t others : ℕ) → length s.tasks.items ≤ t → (others + runnables_in t (hands_of w1)) + stock t s ≤ (others + runnables_in t (hands_of w)) + stock t s =
+          λ t others more. omega (arith, beside t (λ is. omega (arith, is, root, inside, more))) in
+          let same : (t : ℕ) (slot : TaskSlot B) → slice_get s.tasks.items t ≡ Some slot → slot.home ≡ None → runnables_in t (hands_of w1) ≡ runnables_in t (hands_of w) =
+          λ t slot there home.
+          let apart : r.task.0 ≢ t = λ is.
+          let here : slice_get s.tasks.items w.root ≡ Some slot = subst (λ n. slice_get s.tasks.items n ≡ Some slot) (sym is ∙ root) there in
+          let it : slot ≡ sound.runnable.root = cc (here, sound.runnable.there) in
+          let no : None ≡ Some w.index = sym home ∙ ap (λ (x : TaskSlot B). x.home) it ∙ sound.runnable.home in
+          absurd (cc (no)) in
+          beside t apart in
+          subst (λ v. Steps left spot w s e v s) (sym goes)
+          (rehanded left spot Place.TakeRootFlag w w1 s s.global e sound turn (record { same = refl; read = sound.time.read; asleep = sound.time.asleep }) refl refl refl to
+          (λ others before.
+          whole_handed others w w1 s s.global refl refl (poses Place.TakeRootFlag w w1 s sound to.same refl refl)
+          (λ t slot there home one. subst (λ n. HasOne (may_let_go s) slot.cell.phase ((others.runnables t + n) + stock t s)) (sym (same t slot there home)) one)
+          (λ t more. most t (others.runnables t) more) before.queued_there before)
+          (λ p vs suits. rw (flag, ← root) refl))

@@ -92,14 +92,11 @@ module _ (f : Record → Record) (marks : (r : Record) → f r ≡ record r { sh
         entries = rw (staged, untold) flown.entries;
         permits = flown.permits;
         enrolling = flown.enrolling;
-        acks = flown.acks;
+        polled = flown.polled;
         owning = λ k y there unresolved.
             let old = was_marked f rs q k y there in
             let before : is_resolved old.0.shown.phase ≡ false = sym (ap is_resolved (phase_kept (q == k) old.0)) ∙ sym (ap (λ z. is_resolved z.shown.phase) old.2) ∙ unresolved in
             ap (λ z. z.shown.released) old.2 ∙ released_by k (q == k) old.0 refl old.1 before;
-        ours = λ k y there.
-            let old = was_marked f rs q k y there in
-            ap (λ z. z.shown.worker) old.2 ∙ worker_kept (q == k) old.0 ∙ flown.ours k old.0 old.1;
         plain = λ k y there mine.
             let old = was_marked f rs q k y there in
             subst (λ z. IsPlain z.shown) (sym old.2)
@@ -108,10 +105,10 @@ module _ (f : Record → Record) (marks : (r : Record) → f r ≡ record r { sh
             (λ id it r given at flies there landed.
             let k = number_in n.requests.items id in
             record { it' = it; r' = mark_if f (q == k) r; live = at; flies = refl; same = refl; number = ap (λ v. number_in v.items id) requests; there = marked f rs q k r there; phase = phase_kept (q == k) r });
-        uncancelled = λ id y among there.
+        uncancelled = λ id y among there mine.
             let k = number_in n.requests.items id.0 in
             let old = was_marked f rs q k y (ap (λ v. slice_get (changed_at rs q f) (number_in v.items id.0)) (sym requests) ∙ there) in
-            ap (λ z. z.shown.cancel_staged) old.2 ∙ cancel_kept (q == k) old.0 ∙ flown.uncancelled id old.0 among old.1;
+            ap (λ z. z.shown.cancel_staged) old.2 ∙ cancel_kept (q == k) old.0 ∙ flown.uncancelled id old.0 among old.1 (sym (worker_kept (q == k) old.0) ∙ sym (ap (λ z. z.shown.worker) old.2) ∙ mine);
       }
     where
       released_by : (k : ℕ) (b : Bool) (r : Record) → (q == k) ≡ b → slice_get rs k ≡ Some r → is_resolved r.shown.phase ≡ false → (mark_if f b r).shown.released ≡ false

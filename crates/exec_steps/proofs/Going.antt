@@ -53,10 +53,6 @@ pub same_paid : (r r' : Record) → GoesOn r r' → r'.shown.wakes_paid ≡ r.sh
 same_paid r r' on = ap (λ x. x.shown.wakes_paid) on.same
 
 module _ (rs rs' : List Record) (all : AllGoOn rs rs') where
-  -- whose they are, and what of them is released
-  pub ours_on : (i : ℕ) → ((k : ℕ) (r : Record) → slice_get rs k ≡ Some r → r.shown.worker ≡ i) → (k : ℕ) (x : Record) → slice_get rs' k ≡ Some x → x.shown.worker ≡ i
-  ours_on i ours k x there = let old = all.was k x there in same_worker old.r x old.on ∙ ours k old.r old.there
-
   pub owning_on : ((k : ℕ) (r : Record) → slice_get rs k ≡ Some r → is_resolved r.shown.phase ≡ false → r.shown.released ≡ false)
       → (k : ℕ) (x : Record) → slice_get rs' k ≡ Some x → is_resolved x.shown.phase ≡ false → x.shown.released ≡ false
   owning_on owning k x there unresolved =

@@ -7,8 +7,8 @@ use Rattle.exec_waiters.{specs.{States.flying_count, declared.{waiter.{Entry.The
 use Rattle.exec_driver.specs.{Driving.{Driving, request_at, is_queued, is_unenrolled, is_cancelled}, Lists.without, Punctual.IsPunctual, Placed.ListsRequests}
 use Rattle.exec_task.specs.declared.body.Said.{Said}
 use Rattle.exec_machine.specs.{declared.event.Event.{Event, TheVariants.Reap}, Requests.outcome_given}
-use Rattle.exec_moves.specs.{declared.place.{Place.Place, Reaping.Reaping, Service.Service, InService.InService}, Move.aside, Serve.{after_permit, back_from_reap, others_after_reap}, State.Desk, Callback.{told_of_end, waker_of}}
-use Rattle.exec_steps.{specs.{declared.parts.{mail.Reply.Reply, record.Record.Record, shared.Shared.Shared, worker.Worker.Worker}, Flown.operations, Records.number_in, Serving.changed_at, Sound.SoundAt, View.{driver_of, number_told, visible, own_of, desk_of, things_of, numbers_of, trailing}, Spots.Spot, Works.Steps}, proofs.{Serving.{serves_to, IsServed, OthersKept, keeps_home, KeepsBy, Keeps, Serves}, Changing.{changes_one, flying_after}, Judging.given_is, Seeing.{desk_with, makes, own_with, served, shows}, Viewed.{common_seen, may_seen, moves_seen}, Ends.{desk_ended, flying_ended, numbers_without}, Late.stands, Returned.{desk_left, follows_back, one_fewer, served_back}, Finished.{GoesOver, goes_over, keeps_gone, over_alike, told_place}}}
+use Rattle.exec_moves.specs.{declared.place.{Place.Place, Reaping.Reaping, Service.Service, InService.InService}, Serve.{after_permit, back_from_reap, others_after_reap}, State.{Desk, dropped}, Thing.{set_wake_poll, with_ring}, Callback.{told_of_end, waker_of}}
+use Rattle.exec_steps.{specs.{declared.parts.{mail.Reply.Reply, record.Record.Record, shared.Shared.Shared, worker.Worker.Worker}, Flown.operations, Records.number_in, Serving.changed_at, Sound.SoundAt, View.{driver_of, number_told, visible, own_of, desk_of, things_with, wake_poll_in, with_view, numbers_of, trailing}, Spots.Spot, Works.Steps}, proofs.{Mine.{live_mine, stands}, Raising.poll_shows, Serving.{serves_to, IsServed, OthersKept, keeps_home, KeepsBy, Keeps, Serves, spares_one}, Changing.{changes_one, flying_after}, Judging.given_is, Seeing.{desk_with, makes, own_with, served, shows}, Viewed.{common_seen, may_seen, moves_seen}, Ends.{desk_ended, flying_ended, numbers_without}, Returned.{follows_back, one_fewer, served_back}, Finished.{GoesOver, goes_over, keeps_gone, over_alike, told_place}}}
 
 -- another has another number
 apart_by : {B : Type 0} (q : Place) (w : Worker) (s : Shared B) → SoundAt q w s → (id : Id) (r : Record) → slice_get s.requests.items (number_in w.names.requests.items id) ≡ Some r → r.id.0 ≡ id
@@ -18,7 +18,7 @@ apart_by q w s sound id r there name x some differs same =
     let both : one.0 ≡ r = cc (one.1, there, same) in
     differs (sym one.2 ∙ ap (λ y. y.id.0) both ∙ name)
 
-module _ {B L : Type 0} (left : B → L) (spot : L → Option Said → Spot) (rp : Reaping) (v : Service) (w : Worker) (s : Shared B) (sound : SoundAt (Place.Service (InService.Reap rp) v) w s) (lists : ListsRequests (driver_of w)) (c : Completion) (cs : List Completion) (is : operations (driver_of w).ring ≡ c ∷ cs) (how : Ended) where
+module _ {B L : Type 0} (left : B → L) (spot : L → Option Said → Spot) (rp : Reaping) (v : Service) (w : Worker) (s : Shared B) (sound : SoundAt (Place.Service (InService.Reap rp) v) w s) (waits : sound.seated.seat.raised ≡ 0) (lists : ListsRequests (driver_of w)) (c : Completion) (cs : List Completion) (is : operations (driver_of w).ring ≡ c ∷ cs) (how : Ended) where
   over_name : (d' : Driving Reply Reply) (over : GoesOver w s d' c cs how) → over.h.r.id.0 ≡ over.h.id
   over_name d' over =
       let one = sound.named.requests over.h.id (rw (entry_of (value_at (driver_of w).requests over.h.id) over.h.it over.h.live) refl) in
@@ -80,16 +80,19 @@ module _ {B L : Type 0} (left : B → L) (spot : L → Option Said → Spot) (rp
       let gone : KeepsBy w1 d' w.home.timers rs' s.sleepers.items s = keeps_gone rp v w s sound c cs d' how over w'.names deferred tells ended capacity punctual in
       let keeps : Keeps w' s' = keeps_home w1 w' s s' rs' d' same shared refl records gone in
       let there : w'.place ≡ q' = ap (λ x. x.place) same in
-      let serves : Serves q w w' s s' = serves_to q q' w w' s s' (subst (IsServed w) (sym same) refl) (subst (OthersKept s) (sym shared) refl) there refl follows.to follows.armed follows.closes in
+      let serves : Serves q w w' s s' = serves_to q q' w w' s s' (subst (IsServed w) (sym same) refl) (subst (OthersKept s) (sym shared) refl) there follows in
       let show = shows q w w' s s' d' serves refl in
-      let seen : visible w' ≡ record (visible w) { landed = later } =
-      show.seen ∙ ap (λ b. record { busy = b; landed = map (number_told n) (operations d'.ring) }) ring.busy ∙ ap (λ ops. record { busy = d.ring.busy; landed = map (number_told n) ops }) ring.landed in
-      let x : Desk = others_after_reap later (desk_of w0) in
+      let wakes_then = dropped later (visible w).wakes in
+      let seen : visible w' ≡ record (visible w) { landed = later; wakes = wakes_then } =
+      show.seen
+      ∙ ap (λ b. record (visible w) { busy = b; landed = map (number_told n) (operations d'.ring); wakes = wake_poll_in d'.ring }) ring.busy
+      ∙ ap (λ ops. record (visible w) { landed = map (number_told n) ops; wakes = wake_poll_in d'.ring }) ring.landed
+      ∙ ap (λ p. record (visible w) { landed = later; wakes = p }) ring.poll in
+      let x : Desk = others_after_reap later (visible w).wakes (desk_of w0) in
       let base : desk_with w q' w.put_off w.home.deferred d' ≡ record x { place = q' } =
       ap (λ es. record (desk_of w0) { place = q'; entries = length es; polled = d'.armed; others = trailing 0 (completions d'.ring) }) ring.staged
       ∙ ap (λ b. record (desk_of w0) { place = q'; polled = b; others = trailing 0 (completions d'.ring) }) ring.armed
-      ∙ ap (λ m. record (desk_of w0) { place = q'; others = m }) ring.others
-      ∙ desk_left n cs (desk_of w0) q' in
+      ∙ ap (λ m. record x { place = q'; others = m }) ring.others in
       let told : RequestOutput = output_of over.request how None in
       let t : Told Reply Reply = told_by_finish h.id (record h.it { in_flight = false; request = over.request }) how None in
       let desk : desk_of w' ≡ record (told_of_end r x) { place = q' } =
@@ -99,16 +102,18 @@ module _ {B L : Type 0} (left : B → L) (spot : L → Option Said → Spot) (rp
       ∙ told_place r.observed (record x { wakes = x.wakes ++ waker_of r.waiter }) (record x { outputs = x.outputs + 1 }) q' in
       let answer : outcome_given r given ≡ Some outcome = given_is d.wheel.start d.wheel.tick h.it r a given over.request (Some outcome) over.judges in
       subst (λ y. Steps left spot w s y w' s') (sym event)
-      (served left spot q w w' s s' (Reap k given (Some outcome)) sound serves keeps
+      (served left spot q w w' s s' (Reap k given (Some outcome)) sound serves keeps (spares_one w.index s s' k h.r (goes_over given how) records (ap (λ (y : Shared B). y.sleepers.items) shared) h.there (live_mine w.index w.names d w.home.timers rs s.sleepers.items sound.named h.id h.it h.r h.live h.there) (λ y. refl))
       (λ p vs suits.
       record {
         moves =
-            ap (aside (things_of w.index s)) (moves_seen left spot rp v w s sound c cs is h p vs suits (desk_of w0) (Some outcome) answer)
-            ∙ ap (λ y. makes (Reap k given (Some outcome)) y (things_of w.index s)) (sym desk);
-        may = may_seen left spot rp v w s sound c cs is h p vs suits (own_of w0) (Some outcome) refl answer;
+            ap (with_ring w.index (things_with vs s)) (moves_seen left spot rp v w s sound waits c cs is h p vs suits (desk_of w0) (Some outcome) answer)
+            ∙ ap (λ y. makes (Reap k given (Some outcome)) y (set_wake_poll w.index (things_with vs s) wakes_then)) (sym desk)
+            ∙ ap (makes (Reap k given (Some outcome)) (desk_of w'))
+            (sym (ap (things_with (with_view vs w.index (visible w'))) shared ∙ poll_shows vs w.index s sound.seated.seat sound.seated.there waits (visible w') ∙ ap (λ y. set_wake_poll w.index (things_with vs s) y.wakes) seen));
+        may = may_seen left spot rp v w s sound waits c cs is h p vs suits (own_of w0) (Some outcome) refl answer;
         own =
             show.own ∙ ap (λ y. own_with w y w'.names.ended.items w'.names.untold.items d') there ∙ ap (λ y. own_with w q' w'.names.ended.items y.names.untold.items d') same
             ∙ ap (λ es. own_with w q' es w.names.untold.items d') ended
             ∙ own_gone d' over (w.names.ended.items ++ k ∷ []) q' ∙ rw (served_back rp v later) refl;
-        common = common_seen left spot rp v w s sound c cs is h p vs suits s' (Some outcome) w' shared records seen;
+        common = common_seen left spot rp v w s sound waits c cs is h p vs suits s' (Some outcome) w' wakes_then shared records seen;
       }))

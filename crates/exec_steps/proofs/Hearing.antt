@@ -1,8 +1,8 @@
 -- Where no act was made: a root can be told what it could.
-use Rattle.std.proofs.Common.{◌≡◌, ℕ, List, Option, Some, None, refl, sym, ap, subst, ◌∙◌, slice_get}
+use Rattle.std.proofs.{Common.{◌≡◌, ℕ, List, length, Option, Some, None, refl, sym, ap, subst, ◌∙◌, slice_get, slice_set}, lemmas.List.length-set}
 use Rattle.exec_task.specs.declared.body.Said.{Said}
 use Rattle.exec_machine.specs.{declared.state.Waiting.Waiting, Tasks.begun_waiting}
-use Rattle.exec_steps.specs.{declared.parts.{shared.Shared.Shared, task_slot.TaskSlot.TaskSlot, worker.Worker.Worker}, Hearing.{CanHear, Hears, StillHears, held_once_come}, View.body_in}
+use Rattle.exec_steps.{specs.{declared.parts.{shared.Shared.Shared, task_slot.TaskSlot.TaskSlot, worker.Worker.Worker}, Hearing.{CanHear, Hears, StillHears, held_once_come}, View.body_in}, proofs.Facts.{by_number, set_elsewhere, set_there}}
 
 -- what is waited for as a poll begins can be heard as before
 pub hears_begun : (told : Option Said) (u : Waiting) (held : List ℕ) (answer : Said) → CanHear told (begun_waiting u) answer → CanHear told u answer × (held_once_come u held ≡ held_once_come (begun_waiting u) held)
@@ -21,27 +21,35 @@ hears_begun None Waiting.Woken held answer h = (h, refl)
 hears_begun None Waiting.Yielded held answer h = absurd h
 
 module _ {B : Type 0} where
+  hears_self : (slot : TaskSlot B) → Hears slot slot
+  hears_self slot = record { home = refl; body = refl; told = λ answer hears. (hears, refl) }
+
   -- with the same tasks
   pub unheard : {w w' : Worker} {s s' : Shared B} → w'.root ≡ w.root → s'.config ≡ s.config → s'.tasks.items ≡ s.tasks.items → StillHears w s w' s'
   unheard {w} {w'} {s} {s'} root config same =
       record {
         root = root;
         config = config;
-        hears = λ slot slot' there there'.
-            let is : slot ≡ slot' = cc (sym there ∙ ap (λ ts. slice_get ts w.root) (sym same) ∙ there') in
-            subst (Hears slot) is (record { body = refl; told = λ answer hears. (hears, refl) });
+        many = ap length same;
+        hears = λ t slot slot' there there'.
+            let is : slot ≡ slot' = cc (sym there ∙ ap (λ ts. slice_get ts t) (sym same) ∙ there') in
+            subst (Hears slot) is (hears_self slot);
       }
 
-  -- where its slot became this
-  pub hears_so : {w w' : Worker} {s s' : Shared B} (slot slot' : TaskSlot B) → w'.root ≡ w.root → s'.config ≡ s.config → slice_get s.tasks.items w.root ≡ Some slot → slice_get s'.tasks.items w.root ≡ Some slot' → Hears slot slot' → StillHears w s w' s'
-  hears_so slot slot' root config there there' hears =
+  -- where the slot of task t became this
+  pub hears_so : {w w' : Worker} {s s' : Shared B} (t : ℕ) (slot slot' : TaskSlot B) → w'.root ≡ w.root → s'.config ≡ s.config → slice_get s.tasks.items t ≡ Some slot → s'.tasks.items ≡ slice_set s.tasks.items t slot' → Hears slot slot' → StillHears w s w' s'
+  hears_so {w} {w'} {s} {s'} t slot slot' root config there tasks hears =
       record {
         root = root;
         config = config;
-        hears = λ o o' at_o at_o'.
-            let is : slot ≡ o = cc (there, at_o) in
-            let is' : slot' ≡ o' = cc (there', at_o') in
-            subst (λ x. Hears x o') is (subst (Hears slot) is' hears);
+        many = ap length tasks ∙ length-set s.tasks.items t slot';
+        hears = λ k o o' at_o at_o'.
+            by_number k t
+            (λ other. let is : o ≡ o' = cc (sym at_o ∙ sym (set_elsewhere s.tasks.items t k slot' other) ∙ ap (λ ts. slice_get ts k) (sym tasks) ∙ at_o') in subst (Hears o) is (hears_self o))
+            (λ same.
+            let is : slot ≡ o = cc (there, subst (λ n. slice_get s.tasks.items n ≡ Some o) same at_o) in
+            let is' : slot' ≡ o' = cc (sym (set_there s.tasks.items t slot' slot there), ap (λ ts. slice_get ts t) (sym tasks), subst (λ n. slice_get s'.tasks.items n ≡ Some o') same at_o') in
+            subst (λ x. Hears x o') is (subst (Hears slot) is' hears));
       }
 
   -- what it waited for has come
@@ -49,6 +57,7 @@ module _ {B : Type 0} where
       → slot' ≡ record slot { held = slot'.held; waiting = Waiting.Nothing; told = Some x } → Hears slot slot'
   hears_come slot slot' u x untold waits may held came =
       record {
+        home = ap (λ (o : TaskSlot B). o.home) came;
         body = ap (λ (o : TaskSlot B). body_in o.cell.phase o.body) came;
         told = λ answer hears.
             let is : answer ≡ x = subst (λ (o : TaskSlot B). CanHear o.told o.waiting answer) came hears in (

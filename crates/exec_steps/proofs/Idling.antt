@@ -9,6 +9,7 @@ use Rattle.exec_driver.specs.{Driving.{Driving, request_at, is_gated as waits_ga
 use Rattle.exec_machine.specs.{declared.{config.Configuration.Configuration, state.Request.Request}, Deadlines.{is_due, is_first_due}, Tests.{is_gated, is_resolved}, World.{Own, Common}}
 use Rattle.exec_moves.specs.{declared.place.InService.InService, Serve.first_numbered, State.Desk, Submit.{first_due, next_gate, waits_at, due_next, staging_due}}
 use Rattle.exec_steps.{specs.{declared.parts.{mail.Reply.Reply, names.Names.Names, record.Record.Record, shared.Shared.Shared, sleeping.SleeperRecord.SleeperRecord, worker.{Worker.Worker, Moments.Moments}}, Due.{IsDue, wheel_moment}, Flown.{HasFlown, longest, IsUpTo}, Records.number_in, Sound.IsNamed, Submitting.IsGatedIn, View.driver_of}, proofs.{Facts.{same_self, same_number}, Calling.request_seen}}
+pub use Rattle.exec_steps.proofs.Results.{plain_kind}
 
 -- LISTS
 
@@ -117,11 +118,6 @@ none_gated x i gate n d rs s shown flown =
     rw none (and_false (nat_le gate j)))
 
 -- no request of the driver waits at a gate either
-pub plain_kind : (k : Kind) (n : ℕ) → IsUpTo (longest k) n → is_durable k ≡ false
-plain_kind Kind.Poll n h = refl
-plain_kind Kind.Send n h = refl
-plain_kind _ n h = absurd h
-
 gated_needs : (a b c : Bool) → b ≡ false → (not a && b && not c) ≡ true → ⊥
 gated_needs true b c none h = false≢true h
 gated_needs false b c none h = false≢true (sym (ap (λ x. x && not c) none) ∙ h)

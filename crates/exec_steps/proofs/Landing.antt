@@ -15,6 +15,7 @@ use Rattle.exec_steps.{specs.{declared.parts.{mail.Reply.Reply, record.Record.Re
 pub record Lander {B : Type 0} (w : Worker) (s : Shared B) (k : ℕ) (n : OpResult) : Type 0 where
   pub r : Record
   pub there : slice_get s.requests.items k ≡ Some r
+  pub mine : r.shown.worker ≡ w.index
   pub flies : r.shown.phase ≡ RequestPhase.Flying
   pub it : Waiter Reply Reply
   pub live : waiter_at (driver_of w).requests r.id.0 ≡ Some it
@@ -28,19 +29,20 @@ pub record Lander {B : Type 0} (w : Worker) (s : Shared B) (k : ℕ) (n : OpResu
   pub target : r.shown.operation.target ≡ target_of it.request
   pub fit : MayFly it.request (user_data_of r.id.0) n (driver_of w).ring s.store
 
-module _ {B : Type 0} (w : Worker) (s : Shared B) (k : ℕ) (n : OpResult) (sound : Sound w s) (may : MayLand s.requests.items k n) where
+module _ {B : Type 0} (w : Worker) (s : Shared B) (k : ℕ) (n : OpResult) (sound : Sound w s) (may : MayLand s.requests.items k n) (mine : (r : Record) → slice_get s.requests.items k ≡ Some r → r.shown.worker ≡ w.index) where
   lander_by : (o : Option (Waiter Reply Reply)) → waiter_at (driver_of w).requests may.it.id.0 ≡ o → Lander w s k n
   lander_by None gone =
-      absurd (false≢true (ap is_resolved (sym may.flies) ∙ sound.named.over k may.it may.there (sound.flown.ours k may.it may.there) gone))
+      absurd (false≢true (ap is_resolved (sym may.flies) ∙ sound.named.over k may.it may.there (mine may.it may.there) gone))
   lander_by (Some it) live =
       let r = may.it in
       let id = r.id.0 in
-      let number : number_in w.names.requests.items id ≡ k = (sound.due.timed k r may.there (sound.flown.ours k r may.there)).named (ap is_resolved may.flies) in
+      let number : number_in w.names.requests.items id ≡ k = (sound.due.timed k r may.there (mine r may.there)).named (ap is_resolved may.flies) in
       let there : slice_get s.requests.items (number_in w.names.requests.items id) ≡ Some r = ap (slice_get s.requests.items) number ∙ may.there in
       let a = sound.named.alike id it r live there in
       record {
         r = r;
         there = may.there;
+        mine = mine r may.there;
         flies = may.flies;
         it = it;
         live = live;

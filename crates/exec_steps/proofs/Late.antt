@@ -6,33 +6,13 @@ use Rattle.exec_request.specs.{Requests.{asked_of, output_of}, declared.{output.
 use Rattle.exec_waiters.{specs.{Events.{finished, output_told, told_by_finish, waker_in}, States.{tick_in, flying_count}, Told.{Tells, Told, tasks_of}, declared.{waiter.Waiter.Waiter, waiter_id.WaiterId.WaiterId, observer.Observer.{Observer, TheVariants.{Local, Orphaned}}}}, proofs.Changes.entry_of}
 use Rattle.exec_driver.specs.{Driving.{Driving, request_at, is_queued, is_unenrolled, is_cancelled}, Lists.{first_of, rest_of, is_among, after_enrolment, without, withdrawn}, Punctual.IsPunctual, Steps.{enrolled_by, told_by_enrolment, tick_for, ended_by, unscheduled}}
 use Rattle.exec_task.specs.declared.body.Said.{Said}
-use Rattle.exec_machine.specs.{declared.event.Event.{Event, TheVariants.Enrol}, Deadlines.outcome_at_enrol, Same.{is_none, is_number, same_end, same_cause, same_error}, Tests.is_queued as is_phase_queued, World.request_of, Requests.resolved}
+use Rattle.exec_machine.specs.{declared.event.Event.{Event, TheVariants.Enrol}, Deadlines.outcome_at_enrol, Same.{is_none, is_number, same_end, same_cause, same_error}, Tests.is_queued as is_phase_queued, World.{Common, request_of}, Requests.resolved}
 use Rattle.exec_moves.specs.{Move.move_submit, Callback.{told_of_end, waker_of}, State.Desk, Submit.{due_next, first_due, submits, Due.Enrols}, declared.place.{Service.Service, Place.Place, InService.InService}}
-use Rattle.exec_steps.{specs.{declared.parts.{mail.Reply.Reply, record.Record.Record, shared.Shared.Shared, worker.Worker.Worker}, Due.IsWheelAt, Flown.{IsUpTo, longest}, Records.number_in, Serving.{changed_at, outcome_of_error}, Spots.Spot, Submitting.IsNewIn, View.{visible, own_of, desk_of, driver_of, common_of, things_of, numbers_of}, Works.Steps, Rooted.{IsNear, outcome_told}}, proofs.{Serving.{serves_to, IsServed, OthersKept, keeps_home, Serves, Keeps, KeepsBy, calm, kept}, Facts.both_true, Calling.request_seen, Enrolled.{HasEnrolled, new_first}, Enrolling.enrol_same, Idling.none_due, Seeing.{makes, shows, served, common_changed, desk_with}, Staging.split_first, Turning.set_found, Ends.{desk_ended, flying_ended, later_in, numbers_without, without_first}, Orders.alike_unticked, Ousting.keeps_ended, Over.OneEnds, Resolving.{slab_after, told_once, unticked_at}, Starting.{fills, reads, writes_bytes}, Timed.{comes_to_new, move_enrol, unset}}}
+use Rattle.exec_steps.{specs.{declared.parts.{mail.Reply.Reply, record.Record.Record, shared.Shared.Shared, worker.Worker.Worker}, Due.IsWheelAt, Flown.{IsUpTo, longest}, Records.number_in, Serving.{changed_at, outcome_of_error}, Spots.Spot, Submitting.IsNewIn, View.{Views, visible, with_view, own_of, desk_of, driver_of, common_of, seat_seen, things_with, numbers_of}, Works.Steps, Rooted.{IsNear, outcome_told}}, proofs.{Serving.{serves_to, IsServed, OthersKept, keeps_home, Serves, SparesRecords, Keeps, KeepsBy, calm, kept, spares_one}, Facts.both_true, Calling.request_seen, Enrolled.{HasEnrolled, new_first}, Enrolling.enrol_same, Idling.none_due, Seeing.{makes, shows, served, common_changed, common_same, things_kept, desk_with}, Staging.{split_first, stages_again}, Ends.{desk_ended, flying_ended, later_in, numbers_without, without_first}, Orders.alike_unticked, Ousting.keeps_ended, Over.OneEnds, Resolving.{slab_after, told_once, unticked_at}, Starting.{fills, reads, writes_bytes}, Timed.{comes_to_new, move_enrol, unset}}}
+pub use Rattle.exec_steps.proofs.Results.{same_error_self}
+pub use Rattle.exec_steps.proofs.Mine.{stands}
 
 -- THE OUTCOME
-
-same_cause_self : (x : Cause) → same_cause x x ≡ true
-same_cause_self (Cause.Code n) = eq-eqb n n refl
-same_cause_self Cause.InvalidInput = refl
-same_cause_self Cause.Closed = refl
-
-pub same_error_self : (x : Error) → same_error x x ≡ true
-same_error_self Error.Timeout = refl
-same_error_self Error.Closed = refl
-same_error_self Error.SendFailed = refl
-same_error_self Error.RecvFailed = refl
-same_error_self Error.ReadFailed = refl
-same_error_self Error.WriteFailed = refl
-same_error_self Error.ConnectionFailed = refl
-same_error_self Error.BindFailed = refl
-same_error_self (Error.Io x) = same_cause_self x
-same_error_self Error.BlobInsufficientLength = refl
-same_error_self Error.OffsetOverflow = refl
-same_error_self (Error.BlobSyncFailed n x) = both_true (n == n) (same_cause x x) (eq-eqb n n refl) (same_cause_self x)
-same_error_self (Error.BlobResizeFailed n x) = both_true (n == n) (same_cause x x) (eq-eqb n n refl) (same_cause_self x)
-same_error_self Error.NoMemory = refl
-same_error_self Error.Full = refl
 
 ended_is : (r : Result ℕ Error) (x : Error) → Some x ≡ ended_by r → r ≡ Err x
 ended_is (Ok t) x is = absurd (cc)
@@ -60,10 +40,6 @@ same_place false q x y a b = ap (λ p. record y { place = p }) (sym b)
 
 abbrev pub ends_as : Outcome → Record → Record
 ends_as outcome r = record r { shown = resolved outcome r.shown }
-
-pub stands : (d : Driving Reply Reply) (x : WaiterId) (test : Option (Waiter Reply Reply) → Bool) (o : Option (Waiter Reply Reply)) → request_at d x ≡ o → test None ≡ false → test o ≡ true → IsSome (value_at d.requests x.0)
-stands d x test None at none h = absurd (false≢true (sym none ∙ h))
-stands d x test (Some y) at none h = rw (entry_of (value_at d.requests x.0) y at) refl
 
 module _ {B L : Type 0} (left : B → L) (spot : L → Option Said → Spot) where
   pub enrol_ends : (w w' : Worker) (s s' : Shared B) (e : Event) (id : WaiterId) (error : Error) → (new : IsNewIn w s) → first_of (driver_of w).lists.enrolments ≡ Some id → HasEnrolled w w' s s' e id (Some error) → Steps left spot w s e w' s'
@@ -119,14 +95,16 @@ module _ {B L : Type 0} (left : B → L) (spot : L → Option Said → Spot) whe
       sound.runnable.root sound.runnable.there (record { once = told_once id.0 it (Err error) None a.near; wakes = wakes_are id.0 told it.observer a.near }) tells
       by.ended by.capacity who.idle (record { bounded = plain.bounded; moved = plain.moved; first_part = plain.first_part; unhinted = plain.unhinted; ungated = refl; deadline = plain.deadline })
       (λ held. sym (tells_error it.request who.r.shown.operation.length error bounded_kind))
-      refl refl (ap (λ o. (unscheduled d.wheel o).start) free.0) (ap (λ o. (unscheduled d.wheel o).tick) free.0)
+      refl refl refl (ap (λ o. (unscheduled d.wheel o).start) free.0) (ap (λ o. (unscheduled d.wheel o).tick) free.0)
       (subst IsPunctual driver by.punctual) (λ h. ap (without id) new.due) (unticked_at c start now d.wheel (tick_in it.state) wheel) (alike_unticked d.wheel (tick_in it.state)) refl refl in
       let w2 : Worker = record w1 { home = record w1.home { driver = w'.home.driver } } in
       let there : w'.place ≡ q = ap (λ x. x.place) by.worker ∙ sound.here in
       let same2 : w' ≡ w2 = by.worker ∙ ap (λ y. record w { place = y; home = record w.home { driver = w'.home.driver; deferred = deferred }; names = record w.names { ended = w'.names.ended } }) sound.here in
       let keeps : Keeps w' s' = keeps_home w1 w' s s' rs' d' same2 by.shared driver by.records kept_now in
-      let serves : Serves q w w' s s' = serves_to q q w w' s s' (subst (IsServed w) (sym by.worker) refl) (subst (OthersKept s) (sym by.shared) refl) there refl refl refl refl in
+      let serves : Serves q w w' s s' = serves_to q q w w' s s' (subst (IsServed w) (sym by.worker) refl) (subst (OthersKept s) (sym by.shared) refl) there (stages_again gate v) in
       let show = shows q w w' s s' d' serves driver in
+      let seen : visible w' ≡ visible w = show.seen in
+      let spares : SparesRecords w.index s s' = spares_one w.index s s' k who.r (ends_as outcome) by.records (ap (λ (y : Shared B). y.sleepers.items) by.shared) who.there who.worker (λ y. refl) in
       let flying : flying_count d'.requests ≡ flying_count d.requests = flying_ended d.requests id.0 it (Err error) None who.live who.idle in
       let numbers : numbers_of n d.lists.enrolments ≡ k ∷ numbers_of n others = ap (numbers_of n) split in
       let apart : (x : WaiterId) → IsSome (value_at d.requests x.0) → x.0 ≢ id.0 → number_in n x.0 ≡ k → ⊥ = λ x some differs same.
@@ -142,7 +120,7 @@ module _ {B L : Type 0} (left : B → L) (spot : L → Option Said → Spot) whe
       let cancels : numbers_of n (without id d.lists.cancels) ≡ filter (λ j. not (j == k)) (numbers_of n d.lists.cancels) =
       numbers_without n id d.lists.cancels (λ x among. apart x (stands d x is_cancelled (request_at d x) refl refl (new.submits.lists.cancels x among))) in
       subst (λ x. Steps left spot w s x w' s') (sym by.event)
-      (served left spot q w w' s s' (Enrol k (Some outcome)) sound serves keeps
+      (served left spot q w w' s s' (Enrol k (Some outcome)) sound serves keeps spares
       (λ p vs suits.
       let cp = p.config in
       let all = common_of left spot p vs s in
@@ -161,10 +139,11 @@ module _ {B L : Type 0} (left : B → L) (spot : L → Option Said → Spot) whe
       same_place who.r.shown.observed q (record (desk_of w0) { wakes = (desk_of w0).wakes ++ waker_of who.r.shown.waiter }) (record (desk_of w0) { outputs = (desk_of w0).outputs + 1 }) refl refl in
       record {
         moves =
-            ap (move_submit cp w.index (own_of w0) all (desk_of w0) (things_of w.index s) gate v) due
-            ∙ ap (λ o. move_enrol cp w.index (own_of w0) all (desk_of w0) (things_of w.index s) gate v k o) ends
-            ∙ ap (λ x. makes (Enrol k (Some outcome)) (submits v gate (told_of_end x (desk_of w0))) (things_of w.index s)) request
-            ∙ ap (λ x. makes (Enrol k (Some outcome)) x (things_of w.index s)) (placed ∙ sym desk);
+            ap (move_submit cp w.index (own_of w0) all (desk_of w0) (things_with vs s) gate v) due
+            ∙ ap (λ o. move_enrol cp w.index (own_of w0) all (desk_of w0) (things_with vs s) gate v k o) ends
+            ∙ ap (λ x. makes (Enrol k (Some outcome)) (submits v gate (told_of_end x (desk_of w0))) (things_with vs s)) request
+            ∙ ap (λ x. makes (Enrol k (Some outcome)) x (things_with vs s)) (placed ∙ sym desk)
+            ∙ ap (makes (Enrol k (Some outcome)) (desk_of w')) (sym (things_kept vs w.index (visible w) (visible w') s s' suits.seen (ap (λ y. y.wakes) seen) serves.shared));
         may = (
           refl,
           (
@@ -180,7 +159,7 @@ module _ {B L : Type 0} (left : B → L) (spot : L → Option Said → Spot) whe
         );
         own = show.own ∙ rw (there, by.ended, ap (λ x. x.names.untold) by.worker, ready, unenrolled, cancels, flying) refl;
         common =
-            ap (λ us. common_of left spot p us s') (ap (λ x. slice_set vs w.index x) show.seen ∙ set_found vs w.index (visible w) suits.seen)
-            ∙ common_changed left spot p vs s s' k who.r (ends_as outcome) by.shared by.records who.there (λ x. refl)
+            common_changed left spot p (with_view vs w.index (visible w')) s s' k who.r (ends_as outcome) by.shared by.records who.there (λ x. refl)
+            ∙ ap (λ (x : Common). record x { requests = slice_set (map (λ r. r.shown) rs) k ((ends_as outcome) who.r).shown }) (common_same left spot p vs w w' s suits (λ c'. ap (λ y. seat_seen y c') seen))
             ∙ ap (λ x. record all { requests = slice_set (map (λ r. r.shown) rs) k (resolved outcome x) }) (sym request);
       }))

@@ -1,13 +1,13 @@
 -- Where the callbacks lead, for a worker and for the machine.
-use Rattle.std.{proofs.{Common.{◌≡◌, ℕ, ◌+◌, ◌==◌, ◌&&◌, ◌||◌, Bool, true, false, not, List, [], ◌∷◌, length, map, Option, Some, None, refl, sym, ap, subst, ◌∙◌, arith, slice_get, nat_lt, if◌then◌else◌}, lemmas.Bool.{false≢true, Decides.nat_tests}}, specs.List.list_any}
+use Rattle.std.{proofs.{Common.{◌≡◌, inl, inr, ℕ, ◌+◌, ◌==◌, ◌&&◌, ◌||◌, Bool, true, false, not, Contains, List, [], ◌∷◌, length, map, Option, Some, None, refl, sym, ap, subst, ◌∙◌, arith, slice_get, nat_lt, option_to_list, if◌then◌else◌}, lemmas.Bool.{false≢true, Decides.nat_tests}}, specs.List.list_any}
 use Rattle.exec_base.specs.declared.task_no.TaskNo.{TaskNo}
-use Rattle.exec_words.specs.Queue.{room_of}
+use Rattle.exec_words.specs.{Queue.Queue, declared.inbox.Message.Message}
 use Rattle.exec_waiters.specs.{States.pending_count, Told.is_untold, declared.deferred.Deferred.Deferred}
 use Rattle.exec_driver.specs.Driving.{is_full as is_ring_full}
 use Rattle.exec_task.specs.declared.runnable.Runnable.{Runnable}
-use Rattle.exec_machine.specs.{declared.{config.Configuration.Configuration, state.Next.Next}, Ranges.ring_size, Tests.{is_empty, is_resolved}, World.{Common, Own as Books}}
-use Rattle.exec_moves.specs.{declared.place.{AfterCallbacks.AfterCallbacks, InCallbacks.InCallbacks, InClosing.InClosing, Place.Place, InRingWait.InRingWait, Stay.Stay}, Callback.{has_callbacks, has_requests, is_full, after_callbacks, next_callback}, Seen.{polls_at, next_at, serves_at}, State.Desk}
-use Rattle.exec_steps.{specs.{declared.parts.{mail.Reply.Reply, names.Names.Names, record.Record.Record, seat.Seat.Seat as Chair, shared.Shared.Shared, sleeping.SleeperRecord.SleeperRecord, task_slot.TaskSlot.TaskSlot, worker.Worker.Worker}, Carried.IsCarried, Phased.{IsPhased, Stage, closes_at, closing_in, stage_of}, Sound.{tellers, SoundAt, IsAlone, IsTold, IsNamed, IsTied, AreOver, HasRunnable, InHand, HasShare, HasLeft, has_wakes_at, polled_in, served_in, is_armed_at}, Due.IsDue, Flown.HasFlown, Rooted.IsRooted, Tests.{is_anything_told, has_open_requests, after_callbacks_of, next_callback_of}, View.{driver_of, queue_seen}}, proofs.{Facts.{zero_false, by_not_not, by_not}, Standing.requests_seen, Phased.{phased_count, phased_end}, Turning.{is_between, between}}}
+use Rattle.exec_machine.specs.{declared.config.Configuration.Configuration, Ranges.ring_size, Tests.{is_empty, is_resolved}, World.{Common, Own as Books}}
+use Rattle.exec_moves.specs.{declared.handing.{AfterCallbacks.AfterCallbacks, AfterLeave.AfterLeave}, declared.idling.{InRingWait.InRingWait, Stay.Stay}, declared.place.{InCallbacks.InCallbacks, InClosing.InClosing, Place.Place}, Callback.{has_callbacks, has_requests, is_full, after_callbacks, next_callback}, Seen.serves_at, State.Desk}
+use Rattle.exec_steps.{specs.{declared.parts.{mail.{Reply.Reply, Subject.Subject}, record.Record.Record, seat.Seat.Seat as Chair, shared.Shared.Shared, sleeping.SleeperRecord.SleeperRecord, task_slot.TaskSlot.TaskSlot, worker.Worker.Worker}, Carried.IsCarried, Kinds.{Kind, kind_of}, Phased.{IsPhased, Stage, closes_at, closes_before, closing_in, stage_of}, Places.{calls_back_at, drops_at, searches_at, searches_before}, Sound.{tellers, Aims, AreHome, AreOver, AreResting, HasBatch, HasQueue, HasRunnable, IsHeld, IsLeft, IsNamed, IsSearching, IsSeated, IsTied, IsTold, SoundAt, has_wakes_at}, Due.IsDue, Flown.HasFlown, Rooted.IsRooted, Tests.{is_anything_told, has_open_requests, after_callbacks_of, leave_of, next_callback_of}, View.{desk_of, driver_of, own_of}, Whole.IsGenuine}, proofs.{Aside.SameProfile, Facts.{zero_false, by_not_not, by_not}, Standing.requests_seen, Phased.{phased_count, phased_end}, Turning.OfKind}}
 
 -- TESTS
 
@@ -79,17 +79,30 @@ placed c i live me s x d v records sleepers told wakes outputs entries shown nam
     (ap (list_any (λ r. (r.worker == i) && not (is_resolved r.phase))) shown ∙ sym (requests_seen i v.names (driver_of v) v.home.timers records sleepers named))
     (ap (λ n. not (nat_lt n (ring_size c))) entries ∙ ap (λ n. not (nat_lt (length (driver_of v).ring.staged) n)) (sym sized))
 
--- WHERE A STEP COMES FROM: nothing is polled, served or owed, no wait is armed, and the hand is empty
-pub record Comes (q : Place) : Type 0 where
-  pub polls : polls_at q ≡ None
-  pub free : next_at q ≡ Next.Free
-  pub unarmed : is_armed_at q ≡ false
-  pub stands : polled_in q ≡ None
-  pub served : served_in q ≡ None
-  pub closing : closing_in q ≡ None
-  pub empty : (root : ℕ) (hand : Option Runnable) → InHand q root hand → hand ≡ None
+-- at the batch a search count that is held is returned first
+first_of_both : (b told : Bool) (l c a : Place) → (if b && told then l else (if told then c else a)) ≡ (if told then (if b then l else c) else a)
+first_of_both true true l c a = refl
+first_of_both true false l c a = refl
+first_of_both false true l c a = refl
+first_of_both false false l c a = refl
 
--- WHAT HOLDS WHERE IT LEADS
+abbrev pub batch_leads : AfterCallbacks → Worker → Place
+batch_leads x w = if is_anything_told w then leave_of (AfterLeave.CallBack x) w else after_callbacks_of x w
+
+pub batch_placed : (c : Configuration) (s : Common) (x : AfterCallbacks) (w : Worker) (live : ℕ) (records : List Record) (sleepers : List SleeperRecord)
+    → IsTold w.names.ended.items w.home.deferred live → s.requests ≡ map (λ r. r.shown) records → IsNamed w.index w.names (driver_of w) w.home.timers records sleepers → (driver_of w).ring.size ≡ ring_size c
+    → (if w.searching && has_callbacks (own_of w) (desk_of w) then Place.LeaveSearch (AfterLeave.CallBack x) else next_callback (ring_size c) w.index (own_of w) s x (desk_of w)) ≡ batch_leads x w
+batch_placed c s x w live records sleepers told shown named sized =
+    let next = next_callback (ring_size c) w.index (own_of w) s x (desk_of w) in
+    ap (λ b. if w.searching && b then Place.LeaveSearch (AfterLeave.CallBack x) else next) (told_seen (own_of w) (desk_of w) w.home.deferred live told refl refl)
+    ∙ ap (λ q. if w.searching && is_anything_told w then Place.LeaveSearch (AfterLeave.CallBack x) else q) (placed c w.index live (own_of w) s x (desk_of w) w records sleepers told refl refl refl shown named sized)
+    ∙ first_of_both w.searching (is_anything_told w) (Place.LeaveSearch (AfterLeave.CallBack x)) (Place.Callbacks InCallbacks.CallBack x) (after_callbacks_of x w)
+
+-- WHERE THE CALLBACKS LEAD: to places that differ in where a closing is, in whether a callback is about to be made, and in
+-- what they know of the search count; and a batch may still be of a service
+
+abbrev pub batch_of : Place → Kind
+batch_of p = record (kind_of p) { serves = false; closing = None; calls = None; searches = None }
 
 -- a closing is at its end there, and nothing is unreleased
 abbrev pub IsAtEnd : Option InClosing → Bool → ℕ → Type 0
@@ -97,38 +110,30 @@ IsAtEnd None closes unreleased = Unit {0}
 IsAtEnd (Some InClosing.End) closes unreleased = (closes ≡ true) × (unreleased ≡ 0)
 IsAtEnd (Some x) closes unreleased = ⊥
 
-pub record Leads (closes : Bool) (unreleased : ℕ) (q : Place) (left : Deferred Reply Reply) : Type 0 where
-  pub polls : polls_at q ≡ None
-  pub free : next_at q ≡ Next.Free
-  pub unserved : serves_at q ≡ false
-  pub unarmed : is_armed_at q ≡ false
-  pub stands : polled_in q ≡ None
-  pub served : served_in q ≡ None
-  pub closes_there : closes_at q ≡ closes
-  pub ended : IsAtEnd (closing_in q) closes unreleased
-  pub hands : (root : ℕ) (hand : Option Runnable) → hand ≡ None → InHand q root hand
-  pub share : (n : ℕ) → HasShare q n
-  pub some_left : HasLeft q left
-  pub quiet : has_wakes_at q ≡ false → left.notes.wakes.items ≡ []
+pub record Leads (q : Place) (unreleased : ℕ) (searching : Bool) (left : Deferred Reply Reply) (q' : Place) : Type 0 where
+  pub same : batch_of q' ≡ batch_of q
+  pub unserved : serves_at q' ≡ false
+  pub ended : IsAtEnd (closing_in q') (closes_at q') unreleased
+  pub searches : IsSearching (searches_at q') searching
+  pub some_left : IsLeft (calls_back_at q') left
+  pub quiet : has_wakes_at q' ≡ false → left.notes.wakes.items ≡ []
+  pub queue : (x : Queue Runnable) → x.held ≡ [] → HasQueue q' x
+  pub aims : (c : Configuration) (i : ℕ) (seats : List Chair) → Aims q' c i seats
+  pub batch : (ms : List (Message Subject Subject)) → ms ≡ [] → HasBatch q' ms
 
-leads_between : (n : ℕ) (q : Place) (left : Deferred Reply Reply) → is_between q ≡ true → is_armed_at q ≡ false → ((n : ℕ) → HasShare q n) → left.notes.wakes.items ≡ [] → Leads (closes_at q) n q left
-leads_between n q left h unarmed share none =
-    let it = between q h in
-    record { polls = it.polls; free = it.free; unserved = it.unserved; unarmed = unarmed; stands = it.stands; served = it.served; closes_there = refl; ended = subst (λ x. IsAtEnd x (closes_at q) n) (sym it.closing) tt; hands = it.hands; share = share; some_left = it.left left; quiet = λ q. none }
+leads_finish : (c : InCallbacks) (n : ℕ) (b asks full : Bool) (left : Deferred Reply Reply) → b ≡ false → (asks ≡ false → n ≡ 0) → left.notes.wakes.items ≡ []
+    → Leads (Place.Callbacks c AfterCallbacks.Finish) n b left (if asks then (if full then Place.RingWait InRingWait.EnterFullRing Stay.Closing else Place.RingWait InRingWait.TestRing Stay.Closing) else Place.Closing InClosing.End)
+leads_finish c n b true true left idle end none = record { same = refl; unserved = refl; ended = tt; searches = idle; some_left = tt; quiet = λ q. none; queue = λ x h. h; aims = λ c i seats. tt; batch = λ ms h. h }
+leads_finish c n b true false left idle end none = record { same = refl; unserved = refl; ended = tt; searches = idle; some_left = tt; quiet = λ q. none; queue = λ x h. h; aims = λ c i seats. tt; batch = λ ms h. h }
+leads_finish c n b false full left idle end none = record { same = refl; unserved = refl; ended = (refl, end refl); searches = idle; some_left = tt; quiet = λ q. none; queue = λ x h. h; aims = λ c i seats. tt; batch = λ ms h. h }
 
-leads_finish : (n : ℕ) (asks full : Bool) (left : Deferred Reply Reply) → (asks ≡ false → n ≡ 0) → left.notes.wakes.items ≡ []
-    → Leads true n (if asks then (if full then Place.RingWait InRingWait.EnterFullRing Stay.Closing else Place.RingWait InRingWait.TestRing Stay.Closing) else Place.Closing InClosing.End) left
-leads_finish n true true left end none = leads_between n (Place.RingWait InRingWait.EnterFullRing Stay.Closing) left refl refl (λ n. tt) none
-leads_finish n true false left end none = leads_between n (Place.RingWait InRingWait.TestRing Stay.Closing) left refl refl (λ n. tt) none
-leads_finish n false full left end none =
-    record { polls = refl; free = refl; unserved = refl; unarmed = refl; stands = refl; served = refl; closes_there = refl; ended = (refl, end refl); hands = λ root hand e. e; share = λ n. tt; some_left = tt; quiet = λ q. none }
-
-leads_after : (c : InCallbacks) (n : ℕ) (x : AfterCallbacks) (v : Worker) → (has_open_requests v ≡ false → n ≡ 0) → v.home.deferred.notes.wakes.items ≡ [] → Leads (closes_at (Place.Callbacks c x)) n (after_callbacks_of x v) v.home.deferred
-leads_after c n AfterCallbacks.Look v end none = leads_between n (after_callbacks_of AfterCallbacks.Look v) v.home.deferred refl refl (λ n. tt) none
-leads_after c n AfterCallbacks.Test v end none = leads_between n (after_callbacks_of AfterCallbacks.Test v) v.home.deferred refl refl (λ n. tt) none
-leads_after c n AfterCallbacks.Begin v end none = leads_between n (after_callbacks_of AfterCallbacks.Begin v) v.home.deferred refl refl (λ n. tt) none
-leads_after c n AfterCallbacks.Drain v end none = leads_between n (after_callbacks_of AfterCallbacks.Drain v) v.home.deferred refl refl (λ n. tt) none
-leads_after c n AfterCallbacks.Finish v end none = leads_finish n (has_open_requests v) (is_ring_full (driver_of v)) v.home.deferred end none
+leads_after : (c : InCallbacks) (n : ℕ) (x : AfterCallbacks) (v : Worker) → IsSearching (searches_before x) v.searching → (has_open_requests v ≡ false → n ≡ 0) → v.home.deferred.notes.wakes.items ≡ []
+    → Leads (Place.Callbacks c x) n v.searching v.home.deferred (after_callbacks_of x v)
+leads_after c n AfterCallbacks.Look v idle end none = record { same = refl; unserved = refl; ended = tt; searches = tt; some_left = tt; quiet = λ q. none; queue = λ x h. h; aims = λ c i seats. tt; batch = λ ms h. h }
+leads_after c n AfterCallbacks.Test v idle end none = record { same = refl; unserved = refl; ended = tt; searches = tt; some_left = tt; quiet = λ q. none; queue = λ x h. h; aims = λ c i seats. tt; batch = λ ms h. h }
+leads_after c n AfterCallbacks.Begin v idle end none = record { same = refl; unserved = refl; ended = tt; searches = tt; some_left = tt; quiet = λ q. none; queue = λ x h. h; aims = λ c i seats. tt; batch = λ ms h. h }
+leads_after c n AfterCallbacks.Drain v idle end none = record { same = refl; unserved = refl; ended = tt; searches = idle; some_left = tt; quiet = λ q. none; queue = λ x h. h; aims = λ c i seats. tt; batch = λ ms h. h }
+leads_after c n AfterCallbacks.Finish v idle end none = leads_finish c n v.searching (has_open_requests v) (is_ring_full (driver_of v)) v.home.deferred idle end none
 
 nothing_left : (a : ℕ) (b c d e : Bool) → (b && c && d && (a == 0) && e) ≡ true → a ≡ 0
 nothing_left a b c d e h = grind (arith, nat_tests)
@@ -139,76 +144,153 @@ none_unreleased left pending n h counted asks =
     let over : pending ≡ 0 = grind (arith, nat_tests) in
     omega (arith, none, over, counted)
 
-leads_by : (c : InCallbacks) (n : ℕ) (told : Bool) (x : AfterCallbacks) (v : Worker) → length v.home.deferred.resources.items + pending_count (driver_of v).requests ≡ n → is_anything_told v ≡ told
-    → Leads (closes_at (Place.Callbacks c x)) n (if told then Place.Callbacks InCallbacks.CallBack x else after_callbacks_of x v) v.home.deferred
-leads_by c n true x v counted h =
-    record {
-      polls = refl;
-      free = refl;
-      unserved = refl;
-      unarmed = refl;
-      stands = refl;
-      served = refl;
-      closes_there = refl;
-      ended = tt;
-      hands = λ root hand e. e;
-      share = λ n. tt;
-      some_left = by_not (is_untold v.home.deferred) h;
-      quiet = λ q. absurd (false≢true (sym q));
-    }
-leads_by c n false x v counted h =
+-- once nothing is left, with so many requests that aren't released
+leads_on : (c : InCallbacks) (x : AfterCallbacks) (v : Worker) → is_anything_told v ≡ false → IsSearching (searches_before x) v.searching → length v.home.deferred.resources.items + pending_count (driver_of v).requests ≡ v.names.unreleased
+    → Leads (Place.Callbacks c x) v.names.unreleased v.searching v.home.deferred (after_callbacks_of x v)
+leads_on c x v h idle counted =
     let untold = by_not_not (is_untold v.home.deferred) h in
-    leads_after c n x v (none_unreleased v.home.deferred (pending_count (driver_of v).requests) n untold counted) (no_wakes v.home.deferred untold)
+    leads_after c v.names.unreleased x v idle (none_unreleased v.home.deferred (pending_count (driver_of v).requests) v.names.unreleased untold counted) (no_wakes v.home.deferred untold)
 
--- from a callback, with so many requests that aren't released
-pub leads : (c : InCallbacks) (x : AfterCallbacks) (v : Worker) → length v.home.deferred.resources.items + pending_count (driver_of v).requests ≡ v.names.unreleased
-    → Leads (closes_at (Place.Callbacks c x)) v.names.unreleased (next_callback_of x v) v.home.deferred
-leads c x v counted = leads_by c v.names.unreleased (is_anything_told v) x v counted refl
+-- and where something is
+leads_told : (c : InCallbacks) (x : AfterCallbacks) (v : Worker) → is_anything_told v ≡ true → v.searching ≡ false → Leads (Place.Callbacks c x) v.names.unreleased v.searching v.home.deferred (Place.Callbacks InCallbacks.CallBack x)
+leads_told c x v h idle =
+    record { same = refl; unserved = refl; ended = tt; searches = idle; some_left = by_not (is_untold v.home.deferred) h; quiet = λ q. absurd (false≢true (sym q)); queue = λ x h. h; aims = λ c i seats. tt; batch = λ ms h. h }
 
-phased_led : {B : Type 0} (closes : Bool) (x : Option InClosing) (told : Bool) (t n m : ℕ) (st : Stage) (tasks : List (TaskSlot B)) → IsAtEnd x closes m → IsPhased closes None told t n st tasks → IsPhased closes x told t m st tasks
-phased_led closes None told t n m st tasks end phased = phased_count closes told t n m st tasks phased
-phased_led closes (Some InClosing.End) told t n m st tasks end phased =
-    subst (λ c. IsPhased c (Some InClosing.End) told t m st tasks) (sym end.0) (phased_end told t n m st tasks end.1 (subst (λ c. IsPhased c None told t n st tasks) end.0 phased))
-phased_led closes (Some x) told t n m st tasks end phased = absurd end
+leads_leave : (c : InCallbacks) (x : AfterCallbacks) (v : Worker) → is_anything_told v ≡ true → v.searching ≡ true → Leads (Place.Callbacks c x) v.names.unreleased v.searching v.home.deferred (Place.LeaveSearch (AfterLeave.CallBack x))
+leads_leave c x v h holds =
+    record { same = refl; unserved = refl; ended = tt; searches = holds; some_left = by_not (is_untold v.home.deferred) h; quiet = λ q. absurd (false≢true (sym q)); queue = λ x h. h; aims = λ c i seats. tt; batch = λ ms h. h }
+
+-- of two places by a test
+leads_either : (b : Bool) (y z q : Place) (n : ℕ) (searching : Bool) (left : Deferred Reply Reply) → (b ≡ true → Leads q n searching left y) → (b ≡ false → Leads q n searching left z) → Leads q n searching left (if b then y else z)
+leads_either true y z q n searching left h k = h refl
+leads_either false y z q n searching left h k = k refl
+
+idle_before : (x : AfterCallbacks) (b : Bool) → b ≡ false → IsSearching (searches_before x) b
+idle_before AfterCallbacks.Look b h = tt
+idle_before AfterCallbacks.Test b h = tt
+idle_before AfterCallbacks.Begin b h = tt
+idle_before AfterCallbacks.Drain b h = h
+idle_before AfterCallbacks.Finish b h = h
+
+-- from a callback
+pub leads : (x : AfterCallbacks) (v : Worker) → v.searching ≡ false → length v.home.deferred.resources.items + pending_count (driver_of v).requests ≡ v.names.unreleased
+    → Leads (Place.Callbacks InCallbacks.CallBack x) v.names.unreleased v.searching v.home.deferred (next_callback_of x v)
+leads x v idle counted =
+    leads_either (is_anything_told v) (Place.Callbacks InCallbacks.CallBack x) (after_callbacks_of x v) (Place.Callbacks InCallbacks.CallBack x) v.names.unreleased v.searching v.home.deferred
+    (λ told. leads_told InCallbacks.CallBack x v told idle) (λ none. leads_on InCallbacks.CallBack x v none (idle_before x v.searching idle) counted)
+
+-- from the batch
+pub leads_from_batch : (x : AfterCallbacks) (v : Worker) → IsSearching (searches_before x) v.searching → length v.home.deferred.resources.items + pending_count (driver_of v).requests ≡ v.names.unreleased
+    → Leads (Place.Callbacks InCallbacks.TakeBatch x) v.names.unreleased v.searching v.home.deferred (batch_leads x v)
+leads_from_batch x v idle counted =
+    let q = Place.Callbacks InCallbacks.TakeBatch x in
+    leads_either (is_anything_told v) (leave_of (AfterLeave.CallBack x) v) (after_callbacks_of x v) q v.names.unreleased v.searching v.home.deferred
+    (λ told.
+    leads_either v.searching (Place.LeaveSearch (AfterLeave.CallBack x)) (Place.Callbacks InCallbacks.CallBack x) q v.names.unreleased v.searching v.home.deferred
+    (λ holds. leads_leave InCallbacks.TakeBatch x v told holds) (λ none. leads_told InCallbacks.TakeBatch x v told none))
+    (λ none. leads_on InCallbacks.TakeBatch x v none idle counted)
+
+phased_led : {B : Type 0} (i : ℕ) (closes : Bool) (x : Option InClosing) (told : Bool) (t n m : ℕ) (st : Stage) (tasks : List (TaskSlot B)) → IsAtEnd x closes m → IsPhased i closes None told t n st tasks → IsPhased i closes x told t m st tasks
+phased_led i closes None told t n m st tasks end phased = phased_count i closes told t n m st tasks phased
+phased_led i closes (Some InClosing.End) told t n m st tasks end phased =
+    subst (λ c. IsPhased i c (Some InClosing.End) told t m st tasks) (sym end.0) (phased_end i told t n m st tasks end.1 (subst (λ c. IsPhased i c None told t n st tasks) end.0 phased))
+phased_led i closes (Some x) told t n m st tasks end phased = absurd end
 
 -- WHAT HOLDS AGAIN: of the worker its flag, what has ended and what is left may change, and of what is shared tasks,
 -- records and sleepers
-
 module _ {B : Type 0} where
-  pub record Follows (q : Place) (w v : Worker) (s s' : Shared B) : Type 0 where
+  pub record Follows (x : AfterCallbacks) (w v : Worker) (s s' : Shared B) : Type 0 where
     pub told : IsTold v.names.ended.items v.home.deferred (tellers (driver_of w).requests w.home.timers)
     pub named : IsNamed w.index (record w.names { ended = v.names.ended; unreleased = v.names.unreleased }) (driver_of w) w.home.timers s'.requests.items s'.sleepers.items
-    pub runnable : HasRunnable w.index w.root v.root_ready w.hand s'.tasks.items
+    pub runnable : HasRunnable w.index w.root v.root_ready None s'.tasks.items
+    pub homes : AreHome s.config.workers s'.tasks.items
+    pub resting : AreResting s.config.workers s'.tasks.items
+    pub genuine : (r : Runnable) → IsGenuine s.tasks.items r → IsGenuine s'.tasks.items r
     pub over : AreOver w.index v.names.ended.items v.names.unreleased (pending_count (driver_of w).requests) s'.requests.items
     pub due : IsDue None w.index w.moments s.config (record w.names { ended = v.names.ended; unreleased = v.names.unreleased }) (driver_of w) w.home.timers s'.requests.items s'.sleepers.items
     pub flown : HasFlown None w.index (record w.names { ended = v.names.ended; unreleased = v.names.unreleased }) (driver_of w) s'.requests.items
     pub carried : IsCarried w.names.requests.items (driver_of w).requests (driver_of w).ring s'.requests.items s.store
     pub rooted : IsRooted None w.index w.root (record w.names { ended = v.names.ended; unreleased = v.names.unreleased }) (driver_of w) w.home.timers s'.tasks.items s'.requests.items s'.sleepers.items
-    pub phased : (chair : Chair) → slice_get s.seats.items w.index ≡ Some chair → IsPhased (closes_at q) None w.home.closing w.root w.names.unreleased (stage_of chair s) s'.tasks.items
+    pub phased : (chair : Chair) → slice_get s.seats.items w.index ≡ Some chair → IsPhased w.index (closes_before x) None w.home.closing w.root w.names.unreleased (stage_of chair s) s'.tasks.items
     pub tied : IsTied None w.index w.root v.home.deferred.notes.wakes.items s'.tasks.items s'.requests.items s'.sleepers.items
 
-  pub follows : (q q' : Place) (w v : Worker) (s s' : Shared B) → SoundAt q w s → Comes q → Leads (closes_at q) v.names.unreleased q' v.home.deferred → Follows q w v s s'
+  pub follows : (c : InCallbacks) (x : AfterCallbacks) (q' : Place) (w v : Worker) (s s' : Shared B) → SoundAt (Place.Callbacks c x) w s → Leads (Place.Callbacks c x) v.names.unreleased w.searching v.home.deferred q' → Follows x w v s s'
       → SoundAt q' (record w { place = q'; root_ready = v.root_ready; names = record w.names { ended = v.names.ended; unreleased = v.names.unreleased }; home = record w.home { deferred = v.home.deferred } }) (record s { tasks = s'.tasks; requests = s'.requests; sleepers = s'.sleepers })
-  follows q q' w v s s' sound from to it =
-      let m : Names = record w.names { ended = v.names.ended; unreleased = v.names.unreleased } in
-      let alone = subst (λ a. IsAlone w.index a s.seats.items s.global.values) (from.unarmed ∙ sym to.unarmed) sound.alone in
-      let share : (chair : Chair) → slice_get s.seats.items w.index ≡ Some chair → HasShare q' (room_of (queue_seen chair.queue)) = λ chair there. to.share (room_of (queue_seen chair.queue)) in
-      let due = subst (λ x. IsDue x w.index w.moments s.config m (driver_of w) w.home.timers s'.requests.items s'.sleepers.items) (sym to.served) it.due in
-      let flown = subst (λ x. HasFlown x w.index m (driver_of w) s'.requests.items) (sym to.served) it.flown in
-      let rooted = subst (λ x. IsRooted x w.index w.root m (driver_of w) w.home.timers s'.tasks.items s'.requests.items s'.sleepers.items) (sym to.stands) it.rooted in
-      let phased : (chair : Chair) → slice_get s.seats.items w.index ≡ Some chair → IsPhased (closes_at q') (closing_in q') w.home.closing w.root v.names.unreleased (stage_of chair s) s'.tasks.items = λ chair there.
-      subst (λ c. IsPhased c (closing_in q') w.home.closing w.root v.names.unreleased (stage_of chair s) s'.tasks.items) (sym to.closes_there)
-      (phased_led (closes_at q) (closing_in q') w.home.closing w.root w.names.unreleased v.names.unreleased (stage_of chair s) s'.tasks.items to.ended (it.phased chair there)) in
-      let tied = subst (λ x. IsTied x w.index w.root v.home.deferred.notes.wakes.items s'.tasks.items s'.requests.items s'.sleepers.items) (sym to.stands) it.tied in
-      assumption (alone, share, to.hands w.root w.hand (from.empty w.root w.hand sound.hand), to.some_left, due, flown, rooted, phased, tied, sound, it, to)
+  follows c x q' w v s s' sound to it =
+      let w1 : Worker = record w { place = q'; root_ready = v.root_ready; names = record w.names { ended = v.names.ended; unreleased = v.names.unreleased }; home = record w.home { deferred = v.home.deferred } } in
+      let s1 : Shared B = record s { tasks = s'.tasks; requests = s'.requests; sleepers = s'.sleepers } in
+      let held : (r : Runnable) → Contains (option_to_list w.hand) r → IsHeld None w.root s'.tasks.items r = λ r has. elim (sound.genuine r has) [ inl none ↦ absurd (cc) | inr is ↦ inr (it.genuine r is) ] in
+      let here : OfKind (batch_of (Place.Callbacks c x)) w1 s1 =
+      record {
+        runnable = it.runnable;
+        hand = sound.hand;
+        loot = sound.loot;
+        genuine = held;
+        searching = tt;
+        guest = tt;
+        left = tt;
+        due = it.due;
+        flown = it.flown;
+        rooted = it.rooted;
+        phased = λ chair at. phased_count w.index (closes_before x) w.home.closing w.root w.names.unreleased v.names.unreleased (stage_of chair s) s'.tasks.items (it.phased chair at);
+        tied = it.tied;
+      } in
+      let there : OfKind (batch_of q') w1 s1 = subst (λ k. OfKind k w1 s1) (sym to.same) here in
+      record {
+        here = refl;
+        config = sound.config;
+        gates = sound.gates;
+        index = sound.index;
+        workers = sound.workers;
+        at_home = sound.at_home;
+        role = sound.role;
+        homes = it.homes;
+        shards = sound.shards;
+        time = sound.time;
+        told = it.told;
+        named = it.named;
+        runnable = there.runnable;
+        seated = subst (λ (k : Kind). IsSeated w.index k.armed s.config.workers s.seats.items) (sym to.same) sound.seated;
+        queue = λ chair at. to.queue chair.queue (sound.queue chair at);
+        sized = sound.sized;
+        processed = sound.processed;
+        hand = there.hand;
+        loot = there.loot;
+        genuine = there.genuine;
+        stolen = λ r has. it.genuine r (sound.stolen r has);
+        searching = to.searches;
+        aims = to.aims s.config w.index s.seats.items;
+        guest = there.guest;
+        resting = it.resting;
+        left = to.some_left;
+        over = it.over;
+        batch = to.batch w.batch.values sound.batch;
+        batch_place = sound.batch_place;
+        quiet = to.quiet;
+        due = there.due;
+        flown = there.flown;
+        carried = it.carried;
+        rooted = there.rooted;
+        phased = λ chair at. phased_led w.index (closes_at q') (closing_in q') w.home.closing w.root v.names.unreleased v.names.unreleased (stage_of chair s) s'.tasks.items to.ended (there.phased chair at);
+        tied = there.tied;
+      }
 
   -- nothing of that has changed
-  pub unchanged : (q : Place) (w : Worker) (s : Shared B) → SoundAt q w s → Comes q → Follows q w w s s
-  unchanged q w s sound from =
-      let due = subst (λ x. IsDue x w.index w.moments s.config w.names (driver_of w) w.home.timers s.requests.items s.sleepers.items) from.served sound.due in
-      let flown = subst (λ x. HasFlown x w.index w.names (driver_of w) s.requests.items) from.served sound.flown in
-      let rooted = subst (λ x. IsRooted x w.index w.root w.names (driver_of w) w.home.timers s.tasks.items s.requests.items s.sleepers.items) from.stands sound.rooted in
-      let phased : (chair : Chair) → slice_get s.seats.items w.index ≡ Some chair → IsPhased (closes_at q) None w.home.closing w.root w.names.unreleased (stage_of chair s) s.tasks.items = λ chair there.
-      subst (λ x. IsPhased (closes_at q) x w.home.closing w.root w.names.unreleased (stage_of chair s) s.tasks.items) from.closing (sound.phased chair there) in
-      let tied = subst (λ x. IsTied x w.index w.root w.home.deferred.notes.wakes.items s.tasks.items s.requests.items s.sleepers.items) from.stands sound.tied in
-      record { told = sound.told; named = sound.named; runnable = sound.runnable; over = sound.over; due = due; flown = flown; carried = sound.carried; rooted = rooted; phased = phased; tied = tied }
+  pub unchanged : (c : InCallbacks) (x : AfterCallbacks) (w : Worker) (s : Shared B) → SoundAt (Place.Callbacks c x) w s → Follows x w w s s
+  unchanged c x w s sound =
+      record { told = sound.told; named = sound.named; runnable = sound.runnable; homes = sound.homes; resting = sound.resting; genuine = λ r is. is; over = sound.over; due = sound.due; flown = sound.flown; carried = sound.carried; rooted = sound.rooted; phased = sound.phased; tied = sound.tied }
+
+-- where they lead is out of the balances as the callbacks are
+pub profile_led : (q q' : Place) (w w' : Worker) → w.place ≡ q → w'.place ≡ q' → batch_of q' ≡ batch_of q → w'.hand ≡ w.hand → w'.loot ≡ w.loot → w'.searching ≡ w.searching → w'.index ≡ w.index → SameProfile w w'
+profile_led q q' w w' here there same hand loot searching index =
+    record {
+      hand = hand;
+      loot = loot;
+      polls = rw (here, there) (ap (λ (k : Kind). k.polls) same);
+      claims = rw (here, there) (ap (λ (k : Kind). k.claims) same);
+      searching = searching;
+      counts = rw (here, there) (ap (λ (k : Kind). k.counts) same);
+      index = index;
+      published = rw (here, there) (ap (λ (k : Kind). k.published) same);
+      drops = ap drops_at there ∙ ap (λ (k : Kind). k.drops) same ∙ sym (ap drops_at here);
+    }

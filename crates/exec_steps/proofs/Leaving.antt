@@ -8,7 +8,7 @@ use Rattle.exec_waiters.{specs.{States.{waiter_at, waiter_of, is_held_by}, decla
 use Rattle.exec_driver.specs.{Driving.Driving, Lists.{is_among, withdrawn}}
 use Rattle.exec_machine.specs.{declared.state.{RequestPhase.TheVariants.Resolved, Waiting.Waiting}, Tests.is_resolved}
 use Rattle.exec_moves.specs.declared.place.InService.{InService}
-use Rattle.exec_steps.{specs.{declared.parts.{mail.Reply.Reply, names.Names.Names, record.Record.Record, sleeping.SleeperRecord.SleeperRecord, task_slot.TaskSlot.TaskSlot}, Due.AreTimed, Flown.{AreAcks, AreLanded, HasFlown, IsPlain, operations}, Records.number_in, Rooted.{Awaits, AwaitsRequest, IsNear, outcome_told}, Serving.changed_at, Sound.{AreOwed, IsNamed, OwesWake}}, proofs.{Facts.{by_name, same_number}, Flown.landed_on, Marking.{mark_if, marked, was_marked}, Over.{OneEnds, kept_worker, is_over, unresolved_before}, Resolving.{EntryAfter, among_still, left_among}, Rooted.Changes}}
+use Rattle.exec_steps.{specs.{declared.parts.{mail.Reply.Reply, names.Names.Names, record.Record.Record, sleeping.SleeperRecord.SleeperRecord, task_slot.TaskSlot.TaskSlot}, Due.AreTimed, Flown.{IsPolled, AreLanded, HasFlown, IsPlain, operations}, Records.number_in, Rooted.{Awaits, AwaitsRequest, IsNear, outcome_told}, Serving.changed_at, Sound.{AreOwed, IsNamed, OwesWake}}, proofs.{Facts.{by_name, same_number}, Flown.landed_on, Marking.{mark_if, marked, was_marked}, Over.{OneEnds, kept_worker, is_over, unresolved_before}, Resolving.{EntryAfter, among_still, left_among}, Rooted.Changes}}
 
 -- WHAT IS OWED
 
@@ -129,8 +129,8 @@ module _ (i : ℕ) (n : Names) (d d' : Driving Reply Reply) (zs : Slab (Sleeping
       }
 
   pub flown_over : (x : Option InService) (n' : Names) → n'.requests ≡ n.requests → n'.staged ≡ n.staged → n'.untold ≡ n.untold → n'.unreleased ≡ n.unreleased → deque_capacity n'.ended ≡ deque_capacity n.ended
-      → d'.ring.size ≡ d.ring.size → d'.ring.staged ≡ d.ring.staged → AreAcks d'.ring.posted → AreLanded n' d' (changed_at rs (number_in n.requests.items id) f) (operations d'.ring) → d'.lists ≡ withdrawn (record { 0 = id }) d.lists → IsPlain (f r).shown → HasFlown x i n d rs → HasFlown x i n' d' (changed_at rs (number_in n.requests.items id) f)
-  flown_over x n' requests staged untold unreleased room size entries acks landed lists plain flown =
+      → d'.ring.size ≡ d.ring.size → d'.ring.staged ≡ d.ring.staged → IsPolled d'.ring d'.armed → AreLanded n' d' (changed_at rs (number_in n.requests.items id) f) (operations d'.ring) → d'.lists ≡ withdrawn (record { 0 = id }) d.lists → IsPlain (f r).shown → HasFlown x i n d rs → HasFlown x i n' d' (changed_at rs (number_in n.requests.items id) f)
+  flown_over x n' requests staged untold unreleased room size entries polled landed lists plain flown =
       let k = number_in n.requests.items id in
       let over = is_over i n d d' zs rs ss id it r f outcome told one named timed in
       record {
@@ -139,28 +139,25 @@ module _ (i : ℕ) (n : Names) (d d' : Driving Reply Reply) (zs : Slab (Sleeping
         telling = rw (size, untold) flown.telling;
         entries = rw (entries, staged, untold) flown.entries;
         permits = flown.permits;
-        ours = λ j y at.
-            let old = was_marked f rs k j y at in
-            ap (λ z. z.shown.worker) old.2 ∙ kept_worker i n d d' zs rs ss id it r f outcome told one named timed j (k == j) old.0 refl old.1 ∙ flown.ours j old.0 old.1;
         plain = λ j y at mine.
             let old = was_marked f rs k j y at in
-            subst (λ z. IsPlain z.shown) (sym old.2) (plain_by j (k == j) old.0 refl old.1);
+            subst (λ z. IsPlain z.shown) (sym old.2) (plain_by j (k == j) old.0 refl old.1 (sym (kept_worker i n d d' zs rs ss id it r f outcome told one named timed j (k == j) old.0 refl old.1) ∙ sym (ap (λ z. z.shown.worker) old.2) ∙ mine));
         landed = landed;
         enrolling = λ other w at takes some.
             let apart : other.0 ≢ id = λ e. gone_by other.0 w at e in
             rw lists (among_still other (record { 0 = id }) d.lists.enrolments apart (flown.enrolling other w (sym (ap waiter_of (one.slab.others other.0 apart)) ∙ at) takes some));
-        acks = acks;
+        polled = polled;
         owning = λ j y at unresolved.
             let old = was_marked f rs k j y at in
             ap (λ z. z.shown.released) old.2 ∙ owning_by j (k == j) old.0 refl old.1 (sym (ap (λ z. is_resolved z.shown.phase) old.2) ∙ unresolved);
-        uncancelled = λ other y among at.
+        uncancelled = λ other y among at mine.
             let left = left_among other (record { 0 = id }) d.lists.cancels (subst (λ l. is_among other l.cancels ≡ true) lists among) in
-            uncancelled_by other y left.0 left.1 (ap (λ v. slice_get (changed_at rs k f) (number_in v.items other.0)) (sym requests) ∙ at) (k == number_in n.requests.items other.0) refl;
+            uncancelled_by other y left.0 left.1 (ap (λ v. slice_get (changed_at rs k f) (number_in v.items other.0)) (sym requests) ∙ at) (k == number_in n.requests.items other.0) refl mine;
       }
     where
-      plain_by : (j : ℕ) (b : Bool) (y : Record) → (number_in n.requests.items id == j) ≡ b → slice_get rs j ≡ Some y → IsPlain (mark_if f b y).shown
-      plain_by j true y is at = subst (λ z. IsPlain (f z).shown) (found_is y (ap (slice_get rs) (same_number (number_in n.requests.items id) j is) ∙ at)) plain
-      plain_by j false y is at = flown.plain j y at (flown.ours j y at)
+      plain_by : (j : ℕ) (b : Bool) (y : Record) → (number_in n.requests.items id == j) ≡ b → slice_get rs j ≡ Some y → y.shown.worker ≡ i → IsPlain (mark_if f b y).shown
+      plain_by j true y is at mine = subst (λ z. IsPlain (f z).shown) (found_is y (ap (slice_get rs) (same_number (number_in n.requests.items id) j is) ∙ at)) plain
+      plain_by j false y is at mine = flown.plain j y at mine
 
       owning_by : (j : ℕ) (b : Bool) (y : Record) → (number_in n.requests.items id == j) ≡ b → slice_get rs j ≡ Some y → is_resolved (mark_if f b y).shown.phase ≡ false → (mark_if f b y).shown.released ≡ false
       owning_by j true y is at h =
@@ -182,10 +179,11 @@ module _ (i : ℕ) (n : Names) (d d' : Driving Reply Reply) (zs : Slab (Sleeping
       kept_cancel j false y is at = refl
 
       uncancelled_by : (other : WaiterId) (y : Record) → is_among other d.lists.cancels ≡ true → other.0 ≢ id → slice_get (changed_at rs (number_in n.requests.items id) f) (number_in n.requests.items other.0) ≡ Some y
-          → (b : Bool) → (number_in n.requests.items id == number_in n.requests.items other.0) ≡ b → y.shown.cancel_staged ≡ false
-      uncancelled_by other y among apart at b is =
+          → (b : Bool) → (number_in n.requests.items id == number_in n.requests.items other.0) ≡ b → y.shown.worker ≡ i → y.shown.cancel_staged ≡ false
+      uncancelled_by other y among apart at b is mine =
           let old = was_marked f rs (number_in n.requests.items id) (number_in n.requests.items other.0) y at in
-          ap (λ z. z.shown.cancel_staged) old.2 ∙ kept_cancel (number_in n.requests.items other.0) (number_in n.requests.items id == number_in n.requests.items other.0) old.0 refl old.1 ∙ flown.uncancelled other old.0 among old.1
+          ap (λ z. z.shown.cancel_staged) old.2 ∙ kept_cancel (number_in n.requests.items other.0) (number_in n.requests.items id == number_in n.requests.items other.0) old.0 refl old.1
+          ∙ flown.uncancelled other old.0 among old.1 (sym (kept_worker i n d d' zs rs ss id it r f outcome told one named timed (number_in n.requests.items other.0) (number_in n.requests.items id == number_in n.requests.items other.0) old.0 refl old.1) ∙ sym (ap (λ z. z.shown.worker) old.2) ∙ mine)
 
   pub landed_still : (n' : Names) → n'.requests ≡ n.requests → d'.ring ≡ d.ring → it.in_flight ≡ false → AreLanded n d rs (operations d.ring) → AreLanded n' d' (changed_at rs (number_in n.requests.items id) f) (operations d'.ring)
   landed_still n' requests ring idle landed_now =

@@ -1,12 +1,12 @@
 -- Nobody holds a request any more: what holds again.
-use Rattle.std.proofs.{Common.{◌≡◌, ◌≢◌, ℕ, ◌+◌, ◌-◌, true, false, List, [], length, Some, None, refl, sym, ap, subst, ◌∙◌, inl, arith, length-append, slice_get, slice_set}, lemmas.{Bool.false≢true, List.{append-nil, length-set}}}
+use Rattle.std.proofs.{Common.{◌≡◌, ℕ, ◌+◌, ◌-◌, true, false, List, [], length, Some, None, refl, sym, ap, subst, ◌∙◌, inl, arith, length-append, slice_get, slice_set}, lemmas.{Bool.false≢true, List.{append-nil, length-set}}}
 use Rattle.exec_base.specs.{Slab.{value_at, written, removed, live_count, freed}, declared.slab.Id.Id}
 use Rattle.exec_request.specs.declared.output.RequestOutput.{RequestOutput}
 use Rattle.exec_waiters.specs.{Events.{waker_in, cancelled as cancelled_of, with_observer, untaken}, States.{waiter_at, waiter_of, pending_count, tick_in, tick_of, awaits_tick}, Told.{Told, Tells}, declared.{deferred.Deferred.Deferred, observer.Observer.TheVariants.Orphaned, waiter.{Entry.TheVariants.{Pending, Ready}, Waiter.Waiter}}}
 use Rattle.exec_driver.specs.{Driving.Driving, Punctual.IsPunctual, Steps.ended}
 use Rattle.exec_machine.specs.declared.state.Waiting.{Waiting}
-use Rattle.exec_moves.specs.declared.place.{InPoll.InPoll, Place.Place}
-use Rattle.exec_steps.{specs.{Sound.{map_waker, SoundAt, IsAlike, IsTold, AreOver, AreOwed, polled_in, tellers}, declared.parts.{mail.Reply.Reply, names.Names.Names, record.Record.Record, shared.Shared.Shared, task_slot.TaskSlot.TaskSlot, worker.Worker.Worker}, Due.IsWheelAt, Phased.is_complete, Polls.unobserved, Records.number_in, Rooted.{Holds, IsRooted, ends_poll}, Serving.changed_at, View.driver_of}, proofs.{Facts.by_name, Changing.{changes_one, live_still, pending_still}, Getting.{Without, holds_fewer, other_entry, same_pending, same_waiters, still_there}, Rooted.rooted_set, Serving.KeepsBy, Watching.{Watched, Rewatched, still_pending, due_watched, flown_watched, named_watched, over_watched, carried_watched}, Orders.{alike_self, past_removed}}}
+use Rattle.exec_moves.specs.{Seen.polls_in, declared.place.{InPoll.InPoll, Place.Place}}
+use Rattle.exec_steps.{specs.{Sound.{map_waker, SoundAt, IsAlike, IsTold, AreOver, AreOwed, tellers}, declared.parts.{mail.Reply.Reply, names.Names.Names, record.Record.Record, shared.Shared.Shared, task_slot.TaskSlot.TaskSlot, worker.Worker.Worker}, Due.IsWheelAt, Phased.is_complete, Places.polled_in, Polls.unobserved, Records.number_in, Rooted.{Holds, IsRooted, ends_poll}, Serving.changed_at, View.driver_of}, proofs.{Facts.by_name, Polling.in_own_poll, Changing.{changes_one, live_still, pending_still}, Getting.{Without, holds_fewer, other_entry, same_pending, same_waiters, still_there}, Rooted.rooted_set, Serving.KeepsBy, Watching.{Watched, Rewatched, still_pending, due_watched, flown_watched, named_watched, over_watched, carried_watched}, Orders.{alike_self, past_removed}}}
 
 -- WHAT IS TOLD: an output that nobody takes
 
@@ -78,10 +78,11 @@ module _ {B : Type 0} where
   abbrev pub KeepsActing : Worker → Driving Reply Reply → List Record → Shared B → Type 0
   KeepsActing w d rs s = KeepsBy (record w { place = Place.Poll w.root InPoll.Act }) d w.home.timers rs s.sleepers.items s
 
-  pub keeps_acting : (x : InPoll) (w : Worker) (s : Shared B) → ends_poll (polled_in (Place.Poll w.root x)) ≡ false → SoundAt (Place.Poll w.root x) w s → KeepsActing w (driver_of w) s.requests.items s
-  keeps_acting x w s going sound =
+  pub keeps_acting : (x : InPoll) (w : Worker) (s : Shared B) → polls_in w.root x ≡ Some w.root → ends_poll (Some x) ≡ false → SoundAt (Place.Poll w.root x) w s → KeepsActing w (driver_of w) s.requests.items s
+  keeps_acting x w s polls going sound =
       let quiet : false ≡ false → w.home.deferred.notes.wakes.items ≡ [] = λ h. sound.quiet refl in
-      let rooted : IsRooted None w.index w.root w.names (driver_of w) w.home.timers s.tasks.items s.requests.items s.sleepers.items = record { root = λ slot there. subst (λ b. Holds b w.index w.root slot.held.items slot.waiting (is_complete slot.cell.phase) w.names (driver_of w) w.home.timers s.requests.items s.sleepers.items) going (sound.rooted.root slot there) } in
+      let here : ends_poll (polled_in w.root (Place.Poll w.root x)) ≡ false = ap ends_poll (in_own_poll w.root (polls_in w.root x) x polls) ∙ going in
+      let rooted : IsRooted None w.index w.root w.names (driver_of w) w.home.timers s.tasks.items s.requests.items s.sleepers.items = record { root = λ slot there. subst (λ b. Holds b w.index w.root slot.held.items slot.waiting (is_complete slot.cell.phase) w.names (driver_of w) w.home.timers s.requests.items s.sleepers.items) here (sound.rooted.root slot there) } in
       assumption (quiet, rooted, sound)
 
   -- what is shared then
@@ -141,6 +142,7 @@ module _ {B : Type 0} (w : Worker) (s s' : Shared B) (slot slot' : TaskSlot B) (
         waits = subst (λ o. Rewatched o (waiter_at (removed s0 id) id)) (sym (ap waiter_of ready)) gone;
         alike = λ x live. let no : None ≡ Some x = sym gone ∙ live in absurd (cc);
         ring = refl;
+        armed = refl;
         start = refl;
         tick = refl;
         enrolments = refl;

@@ -1,110 +1,298 @@
--- What the steps of the look before a wait, and of the withdrawal after it, are to the machine.
-use Rattle.std.proofs.{Common.{◌≡◌, ℕ, ◌≤◌, ◌&&◌, ◌||◌, Bool, true, false, not, List, length, Option, inl, inr, refl, sym, ap, subst, ◌∙◌, arith, slice_set, nat_lt, if◌then◌else◌}, lemmas.Bool.cases_Bool}
-use Rattle.exec_words.specs.Idle.{Idle}
+-- What the tests before a wait, the look and the withdrawal are to the machine.
+use Rattle.std.proofs.{Common.{◌≡◌, ◌≢◌, ℕ, ◌+◌, ◌-◌, ◌<◌, ◌≤◌, ◌==◌, ◌&&◌, ◌||◌, Bool, true, false, not, List, [], ◌∷◌, length, Option, Some, refl, sym, ap, subst, ◌∙◌, arith, slice_set, nat_lt, nat_le, if◌then◌else◌}, lemmas.Bool.{eq-eqb, Decides.nat_tests}}
+use Rattle.exec_words.specs.{Head.is_stealable_at, Idle.{Idle, is_in}, Queue.tail_of, declared.head.Head.Head}
 use Rattle.exec_driver.specs.Driving.{has_pending, is_full}
-use Rattle.exec_task.specs.declared.body.Said.{Said}
-use Rattle.exec_machine.specs.{declared.event.Event.{Event, TheVariants.Turn}, Progress.Plan}
-use Rattle.exec_moves.specs.{declared.place.{AfterWait.AfterWait, Found.Found, Place.Place, AfterService.AfterService, InLook.InLook, InRingWait.InRingWait, InWordWait.InWordWait, Stay.Stay}, Callback.serve, Load.{has_come, next_turn, is_ready}, Move.move_at, State.{Desk, turns}, Wait.{publish, after_withdrawal}}
-use Rattle.exec_steps.{specs.{declared.parts.{shared.Shared.Shared, worker.Worker.Worker}, Sound.{SoundAt, is_armed_at}, Spots.Spot, Phased.closes_at, Tests.{has_open_requests, next_turn_of, has_put_off, place_withdrawn, ring_wait_of, word_wait_of, is_within, IsNextMoment}, View.{Visible, driver_of, own_of, desk_of, common_of, things_of}, Works.{Makes, Goes, Suits, Steps}}, proofs.{Standing.{requests_seen, submissions_seen}, NextDue.moment_seen, Turning.{IsPlain, either_place, reaches, is_quiet, is_plain, turned, with_read}}}
+use Rattle.exec_task.specs.declared.{body.Said.Said, runnable.Runnable.Runnable}
+use Rattle.exec_machine.specs.{declared.event.Event.{Event, TheVariants.Turn}, Choice.Choice.Plain, Progress.Plan}
+use Rattle.exec_moves.specs.{declared.{handing.AfterLeave.AfterLeave, idling.{AfterWait.AfterWait, InLook.InLook, InRingWait.InRingWait, InScan.InScan, InSearch.InSearch, InWordWait.InWordWait, Stay.Stay}, place.{AfterService.AfterService, Found.Found, Place.Place}}, Callback.{has_requests, serve}, Global.one_count_more, Load.{first_search, has_come, is_ready}, Look.{after_withdrawal, look_at_head, look_at_mirror, looks_from, past_own, publish, return_claimed, return_look_count, searching_if}, Move.move_at, Parts.after_return, State.{Desk, Moved, queue_of, turns}, Thing.{with_global, with_queue}, Wait.waits}
+use Rattle.exec_steps.{specs.{declared.parts.{shared.Shared.Shared, worker.Worker.Worker}, Places.{has_count_at, is_published_at, one_if, searches_at}, Sound.{IsSearching, SoundAt}, Spots.Spot, Tests.{IsLook, IsNextMoment, IsWait, after_return_of, has_open_requests, is_within, leaves_turn_of, place_withdrawn}, View.{Views, common_of, desk_of, driver_of, own_of, tasks_of, things_of, things_with}, Whole.HasWhole, Works.{Goes, Makes, Steps, Suits}}, proofs.{Counting.{Counts, Stance, Stands, counts_alone, counts_published, counts_same, counts_withdrawn, has_count, stance_at, stance_here}, Facts.same_number, Handed.{Between, leaves_seen, leaves_settle, less_by, most_by, next_seen, out, return_settles, true_false}, Idled.{Settles, gone, led, settles_either}, NextDue.moment_seen, Standing.{requests_seen, submissions_seen}, Turning.queue_back_again}}
 
 turns_by : {T : Type 0} (b : Bool) (p q : Place) (d : Desk) (x : T) → (if b then turns p d x else turns q d x) ≡ turns (if b then p else q) d x
 turns_by true p q d x = refl
 turns_by false p q d x = refl
 
--- a place of a turn without a wait bit
-abbrev IsOfTurn : Place → Type 0
-IsOfTurn q = IsPlain false false q
+-- it is in the idle set as it looks, and searches no more
+abbrev shown : Stance
+shown = record { searching = false; counted = false; published = true }
 
-of_turn : {q : Place} → is_plain q ≡ true → is_armed_at q ≡ false → closes_at q ≡ false → IsOfTurn q
-of_turn plain unarmed opened = record { plain = plain; armed_there = unarmed; closes_there = opened }
+other_than_own : (i j : ℕ) → past_own i j ≢ i
+other_than_own i j = by (j == i) refl
+  where
+    by : (b : Bool) → (j == i) ≡ b → (if b then j + 1 else j) ≢ i
+    by true is = λ same. let it = same_number j i is in omega (arith, it, same)
+    by false is = λ same.
+        let yes : (j == i) ≡ true = rw same (eq-eqb i i refl) in
+        true_false (sym yes ∙ is)
 
-next_is_plain : (w : Worker) → IsOfTurn (next_turn_of w)
-next_is_plain w = either_place false false (has_put_off w) (serve AfterService.Begin) Place.BeginTurn (of_turn refl refl refl) (of_turn refl refl refl)
+module _ {B : Type 0} where
+  -- WHERE IT WAITS, and where it looks
 
-withdrawn_is_plain : (n : AfterWait) (w : Worker) → IsOfTurn (place_withdrawn n w)
-withdrawn_is_plain AfterWait.Begin w = of_turn refl refl refl
-withdrawn_is_plain AfterWait.Serve w = of_turn refl refl refl
-withdrawn_is_plain AfterWait.MakeUp w = next_is_plain w
+  -- the first step of a wait
+  wait_settles : (x : InLook) (span : ℕ) (place : Place) (w : Worker) (s : Shared B) → SoundAt (Place.Look x) w s → IsWait span w place → Settles (Place.Look x) place shown w s
+  wait_settles x span place w s sound begun = by (has_open_requests w) refl
+    where
+      q : Place
+      q = Place.Look x
+
+      by : (some : Bool) → has_open_requests w ≡ some → Settles q place shown w s
+      by true some =
+          rw (begun.0 some)
+          (settles_either q (is_full (driver_of w)) (Place.RingWait InRingWait.EnterFullRing Stay.Turn) (Place.RingWait InRingWait.TestRing Stay.Turn) shown w s
+          (record { same = refl; searches = refl; counts = refl; published = refl; queue = sound.queue; aims = tt; batch = sound.batch; quiet = λ h. refl })
+          (record { same = refl; searches = refl; counts = refl; published = refl; queue = sound.queue; aims = tt; batch = sound.batch; quiet = λ h. refl }))
+      by false none =
+          let found = begun.1 none in
+          rw found.2
+          (settles_either q (nat_lt 0 w.spinner.budget && not (is_within span w.moments.read found.0)) (Place.WordWait (InWordWait.SpinOnBatch w.spinner.budget)) (Place.WordWait InWordWait.ArmWord) shown w s
+          (record { same = refl; searches = refl; counts = refl; published = refl; queue = sound.queue; aims = tt; batch = sound.batch; quiet = λ h. refl })
+          (record { same = refl; searches = refl; counts = refl; published = refl; queue = sound.queue; aims = tt; batch = sound.batch; quiet = λ h. refl }))
+
+  -- the look at the next queue
+  look_settles : (x : InLook) (j : ℕ) (place : Place) (w : Worker) (s : Shared B) → SoundAt (Place.Look x) w s → IsLook s.config j w place → Settles (Place.Look x) place shown w s
+  look_settles x j place w s sound looks = by (nat_lt (past_own w.index j) s.config.workers) refl
+    where
+      by : (more : Bool) → nat_lt (past_own w.index j) s.config.workers ≡ more → Settles (Place.Look x) place shown w s
+      by true is =
+          let few : past_own w.index j < s.config.workers = less_by (past_own w.index j) s.config.workers is in
+          rw (looks.0 few) (record { same = refl; searches = refl; counts = refl; published = refl; queue = sound.queue; aims = (other_than_own w.index j, few); batch = sound.batch; quiet = λ h. refl })
+      by false is = wait_settles x s.config.spin.most place w s sound (looks.1 (most_by (past_own w.index j) s.config.workers is))
+
+  -- the first step of a search
+  search_settles : (w : Worker) (s : Shared B) → SoundAt Place.ReadClock w s → Settles Place.ReadClock (first_search s.config (desk_of w)) (out w.searching) w s
+  search_settles w s sound =
+      settles_either Place.ReadClock (nat_le s.config.workers 1) (Place.Look InLook.Publish) (if w.searching then Place.Scan InScan.LoadScanHead else Place.Search InSearch.LoadSearchCount) (out w.searching) w s
+      (record { same = refl; searches = tt; counts = refl; published = refl; queue = sound.queue; aims = tt; batch = sound.batch; quiet = λ h. refl })
+      (by w.searching)
+    where
+      by : (b : Bool) → Settles Place.ReadClock (if b then Place.Scan InScan.LoadScanHead else Place.Search InSearch.LoadSearchCount) (out b) w s
+      by true = record { same = refl; searches = tt; counts = refl; published = refl; queue = sound.queue; aims = tt; batch = sound.batch; quiet = λ h. refl }
+      by false = record { same = refl; searches = refl; counts = refl; published = refl; queue = sound.queue; aims = tt; batch = sound.batch; quiet = λ h. refl }
+
+  -- who returns a count holds one
+  pub looks_some : (w : Worker) (s : Shared B) → SoundAt (Place.Look InLook.ReturnLookCount) w s → HasWhole w s → 0 < s.idle.count
+  looks_some w s sound has =
+      has_count (stance_at (Place.Look InLook.ReturnLookCount) w) w s (stance_here (Place.Look InLook.ReturnLookCount) w sound.here) has (rw sound.searching (omega arith))
+
+  pub claimed_some : (w : Worker) (s : Shared B) → SoundAt (Place.Look InLook.ReturnClaimed) w s → HasWhole w s → 0 < s.idle.count
+  claimed_some w s sound has =
+      has_count (stance_at (Place.Look InLook.ReturnClaimed) w) w s (stance_here (Place.Look InLook.ReturnClaimed) w sound.here) has (rw sound.searching (omega arith))
 
 module _ {B L : Type 0} (left : B → L) (spot : L → Option Said → Spot) where
-  -- A worker goes to a place that is told beforehand, with what it read off the clock; of what is shared the idle set may change.
-  pub went : (q q' : Place) (w w' : Worker) (r : ℕ) (s : Shared B) (x : Idle) (e : Event) → SoundAt q w s → is_quiet q ≡ true → is_armed_at q ≡ false → closes_at q ≡ false
-      → e ≡ Turn → r ≤ s.clock → w' ≡ record w { place = q'; moments = with_read r w.moments } → IsOfTurn q'
-      → ((p : Plan) (vs : List Visible) → Suits p vs w s → move_at p.config w.index (own_of w) (common_of left spot p vs s) (desk_of w) (things_of w.index s) q ≡ turns q' (record (desk_of w) { read = r }) (things_of w.index (record s { idle = x })))
-      → Steps left spot w s e w' (record s { idle = x })
-  went q q' w w' r s x e sound from unarmed opened turn read goes to moves =
-      let w1 : Worker = record w { place = q'; moments = with_read r w.moments } in
-      let plain : IsPlain (is_armed_at q) (closes_at q) q' = record { plain = to.plain; armed_there = to.armed_there ∙ sym unarmed; closes_there = to.closes_there ∙ sym opened } in
-      let done : Steps left spot w s Turn w1 (record s { idle = x }) =
-      turned left spot q q' w w.countdown w.spinner r w.slept s (record s { idle = x }) sound from read sound.time.asleep (reaches q q' w s sound from plain) (λ vs. refl) moves in
-      let by_event : Steps left spot w s e w1 (record s { idle = x }) = subst (λ event. Steps left spot w s event w1 (record s { idle = x })) (sym turn) done in
-      subst (λ v. Steps left spot w s e v (record s { idle = x })) (sym goes) by_event
+  -- what the machine knows of a wait, and of a look
+  wait_seen : (p : Plan) (vs : Views) (q place : Place) (w : Worker) (s : Shared B) → Suits p vs w s → SoundAt q w s → IsWait s.config.spin.most w place → waits p.config w.index (common_of left spot p vs s) (desk_of w) ≡ place
+  wait_seen p vs q place w s suits sound wait = by (has_open_requests w) refl
+    where
+      some_seen : has_open_requests w ≡ has_requests w.index (common_of left spot p vs s)
+      some_seen = requests_seen w.index w.names (driver_of w) w.home.timers s.requests.items s.sleepers.items sound.named
 
-  -- what the worker finds out by itself is what the machine would
-  next_seen : (p : Plan) (vs : List Visible) (q : Place) (w : Worker) (s : Shared B) → SoundAt q w s → s.config ≡ p.config
-      → next_turn_of w ≡ next_turn p.config w.index (own_of w) (common_of left spot p vs s) (desk_of w)
-  next_seen p vs q w s sound config =
-      rw (requests_seen w.index w.names (driver_of w) w.home.timers s.requests.items s.sleepers.items sound.named, submissions_seen s.config w sound.sized, config) refl
+      by : (some : Bool) → has_open_requests w ≡ some → waits p.config w.index (common_of left spot p vs s) (desk_of w) ≡ place
+      by true some = rw (← some_seen, some, ← suits.config, ← sound.sized) (sym (wait.0 some))
+      by false none =
+          let found = wait.1 none in
+          rw (← some_seen, none, ← moment_seen left spot p vs q w s found.0 suits sound found.1, ← suits.config) (sym found.2)
 
-  pub tested : (f : Found) (w w' : Worker) (s : Shared B) (e : Event) → SoundAt (Place.TestForWork f) w s → e ≡ Turn
-      → w' ≡ record w { place = (if is_ready (own_of w) f (desk_of w) || has_pending (driver_of w) then next_turn_of w else Place.ReadClock) } → Steps left spot w s e w' s
-  tested f w w' s e sound turn goes =
+  look_seen : (p : Plan) (vs : Views) (q place : Place) (j : ℕ) (w : Worker) (s : Shared B) → Suits p vs w s → SoundAt q w s → IsLook s.config j w place → looks_from p.config w.index (common_of left spot p vs s) j (desk_of w) ≡ place
+  look_seen p vs q place j w s suits sound look = by (nat_lt (past_own w.index j) p.config.workers) refl
+    where
+      by : (more : Bool) → nat_lt (past_own w.index j) p.config.workers ≡ more → (if more then Place.Look (InLook.LookAtHead (past_own w.index j)) else waits p.config w.index (common_of left spot p vs s) (desk_of w)) ≡ place
+      by true is = let few : past_own w.index j < s.config.workers = rw suits.config (less_by (past_own w.index j) p.config.workers is) in sym (look.0 few)
+      by false is = let past : s.config.workers ≤ past_own w.index j = rw suits.config (most_by (past_own w.index j) p.config.workers is) in wait_seen p vs q place w s suits sound (look.1 past)
+
+module _ {B L : Type 0} (left : B → L) (spot : L → Option Said → Spot) (w w' : Worker) (s : Shared B) (e : Event) where
+  -- THE TESTS
+
+  pub tested : (f : Found) → SoundAt (Place.TestForWork f) w s → e ≡ Turn → w' ≡ record w { place = (if is_ready (own_of w) f (desk_of w) || has_pending (driver_of w) then leaves_turn_of w else Place.ReadClock) } → Steps left spot w s e w' s
+  tested f sound turn goes =
+      let q = Place.TestForWork f in
       let b = is_ready (own_of w) f (desk_of w) || has_pending (driver_of w) in
-      went (Place.TestForWork f) (if b then next_turn_of w else Place.ReadClock) w w' w.moments.read s s.idle e sound refl refl refl turn sound.time.read goes (either_place false false b (next_turn_of w) Place.ReadClock (next_is_plain w) (of_turn refl refl refl))
-      (λ p vs suits. rw (← next_seen p vs (Place.TestForWork f) w s sound suits.config, ← suits.config, ← submissions_seen s.config w sound.sized)
-      (ap (λ m. record { event = m.event; choice = m.choice; desk = m.desk; thing = things_of w.index s }) (turns_by b (next_turn_of w) Place.ReadClock (desk_of w) (tt {0}))))
+      gone left spot q (if b then leaves_turn_of w else Place.ReadClock) (out w.searching) w w' s s.idle e sound turn goes refl
+      (settles_either q b (leaves_turn_of w) Place.ReadClock (out w.searching) w s
+      (leaves_settle q w.searching w s (record { same = refl; held = sound.queue; batch = sound.batch; quiet = refl }))
+      (record { same = refl; searches = tt; counts = refl; published = refl; queue = sound.queue; aims = tt; batch = sound.batch; quiet = λ h. refl }))
+      refl refl (counts_same (stance_at q w) w s (stance_here q w sound.here))
+      (λ p vs suits. rw (leaves_seen left spot p vs q w s sound suits.config w.searching, ← suits.config, ← submissions_seen s.config w sound.sized)
+      (ap (λ m. record { event = m.event; choice = m.choice; desk = m.desk; thing = things_with vs s }) (turns_by b (leaves_turn_of w) Place.ReadClock (desk_of w) (tt {0}))))
 
-  pub clock_read : (moment : Option ℕ) (w w' : Worker) (s : Shared B) (e : Event) → SoundAt Place.ReadClock w s → IsNextMoment w moment → e ≡ Turn
-      → w' ≡ record w { place = (if has_come s.clock moment then next_turn_of w else Place.Look InLook.Publish); moments = record w.moments { read = s.clock } } → Steps left spot w s e w' s
-  clock_read moment w w' s e sound upcoming turn goes =
+  pub clock_read : (moment : Option ℕ) → SoundAt Place.ReadClock w s → IsNextMoment w moment → e ≡ Turn
+      → w' ≡ record w { place = (if has_come s.clock moment then leaves_turn_of w else first_search s.config (desk_of w)); moments = record w.moments { read = s.clock } } → Steps left spot w s e w' s
+  clock_read moment sound upcoming turn goes =
+      let q = Place.ReadClock in
       let b = has_come s.clock moment in
-      went Place.ReadClock (if b then next_turn_of w else Place.Look InLook.Publish) w w' s.clock s s.idle e sound refl refl refl turn (omega arith) goes (either_place false false b (next_turn_of w) (Place.Look InLook.Publish) (next_is_plain w) (of_turn refl refl refl))
-      (λ p vs suits. rw (← next_seen p vs Place.ReadClock w s sound suits.config, ← moment_seen left spot p vs Place.ReadClock w s moment suits sound upcoming)
-      (ap (λ m. record { event = m.event; choice = m.choice; desk = m.desk; thing = things_of w.index s }) (turns_by b (next_turn_of w) (Place.Look InLook.Publish) (record (desk_of w) { read = s.clock }) (tt {0}))))
+      led left spot q (if b then leaves_turn_of w else first_search s.config (desk_of w)) s.clock w.rng (out w.searching) w w' s s.idle e sound turn (omega arith) goes
+      (settles_either q b (leaves_turn_of w) (first_search s.config (desk_of w)) (out w.searching) w s
+      (leaves_settle q w.searching w s (record { same = refl; held = sound.queue; batch = sound.batch; quiet = refl })) (search_settles w s sound))
+      refl refl (counts_same (stance_at q w) w s (stance_here q w sound.here))
+      (λ p vs suits. rw (leaves_seen left spot p vs q w s sound suits.config w.searching, ← suits.config, ← moment_seen left spot p vs q w s moment suits sound upcoming)
+      (ap (λ m. record { event = m.event; choice = m.choice; desk = m.desk; thing = things_with vs s }) (turns_by b (leaves_turn_of w) (first_search s.config (desk_of w)) (record (desk_of w) { read = s.clock }) (tt {0}))))
 
-  -- the first step of a wait on the ring, or on the wake word
-  count_on_ring : (w w' : Worker) (s : Shared B) (e : Event) → SoundAt (Place.Look InLook.LookAtCount) w s → has_open_requests w ≡ true → e ≡ Turn → w' ≡ record w { place = ring_wait_of Stay.Turn w } → Steps left spot w s e w' s
-  count_on_ring w w' s e sound some turn goes =
-      went (Place.Look InLook.LookAtCount) (ring_wait_of Stay.Turn w) w w' w.moments.read s s.idle e sound refl refl refl turn sound.time.read goes
-      (either_place false false (is_full (driver_of w)) (Place.RingWait InRingWait.EnterFullRing Stay.Turn) (Place.RingWait InRingWait.TestRing Stay.Turn) (of_turn refl refl refl) (of_turn refl refl refl))
-      (λ p vs suits. rw (← requests_seen w.index w.names (driver_of w) w.home.timers s.requests.items s.sleepers.items sound.named, some, ← suits.config, ← sound.sized) refl)
+  -- THE LOOK
 
-  count_on_word : (moment : Option ℕ) (w w' : Worker) (s : Shared B) (e : Event) → SoundAt (Place.Look InLook.LookAtCount) w s → has_open_requests w ≡ false → IsNextMoment w moment → e ≡ Turn
-      → w' ≡ record w { place = word_wait_of s.config.spin.most moment w } → Steps left spot w s e w' s
-  count_on_word moment w w' s e sound none upcoming turn goes =
-      went (Place.Look InLook.LookAtCount) (word_wait_of s.config.spin.most moment w) w w' w.moments.read s s.idle e sound refl refl refl turn sound.time.read goes
-      (either_place false false (nat_lt 0 w.spinner.budget && not (is_within s.config.spin.most w.moments.read moment)) (Place.WordWait (InWordWait.SpinOnBatch w.spinner.budget)) (Place.WordWait InWordWait.ArmWord) (of_turn refl refl refl) (of_turn refl refl refl))
-      (λ p vs suits. rw (← requests_seen w.index w.names (driver_of w) w.home.timers s.requests.items s.sleepers.items sound.named, none, ← moment_seen left spot p vs (Place.Look InLook.LookAtCount) w s moment suits sound upcoming, ← suits.config) refl)
+  -- where a move says the place, and nothing else of the worker changes
+  placed : {T : Type 0} (m : Moved T) → Makes m e w' → Goes w w' → w' ≡ record w { place = m.desk.place }
+  placed m makes goes = goes ∙ ap (λ d. record w { place = d.place }) makes.desk
 
-  pub count_looked : (w w' : Worker) (s : Shared B) (e : Event) → SoundAt (Place.Look InLook.LookAtCount) w s → e ≡ Turn → Goes w w' → (has_open_requests w ≡ true → w'.place ≡ ring_wait_of Stay.Turn w)
-      → (has_open_requests w ≡ false → (moment : Option ℕ) × IsNextMoment w moment × (w'.place ≡ word_wait_of s.config.spin.most moment w)) → Steps left spot w s e w' s
-  count_looked w w' s e sound turn goes on_ring on_word =
-      elim (cases_Bool (has_open_requests w)) [
-        | inl some ↦ count_on_ring w w' s e sound some turn (goes ∙ ap (λ q. record w { place = q }) (on_ring some))
-        | inr none ↦ let found = on_word none in count_on_word found.0 w w' s e sound none found.1 turn (goes ∙ ap (λ q. record w { place = q }) found.2)
-      ]
+  pub published : (x : Idle) → SoundAt (Place.Look InLook.Publish) w s → Makes (publish w.index (desk_of w) s.idle) e w' → Goes w w' → x ≡ record s.idle { published = slice_set s.idle.published w.index true } → Steps left spot w s e w' (record s { idle = x })
+  published x sound makes goes is =
+      let q = Place.Look InLook.Publish in
+      gone left spot q (Place.Look (if w.searching then InLook.ReturnLookCount else InLook.LookAtMirror false)) (record { searching = w.searching; counted = false; published = true }) w w' s x e sound makes.event (placed (publish w.index (desk_of w) s.idle) makes goes) refl
+      (by w.searching) refl refl
+      (counts_published (stance_at q w) w s x (stance_here q w sound.here) refl (omega (arith, sound.index, sound.seated.many)) (omega (arith, sound.index, sound.config.few)) is)
+      (λ p vs suits. rw is refl)
+    where
+      by : (b : Bool) → Settles (Place.Look InLook.Publish) (Place.Look (if b then InLook.ReturnLookCount else InLook.LookAtMirror false)) (record { searching = b; counted = false; published = true }) w s
+      by true = record { same = refl; searches = refl; counts = refl; published = refl; queue = sound.queue; aims = tt; batch = sound.batch; quiet = λ h. refl }
+      by false = record { same = refl; searches = refl; counts = refl; published = refl; queue = sound.queue; aims = tt; batch = sound.batch; quiet = λ h. refl }
 
-  pub published : (w w' : Worker) (s : Shared B) (x : Idle) (e : Event) → SoundAt (Place.Look InLook.Publish) w s → Makes (publish w.index (desk_of w) s.idle) e w' → Goes w w'
-      → x ≡ record s.idle { published = slice_set s.idle.published w.index true } → Steps left spot w s e w' (record s { idle = x })
-  published w w' s x e sound makes goes is =
-      went (Place.Look InLook.Publish) (Place.Look InLook.LookAtMirror) w w' w.moments.read s x e sound refl refl refl makes.event sound.time.read
-      (goes ∙ ap (λ place. record w { place = place }) (ap (λ d. d.place) makes.desk)) (of_turn refl refl refl) (λ p vs suits. rw is refl)
+  pub look_count_returned : (x : Idle) → SoundAt (Place.Look InLook.ReturnLookCount) w s → 0 < s.idle.count → Makes (return_look_count (desk_of w) s.idle) e w' → w' ≡ record w { place = w'.place; searching = false } → x ≡ record s.idle { count = s.idle.count - 1 }
+      → Steps left spot w s e w' (record s { idle = x })
+  look_count_returned x sound some makes same is =
+      let q = Place.Look InLook.ReturnLookCount in
+      let q' = Place.Look (InLook.LookAtMirror (s.idle.count == 1)) in
+      let less : x.count ≡ s.idle.count - 1 = ap (λ i. i.count) is in
+      led left spot q q' w.moments.read w.rng shown w w' s x e sound makes.event sound.time.read (same ∙ ap (λ d. record w { place = d.place; searching = false }) makes.desk)
+      (record { same = refl; searches = refl; counts = refl; published = refl; queue = sound.queue; aims = tt; batch = sound.batch; quiet = λ h. refl }) refl refl
+      (counts_alone (stance_at q w) false false w s x (stance_here q w sound.here) (ap (λ i. i.published) is) (rw sound.searching (omega (arith, some, less))))
+      (λ p vs suits. rw is refl)
 
-  pub mirror_looked : (mirror : ℕ) (w w' : Worker) (s : Shared B) (e : Event) → SoundAt (Place.Look InLook.LookAtMirror) w s → mirror ≡ length s.global.values → e ≡ Turn
-      → w' ≡ record w { place = (if nat_lt 0 mirror then Place.Withdraw AfterWait.MakeUp else Place.Look InLook.LookAtCount) } → Steps left spot w s e w' s
-  mirror_looked mirror w w' s e sound is turn goes =
-      let none : mirror ≡ 0 = is ∙ ap length sound.alone.elsewhere in
-      went (Place.Look InLook.LookAtMirror) (Place.Look InLook.LookAtCount) w w' w.moments.read s s.idle e sound refl refl refl turn sound.time.read
-      (goes ∙ ap (λ n. record w { place = (if nat_lt 0 n then Place.Withdraw AfterWait.MakeUp else Place.Look InLook.LookAtCount) }) none) (of_turn refl refl refl)
-      (λ p vs suits. rw sound.alone.elsewhere refl)
+  pub mirror_looked : (last : Bool) (mirror : ℕ) → SoundAt (Place.Look (InLook.LookAtMirror last)) w s → mirror ≡ length s.global.values → e ≡ Turn → w' ≡ record w { place = (if nat_lt 0 mirror then Place.Withdraw (AfterWait.MakeUp last) else Place.Look InLook.LookAtCount) } → Steps left spot w s e w' s
+  mirror_looked last mirror sound is turn goes =
+      let q = Place.Look (InLook.LookAtMirror last) in
+      gone left spot q (if nat_lt 0 mirror then Place.Withdraw (AfterWait.MakeUp last) else Place.Look InLook.LookAtCount) shown w w' s s.idle e sound turn goes sound.searching
+      (settles_either q (nat_lt 0 mirror) (Place.Withdraw (AfterWait.MakeUp last)) (Place.Look InLook.LookAtCount) shown w s
+      (record { same = refl; searches = refl; counts = refl; published = refl; queue = sound.queue; aims = tt; batch = sound.batch; quiet = λ h. refl })
+      (record { same = refl; searches = refl; counts = refl; published = refl; queue = sound.queue; aims = tt; batch = sound.batch; quiet = λ h. refl }))
+      refl refl (counts_alone (stance_at q w) false false w s s.idle (stance_here q w sound.here) refl (rw sound.searching refl))
+      (λ p vs suits. rw is (by s.global.values refl vs))
+    where
+      by : (values : List Runnable) → s.global.values ≡ values → (vs : Views) → with_global (things_with vs s) (look_at_mirror last (desk_of w) (tasks_of values)) ≡ record { event = Turn; choice = Plain; desk = record (desk_of w) { place = (if nat_lt 0 (length values) then Place.Withdraw (AfterWait.MakeUp last) else Place.Look InLook.LookAtCount) }; thing = things_with vs s }
+      by [] none vs = ap (λ g. record { event = Turn; choice = Plain; desk = record (desk_of w) { place = Place.Look InLook.LookAtCount }; thing = record (things_with vs s) { global = tasks_of g } }) (sym none)
+      by (r ∷ rs) some vs =
+          let positive : nat_lt 0 (length (r ∷ rs)) ≡ true = grind (arith, nat_tests) in
+          rw positive (ap (λ g. record { event = Turn; choice = Plain; desk = record (desk_of w) { place = Place.Withdraw (AfterWait.MakeUp last) }; thing = record (things_with vs s) { global = tasks_of g } }) (sym some))
 
-  pub withdrew : (n : AfterWait) (w w' : Worker) (s : Shared B) (x : Idle) (e : Event) → SoundAt (Place.Withdraw n) w s → e ≡ Turn → w' ≡ record w { place = place_withdrawn n w }
+  -- to a place where it waits or looks on
+  looked : (x : InLook) (q' : Place) → searches_at (Place.Look x) ≡ Some false → has_count_at (Place.Look x) ≡ false → is_published_at (Place.Look x) ≡ true → SoundAt (Place.Look x) w s → e ≡ Turn → w' ≡ record w { place = q' } → Settles (Place.Look x) q' shown w s
+      → ((p : Plan) (vs : Views) → Suits p vs w s → move_at p.config w.index (own_of w) (common_of left spot p vs s) (desk_of w) (things_with vs s) (Place.Look x) ≡ record { event = Turn; choice = Plain; desk = record (desk_of w) { place = q' }; thing = things_with vs s })
+      → Steps left spot w s e w' s
+  looked x q' none uncounted out_there sound turn goes to moves =
+      let q = Place.Look x in
+      let searching : w.searching ≡ false = subst (λ o. IsSearching o w.searching) none sound.searching in
+      let here : Stands shown w = record { searching = searching; counted = ap has_count_at sound.here ∙ uncounted; published = ap is_published_at sound.here ∙ out_there } in
+      let is : stance_at q w ≡ shown = rw (searching, uncounted, out_there) refl in
+      gone left spot q q' shown w w' s s.idle e sound turn goes searching to refl refl (rw is (counts_same shown w s here)) moves
+
+  pub count_looked : SoundAt (Place.Look InLook.LookAtCount) w s → e ≡ Turn → Goes w w' → (s.idle.count ≡ 0 → IsLook s.config 0 w w'.place) → (0 < s.idle.count → IsWait s.config.spin.most w w'.place) → Steps left spot w s e w' s
+  count_looked sound turn goes looks waits_then = by (s.idle.count == 0) refl
+    where
+      by : (none : Bool) → (s.idle.count == 0) ≡ none → Steps left spot w s e w' s
+      by true none =
+          let look = looks (same_number s.idle.count 0 none) in
+          looked InLook.LookAtCount w'.place refl refl refl sound turn goes (look_settles InLook.LookAtCount 0 w'.place w s sound look)
+          (λ p vs suits. rw (none, look_seen left spot p vs (Place.Look InLook.LookAtCount) w'.place 0 w s suits sound look) refl)
+      by false some =
+          let wait = waits_then (grind (arith, nat_tests, some)) in
+          looked InLook.LookAtCount w'.place refl refl refl sound turn goes (wait_settles InLook.LookAtCount s.config.spin.most w'.place w s sound wait)
+          (λ p vs suits. rw (some, wait_seen left spot p vs (Place.Look InLook.LookAtCount) w'.place w s suits sound wait) refl)
+
+  pub head_looked : (j : ℕ) → SoundAt (Place.Look (InLook.LookAtHead j)) w s → Makes (look_at_head j (desk_of w) (queue_of (things_of s) j)) e w' → Goes w w' → Steps left spot w s e w' s
+  head_looked j sound makes goes =
+      let m = look_at_head j (desk_of w) (queue_of (things_of s) j) in
+      looked (InLook.LookAtHead j) m.desk.place refl refl refl sound makes.event (placed m makes goes)
+      (record { same = refl; searches = refl; counts = refl; published = refl; queue = sound.queue; aims = sound.aims; batch = sound.batch; quiet = λ h. refl })
+      (λ p vs suits. ap (λ x. record { event = Turn; choice = Plain; desk = m.desk; thing = x }) (queue_back_again j (things_with vs s)))
+
+  pub tail_looked : (j : ℕ) (h : Head) → SoundAt (Place.Look (InLook.LookAtTail j h)) w s → e ≡ Turn → Goes w w' → (is_stealable_at h (tail_of (queue_of (things_of s) j)) ≡ true → w'.place ≡ Place.Look InLook.ExchangeLookCount)
+      → (is_stealable_at h (tail_of (queue_of (things_of s) j)) ≡ false → IsLook s.config (j + 1) w w'.place) → Steps left spot w s e w' s
+  tail_looked j h sound turn goes steals looks = by (is_stealable_at h (tail_of (queue_of (things_of s) j))) refl
+    where
+      x : InLook
+      x = InLook.LookAtTail j h
+
+      back : (place : Place) (vs : Views) → with_queue j (things_with vs s) (turns place (desk_of w) (queue_of (things_of s) j)) ≡ record { event = Turn; choice = Plain; desk = record (desk_of w) { place = place }; thing = things_with vs s }
+      back place vs = ap (λ y. record { event = Turn; choice = Plain; desk = record (desk_of w) { place = place }; thing = y }) (queue_back_again j (things_with vs s))
+
+      by : (b : Bool) → is_stealable_at h (tail_of (queue_of (things_of s) j)) ≡ b → Steps left spot w s e w' s
+      by true is =
+          let there : w'.place ≡ Place.Look InLook.ExchangeLookCount = steals is in
+          looked x (Place.Look InLook.ExchangeLookCount) refl refl refl sound turn (goes ∙ ap (λ y. record w { place = y }) there)
+          (record { same = refl; searches = refl; counts = refl; published = refl; queue = sound.queue; aims = tt; batch = sound.batch; quiet = λ h. refl })
+          (λ p vs suits. rw is (back (Place.Look InLook.ExchangeLookCount) vs))
+      by false is =
+          let look = looks is in
+          looked x w'.place refl refl refl sound turn goes (look_settles x (j + 1) w'.place w s sound look)
+          (λ p vs suits. rw (is, look_seen left spot p vs (Place.Look x) w'.place (j + 1) w s suits sound look) (back w'.place vs))
+
+  pub look_count_exchanged : (s' : Shared B) → SoundAt (Place.Look InLook.ExchangeLookCount) w s → e ≡ Turn → (s.idle.count ≡ 0 → w' ≡ record w { place = Place.Withdraw AfterWait.Search; searching = true }) → (0 < s.idle.count → Goes w w')
+      → (0 < s.idle.count → IsWait s.config.spin.most w w'.place) → s' ≡ record s { idle = (if s.idle.count == 0 then record s.idle { count = 1 } else s.idle) } → Steps left spot w s e w' s'
+  look_count_exchanged s' sound turn first later waits_then is = by (s.idle.count == 0) refl is
+    where
+      q : Place
+      q = Place.Look InLook.ExchangeLookCount
+
+      by : (none : Bool) → (s.idle.count == 0) ≡ none → s' ≡ record s { idle = (if none then record s.idle { count = 1 } else s.idle) } → Steps left spot w s e w' s'
+      by true none is =
+          let zero_now : s.idle.count ≡ 0 = same_number s.idle.count 0 none in
+          let more : record s.idle { count = 1 } ≡ one_count_more s.idle = ap (λ n. record s.idle { count = n + 1 }) (sym zero_now) in
+          subst (Steps left spot w s e w') (sym is)
+          (led left spot q (Place.Withdraw AfterWait.Search) w.moments.read w.rng (record { searching = true; counted = false; published = true }) w w' s (record s.idle { count = 1 }) e sound turn sound.time.read (first zero_now)
+          (record { same = refl; searches = refl; counts = refl; published = refl; queue = sound.queue; aims = tt; batch = sound.batch; quiet = λ h. refl }) refl refl
+          (counts_alone (stance_at q w) true false w s (record s.idle { count = 1 }) (stance_here q w sound.here) refl (rw sound.searching (omega (arith, zero_now))))
+          (λ p vs suits. rw (more, none) refl))
+      by false some is =
+          let positive : 0 < s.idle.count = grind (arith, nat_tests, some) in
+          let wait = waits_then positive in
+          subst (Steps left spot w s e w') (sym is)
+          (looked InLook.ExchangeLookCount w'.place refl refl refl sound turn (later positive) (wait_settles InLook.ExchangeLookCount s.config.spin.most w'.place w s sound wait)
+          (λ p vs suits. rw (some, wait_seen left spot p vs q w'.place w s suits sound wait) refl))
+
+  pub claimed_returned : (x : Idle) → SoundAt (Place.Look InLook.ReturnClaimed) w s → 0 < s.idle.count → Makes (return_claimed (desk_of w) s.idle) e w' → Goes w w' → x ≡ record s.idle { count = s.idle.count - 1 } → Steps left spot w s e w' (record s { idle = x })
+  claimed_returned x sound some makes goes is =
+      let q = Place.Look InLook.ReturnClaimed in
+      let less : x.count ≡ s.idle.count - 1 = ap (λ i. i.count) is in
+      gone left spot q (Place.Scan InScan.LoadScanHead) (out true) w w' s x e sound makes.event (placed (return_claimed (desk_of w) s.idle) makes goes) sound.searching
+      (record { same = refl; searches = tt; counts = refl; published = refl; queue = sound.queue; aims = tt; batch = sound.batch; quiet = λ h. refl }) refl refl
+      (counts_alone (stance_at q w) true false w s x (stance_here q w sound.here) (ap (λ i. i.published) is) (rw sound.searching (omega (arith, some, less))))
+      (λ p vs suits. rw is refl)
+
+  -- THE WITHDRAWAL
+
+  pub withdrew : (n : AfterWait) (x : Idle) → SoundAt (Place.Withdraw n) w s → e ≡ Turn
+      → w' ≡ record w { place = place_withdrawn (not (is_in s.idle.published w.index)) n (record w { searching = w'.searching }); searching = w.searching || not (is_in s.idle.published w.index) }
       → x ≡ record s.idle { published = slice_set s.idle.published w.index false } → Steps left spot w s e w' (record s { idle = x })
-  withdrew n w w' s x e sound turn goes is =
-      let seen : (p : Plan) (vs : List Visible) (m : AfterWait) → s.config ≡ p.config → after_withdrawal p.config w.index (own_of w) (common_of left spot p vs s) m (desk_of w) ≡ place_withdrawn m w = λ p vs m config.
-      elim m as (λ k. after_withdrawal p.config w.index (own_of w) (common_of left spot p vs s) k (desk_of w) ≡ place_withdrawn k w) [
-        | AfterWait.Begin ↦ refl
-        | AfterWait.Serve ↦ refl
-        | AfterWait.MakeUp ↦ sym (next_seen p vs (Place.Withdraw n) w s sound config)
-      ] in
-      went (Place.Withdraw n) (place_withdrawn n w) w w' w.moments.read s x e sound refl refl refl turn sound.time.read goes (withdrawn_is_plain n w) (λ p vs suits. rw (seen p vs n suits.config, is) refl)
+  withdrew n x sound turn goes is = by (not (is_in s.idle.published w.index)) refl n sound (goes ∙ ap (λ b. record w { place = place_withdrawn (not (is_in s.idle.published w.index)) n (record w { searching = b }); searching = w.searching || not (is_in s.idle.published w.index) }) (ap (λ v. v.searching) goes))
+    where
+      -- to this place, with this
+      to : (m : AfterWait) (came : Bool) (q' : Place) (z : Stance) → SoundAt (Place.Withdraw m) w s → not (is_in s.idle.published w.index) ≡ came → w' ≡ record w { place = q'; searching = z.searching } → z.published ≡ false → Settles (Place.Withdraw m) q' z w s
+          → one_if z.searching + one_if z.counted ≡ one_if w.searching + one_if came
+          → ((p : Plan) (vs : Views) → Suits p vs w s → after_withdrawal p.config w.index (own_of w) (common_of left spot p vs s) came m (searching_if came (desk_of w)) ≡ q') → w.searching || came ≡ z.searching → Steps left spot w s e w' (record s { idle = x })
+      to m came q' z at_m is_came goes out_of settles own seen searching =
+          let q = Place.Withdraw m in
+          let counts : Counts (stance_at q w) z w s x = subst (λ b. Counts (stance_at q w) (record { searching = z.searching; counted = z.counted; published = b }) w s x) (sym out_of)
+          (counts_withdrawn (stance_at q w) z.searching z.counted w s x (stance_here q w at_m.here) refl (omega (arith, at_m.index, at_m.seated.many)) (omega (arith, at_m.index, at_m.config.few)) is (rw is_came (omega (arith, own)))) in
+          led left spot q q' w.moments.read w.rng z w w' s x e at_m turn at_m.time.read goes settles refl refl counts
+          (λ p vs suits. rw (is_came, seen p vs suits, is, searching) refl)
+
+      by : (came : Bool) → not (is_in s.idle.published w.index) ≡ came → (m : AfterWait) → SoundAt (Place.Withdraw m) w s → w' ≡ record w { place = place_withdrawn came m (record w { searching = w.searching || came }); searching = w.searching || came } → Steps left spot w s e w' (record s { idle = x })
+      by came is_came AfterWait.Begin at_m goes =
+          to AfterWait.Begin came Place.BeginTurn (out came) at_m is_came (goes ∙ ap (λ b. record w { place = Place.BeginTurn; searching = b || came }) at_m.searching) refl
+          (record { same = refl; searches = tt; counts = refl; published = refl; queue = at_m.queue; aims = tt; batch = at_m.batch; quiet = λ h. refl }) (rw at_m.searching (omega arith)) (λ p vs suits. refl) (rw at_m.searching refl)
+      by came is_came AfterWait.Serve at_m goes =
+          to AfterWait.Serve came (serve AfterService.Begin) (out came) at_m is_came (goes ∙ ap (λ b. record w { place = serve AfterService.Begin; searching = b || came }) at_m.searching) refl
+          (record { same = refl; searches = tt; counts = refl; published = refl; queue = at_m.queue; aims = tt; batch = at_m.batch; quiet = λ h. refl }) (rw at_m.searching (omega arith)) (λ p vs suits. refl) (rw at_m.searching refl)
+      by true is_came (AfterWait.MakeUp last) at_m goes =
+          to (AfterWait.MakeUp last) true (Place.LeaveSearch AfterLeave.Begin) (out true) at_m is_came (goes ∙ ap (λ b. record w { place = leaves_turn_of (record w { searching = b || true }); searching = b || true }) at_m.searching) refl
+          (record { same = refl; searches = refl; counts = refl; published = refl; queue = at_m.queue; aims = tt; batch = at_m.batch; quiet = λ h. refl }) (rw at_m.searching refl) (λ p vs suits. rw at_m.searching refl) (rw at_m.searching refl)
+      by false is_came (AfterWait.MakeUp last) at_m goes =
+          let q = Place.Withdraw (AfterWait.MakeUp last) in
+          let v : Worker = record w { searching = false } in
+          let there : Between q (Place.LeaveSearch AfterLeave.Begin) w s = record { same = refl; held = at_m.queue; batch = at_m.batch; quiet = refl } in
+          let seen : (p : Plan) (vs : Views) → Suits p vs w s → (l : Bool) → after_return p.config w.index (own_of w) (common_of left spot p vs s) l AfterLeave.Begin (searching_if false (desk_of w)) ≡ after_return_of l AfterLeave.Begin v =
+          λ p vs suits l. elim l as (λ b. after_return p.config w.index (own_of w) (common_of left spot p vs s) b AfterLeave.Begin (searching_if false (desk_of w)) ≡ after_return_of b AfterLeave.Begin v) [ true ↦ refl | false ↦ next_seen left spot p vs q w s at_m suits.config ] in
+          to (AfterWait.MakeUp last) false (after_return_of last AfterLeave.Begin v) (out false) at_m is_came (goes ∙ ap (λ b. record w { place = after_return_of last AfterLeave.Begin (record w { searching = b || false }); searching = b || false }) at_m.searching) refl
+          (elim last as (λ l. Settles q (after_return_of l AfterLeave.Begin v) (out false) w s) [ true ↦ return_settles true AfterLeave.Begin q w s there | false ↦ return_settles false AfterLeave.Begin q w s there ]) (rw at_m.searching refl) (λ p vs suits. seen p vs suits last) (rw at_m.searching refl)
+      by true is_came AfterWait.Search at_m goes =
+          to AfterWait.Search true (Place.Look InLook.ReturnClaimed) (record { searching = true; counted = true; published = false }) at_m is_came (goes ∙ ap (λ b. record w { place = Place.Look InLook.ReturnClaimed; searching = b || true }) at_m.searching) refl
+          (record { same = refl; searches = refl; counts = refl; published = refl; queue = at_m.queue; aims = tt; batch = at_m.batch; quiet = λ h. refl }) (rw at_m.searching refl) (λ p vs suits. refl) (rw at_m.searching refl)
+      by false is_came AfterWait.Search at_m goes =
+          to AfterWait.Search false (Place.Scan InScan.LoadScanHead) (out true) at_m is_came (goes ∙ ap (λ b. record w { place = Place.Scan InScan.LoadScanHead; searching = b || false }) at_m.searching) refl
+          (record { same = refl; searches = tt; counts = refl; published = refl; queue = at_m.queue; aims = tt; batch = at_m.batch; quiet = λ h. refl }) (rw at_m.searching refl) (λ p vs suits. refl) (rw at_m.searching refl)

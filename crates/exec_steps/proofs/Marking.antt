@@ -61,14 +61,22 @@ module _ (f : Record → Record) (rs : List Record) (q : ℕ) where
   marked_length =
       elim (slice_get rs q) as (λ o. length (changed_in rs q f o) ≡ length rs) [ None ↦ refl | Some r ↦ length-set rs q (f r) ]
 
+  pub known_then : (ks : List ℕ) → AreKnown ks rs → AreKnown ks (changed_at rs q f)
+  known_then [] known = tt
+  known_then (k ∷ ks) known = (rw marked_length known.0, known_then ks known.1)
+
   -- what is plain stays so
-  pub plain_kept : ((r : Record) → IsPlain r.shown → IsPlain (f r).shown) → (i : ℕ) → ((k : ℕ) (r : Record) → slice_get rs k ≡ Some r → r.shown.worker ≡ i)
+  pub plain_kept : ((r : Record) → IsPlain r.shown → IsPlain (f r).shown) → (i : ℕ) → ((r : Record) → (f r).shown.worker ≡ r.shown.worker)
       → ((k : ℕ) (r : Record) → slice_get rs k ≡ Some r → r.shown.worker ≡ i → IsPlain r.shown)
       → (k : ℕ) (x : Record) → slice_get (changed_at rs q f) k ≡ Some x → x.shown.worker ≡ i → IsPlain x.shown
-  plain_kept keeps i ours plain k x there mine =
+  plain_kept keeps i same plain k x there mine =
       let old = was_marked k x there in
-      subst (λ y. IsPlain y.shown) (sym old.2) (by (q == k) old.0 (plain k old.0 old.1 (ours k old.0 old.1)))
+      subst (λ y. IsPlain y.shown) (sym old.2) (by (q == k) old.0 (plain k old.0 old.1 (sym (worker_same (q == k) old.0) ∙ sym (ap (λ y. y.shown.worker) old.2) ∙ mine)))
     where
+      worker_same : (b : Bool) (r : Record) → (mark_if f b r).shown.worker ≡ r.shown.worker
+      worker_same true r = same r
+      worker_same false r = refl
+
       by : (b : Bool) (r : Record) → IsPlain r.shown → IsPlain (mark_if f b r).shown
       by true r p = keeps r p
       by false r p = p
@@ -81,13 +89,9 @@ module _ (f : Record → Record) (rs : List Record) (q : ℕ) where
         let old = was_marked k x there in
         (old.0, old.1, subst (λ y. y ≡ record old.0 { shown = record old.0.shown { wakes_paid = y.shown.wakes_paid; released = y.shown.released } }) (sym old.2) (marks_if f marks (q == k) old.0))
 
-    known_still : (ks : List ℕ) → AreKnown ks rs → AreKnown ks (changed_at rs q f)
-    known_still [] known = tt
-    known_still (k ∷ ks) known = (rw marked_length known.0, known_still ks known.1)
-
     pub submitted_marked : (i : ℕ) (staged untold : List ℕ) (ring : RingState) → IsSubmitted i staged untold ring rs → IsSubmitted i staged untold ring (changed_at rs q f)
     submitted_marked i staged untold ring sub =
-        let known = known_still staged sub.known in
+        let known = known_then staged sub.known in
         let own : (k : ℕ) (x : Record) → is_one_of k staged ≡ true → slice_get (changed_at rs q f) k ≡ Some x → x.shown.worker ≡ i = λ k x h there.
         let old = before k x there in
         ap (λ y. y.shown.worker) old.2 ∙ sub.own k old.0 h old.1 in

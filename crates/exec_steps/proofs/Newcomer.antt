@@ -8,7 +8,7 @@ use Rattle.exec_waiters.{specs.{States.{awaits_tick, waiter_at, waiter_of, tick_
 use Rattle.exec_driver.specs.{Driving.{Driving, is_cancelled, is_unenrolled}, Lists.is_among, Placed.ListsRequests, Punctual.IsPunctual, Steps.footprint_of}
 use Rattle.exec_machine.specs.{declared.state.{Operation.Operation, RequestPhase.RequestPhase, Waiting.Waiting}, Requests.{new_request, asked_of as asked_in}, Tests.{is_in_flight, is_resolved, is_staged}}
 use Rattle.exec_moves.specs.declared.place.InService.{InService}
-use Rattle.exec_steps.{specs.{declared.parts.{mail.Reply.Reply, names.Names.Names, record.Record.Record, sleeping.SleeperRecord.SleeperRecord}, Carried.IsCarried, Due.AreTimed, Flown.{AreLanded, HasFlown, IsPlain, operations}, Ordered.IsOrdered, Records.number_in, Rooted.Holds, Scripts.IsPlainRequest, Serving.is_one_of, Sound.{AreOver, IsAlike, IsNamed, IsSubmitted}}, proofs.{Facts.by_name, Flown.{AllFlyOn, landed_on}, Admitted.{carried_joined, plain_whole, room_made}, Conveying.carried_ring, Late.stands, Orders.{Eases, comes_in, joins}, Over.in_append, Taken.{Takes, got_new, got_old, name_apart, number_new, number_old, past_still, slot_apart, some_still, value_before, value_new, value_old, was_got, enrolled_if, among_before, among_now, one_before, one_now, all_listed, known_more}}}
+use Rattle.exec_steps.{specs.{declared.parts.{mail.Reply.Reply, names.Names.Names, record.Record.Record, sleeping.SleeperRecord.SleeperRecord}, Carried.IsCarried, Due.AreTimed, Flown.{AreLanded, HasFlown, IsPlain, IsPolled, operations}, Ordered.IsOrdered, Records.number_in, Rooted.Holds, Scripts.IsPlainRequest, Serving.is_one_of, Sound.{AreOver, IsAlike, IsNamed, IsSubmitted}}, proofs.{Facts.by_name, Flown.{AllFlyOn, landed_on}, Admitted.{carried_joined, plain_whole, room_made}, Conveying.carried_ring, Mine.stands, Orders.{Eases, comes_in, joins}, Over.in_append, Taken.{Takes, got_new, got_old, name_apart, number_new, number_old, past_still, slot_apart, some_still, value_before, value_new, value_old, was_got, enrolled_if, among_before, among_now, one_before, one_now, all_listed, known_more}}}
 
 -- A request came in under this name, queued, with the next number.
 pub record OneComes (i : ℕ) (n n' : Names) (d d' : Driving Reply Reply) (rs : List Record) (id : Id) (it : Waiter Reply Reply) (r : Record) : Type 0 where
@@ -32,6 +32,7 @@ pub record OneComes (i : ℕ) (n n' : Names) (d d' : Driving Reply Reply) (rs : 
   pub plain : IsPlain r.shown
   pub lists : ListsRequests d
   pub ring : d'.ring ≡ record d.ring { places = d'.ring.places }
+  pub armed : d'.armed ≡ d.armed
   pub wheel : d'.wheel ≡ d.wheel
   pub cancels : d'.lists.cancels ≡ d.lists.cancels
   pub due : d'.lists.due ≡ d.lists.due
@@ -90,7 +91,6 @@ module _ (i : ℕ) (n n' : Names) (d d' : Driving Reply Reply) (zs : Slab (Sleep
               | inl old ↦ sub.all k x old mine staged
               | inr last ↦ absurd (false≢true (sym (ap (λ y. is_staged y.shown.phase) (sym last.1) ∙ ap is_staged queued) ∙ staged))
             ];
-        unraised = sub.unraised;
       }))
 
   pub named_next : IsNamed i n d zs rs ss → IsNamed i n' d' zs (rs ++ r ∷ []) ss
@@ -249,7 +249,6 @@ module _ (i : ℕ) (n n' : Names) (d d' : Driving Reply Reply) (zs : Slab (Sleep
         telling = rw (size, one.untold) flown.telling;
         entries = rw (one.staged, one.untold, ap (λ (y : RingState). y.staged) one.ring) flown.entries;
         permits = flown.permits;
-        ours = λ k y there. elim (was_got rs r y k there) [ inl old ↦ flown.ours k y old | inr last ↦ ap (λ z. z.shown.worker) (sym last.1) ∙ mine_too ];
         plain = λ k y there mine. elim (was_got rs r y k there) [ inl old ↦ flown.plain k y old mine | inr last ↦ subst (λ z. IsPlain z.shown) last.1 one.plain ];
         landed = subst (λ (y : RingState). AreLanded n' d' (rs ++ r ∷ []) (operations y)) (sym one.ring) (landed_on n n' d d' rs (rs ++ r ∷ []) (operations d.ring) flown.landed flies_on);
         enrolling = λ other w at takes has.
@@ -261,12 +260,12 @@ module _ (i : ℕ) (n n' : Names) (d d' : Driving Reply Reply) (zs : Slab (Sleep
             let name : record { 0 = id } ≡ other = ap (λ y. record { 0 = y }) (sym same) in
             subst (λ y. is_among y (enrolled_if (deadline_of it.request) (record { 0 = id }) d.lists.enrolments) ≡ true) name
             (among_now (record { 0 = id }) (deadline_of it.request) d.lists.enrolments (ap (λ y. is_some (deadline_of y.request)) is_it ∙ has))));
-        acks = rw one.ring flown.acks;
+        polled = subst (λ (y : RingState). IsPolled y d'.armed) (sym one.ring) (subst (IsPolled d.ring) (sym one.armed) flown.polled);
         owning = λ k y there open_still. elim (was_got rs r y k there) [ inl old ↦ flown.owning k y old open_still | inr last ↦ ap (λ z. z.shown.released) (sym last.1) ∙ ap (λ z. z.released) one.shown ];
-        uncancelled = λ other y among there.
+        uncancelled = λ other y among there mine.
             let listed : is_among other d.lists.cancels ≡ true = rw (← one.cancels) among in
             let some = stands d other is_cancelled (waiter_at d.requests other.0) refl refl (one.lists.cancels other listed) in
-            flown.uncancelled other y listed (record_there named other.0 y some there);
+            flown.uncancelled other y listed (record_there named other.0 y some there) mine;
       }
 
   -- WHAT THE ROOT HOLDS

@@ -7,7 +7,7 @@ use Rattle.exec_driver.specs.{Driving.Driving, Lists.has_first, Punctual.IsFirst
 use Rattle.exec_task.specs.declared.body.Said.{Said}
 use Rattle.exec_machine.specs.{Deadlines.{earlier, first_timer, first_until, next_due}, Progress.Plan, Tests.{is_asleep, is_open, is_resolved}}
 use Rattle.exec_moves.specs.declared.place.Place.{Place}
-use Rattle.exec_steps.{specs.{declared.parts.{mail.Reply.Reply, names.Names.Names, record.Record.Record, shared.Shared.Shared, sleeping.SleeperRecord.SleeperRecord, worker.Worker.Worker}, Due.{AreAsleep, AreTimed, may_be_due}, Records.number_in, Sound.{IsNamed, SoundAt, served_in}, Spots.Spot, Tests.{HasToldDue, IsFirstSleep, IsNextIn, IsNextMoment}, View.{Visible, driver_of, common_of}, Works.Suits}, proofs.{Leasts.{HasAt, IsLeast, least_in, least_there, least_once}, Seats.own_seat}}
+use Rattle.exec_steps.{specs.{declared.parts.{mail.Reply.Reply, names.Names.Names, record.Record.Record, shared.Shared.Shared, sleeping.SleeperRecord.SleeperRecord, worker.Worker.Worker}, Due.{AreAsleep, AreTimed, may_be_due}, Records.number_in, Sound.{IsNamed, SoundAt, served_in}, Spots.Spot, Tests.{HasToldDue, IsFirstSleep, IsNextIn, IsNextMoment}, View.{Views, driver_of, common_of}, Works.Suits}, proofs.{Leasts.{HasAt, IsLeast, least_in, least_there, least_once}, Seats.own_seat}}
 
 -- THE MACHINE'S MOMENTS
 
@@ -154,7 +154,7 @@ module _ {B : Type 0} where
 
 module _ {B L : Type 0} (left : B → L) (spot : L → Option Said → Spot) where
   -- What a worker finds next is what the machine has.
-  pub moment_seen : (p : Plan) (vs : List Visible) (q : Place) (w : Worker) (s : Shared B) (moment : Option ℕ) → Suits p vs w s → SoundAt q w s → IsNextMoment w moment
+  pub moment_seen : (p : Plan) (vs : Views) (q : Place) (w : Worker) (s : Shared B) (moment : Option ℕ) → Suits p vs w s → SoundAt q w s → IsNextMoment w moment
       → moment ≡ next_due (common_of left spot p vs s) w.index
   moment_seen p vs q w s moment suits sound next = by w.home.closing refl next.1
     where
@@ -167,11 +167,11 @@ module _ {B L : Type 0} (left : B → L) (spot : L → Option Said → Spot) whe
       timer : next_moment d.wheel ≡ first_timer i (map (λ r. r.shown) s.requests.items)
       timer = first_deadline i w.names d w.home.timers s.requests.items s.sleepers.items sound.named sound.due.timed (least_active d.wheel) next.0
 
-      opened : is_open sound.alone.seat.phase ≡ not w.home.closing
-      opened = let phased = sound.phased sound.alone.seat sound.alone.there in phased.opened ∙ ap not (sym phased.told)
+      opened : is_open sound.seated.seat.phase ≡ not w.home.closing
+      opened = let phased = sound.phased sound.seated.seat sound.seated.there in phased.opened ∙ ap not (sym phased.told)
 
       by : (closing : Bool) → w.home.closing ≡ closing → IsNextIn closing w moment → moment ≡ next_due (common_of left spot p vs s) i
-      by true closes is = rw (own_seat left spot p vs w s sound.alone.seat suits sound.alone.there, opened, closes) (is ∙ timer)
+      by true closes is = rw (own_seat left spot p vs w s sound.seated.seat suits sound.seated.there, opened, closes) (is ∙ timer)
       by false opens is =
           let sleep = first_sleep i w.names d w.home.timers s.requests.items s.sleepers.items sound.named sound.due.asleep is.0 is.1 in
-          rw (own_seat left spot p vs w s sound.alone.seat suits sound.alone.there, opened, opens, ← timer, ← sleep) is.2
+          rw (own_seat left spot p vs w s sound.seated.seat suits sound.seated.there, opened, opens, ← timer, ← sleep) is.2

@@ -6,8 +6,8 @@ use Rattle.exec_waiters.specs.States.{pending_count}
 use Rattle.exec_driver.specs.Driving.{Driving}
 use Rattle.exec_task.specs.declared.body.Said.{Said}
 use Rattle.exec_machine.specs.{declared.{event.Event.{Event, TheVariants.Wake}, state.{Waiting.Waiting, Request.Request, Sleeper.Sleeper, Forwarding.Forwarding}}, After.common_after, Same.is_number, Tasks.{may_wake, request_owes, sleeper_owes, may_pay, is_unpaid, is_woken_here}, Tests.{AllTrue, is_resolved, is_open, is_unsent}, World.{Task, Open, Common, seat_of, request_of, sleeper_of, no_sleeper}}
-use Rattle.exec_moves.specs.{declared.place.{AfterCallbacks.AfterCallbacks, InCallbacks.InCallbacks, Place.Place}, Callback.payer_of}
-use Rattle.exec_steps.{specs.{declared.parts.{mail.Reply.Reply, names.Names.Names, record.Record.Record, shared.Shared.Shared, sleeping.SleeperRecord.SleeperRecord, worker.Worker.Worker}, Calls.{paying, sleeper_paying, sleeper_paid_in, records_paid, sleepers_paid}, Records.number_in, Serving.changed_at, Phased.is_complete, Rooted.Holds, Sound.{SoundAt, IsNamed, AreOver, OwesWake}, Spots.Spot, Tests.next_callback_of, View.{own_of, driver_of, common_of, open_seen, task_seen}, Works.Steps}, proofs.{Facts.same_number, Calling.{request_seen, shown_changed}, Carries.carried_marked, Flying.get_set, Keys.{same_opens, names_kept}, Marking.{pays, named_marked, due_marked, due_paid, marked, mark_if}, Flown.flown_marked, Rooted.{Changes, holds_changed, holds_paid}, Waking.{HasWoken, owed_root, task_there, tasks_woken, woken_with}}}
+use Rattle.exec_moves.specs.{declared.handing.{AfterCallbacks.AfterCallbacks}, declared.place.{InCallbacks.InCallbacks, Place.Place}, Callback.payer_of}
+use Rattle.exec_steps.{specs.{declared.parts.{mail.Reply.Reply, names.Names.Names, record.Record.Record, shared.Shared.Shared, sleeping.SleeperRecord.SleeperRecord, worker.Worker.Worker}, Calls.{paying, sleeper_paying, sleeper_paid_in, records_paid, sleepers_paid}, Records.number_in, Serving.changed_at, Phased.is_complete, Rooted.Holds, Sound.{SoundAt, IsNamed, AreOver, OwesWake}, Spots.Spot, Tests.next_callback_of, View.{own_of, driver_of, common_of, open_seen, task_seen}, Works.Steps}, proofs.{Facts.same_number, Calling.{request_seen, shown_changed}, Carries.carried_marked, Flying.get_set, Keys.{same_opens, names_kept}, Marking.{pays, named_marked, due_marked, due_paid, marked, mark_if}, Flown.flown_marked, Own.{record_changed, records_same, sleeper_set, sleepers_same}, Rooted.{Changes, holds_changed, holds_paid}, Waking.{HasWoken, owed_root, task_there, tasks_woken, woken_with}}}
 
 -- WHAT PAYS
 
@@ -114,6 +114,8 @@ module _ {B L : Type 0} (left : B → L) (spot : L → Option Said → Spot) whe
       (rw (requests, sleepers) (due_marked paying rs n pays None w.index w.moments s.config w.names w.names (driver_of w) w.home.timers s.sleepers.items sound.due))
       (rw requests (flown_marked paying pays None w.index w.names w.names (driver_of w) rs n sound.flown refl refl refl (omega arith) refl (λ r there h. sound.flown.owning n r there h)))
       (rw requests (carried_marked w.names.requests.items (driver_of w).requests (driver_of w).ring rs s.store sound.carried n paying (λ r there. refl) (λ r there. refl)))
+      (rw requests (record_changed w.index n rs owes.0 paying owes.1 owes.2.worker owes.2.worker))
+      (sleepers_same w.index s.sleepers.items s'.sleepers.items sleepers)
       (rw (requests, sleepers) (holds_changed paying n w.names w.names (driver_of w) (driver_of w) rs (request_paid n rs w.names (driver_of w) owes.0 owes.1 owes.2.over) false w.index w.root it.slot.held.items it.slot.waiting (is_complete it.slot.cell.phase) w.home.timers s.sleepers.items refl (sound.rooted.root it.slot it.there)))
       (λ p vs suits.
       let all = common_of left spot p vs s in
@@ -145,6 +147,8 @@ module _ {B L : Type 0} (left : B → L) (spot : L → Option Said → Spot) whe
       (rw (requests, sleepers) (due_paid zs n owes.0 owes.1 None w.index w.moments s.config w.names (driver_of w) w.home.timers s.requests.items sound.due))
       (rw requests sound.flown)
       (rw requests sound.carried)
+      (records_same w.index s.requests.items s'.requests.items requests)
+      (rw sleepers (sleeper_set w.index n zs owes.0 (sleeper_paying owes.0) owes.1 owes.2.worker owes.2.worker))
       (rw (requests, sleepers) (subst (λ what. Holds false w.index w.root it.slot.held.items what (is_complete it.slot.cell.phase) w.names (driver_of w) w.home.timers s.requests.items (slice_set zs n (sleeper_paying owes.0))) (sym wait)
       (timer_paid zs n owes.0 owes.1 w.index w.root it.slot.held.items (is_complete it.slot.cell.phase) w.names (driver_of w) w.home.timers s.requests.items owes.2.over
       (subst (λ what. Holds false w.index w.root it.slot.held.items what (is_complete it.slot.cell.phase) w.names (driver_of w) w.home.timers s.requests.items zs) wait (sound.rooted.root it.slot it.there)))))

@@ -3,29 +3,11 @@ use Rattle.std.proofs.{Common.{◌≡◌, ℕ, true, false, List, map, Option, S
 use Rattle.exec_base.specs.declared.error.Error.TheVariants.{NoMemory}
 use Rattle.exec_task.specs.{Phases.{is_polled, woken as cell_woken}, Sight.Sight, declared.{body.{Act.Act, Said.Said}, runnable.Runnable.Runnable, task.Phase.Phase}}
 use Rattle.exec_machine.specs.{declared.state.Waiting.Waiting, Progress.Plan, Tasks.woken_phase, World.Task}
-use Rattle.exec_steps.{specs.{declared.parts.{shared.Shared.Shared, task_slot.TaskSlot.TaskSlot, worker.Worker.Worker}, Acting.{Performs, StillPerforms}, Hearing.{CanHear, held_once_come}, Phased.is_complete, Polls.yielded_slot, Scripts.{GoesOn, IsAnswer, held_after}, Sound.IsRunnable, Spots.{Spot, spot_of, standing_at}, View.{common_of, things_of, phase_seen, task_seen, spot_by, body_in}, Works.{Same, TurnsSlot}}, proofs.Facts.set_there}
+use Rattle.exec_steps.{specs.{declared.parts.{shared.Shared.Shared, task_slot.TaskSlot.TaskSlot, worker.Worker.Worker}, Acting.{Performs, StillPerforms}, Hearing.{CanHear, held_once_come}, Phased.is_complete, Polls.yielded_slot, Scripts.{GoesOn, IsAnswer, held_after}, Spots.{Spot, spot_of, standing_at}, View.{common_of, things_with, phase_seen, task_seen, spot_by, body_in}, Works.{Same, TurnsSlot}}, proofs.{Facts.{by_number, same_thing, set_elsewhere, set_there}, Pending.in_poll}}
 
 -- A CELL IN ITS POLL
 
 module _ {B : Type 0} where
-  pub in_poll : (p : Phase B) (o : Option B) → is_polled p ≡ true → body_in p o ≡ o
-  in_poll (Phase.Idle b) o h = absurd (false≢true h)
-  in_poll (Phase.Queued b) o h = absurd (false≢true h)
-  in_poll Phase.Running o h = refl
-  in_poll Phase.Notified o h = refl
-  in_poll Phase.Complete o h = absurd (false≢true h)
-
-  pub going_on : (p : Phase B) → is_polled p ≡ true → is_complete p ≡ false
-  going_on (Phase.Idle b) h = refl
-  going_on (Phase.Queued b) h = refl
-  going_on Phase.Running h = refl
-  going_on Phase.Notified h = refl
-  going_on Phase.Complete h = absurd (false≢true h)
-
-  pub run_on : (o : Option Runnable) (slot slot' : TaskSlot B) → is_polled slot.cell.phase ≡ true → is_polled slot'.cell.phase ≡ true → IsRunnable o slot → IsRunnable o slot'
-  run_on None slot slot' before after run = λ b is. absurd (false≢true (sym (ap is_polled is) ∙ after))
-  run_on (Some r) slot slot' before after run = absurd (false≢true (sym (ap is_polled run.1.1) ∙ before))
-
   -- what becomes of a polled cell that is woken
   pub record WakesAs (p : Phase B) (o : Option B) (i : ℕ) : Type 0 where
     pub shown : phase_seen (cell_woken p) i ≡ woken_phase (phase_seen p i)
@@ -42,26 +24,29 @@ module _ {B : Type 0} where
 
 -- WHAT IT RUNS AND HOLDS THEN
 
-module _ {B L : Type 0} (left : B → L) (runs : L → Plan → Type 0) (holds : L → Option Said → List ℕ) where
+module _ {B L : Type 0} (left : B → L) (runs : L → Plan → Option ℕ → Type 0) (holds : L → Option Said → List ℕ) where
   -- where the slot became this
-  pub still_performs : (w w' : Worker) (s s' : Shared B) (slot slot' : TaskSlot B) → slice_get s.tasks.items w.root ≡ Some slot → s'.tasks.items ≡ slice_set s.tasks.items w.root slot' → w'.root ≡ w.root → s'.config ≡ s.config
+  pub still_performs : (t : ℕ) (w w' : Worker) (s s' : Shared B) (slot slot' : TaskSlot B) → slice_get s.tasks.items t ≡ Some slot → s'.tasks.items ≡ slice_set s.tasks.items t slot' → w'.root ≡ w.root → s'.config ≡ s.config
       → ((p : Plan) → Performs left runs holds p slot → Performs left runs holds p slot') → StillPerforms left runs holds w s w' s'
-  still_performs w w' s s' slot slot' there items root config performs =
+  still_performs t w w' s s' slot slot' there items root config performs =
       record {
         root = root;
         config = config;
-        performs = λ p fits o found.
-            let is : slot' ≡ o = cc (found, ap (λ ts. slice_get ts w.root) items ∙ set_there s.tasks.items w.root slot' slot there) in
-            subst (Performs left runs holds p) is (performs p (fits slot there));
+        performs = λ p fits k o found.
+            by_number k t
+            (λ apart. fits k o (sym (set_elsewhere s.tasks.items t k slot' apart) ∙ ap (λ ts. slice_get ts k) (sym items) ∙ found))
+            (λ same.
+            let is : slot' ≡ o = same_thing slot' o (sym (set_there s.tasks.items t slot' slot there) ∙ ap (λ ts. slice_get ts t) (sym items) ∙ subst (λ n. slice_get s'.tasks.items n ≡ Some o) same found) in
+            subst (Performs left runs holds p) is (performs p (fits t slot there)));
       }
 
-module _ {B L : Type 0} (left : B → L) (runs : L → Plan → Type 0) (holds : L → Option Said → List ℕ) (spot : L → Option Said → Spot) (gives : L → Option Sight → Said → Act B → L → Option Sight → Type 0) where
+module _ {B L : Type 0} (left : B → L) (runs : L → Plan → Option ℕ → Type 0) (holds : L → Option Said → List ℕ) (spot : L → Option Said → Spot) (gives : L → Option Sight → Said → Act B → L → Option Sight → Type 0) where
   -- A body that goes on performs the plan, where each thing that it can be told answers its act.
-  pub performs_on : (p : Plan) (t : Task) (a : Act B) (slot' : TaskSlot B) (b' : B) → GoesOn runs holds spot gives p t a (left b') → body_in slot'.cell.phase slot'.body ≡ Some b'
+  pub performs_on : (p : Plan) (t : Task) (a : Act B) (slot' : TaskSlot B) (b' : B) → GoesOn runs holds spot gives p t a (left b') → slot'.home ≡ t.home → body_in slot'.cell.phase slot'.body ≡ Some b'
       → ((answer : Said) → CanHear slot'.told slot'.waiting answer → IsAnswer a answer × (held_after a answer t.held ≡ held_once_come slot'.waiting slot'.held.items)) → Performs left runs holds p slot'
-  performs_on p t a slot' b' goes body answers =
+  performs_on p t a slot' b' goes home body answers =
       record {
-        runs_it = λ b answer is hears. let same : b' ≡ b = cc (body, is) in subst (λ x. runs (left x) p) same goes.runs_on;
+        runs_it = λ b answer is hears. let same : b' ≡ b = cc (body, is) in subst (λ x. runs (left x) p slot'.home) same (subst (runs (left b') p) (sym home) goes.runs_on);
         holding = λ b answer is hears.
             let same : b' ≡ b = cc (body, is) in
             let fits = answers answer hears in
@@ -71,13 +56,13 @@ module _ {B L : Type 0} (left : B → L) (runs : L → Plan → Type 0) (holds :
   pub performs_passed : (p : Plan) (slot : TaskSlot B) (b' : B) → is_polled slot.cell.phase ≡ true → slot.waiting ≡ Waiting.Nothing → GoesOn runs holds spot gives p (task_seen left spot slot) (Act.Sleep 0) (left b')
       → Performs left runs holds p (record slot { body = Some b'; told = Some Said.Pass })
   performs_passed p slot b' is nothing goes =
-      performs_on p (task_seen left spot slot) (Act.Sleep 0) (record slot { body = Some b'; told = Some Said.Pass }) b' goes (in_poll slot.cell.phase (Some b') is)
+      performs_on p (task_seen left spot slot) (Act.Sleep 0) (record slot { body = Some b'; told = Some Said.Pass }) b' goes refl (in_poll slot.cell.phase (Some b') is)
       (λ answer hears. subst (λ y. IsAnswer {B = B} (Act.Sleep 0) y × (held_after {B = B} (Act.Sleep 0) y slot.held.items ≡ held_once_come slot.waiting slot.held.items)) (sym hears) (tt, sym (ap (λ u. held_once_come u slot.held.items) nothing)))
 
   pub performs_waiting : (p : Plan) (slot : TaskSlot B) (b' : B) (r : Option ℕ) → is_polled slot.cell.phase ≡ true → GoesOn runs holds spot gives p (task_seen left spot slot) (Act.Await r) (left b')
       → Performs left runs holds p (record slot { body = Some b'; told = None; waiting = Waiting.Wake })
   performs_waiting p slot b' r is goes =
-      performs_on p (task_seen left spot slot) (Act.Await r) (record slot { body = Some b'; told = None; waiting = Waiting.Wake }) b' goes (in_poll slot.cell.phase (Some b') is) (woken_by r)
+      performs_on p (task_seen left spot slot) (Act.Await r) (record slot { body = Some b'; told = None; waiting = Waiting.Wake }) b' goes refl (in_poll slot.cell.phase (Some b') is) (woken_by r)
     where
       woken_by : (o : Option ℕ) (answer : Said) → CanHear None Waiting.Wake answer → IsAnswer {B = B} (Act.Await o) answer × (held_after {B = B} (Act.Await o) answer slot.held.items ≡ slot.held.items)
       woken_by None Said.Pass h = (tt, refl)
@@ -88,7 +73,7 @@ module _ {B L : Type 0} (left : B → L) (runs : L → Plan → Type 0) (holds :
       → Performs left runs holds p (yielded_slot (record slot { body = Some b'; told = None }))
   performs_yielded p slot b' is goes =
       let wakes = wakes_as slot.cell.phase (Some b') slot.poller is in
-      performs_on p (task_seen left spot slot) Act.Yield (yielded_slot (record slot { body = Some b'; told = None })) b' goes (wakes.same_body ∙ in_poll slot.cell.phase (Some b') is)
+      performs_on p (task_seen left spot slot) Act.Yield (yielded_slot (record slot { body = Some b'; told = None })) b' goes refl (wakes.same_body ∙ in_poll slot.cell.phase (Some b') is)
       (λ answer hears. subst (λ y. IsAnswer {B = B} Act.Yield y × (held_after {B = B} Act.Yield y slot.held.items ≡ slot.held.items)) (sym hears) (tt, refl))
 
 -- WHERE THERE IS NO MEMORY
@@ -112,7 +97,7 @@ module _ {B L : Type 0} (left : B → L) (spot : L → Option Said → Spot) whe
       record {
         own = refl;
         desk = refl;
-        things = ap (things_of w.index) kept;
+        things = λ vs. ap (things_with vs) kept;
         common = λ p vs. ap (common_of left spot p vs) kept ∙ ap (λ ts. record (common_of left spot p vs s) { tasks = ts }) all;
         visible_same = refl;
       }

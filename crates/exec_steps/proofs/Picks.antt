@@ -1,88 +1,85 @@
 -- What the steps of a pick are to the machine.
-use Rattle.std.proofs.Common.{◌≡◌, ℕ, ◌≤◌, Bool, false, List, [], Option, refl, sym, ap, subst, length, arith, slice_get, nat_le}
+use Rattle.std.proofs.{Common.{◌≡◌, ℕ, Bool, List, [], ◌∷◌, Option, refl, sym, ap, subst, ◌∙◌, true, false, ◌-◌, arith, length, slice_get, if◌then◌else◌, nat_le}, lemmas.List.length-map}
 use Rattle.exec_words.specs.Queue.{Queue, room_of}
 use Rattle.exec_task.specs.declared.body.Said.{Said}
-use Rattle.exec_machine.specs.declared.event.Event.{Event}
-use Rattle.exec_moves.specs.{declared.place.{First.First, Place.Place, InPick.InPick}, Pick.{begin_turn, count_down, pop, load_mirror, load_head, Queues, take_share}, State.Desk}
-use Rattle.exec_steps.{specs.{declared.parts.{shared.Shared.Shared, worker.Worker.Worker}, Sound.{SoundAt, IsAlone}, Spots.Spot, View.{desk_of, queue_seen, queue_at, things_of}, Works.{Makes, Goes, SameShared, Steps}}, proofs.Turning.{IsPlainTurn, Reaches, either, by_place, by_countdown, same_shared, turned_by, turned_here}}
-
--- nothing is there
-popped_none : (f : First) (d : Desk) (q : Queue ℕ) → q.values ≡ [] → IsPlainTurn false false (pop f d q)
-popped_none First.Own d q none = rw none (record { event = refl; choice = refl; to = record { plain = refl; armed_there = refl; closes_there = refl } })
-popped_none First.Global d q none = rw none (record { event = refl; choice = refl; to = record { plain = refl; armed_there = refl; closes_there = refl } })
-
-queue_kept : (f : First) (d : Desk) (q : Queue ℕ) → q.values ≡ [] → (pop f d q).thing ≡ q
-queue_kept f d q none = rw none refl
-
-looked_none : (f : First) (d : Desk) (global : List ℕ) → global ≡ [] → IsPlainTurn false false (load_mirror f d global)
-looked_none First.Own d global none = rw none (record { event = refl; choice = refl; to = record { plain = refl; armed_there = refl; closes_there = refl } })
-looked_none First.Global d global none = rw none (record { event = refl; choice = refl; to = record { plain = refl; armed_there = refl; closes_there = refl } })
-
-mirror_kept : (f : First) (d : Desk) (global : List ℕ) → global ≡ [] → (load_mirror f d global).thing ≡ global
-mirror_kept f d global none = rw none refl
-
-took_none : (n room held : ℕ) (f : First) (d : Desk) (q : Queues) → q.global ≡ [] → IsPlainTurn false false (take_share n f room held d q)
-took_none n room held First.Own d q none = rw none (record { event = refl; choice = refl; to = record { plain = refl; armed_there = refl; closes_there = refl } })
-took_none n room held First.Global d q none = rw none (record { event = refl; choice = refl; to = record { plain = refl; armed_there = refl; closes_there = refl } })
-
-queues_kept : (n room held : ℕ) (f : First) (d : Desk) (q : Queues) → q.global ≡ [] → (take_share n f room held d q).thing ≡ q
-queues_kept n room held f d q none = rw none refl
+use Rattle.exec_machine.specs.{declared.{config.Configuration.Configuration, event.Event.{Event, TheVariants.Turn}}, Choice.Choice.Plain}
+use Rattle.exec_moves.specs.{declared.{handing.{AfterPop.AfterPop, First.First, InPop.InPop}, place.{Place.Place, InPick.InPick}}, Parts.{first_pop, has_others}, Pick.{after_empty_look, begin_turn, count_down, load_head, load_mirror, one_pick_less}, State.{Desk, Moved, Own, queue_of, turns}, Thing.with_global}
+use Rattle.exec_steps.{specs.{declared.parts.{shared.Shared.Shared, worker.Worker.Worker}, Sound.SoundAt, Spots.Spot, View.{desk_of, things_of, things_with}, Works.{Makes, Goes, Steps}}, proofs.{Aside.{loaded, went}, Showing.own_queue_seen, Turning.{GoesOn, Keeps, Lands, by_hand, lands_either, queue_back_again}}}
 
 module _ {B : Type 0} where
-  -- what is seen of the queues of a worker alone
-  queue_empty : (i : ℕ) (armed : Bool) (s : Shared B) → IsAlone i armed s.seats.items s.global.values → (things_of i s).queue.values ≡ []
-  queue_empty i armed s alone = rw (alone.there, alone.run_queue) refl
+  -- the first step of a pop is of the kind of a pick
+  pub lands_pop : (q : Place) (c : Configuration) (f : First) (w : Worker) (s : Shared B) → Lands q Place.BeginTurn w s → Lands q (first_pop c (AfterPop.Pick f)) w s
+  lands_pop q c f w s h =
+      lands_either q (has_others c) (Place.Pop InPop.LoadPopHead (AfterPop.Pick f)) (Place.Pop InPop.PopAlone (AfterPop.Pick f)) w s
+      (record { same = h.same; queue = h.queue; aims = tt; batch = h.batch }) (record { same = h.same; queue = h.queue; aims = tt; batch = h.batch })
 
-  global_empty : (i : ℕ) (armed : Bool) (s : Shared B) → IsAlone i armed s.seats.items s.global.values → (things_of i s).global ≡ []
-  global_empty i armed s alone = rw alone.elsewhere refl
+  -- what follows where the global queue was empty
+  pub lands_look : (q : Place) (c : Configuration) (f : First) (w : Worker) (s : Shared B) → Lands q Place.BeginTurn w s → Lands q (after_empty_look c f) w s
+  lands_look q c First.Own w s h = record { same = h.same; queue = h.queue; aims = tt; batch = h.batch }
+  lands_look q c First.Global w s h = lands_pop q c First.Global w s h
 
-  pub share_fits : (f : First) (room held : ℕ) (w : Worker) (s : Shared B) → SoundAt (Place.Pick (InPick.TakeShare f room held)) w s → room ≤ room_of (things_of w.index s).queue
-  share_fits f room held w s sound = rw sound.alone.there (sound.share sound.alone.seat sound.alone.there)
+  plain : (q : Place) (w : Worker) (s : Shared B) → Lands q Place.BeginTurn w s → (f : First) → Lands q (Place.Pick (InPick.LoadHead f)) w s
+  plain q w s h f = record { same = h.same; queue = h.queue; aims = tt; batch = h.batch }
 
-module _ {B L : Type 0} (left : B → L) (spot : L → Option Said → Spot) where
-  pub begun : (w w' : Worker) (s : Shared B) (e : Event) → SoundAt Place.BeginTurn w s → Makes (begin_turn (desk_of w)) e w' → Goes w w' → Steps left spot w s e w' s
-  begun w w' s e sound makes goes =
-      turned_here left spot Place.BeginTurn w w' s s e (begin_turn (desk_of w)) sound refl (by_place w w' s.clock sound.time goes) (same_shared s) makes (record { event = refl; choice = refl; to = record { plain = refl; armed_there = refl; closes_there = refl } }) (λ p vs suits. refl)
+module _ {B L : Type 0} (left : B → L) (spot : L → Option Said → Spot) (w w' : Worker) (s : Shared B) (e : Event) where
+  pub turn_begun : SoundAt Place.BeginTurn w s → Makes (begin_turn (desk_of w)) e w' → w' ≡ record w { place = w'.place; picks = 64 } → Steps left spot w s e w' s
+  turn_begun sound makes same =
+      went left spot Place.BeginTurn w w' s e (begin_turn (desk_of w)) sound makes
+      (by_hand w w' s.clock sound.time (subst (λ v. v ≡ record w { place = v.place; countdown = v.countdown; picks = v.picks; searching = v.searching; rng = v.rng; root_ready = v.root_ready; hand = v.hand; loot = v.loot }) (sym same) refl))
+      (subst (Keeps w) (sym same) (record { root_ready = refl; hand = refl; loot = refl; searching = refl })) refl refl
+      (record { same = refl; queue = sound.queue; aims = tt; batch = sound.batch }) refl refl refl (λ p vs suits. refl)
 
-  pub counted_down : (w w' : Worker) (s : Shared B) (e : Event) → SoundAt (Place.Pick InPick.CountDown) w s → Makes (count_down s.config.interval (desk_of w)) e w'
-      → w' ≡ record w { place = w'.place; countdown = w'.countdown } → Steps left spot w s e w' s
-  counted_down w w' s e sound makes same =
-      turned_here left spot (Place.Pick InPick.CountDown) w w' s s e (count_down s.config.interval (desk_of w)) sound refl (by_countdown w w' s.clock sound.time same) (same_shared s) makes
-      (either false false (nat_le w.countdown 1) _ _ (record { event = refl; choice = refl; to = record { plain = refl; armed_there = refl; closes_there = refl } }) (record { event = refl; choice = refl; to = record { plain = refl; armed_there = refl; closes_there = refl } })) (λ p vs suits. rw (← suits.config) refl)
+  pub mirror_loaded : (f : First) → SoundAt (Place.Pick (InPick.LoadMirror f)) w s → Makes (load_mirror s.config f (desk_of w) (things_of s).global) e w' → Goes w w' → Steps left spot w s e w' s
+  mirror_loaded f sound makes goes = by (things_of s).global refl
+    where
+      begins : Lands (Place.Pick (InPick.LoadMirror f)) Place.BeginTurn w s
+      begins = record { same = refl; queue = sound.queue; aims = tt; batch = sound.batch }
 
-  pub popped : (f : First) (w w' : Worker) (s s' : Shared B) (e : Event) → SoundAt (Place.Pick (InPick.Pop f)) w s → Makes (pop f (desk_of w) (things_of w.index s).queue) e w' → Goes w w' → SameShared s s' → Steps left spot w s e w' s'
-  popped f w w' s s' e sound makes goes same =
-      let none = queue_empty w.index false s sound.alone in
-      turned_here left spot (Place.Pick (InPick.Pop f)) w w' s s' e (pop f (desk_of w) (things_of w.index s).queue) sound refl (by_place w w' s.clock sound.time goes) same makes
-      (popped_none f (desk_of w) (things_of w.index s).queue none)
-      (λ p vs suits. rw (queue_kept f (desk_of w) (things_of w.index s).queue none) refl)
+      by : (global : List ℕ) → (things_of s).global ≡ global → Steps left spot w s e w' s
+      by [] is =
+          let m = load_mirror s.config f (desk_of w) [] in
+          loaded left spot (Place.Pick (InPick.LoadMirror f)) w w' s e m sound (subst (λ g. Makes (load_mirror s.config f (desk_of w) g) e w') is makes) goes refl refl (lands_look (Place.Pick (InPick.LoadMirror f)) s.config f w s begins) refl refl refl
+          (λ p vs suits.
+          rw (← suits.config)
+          (ap (λ g. with_global (things_with vs s) (load_mirror s.config f (desk_of w) g)) is
+          ∙ ap (λ g. record { event = m.event; choice = m.choice; desk = m.desk; thing = record (things_with vs s) { global = g } }) (sym is)))
+      by (t ∷ ts) is =
+          let m = load_mirror s.config f (desk_of w) (t ∷ ts) in
+          loaded left spot (Place.Pick (InPick.LoadMirror f)) w w' s e m sound (subst (λ g. Makes (load_mirror s.config f (desk_of w) g) e w') is makes) goes refl refl (plain (Place.Pick (InPick.LoadMirror f)) w s begins f) refl refl refl
+          (λ p vs suits.
+          rw (← suits.config)
+          (ap (λ g. with_global (things_with vs s) (load_mirror s.config f (desk_of w) g)) is
+          ∙ ap (λ g. record { event = m.event; choice = m.choice; desk = m.desk; thing = record (things_with vs s) { global = g } }) (sym is)))
 
-  pub mirror_loaded : (f : First) (w w' : Worker) (s : Shared B) (e : Event) → SoundAt (Place.Pick (InPick.LoadMirror f)) w s → Makes (load_mirror f (desk_of w) (things_of w.index s).global) e w' → Goes w w' → Steps left spot w s e w' s
-  mirror_loaded f w w' s e sound makes goes =
-      let none = global_empty w.index false s sound.alone in
-      turned_here left spot (Place.Pick (InPick.LoadMirror f)) w w' s s e (load_mirror f (desk_of w) (things_of w.index s).global) sound refl (by_place w w' s.clock sound.time goes) (same_shared s) makes
-      (looked_none f (desk_of w) (things_of w.index s).global none)
-      (λ p vs suits. rw (mirror_kept f (desk_of w) (things_of w.index s).global none) refl)
+  pub counted_down : SoundAt (Place.Pick InPick.CountDown) w s → Makes (count_down s.config (desk_of w)) e w' → w' ≡ record w { place = w'.place; countdown = w'.countdown; picks = w.picks - 1 } → Steps left spot w s e w' s
+  counted_down sound makes same = by (nat_le w.countdown 1) refl
+    where
+      on : GoesOn w w' s.clock
+      on = by_hand w w' s.clock sound.time (subst (λ v. v ≡ record w { place = v.place; countdown = v.countdown; picks = v.picks; searching = v.searching; rng = v.rng; root_ready = v.root_ready; hand = v.hand; loot = v.loot }) (sym same) refl)
 
-  pub share_taken : (f : First) (room held : ℕ) (w w' : Worker) (s s' : Shared B) (e : Event) → SoundAt (Place.Pick (InPick.TakeShare f room held)) w s
-      → Makes (take_share s.config.workers f room held (desk_of w) (record { global = (things_of w.index s).global; queue = (things_of w.index s).queue })) e w' → Goes w w' → SameShared s s' → Steps left spot w s e w' s'
-  share_taken f room held w w' s s' e sound makes goes same =
-      let none = global_empty w.index false s sound.alone in
-      let both : Queues = record { global = (things_of w.index s).global; queue = (things_of w.index s).queue } in
-      turned_here left spot (Place.Pick (InPick.TakeShare f room held)) w w' s s' e (take_share s.config.workers f room held (desk_of w) both) sound refl (by_place w w' s.clock sound.time goes) same makes
-      (took_none s.config.workers room held f (desk_of w) both none)
-      (λ p vs suits. rw (← suits.config, queues_kept s.config.workers room held f (desk_of w) both none) refl)
+      keeps : Keeps w w'
+      keeps = subst (Keeps w) (sym same) (record { root_ready = refl; hand = refl; loot = refl; searching = refl })
 
-  pub head_loaded : (f : First) (w w' : Worker) (s : Shared B) (e : Event) → SoundAt (Place.Pick (InPick.LoadHead f)) w s → Makes (load_head f (desk_of w) (things_of w.index s).queue) e w' → Goes w w' → Steps left spot w s e w' s
-  head_loaded f w w' s e sound makes goes =
-      let q = (things_of w.index s).queue in
-      let to : Reaches (Place.Pick (InPick.TakeShare f (room_of q) (length q.values))) w s s.seats.items =
-      record {
-        between = refl;
-        share = λ chair there. let same : queue_at (slice_get s.seats.items w.index) ≡ queue_seen chair.queue = ap queue_at there in rw same (omega arith);
-        alone = sound.alone;
-        phased = sound.phased;
-      } in
-      turned_by left spot (Place.Pick (InPick.LoadHead f)) w w' s s e (load_head f (desk_of w) q) sound refl (by_place w w' s.clock sound.time goes) refl makes refl refl
-      (subst (λ at. Reaches at w s s.seats.items) (sym (ap (λ d. d.place) makes.desk)) to)
-      (λ vs. refl) (λ p vs suits. refl)
+      begins : Lands (Place.Pick InPick.CountDown) Place.BeginTurn w s
+      begins = record { same = refl; queue = sound.queue; aims = tt; batch = sound.batch }
+
+      looks : Moved Own
+      looks = turns (Place.Pick (InPick.LoadMirror First.Global)) (record (one_pick_less (desk_of w)) { countdown = s.config.interval }) tt
+
+      picks : Moved Own
+      picks = turns (first_pop s.config (AfterPop.Pick First.Own)) (record (one_pick_less (desk_of w)) { countdown = w.countdown - 1 }) tt
+
+      by : (b : Bool) → nat_le w.countdown 1 ≡ b → Steps left spot w s e w' s
+      by true is =
+          went left spot (Place.Pick InPick.CountDown) w w' s e looks sound (subst (λ b. Makes (if b then looks else picks) e w') is makes) on keeps refl refl
+          (record { same = refl; queue = sound.queue; aims = tt; batch = sound.batch }) refl refl refl (λ p vs suits. rw (← suits.config, is) refl)
+      by false is =
+          went left spot (Place.Pick InPick.CountDown) w w' s e picks sound (subst (λ b. Makes (if b then looks else picks) e w') is makes) on keeps refl refl
+          (lands_pop (Place.Pick InPick.CountDown) s.config First.Own w s begins) refl refl refl (λ p vs suits. rw (← suits.config, is) refl)
+
+  pub head_loaded : (f : First) → SoundAt (Place.Pick (InPick.LoadHead f)) w s → Makes (load_head f (desk_of w) (queue_of (things_of s) w.index)) e w' → Goes w w' → Steps left spot w s e w' s
+  head_loaded f sound makes goes =
+      let m = load_head f (desk_of w) (queue_of (things_of s) w.index) in
+      loaded left spot (Place.Pick (InPick.LoadHead f)) w w' s e m sound makes goes refl refl
+      (record { same = refl; queue = λ chair there. (sound.queue chair there, rw (own_queue_seen w.index s chair there, length-map) (omega arith)); aims = tt; batch = sound.batch }) refl refl refl
+      (λ p vs suits. ap (λ x. record { event = Turn; choice = Plain; desk = m.desk; thing = x }) (queue_back_again w.index (things_with vs s)))

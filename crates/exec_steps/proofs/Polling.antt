@@ -1,182 +1,70 @@
--- Steps of a poll that change the polled task's slot alone: what holds then, and what they are to the machine.
-use Rattle.std.proofs.{Common.{◌≡◌, ℕ, ◌<◌, Bool, true, false, List, [], length, map, Option, Some, None, IsSome, refl, sym, ap, subst, ◌∙◌, slice_get, slice_set}, lemmas.{Bool.{false≢true, eq-eqb}, List.map-set, Option.slice_get_within}}
+-- A poll begins: what the worker has in its hand then, and what the step is to the machine.
+use Rattle.std.proofs.{Common.{◌≡◌, ◌≢◌, ◌⊎◌, inl, inr, ⊎_elim, ℕ, ◌+◌, ◌<◌, ◌≤◌, ◌==◌, Bool, true, false, Contains, List, [], ◌∷◌, length, map, Option, Some, None, IsSome, refl, sym, ap, subst, ◌∙◌, arith, lit<, nat_lt, slice_get, slice_set, option_map, is_some, option_to_list, if◌then◌else◌}, lemmas.{Bool.{false≢true, eq-eqb, Decides.nat_tests}, Option.{slice_get_within, slice_get-map}}}
 use Rattle.exec_base.specs.{Slab.{Slab, value_at}, declared.slab.Id.Id}
-use Rattle.exec_words.specs.Queue.{room_of}
 use Rattle.exec_time.specs.declared.timers.{Sleeper.Sleeper as Sleeping, Observer.Observer}
-use Rattle.exec_waiters.specs.declared.deferred.Deferred.{Deferred}
 use Rattle.exec_driver.specs.Driving.{Driving}
 use Rattle.exec_task.specs.{Phases.{is_polled, queued_body, begun as cell_begun, runnable_of}, declared.{body.Said.Said, runnable.Runnable.Runnable, task.Phase.Phase}}
-use Rattle.exec_machine.specs.{declared.{event.Event.{Event, TheVariants.Begin}, state.{TaskPhase.TaskPhase, Waiting.Waiting, Next.Next}}, After.{own_after, common_after}, Allowed.allowed, Choice.{Choice, Choice.Plain}, Progress.Plan, Tasks.{begun, begun_waiting, is_polled_here}, Tests.{AllTrue, is_open, is_ready, is_resolved}, World.{Task, task_of, seat_of}}
-use Rattle.exec_moves.specs.{declared.place.{InPoll.InPoll, Place.Place, AfterCallbacks.AfterCallbacks, InCallbacks.InCallbacks}, Move.move_at, Poll.after_begin, Seen.{polls_in, next_in_poll}}
-use Rattle.exec_steps.{specs.{declared.parts.{seat.Seat.Seat as Chair, mail.Reply.Reply, names.Names.Names, record.Record.Record, sleeping.SleeperRecord.SleeperRecord, shared.Shared.Shared, task_slot.TaskSlot.TaskSlot, worker.Worker.Worker}, Sound.{IsTied, HasRunnable, has_wakes_at, SoundAt, IsAlone, IsRunnable, Stands, AreOwed, InHand, HasShare, HasLeft, WaitsAt, one_of, acts_next, is_told, polled_in, served_in, is_armed_at}, Due.IsDue, Flown.HasFlown, Hearing.Hears, Phased.{IsPhased, is_complete, closes_at, closing_in, stage_of}, Polls.{OfSlot, begun_slot}, Records.number_in, Rooted.{IsRooted, Holds, Awaits, ends_poll}, Spots.Spot, View.{Visible, visible, own_of, desk_of, driver_of, common_of, things_of, phase_seen, task_seen, spot_by, body_in, queue_seen}, Works.{TurnsSlot, Works, Suits, Steps}}, proofs.{Seats.own_seat, Facts.set_there, Hearing.{hears_begun, hears_so}, Phased.phased_task, Rooted.rooted_set, Turning.set_found, Waking.task_there}}
+use Rattle.exec_machine.specs.{declared.{event.Event.{Event, TheVariants.{Begin, Turn}}, state.{TaskPhase.TaskPhase, Waiting.Waiting, Next.Next}}, Choice.Choice.Plain, Progress.Plan, Tasks.{begun, begun_waiting, is_polled_here}, Tests.{is_open, is_ready, is_resolved}, World.{Seat, Task, task_of, seat_of}}
+use Rattle.exec_moves.specs.{declared.place.{InPick.InPick, InPoll.InPoll, Place.Place}, Parts.after_poll, Poll.{after_begin, begin_poll, let_go}, Seen.{next_at, next_in_poll, polls_at, polls_in, serves_at}, State.{Moved, Things, does, goes, turns}}
+use Rattle.exec_steps.{specs.{declared.parts.{mail.Reply.Reply, names.Names.Names, record.Record.Record, sleeping.SleeperRecord.SleeperRecord, shared.Shared.Shared, task_slot.TaskSlot.TaskSlot, worker.Worker.Worker}, Hearing.Hears, Phased.is_complete, Places.{begins_at, hands_on_at, in_poll_of, one_if, polled_in, removes_at, step_of_poll}, Polls.{OfSlot, begun_slot, begun_slot_if}, Records.number_in, Rooted.{Holds, Awaits, ends_poll}, Sound.{HasGuest, IsGuest, IsHeld, IsInHand, IsResting, IsRunnable, SoundAt, Stands, WaitsAt, acts_next, is_told, one_of, root_in_hand, waits_for_wakes}, Spots.Spot, Tests.next_pick_of, View.{Views, own_of, owed_at, desk_of, driver_of, common_of, phase_seen, task_seen, spot_by, body_in, things_with}, Whole.{HasOne, IsGenuine, is_number, runnables_in}, Works.{TurnsSlot, Steps, Suits}}, proofs.{Begins.{begins_waiting, begins_with, begun_place, holds_begun, told_before, waits_before, wakes_before}, Onces.at_most_once, Facts.{by_number, not_same, same_thing, set_there}, Hearing.hears_begun, PoolKept.unremoved, Seats.own_seat, Slots.{Balances, IsEvent, Remains, slotted, task_there}, SlotTasks.{IsAfter, Keeps, Sits, Tasked, Visits, elsewhere, genuine_set, guest_tasked, homes_set, none_in, root_tasked}, Turning.set_found}}
 
--- WHERE IT LEADS: on in the poll, or to the callbacks
+-- WHERE IT LEADS
 
-pub record IsAfter (q : Place) : Type 0 where
-  pub open_still : closes_at q ≡ false
-  pub closing : closing_in q ≡ None
-  pub served : served_in q ≡ None
-  pub unarmed : is_armed_at q ≡ false
-  pub share : (n : ℕ) → HasShare q n
-  pub left : (d : Deferred Reply Reply) → HasLeft q d
+pub on_in_poll : (t : ℕ) (y : InPoll) → begins_at (Place.Poll t y) ≡ None → IsAfter (Place.Poll t y)
+on_in_poll t y begins =
+    record { open_still = refl; closing = refl; served = refl; unarmed = refl; calls = refl; begins = begins; queue = λ x h. h; searching = λ b h. h; aims = λ c i seats. tt; batch = λ ms h. h; claims = refl; counts = refl; published = refl; clears = refl }
 
-pub on_in_poll : (t : ℕ) (y : InPoll) → IsAfter (Place.Poll t y)
-on_in_poll t y = record { open_still = refl; closing = refl; served = refl; unarmed = refl; share = λ n. tt; left = λ d. tt }
+-- no poll, and nothing for the machine to do
+pub record IsOutside (q : Place) : Type 0 where
+  pub after : IsAfter q
+  pub polls : polls_at q ≡ None
+  pub free : next_at q ≡ Next.Free
+  pub unserved : serves_at q ≡ false
+  pub owes : (n : ℕ) → owed_at n q ≡ []
+  pub removes : removes_at q ≡ None
 
-pub to_callbacks : IsAfter (Place.Callbacks InCallbacks.TakeBatch AfterCallbacks.Look)
-to_callbacks = record { open_still = refl; closing = refl; served = refl; unarmed = refl; share = λ n. tt; left = λ d. tt }
+pub next_outside : (b : Bool) → IsOutside (if b then Place.TakeRootFlag else Place.Pick InPick.CountDown)
+next_outside true =
+    record { after = record { open_still = refl; closing = refl; served = refl; unarmed = refl; calls = refl; begins = refl; queue = λ x h. h; searching = λ b h. tt; aims = λ c i seats. tt; batch = λ ms h. h; claims = refl; counts = refl; published = refl; clears = refl }; polls = refl; free = refl; unserved = refl; owes = λ n. refl; removes = refl }
+next_outside false =
+    record { after = record { open_still = refl; closing = refl; served = refl; unarmed = refl; calls = refl; begins = refl; queue = λ x h. h; searching = λ b h. tt; aims = λ c i seats. tt; batch = λ ms h. h; claims = refl; counts = refl; published = refl; clears = refl }; polls = refl; free = refl; unserved = refl; owes = λ n. refl; removes = refl }
 
-module _ {B : Type 0} where
-  -- the root's slot became another, the worker is there, with this flag and hand
-  pub record Sits (q : Place) (w : Worker) (f h : Option Runnable) (s : Shared B) (slot slot' : TaskSlot B) : Type 0 where
-    pub there : slice_get s.tasks.items w.root ≡ Some slot
-    pub stands : Stands (polled_in q) w.index slot'
-    pub once : IsRunnable (one_of f h) slot'
-    pub one : IsSome f → h ≡ None
-    pub hand : InHand q w.root h
-    pub home : slot'.home ≡ slot.home
-    pub number : slot'.cell.number ≡ slot.cell.number
-    pub complete : is_complete slot'.cell.phase ≡ is_complete slot.cell.phase
-    pub holds : Holds (ends_poll (polled_in q)) w.index w.root slot'.held.items slot'.waiting (is_complete slot'.cell.phase) w.names (driver_of w) w.home.timers s.requests.items s.sleepers.items
+pub next_hands : (b : Bool) → hands_on_at (if b then Place.TakeRootFlag else Place.Pick InPick.CountDown) ≡ false
+next_hands true = refl
+next_hands false = refl
 
-  pub sound_polled : (t : ℕ) (x : InPoll) (q : Place) (w : Worker) (f h : Option Runnable) (s s' : Shared B) (slot slot' : TaskSlot B) → SoundAt (Place.Poll t x) w s → IsAfter q → Sits q w f h s slot slot'
-      → s'.tasks.items ≡ slice_set s.tasks.items w.root slot' → SoundAt q (record w { place = q; root_ready = f; hand = h }) (record s { tasks = s'.tasks })
-  sound_polled t x q w f h s s' slot slot' sound to sits items =
-      let found : slice_get s'.tasks.items w.root ≡ Some slot' = rw items (set_there s.tasks.items w.root slot' slot sits.there) in
-      let same : slot ≡ sound.runnable.root = cc (sits.there, sound.runnable.there) in
-      let runnable : HasRunnable w.index w.root f h s'.tasks.items = record { root = slot'; there = found; home = sits.home ∙ ap (λ o. o.home) same ∙ sound.runnable.home; number = sits.number ∙ ap (λ o. o.cell.number) same ∙ sound.runnable.number; once = sits.once; one = sits.one } in
-      let alone = subst (λ a. IsAlone w.index a s.seats.items s.global.values) (sym to.unarmed) sound.alone in
-      let share : (chair : Chair) → slice_get s.seats.items w.index ≡ Some chair → HasShare q (room_of (queue_seen chair.queue)) = λ chair there. to.share (room_of (queue_seen chair.queue)) in
-      let quiet : has_wakes_at q ≡ false → w.home.deferred.notes.wakes.items ≡ [] = λ h. sound.quiet refl in
-      let due = subst (λ y. IsDue y w.index w.moments s.config w.names (driver_of w) w.home.timers s.requests.items s.sleepers.items) (sym to.served) sound.due in
-      let flown = subst (λ y. HasFlown y w.index w.names (driver_of w) s.requests.items) (sym to.served) sound.flown in
-      let rooted = subst (λ ts. IsRooted (polled_in q) w.index w.root w.names (driver_of w) w.home.timers ts s.requests.items s.sleepers.items) (sym items)
-      (rooted_set (polled_in q) w.index w.root w.names (driver_of w) w.home.timers s.tasks.items s.requests.items s.sleepers.items slot slot' sits.there sits.holds) in
-      let phased : (chair : Chair) → slice_get s.seats.items w.index ≡ Some chair → IsPhased (closes_at q) (closing_in q) w.home.closing w.root w.names.unreleased (stage_of chair s) s'.tasks.items = λ chair there.
-      subst (λ c. IsPhased c (closing_in q) w.home.closing w.root w.names.unreleased (stage_of chair s) s'.tasks.items) (sym to.open_still)
-      (subst (λ y. IsPhased false y w.home.closing w.root w.names.unreleased (stage_of chair s) s'.tasks.items) (sym to.closing)
-      (subst (λ ts. IsPhased false None w.home.closing w.root w.names.unreleased (stage_of chair s) ts) (sym items)
-      (phased_task false None w.home.closing w.root w.names.unreleased (stage_of chair s) s.tasks.items slot slot' sits.there sits.complete (sound.phased chair there)))) in
-      let tied : IsTied (polled_in q) w.index w.root w.home.deferred.notes.wakes.items s'.tasks.items s.requests.items s.sleepers.items = record {
-        stands = λ other at_root. let is : slot' ≡ other = cc (found, at_root) in subst (Stands (polled_in q) w.index) is sits.stands;
-        owed = subst (λ ws. AreOwed w.index w.root ws s'.tasks.items s.requests.items s.sleepers.items) (sym (sound.quiet refl)) tt;
-      } in
-      assumption (runnable, alone, share, to.left w.home.deferred, quiet, due, flown, rooted, phased, tied, sound, sits)
+-- of the root itself
+pub in_own_poll : (t : ℕ) (o : Option ℕ) (x : InPoll) → o ≡ Some t → in_poll_of t o x ≡ Some x
+in_own_poll t o x is = ap (λ y. in_poll_of t y x) is ∙ ap (λ b. if b then Some x else None) (eq-eqb t t refl)
 
-module _ {B L : Type 0} (left : B → L) (spot : L → Option Said → Spot) where
-  -- what the step is to the machine, for a worker at this place
-  pub record IsEvent (q q' : Place) (w : Worker) (f h : Option Runnable) (s : Shared B) (slot' : TaskSlot B) (e : Event) (c : Choice) (p : Plan) (vs : List Visible) : Type 0 where
-    pub moves : move_at p.config w.index (own_of (record w { place = q })) (common_of left spot p vs s) (desk_of (record w { place = q })) (things_of w.index s) q ≡ record { event = e; choice = c; desk = desk_of (record w { place = q'; root_ready = f; hand = h }); thing = things_of w.index s }
-    pub may : AllTrue (allowed p.config (own_of (record w { place = q })) (common_of left spot p vs s) w.index e c)
-    pub own : own_of (record w { place = q'; root_ready = f; hand = h }) ≡ own_after p.config (own_of (record w { place = q })) (common_of left spot p vs s) w.index e c
-    pub common : common_after p.config (own_of (record w { place = q })) (common_of left spot p vs s) w.index e c ≡ record (common_of left spot p vs s) { tasks = slice_set (map (task_seen left spot) s.tasks.items) w.root (task_seen left spot slot') }
+unflagged : (f h : Option Runnable) (r : Runnable) → h ≡ Some r → (IsSome f → h ≡ None) → (f ≡ None) × (one_of f h ≡ Some r)
+unflagged None h r is one = (refl, is)
+unflagged (Some q) h r is one = let never : Some r ≡ None = sym is ∙ one refl in absurd (cc)
 
-  pub works_polled : (q q' : Place) (w : Worker) (f h : Option Runnable) (s s' : Shared B) (slot' : TaskSlot B) (e : Event) (c : Choice) → w.place ≡ q → s'.tasks.items ≡ slice_set s.tasks.items w.root slot'
-      → (p : Plan) (vs : List Visible) → Suits p vs w s → IsEvent q q' w f h s slot' e c p vs → Works left spot p vs w s e (record w { place = q'; root_ready = f; hand = h }) (record s { tasks = s'.tasks })
-  works_polled q q' w f h s s' slot' e c here items p vs suits it =
-      let w1 : Worker = record w { place = q'; root_ready = f; hand = h } in
-      let s1 : Shared B = record s { tasks = s'.tasks } in
-      let seen : map (task_seen left spot) s'.tasks.items ≡ slice_set (map (task_seen left spot) s.tasks.items) w.root (task_seen left spot slot') = ap (map (task_seen left spot)) items ∙ map-set (task_seen left spot) s.tasks.items w.root slot' in
-      subst (λ v. Works left spot p vs v s e w1 s1) (ap (λ y. record w { place = y }) (sym here)) (record {
-        choice = c;
-        moves = it.moves;
-        may = it.may;
-        own = it.own;
-        common = ap (λ us. common_of left spot p us s1) (set_found vs w.index (visible w) suits.seen) ∙ ap (λ ts. record (common_of left spot p vs s) { tasks = ts }) seen ∙ sym it.common;
-      })
+-- how often it is in the hand
+pub in_hand_once : (t : ℕ) (r : Runnable) → r.task.0 ≡ t → runnables_in t (option_to_list (Some r)) ≡ 1
+in_hand_once t r is = rw (is, eq-eqb t t refl) refl
 
-  pub polled : (t : ℕ) (x : InPoll) (q : Place) (w : Worker) (f h : Option Runnable) (s s' : Shared B) (slot slot' : TaskSlot B) (e : Event) (c : Choice) → SoundAt (Place.Poll t x) w s → IsAfter q → Sits q w f h s slot slot'
-      → s'.tasks.items ≡ slice_set s.tasks.items w.root slot' → Hears slot slot' → ((p : Plan) (vs : List Visible) → Suits p vs w s → IsEvent (Place.Poll t x) q w f h s slot' e c p vs)
-      → Steps left spot w s e (record w { place = q; root_ready = f; hand = h }) (record s { tasks = s'.tasks })
-  polled t x q w f h s s' slot slot' e c sound to sits items hears event = (
-    (λ p vs suits. works_polled (Place.Poll t x) q w f h s s' slot' e c sound.here items p vs suits (event p vs suits)),
-    sound_polled t x q w f h s s' slot slot' sound to sits items,
-    hears_so slot slot' refl refl sits.there (ap (λ ts. slice_get ts w.root) items ∙ set_there s.tasks.items w.root slot' slot sits.there) hears,
-  )
+pub in_hand_never : (u t : ℕ) (r : Runnable) → r.task.0 ≡ t → u ≢ t → runnables_in u (option_to_list (Some r)) ≡ 0
+in_hand_never u t r is apart = rw (is, not_same t u (λ e. apart (sym e))) refl
 
--- A POLL BEGINS
+pub number_apart : (t u : ℕ) (o : Option ℕ) → o ≡ Some t → u ≢ t → is_number o u ≡ false
+number_apart t u o is apart = ap (λ y. is_number y u) is ∙ not_same t u (λ e. apart (sym e))
 
-begins_with : (t : ℕ) (u : Waiting) → (polls_in t (after_begin u) ≡ Some t) × (next_in_poll (after_begin u) ≡ Next.Free)
-begins_with t Waiting.Nothing = (refl, refl)
-begins_with t (Waiting.Request r) = (refl, refl)
-begins_with t (Waiting.Timer z) = (refl, refl)
-begins_with t Waiting.Wake = (refl, refl)
-begins_with t Waiting.Woken = (refl, refl)
-begins_with t Waiting.Yielded = (refl, refl)
+-- where it is polled it isn't being taken out of the set
+pub removes_none : (t : ℕ) (y : InPoll) → polls_in t y ≡ Some t → removes_at (Place.Poll t y) ≡ None
+removes_none t InPoll.RemoveTask h = let never : None ≡ Some t = h in absurd (cc)
+removes_none t InPoll.BeginPoll h = refl
+removes_none t InPoll.Resume h = refl
+removes_none t InPoll.Act h = refl
+removes_none t (InPoll.JoinGate k) h = refl
+removes_none t InPoll.LoadSpawnHead h = refl
+removes_none t InPoll.Pend h = refl
 
-begins_at : (t : ℕ) (u : Waiting) → polled_in (Place.Poll t (after_begin u)) ≡ Some (after_begin u)
-begins_at t Waiting.Nothing = refl
-begins_at t (Waiting.Request r) = refl
-begins_at t (Waiting.Timer z) = refl
-begins_at t Waiting.Wake = refl
-begins_at t Waiting.Woken = refl
-begins_at t Waiting.Yielded = refl
-
--- what it waits for then, and that the poll doesn't end there
-begins_waiting : (u : Waiting) → WaitsAt (Some (after_begin (begun_waiting u))) (begun_waiting u) × (ends_poll (Some (after_begin (begun_waiting u))) ≡ false)
-begins_waiting Waiting.Nothing = (refl, refl)
-begins_waiting (Waiting.Request r) = (refl, refl)
-begins_waiting (Waiting.Timer z) = (refl, refl)
-begins_waiting Waiting.Wake = (refl, refl)
-begins_waiting Waiting.Woken = (refl, refl)
-begins_waiting Waiting.Yielded = (refl, refl)
-
-told_before : (u : Waiting) (over : Bool) → is_told (begun_waiting u) over ≡ true → is_told u over ≡ true
-told_before Waiting.Nothing over h = h
-told_before (Waiting.Request r) over h = absurd (false≢true h)
-told_before (Waiting.Timer z) over h = absurd (false≢true h)
-told_before Waiting.Wake over h = absurd (false≢true h)
-told_before Waiting.Woken over h = absurd (false≢true h)
-told_before Waiting.Yielded over h = h
-
-waits_before : (u : Waiting) → acts_next (begun_waiting u) ≡ false → acts_next u ≡ false
-waits_before Waiting.Nothing h = h
-waits_before (Waiting.Request r) h = refl
-waits_before (Waiting.Timer z) h = refl
-waits_before Waiting.Wake h = refl
-waits_before Waiting.Woken h = refl
-waits_before Waiting.Yielded h = absurd (false≢true (sym h))
-
-begins_in_hand : (t : ℕ) (u : Waiting) → InHand (Place.Poll t (after_begin u)) t None
-begins_in_hand t Waiting.Nothing = (refl, refl)
-begins_in_hand t (Waiting.Request r) = (refl, refl)
-begins_in_hand t (Waiting.Timer z) = (refl, refl)
-begins_in_hand t Waiting.Wake = (refl, refl)
-begins_in_hand t Waiting.Woken = (refl, refl)
-begins_in_hand t Waiting.Yielded = (refl, refl)
-
-unflagged : (f h : Option Runnable) → (IsSome f → h ≡ None) → IsSome h → (f ≡ None) × (one_of f h ≡ h)
-unflagged None h one hand = (refl, refl)
-unflagged (Some r) None one hand = absurd (false≢true hand)
-unflagged (Some r) (Some q) one hand = let never : Some q ≡ None = one refl in absurd (cc)
-
--- what begins to be waited for is what was, but for a wake that has come
-holds_begun : (i t : ℕ) (holding : List ℕ) (u : Waiting) (over : Bool) (n : Names) (d : Driving Reply Reply) (zs : Slab (Sleeping Reply)) (rs : List Record) (ss : List SleeperRecord)
-    → Holds false i t holding u over n d zs rs ss → Holds false i t holding (begun_waiting u) over n d zs rs ss
-holds_begun i t holding u over n d zs rs ss old =
-    let awaited : (k : ℕ) (r : Record) (v : ℕ) → slice_get rs k ≡ Some r → r.shown.worker ≡ i → is_resolved r.shown.phase ≡ false → r.shown.observed ≡ true → r.shown.waiter ≡ Some v → (v ≡ t) × (begun_waiting u ≡ Waiting.Request k) =
-    λ k r v there mine unresolved seen waiter. let h = old.awaited k r v there mine unresolved seen waiter in (h.0, ap begun_waiting h.1) in
-    let sleeping : (id : Id) (it : Sleeping Reply) → value_at zs id ≡ Some it → (it.observer ≡ Observer.Local (record { 0 = t })) × (begun_waiting u ≡ Waiting.Timer (number_in n.timers.items id)) =
-    λ id it live. let h = old.sleeping id it live in (h.0, ap begun_waiting h.1) in
-    let asleep : (k : ℕ) (z : SleeperRecord) → slice_get ss k ≡ Some z → z.shown.worker ≡ i → z.shown.fired ≡ false → z.shown.removed ≡ false → begun_waiting u ≡ Waiting.Timer k =
-    λ k z there mine unfired kept. ap begun_waiting (old.asleep k z there mine unfired kept) in
-    let ended : over ≡ true → (holding ≡ []) × (begun_waiting u ≡ Waiting.Nothing) = λ h. ((old.over h).0, ap begun_waiting (old.over h).1) in
-    let waits = awaits_begun u old.waits in
-    assumption (awaited, sleeping, asleep, ended, waits, old)
-  where
-    awaits_begun : (u : Waiting) → Awaits false i t holding u rs ss → Awaits false i t holding (begun_waiting u) rs ss
-    awaits_begun Waiting.Nothing h = tt
-    awaits_begun (Waiting.Request r) h = h
-    awaits_begun (Waiting.Timer z) h = h
-    awaits_begun Waiting.Wake h = tt
-    awaits_begun Waiting.Woken h = tt
-    awaits_begun Waiting.Yielded h = tt
+pub number_there : (t : ℕ) (o : Option ℕ) → o ≡ Some t → is_number o t ≡ true
+number_there t o is = ap (λ y. is_number y t) is ∙ eq-eqb t t refl
 
 module _ {B : Type 0} where
-  queued_in : (o : Option Runnable) (slot : TaskSlot B) → IsSome o → IsRunnable o slot → (b : B) × (slot.cell.phase ≡ Phase.Queued b)
-  queued_in None slot some h = absurd (false≢true some)
-  queued_in (Some r) slot some h = h.1
-
   -- the phase of a cell whose poll begins, and its body
   pub record BeginsAs (p : Phase B) (o : Option B) (i : ℕ) : Type 0 where
     pub polled : is_polled (cell_begun p) ≡ true
@@ -184,37 +72,104 @@ module _ {B : Type 0} where
     pub same_body : body_in (cell_begun p) (queued_body p) ≡ body_in p o
     pub shown : phase_seen (cell_begun p) i ≡ TaskPhase.Running i
     pub complete : is_complete (cell_begun p) ≡ is_complete p
-    pub ready : is_ready (phase_seen p i) ≡ true
+    pub going : is_complete p ≡ false
+    pub ready : (k : ℕ) → is_ready (phase_seen p k) ≡ true
+    pub unpolled : is_polled p ≡ false
     pub unqueued : (b : B) → cell_begun p ≡ Phase.Queued b → ⊥
+    pub one : (g : Bool) (n : ℕ) → HasOne g p (n + 1) → HasOne g (cell_begun p) (n + 0)
+    pub polls : (n : ℕ) → n + 0 ≡ one_if (is_polled p) → n + 1 ≡ one_if (is_polled (cell_begun p))
 
   begins_as : (p : Phase B) (o : Option B) (i : ℕ) (b : B) → p ≡ Phase.Queued b → BeginsAs p o i
   begins_as p o i b is =
-      subst (λ q. BeginsAs q o i) (sym is) (record { polled = refl; body = refl; same_body = refl; shown = refl; complete = refl; ready = refl; unqueued = λ c h. absurd (cc) })
+      subst (λ q. BeginsAs q o i) (sym is)
+      (record { polled = refl; body = refl; same_body = refl; shown = refl; complete = refl; going = refl; ready = λ k. refl; unpolled = refl; unqueued = λ c h. absurd (cc); one = λ g n h. let few = at_most_once g (n + 1) h in omega (arith, few); polls = λ n h. omega (arith, h) })
 
-  right_in : (o : Option Runnable) (slot : TaskSlot B) → IsSome o → IsRunnable o slot → o ≡ Some (runnable_of slot.cell)
-  right_in None slot some h = absurd (false≢true some)
-  right_in (Some r) slot some h = ap (λ q. Some q) h.0
+  -- a cell that has nothing to begin
+  pub record IsStale (p : Phase B) : Type 0 where
+    pub none : queued_body p ≡ None
+    pub unready : (i : ℕ) → is_ready (phase_seen p i) ≡ false
+    pub one : (g : Bool) (n : ℕ) → HasOne g p (n + 1) → HasOne g p (n + 0)
 
-  -- what a poll needs that begins
+  queued_or : (p : Phase B) → ((b : B) × (p ≡ Phase.Queued b)) ⊎ IsStale p
+  queued_or (Phase.Idle b) = inr (record { none = refl; unready = λ i. refl; one = λ g n h. absurd (omega (arith, h)) })
+  queued_or (Phase.Queued b) = inl (b, refl)
+  queued_or Phase.Running = inr (record { none = refl; unready = λ i. refl; one = λ g n h. absurd (omega (arith, h)) })
+  queued_or Phase.Notified = inr (record { none = refl; unready = λ i. refl; one = λ g n h. absurd (omega (arith, h)) })
+  queued_or Phase.Complete = inr (record { none = refl; unready = λ i. refl; one = λ g n h. omega (arith, h) })
+
+  -- WHAT IS IN THE HAND: the right to poll this task. The root is queued, and not flagged.
   pub record IsAtStart (t : ℕ) (w : Worker) (s : Shared B) : Type 0 where
-    pub there : t < length s.tasks.items
-    pub hand : IsSome w.hand
-    pub right : OfSlot t s (λ slot. w.hand ≡ Some (runnable_of slot.cell))
-    pub queued : OfSlot t s (λ slot. IsSome (queued_body slot.cell.phase))
+    pub slot : TaskSlot B
+    pub there : slice_get s.tasks.items t ≡ Some slot
+    pub hand : w.hand ≡ Some (runnable_of slot.cell)
+    pub number : slot.cell.number ≡ record { 0 = t }
+    pub root : t ≡ w.root → (w.root_ready ≡ None) × ((b : B) × (slot.cell.phase ≡ Phase.Queued b)) × (slot.home ≡ Some w.index)
+    pub ordinary : t ≢ w.root → slot.home ≡ None
 
   pub at_start : (t : ℕ) (w : Worker) (s : Shared B) → SoundAt (Place.Poll t InPoll.BeginPoll) w s → IsAtStart t w s
-  at_start t w s sound =
-      let run = sound.runnable in
-      let empty = unflagged w.root_ready w.hand run.one sound.hand.1 in
-      let held : IsRunnable w.hand run.root = subst (λ o. IsRunnable o run.root) empty.1 run.once in
-      let queued = queued_in w.hand run.root sound.hand.1 held in
-      let there : slice_get s.tasks.items t ≡ Some run.root = ap (slice_get s.tasks.items) sound.hand.0 ∙ run.there in
+  at_start t w s sound = by_number t w.root other root
+    where
+      r : Runnable
+      r = sound.hand.0
+
+      root : t ≡ w.root → IsAtStart t w s
+      root same =
+          let run = sound.runnable in
+          let in_hand : root_in_hand (Some t) w.root w.hand ≡ w.hand = ap (λ b. if b then w.hand else None) (eq-eqb t w.root same) in
+          let empty = unflagged w.root_ready (root_in_hand (Some t) w.root w.hand) r (in_hand ∙ sound.hand.1) run.one in
+          let held : IsRunnable (Some r) run.root = subst (λ o. IsRunnable o run.root) empty.1 run.once in
+          record {
+            slot = run.root;
+            there = ap (slice_get s.tasks.items) same ∙ run.there;
+            hand = sound.hand.1 ∙ ap (λ q. Some q) held.0;
+            number = run.number ∙ ap (λ n. record { 0 = n }) (sym same);
+            root = λ is. (empty.0, held.1, run.home);
+            ordinary = λ apart. absurd (apart same);
+          }
+
+      other : t ≢ w.root → IsAtStart t w s
+      other apart =
+          let here : Contains (option_to_list w.hand) r = subst (λ o. Contains (option_to_list o) r) (sym sound.hand.1) (0, lit< tt, refl) in
+          let it : IsGenuine s.tasks.items r = ⊎_elim (λ is. absurd (apart (same_thing t w.root is))) (λ g. g) (sound.genuine r here) in
+          let there : slice_get s.tasks.items t ≡ Some it.slot = subst (λ n. slice_get s.tasks.items n ≡ Some it.slot) sound.hand.2 it.there in
+          record {
+            slot = it.slot;
+            there = there;
+            hand = sound.hand.1 ∙ ap (λ q. Some q) it.of_it;
+            number = sound.homes.number t it.slot there;
+            root = λ is. absurd (apart is);
+            ordinary = λ no. it.ordinary;
+          }
+
+  -- an ordinary task stands behind the roots
+  pub behind_roots : (n t : ℕ) (slot : TaskSlot B) → slot.home ≡ (if nat_lt t n then Some t else None) → slot.home ≡ None → n ≤ t
+  behind_roots n t slot home none = by (nat_lt t n) refl
+    where
+      by : (b : Bool) → nat_lt t n ≡ b → n ≤ t
+      by true is = let never : Some t ≡ None = sym (home ∙ ap (λ b. if b then Some t else None) is) ∙ none in absurd (cc)
+      by false is = grind (arith, nat_tests)
+
+  -- a hand that had this task's runnable is empty then, and its poll begins or none
+  start_balances : (t : ℕ) (q : Place) (w : Worker) (slot slot' : TaskSlot B) → w.place ≡ Place.Poll t InPoll.BeginPoll → w.hand ≡ Some (runnable_of slot.cell) → slot.cell.number ≡ record { 0 = t } → Keeps slot slot'
+      → ((g : Bool) (n : ℕ) → HasOne g slot.cell.phase (n + 1) → HasOne g slot'.cell.phase (n + 0)) → ((u : ℕ) → u ≢ t → is_number (polls_at q) u ≡ false)
+      → ((n : ℕ) → n + 0 ≡ one_if (is_polled slot.cell.phase) → n + one_if (is_number (polls_at q) t) ≡ one_if (is_polled slot'.cell.phase)) → removes_at q ≡ None → (slot.home ≡ None → Remains t q w.index slot slot') → Balances t q w None slot slot'
+  start_balances t q w slot slot' here hand number keeps one apart polls removes remains =
+      let r : Runnable = runnable_of slot.cell in
+      let of_it : r.task.0 ≡ t = ap (λ n. n.0) number in
       record {
-        there = slice_get_within s.tasks.items t run.root there;
-        hand = sound.hand.1;
-        right = λ slot found. let same : run.root ≡ slot = cc (there, found) in subst (λ o. w.hand ≡ Some (runnable_of o.cell)) same (right_in w.hand run.root sound.hand.1 held);
-        queued = λ slot found. let same : run.root ≡ slot = cc (there, found) in subst (λ o. IsSome (queued_body o.cell.phase)) same (begins_as run.root.cell.phase run.root.body 0 queued.0 queued.1).body;
+        keeps = keeps;
+        apart = λ u other. sym (ap (λ o. runnables_in u (option_to_list o)) hand ∙ in_hand_never u t r of_it other);
+        one = λ g home n h. one g n (subst (λ k. HasOne g slot.cell.phase (n + k)) (ap (λ o. runnables_in t (option_to_list o)) hand ∙ in_hand_once t r of_it) h);
+        polls_apart = λ u other. apart u other ∙ sym (ap (λ p. is_number (polls_at p) u) here);
+        polls = λ home n h. polls n (subst (λ p. n + one_if (is_number (polls_at p) t) ≡ one_if (is_polled slot.cell.phase)) here h);
+        remains = remains;
+        removes = λ u is. absurd (unremoved (removes_at q) removes u is);
       }
+
+-- its own worker is the only one whose root it may be
+pub home_mine : (i : ℕ) (home : Option ℕ) → (home ≡ Some i) ⊎ (home ≡ None) → (j : ℕ) → home ≡ Some j → j ≡ i
+home_mine i home (inl is) j at = same_thing j i (sym at ∙ is)
+home_mine i home (inr is) j at = let never : None ≡ Some j = sym is ∙ at in absurd (cc)
 
 module _ {B L : Type 0} (left : B → L) (spot : L → Option Said → Spot) where
   abbrev pub at_phase : TaskSlot B → Option B → TaskPhase → Waiting → Bool → Task
@@ -234,79 +189,202 @@ module _ {B L : Type 0} (left : B → L) (spot : L → Option Said → Spot) whe
       ap (λ b. at_phase slot b (phase_seen (cell_begun slot.cell.phase) i) (begun_waiting slot.waiting) true) how.same_body
       ∙ ap (λ p. at_phase slot (body_in slot.cell.phase slot.body) p (begun_waiting slot.waiting) true) how.shown
 
-  begun_event : (w : Worker) (s : Shared B) (slot : TaskSlot B) (sound : SoundAt (Place.Poll w.root InPoll.BeginPoll) w s) → slice_get s.tasks.items w.root ≡ Some slot → BeginsAs slot.cell.phase slot.body w.index → is_ready (phase_seen slot.cell.phase slot.poller) ≡ true → slot.home ≡ Some w.index
-      → (p : Plan) (vs : List Visible) → Suits p vs w s
-      → IsEvent left spot (Place.Poll w.root InPoll.BeginPoll) (Place.Poll w.root (after_begin (begun_waiting slot.waiting))) w w.root_ready None s (begun_slot w.index slot) (Begin w.root) Plain p vs
-  begun_event w s slot sound there how ready home p vs suits =
+  polled_here : (i : ℕ) (seat : Seat) (home : Option ℕ) → seat.pool ≡ true → (home ≡ Some i) ⊎ (home ≡ None) → is_polled_here i seat home ≡ true
+  polled_here i seat home pool (inl is) = ap (is_polled_here i seat) is ∙ eq-eqb i i refl
+  polled_here i seat home pool (inr is) = ap (is_polled_here i seat) is ∙ pool
+
+  begun_event : (t : ℕ) (w : Worker) (s : Shared B) (slot : TaskSlot B) → SoundAt (Place.Poll t InPoll.BeginPoll) w s → slice_get s.tasks.items t ≡ Some slot → BeginsAs slot.cell.phase slot.body w.index → (slot.home ≡ Some w.index) ⊎ (slot.home ≡ None)
+      → (p : Plan) (vs : Views) → Suits p vs w s
+      → IsEvent left spot (Place.Poll t InPoll.BeginPoll) (Place.Poll t (after_begin (begun_waiting slot.waiting))) t w w.root_ready None s (begun_slot w.index slot) (Begin t) Plain p vs
+  begun_event t w s slot sound there how home p vs suits =
       let all = common_of left spot p vs s in
-      let q' : Place = Place.Poll w.root (after_begin (begun_waiting slot.waiting)) in
-      let me = own_of (record w { place = Place.Poll w.root InPoll.BeginPoll }) in
-      let it : task_of all w.root ≡ task_seen left spot slot = task_there left spot s.tasks.items w.root slot there in
-      let chair = sound.alone.seat in
-      let seat = own_seat left spot p vs w s chair suits sound.alone.there in
-      let begins = begins_with w.root (begun_waiting slot.waiting) in
+      let d = desk_of (record w { place = Place.Poll t InPoll.BeginPoll }) in
+      let it : task_of all t ≡ task_seen left spot slot = task_there left spot s.tasks.items t slot there in
+      let chair = sound.seated.seat in
+      let seat = own_seat left spot p vs w s chair suits sound.seated.there in
+      let begins = begins_with t (begun_waiting slot.waiting) in
+      let made : Task → Moved Things = λ y. let m = begin_poll t d y in record { event = m.event; choice = m.choice; desk = m.desk; thing = things_with vs s } in
+      let made_if : Bool → Moved Things = λ b. let m = (if b then does (Begin t) (goes (Place.Poll t (after_begin (begun_waiting slot.waiting))) (let_go d)) (task_seen left spot slot) else turns (after_poll slot.home d) (let_go d) (task_seen left spot slot)) in record { event = m.event; choice = m.choice; desk = m.desk; thing = things_with vs s } in
       record {
-        moves = ap (λ x. record { event = Begin w.root; choice = Plain; desk = record (desk_of w) { place = Place.Poll w.root (after_begin (begun_waiting x.waiting)) }; thing = things_of w.index s }) it;
+        moves = ap made it ∙ ap made_if (how.ready slot.poller);
         may = (
           refl,
           (
-            ap (λ x. is_open x.phase) seat ∙ (sound.phased chair sound.alone.there).opened,
+            ap (λ x. is_open x.phase) seat ∙ (sound.phased chair sound.seated.there).opened,
             (
-              ap (λ x. is_ready x.phase) it ∙ ready,
-              (ap (λ x. is_polled_here w.index (seat_of all w.index) x.home) it ∙ ap (is_polled_here w.index (seat_of all w.index)) home ∙ eq-eqb w.index w.index refl, tt),
+              ap (λ x. is_ready x.phase) it ∙ how.ready slot.poller,
+              (ap (λ x. is_polled_here w.index (seat_of all w.index) x.home) it ∙ polled_here w.index (seat_of all w.index) slot.home (ap (λ x. x.pool) seat ∙ (sound.phased chair sound.seated.there).pool) home, tt),
             ),
           ),
         );
         own = rw (begins.0, begins.1) refl;
-        common = ap (λ x. record all { tasks = slice_set all.tasks w.root (begun w.index x) }) it ∙ ap (λ x. record all { tasks = slice_set all.tasks w.root x }) (sym (begun_seen w.index slot how));
+        common = ap (λ x. record all { tasks = slice_set all.tasks t (begun w.index x) }) it ∙ ap (λ x. record all { tasks = slice_set all.tasks t x }) (sym (begun_seen w.index slot how));
       }
 
-  begun_at_root : (w w' : Worker) (s s' : Shared B) (e : Event) → SoundAt (Place.Poll w.root InPoll.BeginPoll) w s → e ≡ Begin w.root
-      → ((slot : TaskSlot B) → slice_get s.tasks.items w.root ≡ Some slot → w'.place ≡ Place.Poll w.root (after_begin (begun_waiting slot.waiting)))
-      → w' ≡ record w { place = w'.place; hand = None } → TurnsSlot w.root s s' (begun_slot w.index) → Steps left spot w s e w' s'
-  begun_at_root w w' s s' e sound event place same turns =
-      let slot = sound.runnable.root in
-      let there = sound.runnable.there in
-      let u = begun_waiting slot.waiting in
-      let q' : Place = Place.Poll w.root (after_begin u) in
-      let empty = unflagged w.root_ready w.hand sound.runnable.one sound.hand.1 in
-      let queued = queued_in w.hand slot sound.hand.1 (subst (λ o. IsRunnable o slot) empty.1 sound.runnable.once) in
-      let how = begins_as slot.cell.phase slot.body w.index queued.0 queued.1 in
-      let ready : is_ready (phase_seen slot.cell.phase slot.poller) ≡ true = ap (λ p. is_ready (phase_seen p slot.poller)) queued.1 in
-      let old = sound.tied.stands slot there in
-      let slot' = begun_slot w.index slot in
-      let waits = begins_waiting slot.waiting in
-      let ends : ends_poll (polled_in q') ≡ false = ap ends_poll (begins_at w.root u) ∙ waits.1 in
-      let holds : Holds (ends_poll (polled_in q')) w.index w.root slot.held.items u (is_complete slot'.cell.phase) w.names (driver_of w) w.home.timers s.requests.items s.sleepers.items =
-      subst (λ b. Holds b w.index w.root slot.held.items u (is_complete slot'.cell.phase) w.names (driver_of w) w.home.timers s.requests.items s.sleepers.items) (sym ends)
-      (subst (λ b. Holds false w.index w.root slot.held.items u b w.names (driver_of w) w.home.timers s.requests.items s.sleepers.items) (sym how.complete)
-      (holds_begun w.index w.root slot.held.items slot.waiting (is_complete slot.cell.phase) w.names (driver_of w) w.home.timers s.requests.items s.sleepers.items (sound.rooted.root slot there))) in
-      let sits : Sits q' w w.root_ready None s slot slot' = record {
-        there = there;
-        stands = subst (λ x. Stands x w.index slot') (sym (begins_at w.root u)) (record { polled = how.polled; body = λ some. how.body; poller = λ some. refl; kept = old.kept; uncleared = old.uncleared; told = λ h. old.told (told_before slot.waiting (is_complete slot.cell.phase) (ap (is_told (begun_waiting slot.waiting)) (sym how.complete) ∙ h)); untold = λ h. old.untold (waits_before slot.waiting h); waits = waits.0 });
-        once = subst (λ o. IsRunnable (one_of o None) slot') (sym empty.0) (λ b h. how.unqueued b h);
-        one = λ some. refl;
-        hand = begins_in_hand w.root u;
-        home = refl;
-        number = refl;
-        complete = how.complete;
-        holds = holds;
+  begun_tasked : (t : ℕ) (w : Worker) (s : Shared B) → (sound : SoundAt (Place.Poll t InPoll.BeginPoll) w s) → (it : IsAtStart t w s) → BeginsAs it.slot.cell.phase it.slot.body w.index
+      → Tasked (Place.Poll t (after_begin (begun_waiting it.slot.waiting))) w w.root_ready None s (slice_set s.tasks.items t (begun_slot w.index it.slot))
+  begun_tasked t w s sound it how = by_number t w.root other root
+    where
+      u : Waiting
+      u = begun_waiting it.slot.waiting
+
+      q : Place
+      q = Place.Poll t (after_begin u)
+
+      slot' : TaskSlot B
+      slot' = begun_slot w.index it.slot
+
+      waits : WaitsAt (Some (after_begin u)) u × (ends_poll (Some (after_begin u)) ≡ false)
+      waits = begins_waiting it.slot.waiting
+
+      polls : polls_in t (after_begin u) ≡ Some t
+      polls = (begins_with t u).0
+
+      told : (over : Bool) → is_complete slot'.cell.phase ≡ over → is_complete it.slot.cell.phase ≡ over
+      told over is = sym how.complete ∙ is
+
+      root : t ≡ w.root → Tasked q w w.root_ready None s (slice_set s.tasks.items t slot')
+      root same =
+          let there : slice_get s.tasks.items w.root ≡ Some it.slot = subst (λ n. slice_get s.tasks.items n ≡ Some it.slot) same it.there in
+          let own : polled_in w.root q ≡ Some (after_begin u) = in_own_poll w.root (polls_in t (after_begin u)) (after_begin u) (polls ∙ ap (λ n. Some n) same) in
+          let before : polled_in w.root (Place.Poll t InPoll.BeginPoll) ≡ None = refl in
+          let old = sound.tied.stands it.slot there in
+          let ends : ends_poll (polled_in w.root q) ≡ false = ap ends_poll own ∙ waits.1 in
+          let holds : Holds (ends_poll (polled_in w.root q)) w.index w.root it.slot.held.items u (is_complete slot'.cell.phase) w.names (driver_of w) w.home.timers s.requests.items s.sleepers.items =
+          subst (λ b. Holds b w.index w.root it.slot.held.items u (is_complete slot'.cell.phase) w.names (driver_of w) w.home.timers s.requests.items s.sleepers.items) (sym ends)
+          (subst (λ b. Holds false w.index w.root it.slot.held.items u b w.names (driver_of w) w.home.timers s.requests.items s.sleepers.items) (sym how.complete)
+          (holds_begun w.index w.root it.slot.held.items it.slot.waiting (is_complete it.slot.cell.phase) w.names (driver_of w) w.home.timers s.requests.items s.sleepers.items (sound.rooted.root it.slot there))) in
+          let sits : Sits q w w.root_ready s it.slot slot' = record {
+            there = there;
+            keeps = record { home = refl; number = refl; owner = refl };
+            stands = subst (λ x. Stands x w.index slot') (sym own) (record { polled = how.polled; body = λ some. how.body; poller = λ some. refl; kept = old.kept; uncleared = old.uncleared; told = λ h. old.told (told_before it.slot.waiting (is_complete it.slot.cell.phase) (ap (is_told u) (sym how.complete) ∙ h)); untold = λ h. old.untold (waits_before it.slot.waiting h); waits = waits.0 });
+            once = subst (λ o. IsRunnable o slot') (sym (it.root same).0) (λ b h. how.unqueued b h);
+            hand = (begun_place t u).1;
+            polls = λ n is. same_thing n t (sym is ∙ polls) ∙ same;
+            complete = how.complete;
+            holds = holds;
+          } in
+          subst (λ n. Tasked q w w.root_ready None s (slice_set s.tasks.items n slot')) (sym same) (root_tasked t InPoll.BeginPoll q w w.root_ready s it.slot slot' sound sits)
+
+      other : t ≢ w.root → Tasked q w w.root_ready None s (slice_set s.tasks.items t slot')
+      other apart =
+          let within : s.config.workers ≤ t = behind_roots s.config.workers t it.slot (sound.homes.home t it.slot it.there) (it.ordinary apart) in
+          let old = sound.resting t it.slot it.there within how.unpolled in
+          let guest : IsGuest (after_begin u) w.index slot' = record {
+            ordinary = it.ordinary apart;
+            polled = how.polled;
+            body = how.body;
+            poller = refl;
+            cancelled = (old.uncleared how.going).0 ∙ sym (old.uncleared how.going).1;
+            held = old.held;
+            waits = wakes_before it.slot.waiting old.waits;
+            told = λ h. old.told (ap (is_told it.slot.waiting) how.going ∙ told_before it.slot.waiting false h);
+            untold = λ h. old.untold (waits_before it.slot.waiting h);
+            there = waits.0;
+          } in
+          let visits : Visits q t w None s it.slot slot' = record {
+            apart = apart;
+            there = it.there;
+            keeps = record { home = refl; number = refl; owner = refl };
+            hand = subst (λ b. IsInHand None b None) (sym (begun_place t u).1) refl;
+            genuine = λ r has. absurd (none_in r has);
+            polls = λ n is same. apart (same_thing t n (sym polls ∙ is) ∙ same);
+            guest = subst (λ o. HasGuest o (after_begin u) w.index w.root (slice_set s.tasks.items t slot')) (sym polls) (λ no. (slot', set_there s.tasks.items t slot' it.slot it.there, guest));
+            rests = λ unpolled. absurd (false≢true (sym unpolled ∙ how.polled));
+          } in
+          guest_tasked t InPoll.BeginPoll q w None s it.slot slot' sound visits
+
+  home_of : (t : ℕ) (w : Worker) (s : Shared B) → (it : IsAtStart t w s) → (it.slot.home ≡ Some w.index) ⊎ (it.slot.home ≡ None)
+  home_of t w s it = by_number t w.root (λ apart. inr (it.ordinary apart)) (λ same. inl (it.root same).2)
+
+  begun_steps : (t : ℕ) (w : Worker) (s s' : Shared B) → SoundAt (Place.Poll t InPoll.BeginPoll) w s → (it : IsAtStart t w s) → BeginsAs it.slot.cell.phase it.slot.body w.index → s'.tasks.items ≡ slice_set s.tasks.items t (begun_slot w.index it.slot)
+      → Steps left spot w s (Begin t) (record w { place = Place.Poll t (after_begin (begun_waiting it.slot.waiting)); root_ready = w.root_ready; hand = None }) (record s { tasks = s'.tasks })
+  begun_steps t w s s' sound it how items =
+      let u : Waiting = begun_waiting it.slot.waiting in
+      let q : Place = Place.Poll t (after_begin u) in
+      let polls : polls_in t (after_begin u) ≡ Some t = (begins_with t u).0 in
+      let slot' = begun_slot w.index it.slot in
+      let bal : Balances t q w None it.slot slot' = start_balances t q w it.slot slot' sound.here it.hand it.number (record { home = refl; number = refl; owner = refl }) how.one
+      (λ k apart. number_apart t k (polls_at q) polls apart) (λ n h. ap (λ b. n + one_if b) (number_there t (polls_at q) polls) ∙ how.polls n h)
+      (removes_none t (after_begin u) polls) (λ home. record { cleared = refl; over = λ h. absurd (false≢true (sym how.going ∙ h)); poller = λ polled. inl (refl, polls) }) in
+      slotted left spot t InPoll.BeginPoll q w w.root_ready None s s' it.slot slot' (Begin t) Plain sound (on_in_poll t (after_begin u) (begun_place t u).0) (begun_tasked t w s sound it how) it.there items bal
+      (home_mine w.index it.slot.home (home_of t w s it)) (λ polled. absurd (false≢true (sym how.unpolled ∙ polled)))
+      (record { home = refl; body = how.same_body; told = hears_begun it.slot.told it.slot.waiting it.slot.held.items })
+      (begun_event t w s it.slot sound it.there how (home_of t w s it))
+
+  -- A STALE RUNNABLE: nothing of the task changes
+
+  own_outside : (q : Place) (w : Worker) (h : Option Runnable) → IsOutside q → own_of (record w { place = q; hand = h }) ≡ own_of (record w { place = Place.BeginTurn })
+  own_outside q w h out = rw (out.polls, out.free, out.unserved, out.owes) refl
+
+  stale_event : (t : ℕ) (w : Worker) (s : Shared B) (slot : TaskSlot B) → slice_get s.tasks.items t ≡ Some slot → IsStale slot.cell.phase → slot.home ≡ None → (p : Plan) (vs : Views)
+      → IsEvent left spot (Place.Poll t InPoll.BeginPoll) (next_pick_of w) t w w.root_ready None s slot Turn Plain p vs
+  stale_event t w s slot there stale ordinary p vs =
+      let all = common_of left spot p vs s in
+      let d = desk_of (record w { place = Place.Poll t InPoll.BeginPoll }) in
+      let it : task_of all t ≡ task_seen left spot slot = task_there left spot s.tasks.items t slot there in
+      let made : Task → Moved Things = λ y. let m = begin_poll t d y in record { event = m.event; choice = m.choice; desk = m.desk; thing = things_with vs s } in
+      let made_if : Bool → Option ℕ → Moved Things = λ b h. let m = (if b then does (Begin t) (goes (Place.Poll t (after_begin (begun_waiting slot.waiting))) (let_go d)) (task_seen left spot slot) else turns (after_poll h d) (let_go d) (task_seen left spot slot)) in record { event = m.event; choice = m.choice; desk = m.desk; thing = things_with vs s } in
+      record {
+        moves = ap made it ∙ ap (λ b. made_if b slot.home) (stale.unready slot.poller) ∙ ap (made_if false) ordinary;
+        may = tt;
+        own = own_outside (next_pick_of w) w None (next_outside (w.picks == 0));
+        common = ap (λ ts. record all { tasks = ts }) (sym (set_found all.tasks t (task_seen left spot slot) (slice_get-map (task_seen left spot) s.tasks.items t ∙ ap (option_map (task_seen left spot)) there)));
+      }
+
+  stale_steps : (t : ℕ) (w : Worker) (s s' : Shared B) → SoundAt (Place.Poll t InPoll.BeginPoll) w s → (it : IsAtStart t w s) → IsStale it.slot.cell.phase → s'.tasks.items ≡ slice_set s.tasks.items t it.slot
+      → Steps left spot w s Turn (record w { place = next_pick_of w; root_ready = w.root_ready; hand = None }) (record s { tasks = s'.tasks })
+  stale_steps t w s s' sound it stale items =
+      let q : Place = next_pick_of w in
+      let out : IsOutside q = next_outside (w.picks == 0) in
+      let apart : t ≢ w.root = λ same. let queued = (it.root same).1 in let never : Some queued.0 ≡ None = sym (ap queued_body queued.1) ∙ stale.none in absurd (cc) in
+      let ordinary = it.ordinary apart in
+      let within : s.config.workers ≤ t = behind_roots s.config.workers t it.slot (sound.homes.home t it.slot it.there) ordinary in
+      let keeps : Keeps it.slot it.slot = record { home = refl; number = refl; owner = refl } in
+      let visits : Visits q t w None s it.slot it.slot = record {
+        apart = apart;
+        there = it.there;
+        keeps = keeps;
+        hand = subst (λ b. IsInHand None b None) (sym (next_hands (w.picks == 0))) refl;
+        genuine = λ r has. absurd (none_in r has);
+        polls = λ n is. let never : None ≡ Some n = sym out.polls ∙ is in absurd (cc);
+        guest = subst (λ o. HasGuest o (step_of_poll q) w.index w.root (slice_set s.tasks.items t it.slot)) (sym out.polls) tt;
+        rests = λ unpolled. sound.resting t it.slot it.there within unpolled;
       } in
-      let done : Steps left spot w s (Begin w.root) (record w { place = q'; root_ready = w.root_ready; hand = None }) (record s { tasks = s'.tasks }) =
-      polled left spot w.root InPoll.BeginPoll q' w w.root_ready None s s' slot slot' (Begin w.root) Plain sound (on_in_poll w.root (after_begin u)) sits (turns.tasks slot there)
-      (record { body = how.same_body; told = hears_begun slot.told slot.waiting slot.held.items })
-      (begun_event w s slot sound there how ready sound.runnable.home) in
-      let is : w' ≡ record w { place = q'; hand = None } = same ∙ ap (λ y. record w { place = y; hand = None }) (place slot there) in
-      subst (λ y. Steps left spot w s e w' y) (sym turns.kept) (subst (λ y. Steps left spot w s e y (record s { tasks = s'.tasks })) (sym is) (subst (λ y. Steps left spot w s y (record w { place = q'; hand = None }) (record s { tasks = s'.tasks })) (sym event) done))
+      let bal : Balances t q w None it.slot it.slot = start_balances t q w it.slot it.slot sound.here it.hand it.number keeps stale.one (λ k other. ap (λ o. is_number o k) out.polls) (λ n h. ap (λ o. n + one_if (is_number o t)) out.polls ∙ h)
+      out.removes (λ home. record { cleared = refl; over = λ h. h; poller = λ polled. inr (refl, polled) }) in
+      slotted left spot t InPoll.BeginPoll q w w.root_ready None s s' it.slot it.slot Turn Plain sound out.after (guest_tasked t InPoll.BeginPoll q w None s it.slot it.slot sound visits) it.there items bal
+      (home_mine w.index it.slot.home (inr ordinary)) (λ polled. inr (record { polled = polled; number = refl; cancelled = λ h. h; kept = refl })) (record { home = refl; body = refl; told = λ answer hears. (hears, refl) })
+      (λ p vs suits. stale_event t w s it.slot it.there stale ordinary p vs)
 
-  pub poll_begun : (t : ℕ) (w w' : Worker) (s s' : Shared B) (e : Event) → SoundAt (Place.Poll t InPoll.BeginPoll) w s → e ≡ Begin t
-      → ((slot : TaskSlot B) → slice_get s.tasks.items t ≡ Some slot → w'.place ≡ Place.Poll t (after_begin (begun_waiting slot.waiting)))
-      → w' ≡ record w { place = w'.place; hand = None } → TurnsSlot t s s' (begun_slot w.index) → Steps left spot w s e w' s'
-  poll_begun t w w' s s' e sound =
-      subst (λ r. SoundAt (Place.Poll r InPoll.BeginPoll) w s → e ≡ Begin r → ((slot : TaskSlot B) → slice_get s.tasks.items r ≡ Some slot → w'.place ≡ Place.Poll r (after_begin (begun_waiting slot.waiting)))
-      → w' ≡ record w { place = w'.place; hand = None } → TurnsSlot r s s' (begun_slot w.index) → Steps left spot w s e w' s') (sym sound.hand.0)
-      (begun_at_root w w' s s' e) sound
+  pub poll_begun : (t : ℕ) (w w' : Worker) (s s' : Shared B) (e : Event) → SoundAt (Place.Poll t InPoll.BeginPoll) w s
+      → ((slot : TaskSlot B) → slice_get s.tasks.items t ≡ Some slot → e ≡ (if is_some (queued_body slot.cell.phase) then Begin t else Turn))
+      → ((slot : TaskSlot B) → slice_get s.tasks.items t ≡ Some slot → w'.place ≡ (if is_some (queued_body slot.cell.phase) then Place.Poll t (after_begin (begun_waiting slot.waiting)) else next_pick_of w))
+      → w' ≡ record w { place = w'.place; hand = None } → TurnsSlot t s s' (begun_slot_if w.index) → Steps left spot w s e w' s'
+  poll_begun t w w' s s' e sound event place same turns =
+      let it = at_start t w s sound in
+      ⊎_elim (begins it) (passes it) (queued_or it.slot.cell.phase)
+    where
+      by : (b : Bool) (it : IsAtStart t w s) → is_some (queued_body it.slot.cell.phase) ≡ b
+          → Steps left spot w s (if b then Begin t else Turn) (record w { place = (if b then Place.Poll t (after_begin (begun_waiting it.slot.waiting)) else next_pick_of w); root_ready = w.root_ready; hand = None }) (record s { tasks = s'.tasks })
+          → Steps left spot w s e w' s'
+      by b it is done =
+          let q : Place = (if b then Place.Poll t (after_begin (begun_waiting it.slot.waiting)) else next_pick_of w) in
+          let there_place : w'.place ≡ q = place it.slot it.there ∙ ap (λ c. if c then Place.Poll t (after_begin (begun_waiting it.slot.waiting)) else next_pick_of w) is in
+          let at : w' ≡ record w { place = q; hand = None } = same ∙ ap (λ y. record w { place = y; hand = None }) there_place in
+          let happens : e ≡ (if b then Begin t else Turn) = event it.slot it.there ∙ ap (λ c. if c then Begin t else Turn) is in
+          subst (λ y. Steps left spot w s e w' y) (sym turns.kept)
+          (subst (λ y. Steps left spot w s e y (record s { tasks = s'.tasks })) (sym at)
+          (subst (λ y. Steps left spot w s y (record w { place = q; hand = None }) (record s { tasks = s'.tasks })) (sym happens) done))
 
--- no request joins a gate yet
-pub never_joins : {B : Type 0} (t r : ℕ) (w : Worker) (s : Shared B) → SoundAt (Place.Poll t (InPoll.JoinGate r)) w s → ⊥
-never_joins t r w s sound = (sound.tied.stands sound.runnable.root sound.runnable.there).waits
+      begins : (it : IsAtStart t w s) → (b : B) × (it.slot.cell.phase ≡ Phase.Queued b) → Steps left spot w s e w' s'
+      begins it queued =
+          let how = begins_as it.slot.cell.phase it.slot.body w.index queued.0 queued.1 in
+          let items : s'.tasks.items ≡ slice_set s.tasks.items t (begun_slot w.index it.slot) = turns.tasks it.slot it.there ∙ ap (λ b. slice_set s.tasks.items t (if b then begun_slot w.index it.slot else it.slot)) how.body in
+          by true it how.body (begun_steps t w s s' sound it how items)
+
+      passes : (it : IsAtStart t w s) → IsStale it.slot.cell.phase → Steps left spot w s e w' s'
+      passes it stale =
+          let none : is_some (queued_body it.slot.cell.phase) ≡ false = ap is_some stale.none in
+          let items : s'.tasks.items ≡ slice_set s.tasks.items t it.slot = turns.tasks it.slot it.there ∙ ap (λ b. slice_set s.tasks.items t (if b then begun_slot w.index it.slot else it.slot)) none in
+          by false it none (stale_steps t w s s' sound it stale items)

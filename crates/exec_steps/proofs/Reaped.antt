@@ -1,10 +1,10 @@
 -- What a reaping finds: no operation that has landed, or the first of those that have.
 use Rattle.std.proofs.Common.{◌≡◌, ℕ, true, false, List, [], ◌∷◌, Option, Some, None, refl, sym, ap, subst, ◌∙◌}
 use Rattle.exec_outcomes.specs.declared.outcome.Kind.{Kind}
-use Rattle.exec_ring.specs.{Completions.result_in, Kernels.{is_quiet, next_completion}, declared.completion.Completion.Completion}
+use Rattle.exec_ring.specs.{Completions.result_in, Kernels.{is_quiet, next_completion}, Rings.completions, declared.completion.Completion.Completion}
 use Rattle.exec_waiters.specs.{States.{file_of, waiter_at}, declared.deferred.Deferred.Deferred}
 use Rattle.exec_driver.specs.{Driving.Driving, Opens.{OpenState, account_in}, Steps.{ReapsFrom, ReapsNext, completed_in, permit_after, swept, told_as, with_landings}, declared.driver.reaping.Reaped.Reaped}
-use Rattle.exec_steps.{specs.{declared.parts.{mail.Reply.Reply, names.Names.Names, record.Record.Record}, Flown.{AreLanded, HasLanded, IsUpTo, longest, operations}, Records.has_one_part}, proofs.{Finding.completed_is, Swept.{none_next, some_next, sweeps, operations_posted, told_in}}}
+use Rattle.exec_steps.{specs.{declared.parts.{mail.Reply.Reply, names.Names.Names, record.Record.Record}, Flown.{AreLanded, HasLanded, IsUpTo, longest, operations}, Records.has_one_part}, proofs.{Finding.completed_is, Behind.{first_is, none_left}, WokenSwept.{first_there, none_there, sweeps}}}
 
 -- THE FIRST THAT HAS LANDED
 
@@ -20,8 +20,8 @@ module _ (n : Names) (d d' : Driving Reply Reply) (rs : List Record) (opens open
       let to = sweeps d in
       let first = reaps.first in
       let like : first ≡ with_landings first (swept d) = reaps.swept_first in
-      let posted : told_in (swept d).ring.posted ≡ c ∷ cs = to.landed ∙ sym (operations_posted d.ring) ∙ is in
-      let next = some_next (swept d).ring.posted (swept d) c cs refl to.first posted in
+      let head = first_is (completions d.ring) c cs is in
+      let next = first_there (swept d).ring.posted (swept d).ring c head.rest refl (to.left ∙ head.first) head.operates in
       let requests : first.requests ≡ d.requests = ap (λ x. x.requests) like ∙ ap (λ x. x.requests) to.shape in
       let found : next_completion first.ring ≡ Some c = ap (λ x. next_completion x.ring) like ∙ next.next in
       let named : completed_in first c ≡ Some has.id = ap (λ x. completed_in (record d { requests = x }) c) requests ∙ completed_is n d rs c has in
@@ -33,16 +33,14 @@ module _ (n : Names) (d d' : Driving Reply Reply) (rs : List Record) (opens open
   reaps_none is =
       let to = sweeps d in
       let like = reaps.swept_first in
-      let posted : told_in (swept d).ring.posted ≡ [] = to.landed ∙ sym (operations_posted d.ring) ∙ is in
-      let next = none_next (swept d).ring.posted (swept d) refl to.first posted in
+      let next = none_there (swept d).ring.posted (swept d).ring refl (to.left ∙ none_left (completions d.ring) is) in
       let nothing = reaps.none (ap (λ x. next_completion x.ring) like ∙ next.0) in
       (nothing.0 ∙ like ∙ ap (λ x. with_landings x (swept d)) (sym nothing.0), nothing.1, nothing.2, nothing.3)
 
   pub reaps_quiet : operations d.ring ≡ [] → is_quiet d'.ring ≡ true
   reaps_quiet is =
       let to = sweeps d in
-      let posted : told_in (swept d).ring.posted ≡ [] = to.landed ∙ sym (operations_posted d.ring) ∙ is in
-      ap (λ x. is_quiet x.ring) (reaps_none is).0 ∙ (none_next (swept d).ring.posted (swept d) refl to.first posted).1
+      ap (λ x. is_quiet x.ring) (reaps_none is).0 ∙ (none_there (swept d).ring.posted (swept d).ring refl (to.left ∙ none_left (completions d.ring) is)).1
 
 some_same : {x y : Reaped} → Some x ≡ Some y → x ≡ y
 some_same h = cc

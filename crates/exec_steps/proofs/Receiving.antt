@@ -8,8 +8,8 @@ use Rattle.exec_waiters.specs.{Events.{seen_by, taken, taken_from}, States.may_b
 use Rattle.exec_driver.specs.Punctual.{IsPunctual}
 use Rattle.exec_task.specs.{Phases.is_polled, declared.body.Said.Said}
 use Rattle.exec_machine.specs.{After.{own_after, common_after}, Allowed.allowed, declared.{event.Event.{Event, TheVariants.Got}, state.{Forwarding.TheVariants.Unsent, Request.Request, RequestPhase.{RequestPhase, TheVariants.{Gated, Queued, Staged, Flying, Landed, Resolved}}, Waiting.Waiting}}, Choice.Choice.Plain, Progress.Plan, Same.is_number, Tasks.{after_taking, is_here, polls_waiting, without_newest}, Tests.{AllTrue, is_resolved, is_resolved_with, waits_for_nothing, waits_for_request}, Words.{acts, asks_await, moved_on, newest_held}, World.{Task, Common, task_of, request_of}}
-use Rattle.exec_moves.specs.{declared.place.{InPoll.InPoll, Place.Place}, Move.move_at, Poll.{resume, acts_on}, State.{Desk, does}}
-use Rattle.exec_steps.{specs.{declared.parts.{mail.Reply.Reply, names.Names.Names, record.Record.Record, shared.Shared.Shared, task_slot.TaskSlot.TaskSlot, worker.Worker.Worker}, Phased.is_complete, Polls.{IsReady, OfSlot, TookOutput, unobserved}, Records.number_in, Rooted.{Awaits, ends_poll}, Scripts.IsAnswered, Serving.{changed_at, changed_in}, Sound.{Sound, SoundAt, IsTold, Stands, acts_next, polled_in, tellers}, Spots.Spot, View.{Visible, visible, own_of, desk_of, driver_of, common_of, things_of, task_seen, body_in}, Works.{Works, Suits, Steps}}, proofs.{Late.same_error_self, Facts.set_there, Awaiting.{acted_worker, common_acted, desk_acted, sound_acted}, Calling.request_seen, Getting.{Without, get_last, same_flying, same_pending, without_last}, Hearing.{hears_come, hears_so}, Letting.{KeepsActing, keeps_acting, let_shared, let_worker, lets_ready}, Newest.{held_newest, kept_output}, Polling.on_in_poll, Resolving.{live_less, places_fewer}, Seeing.{makes, own_with}, Taking.spot_answered, Waking.task_there}}
+use Rattle.exec_moves.specs.{declared.place.{InPoll.InPoll, Place.Place}, Move.move_at, Poll.{resume, acts_on}, Seen.polls_in, State.{Desk, does}}
+use Rattle.exec_steps.{specs.{declared.parts.{mail.Reply.Reply, names.Names.Names, record.Record.Record, shared.Shared.Shared, task_slot.TaskSlot.TaskSlot, worker.Worker.Worker}, Phased.is_complete, Places.polled_in, Polls.{IsReady, OfSlot, TookOutput, unobserved}, Records.number_in, Rooted.{Awaits, Holds, ends_poll}, Scripts.IsAnswered, Serving.{changed_at, changed_in}, Sound.{Sound, SoundAt, IsTold, Stands, acts_next, tellers}, Spots.Spot, View.{Views, visible, with_view, own_of, desk_of, driver_of, common_of, task_seen, body_in, things_with}, Works.{Beside, Works, Suits, Steps}}, proofs.{Facts.{set_there}, Awaiting.{GoesOnTo, Remains, acted_worker, beside_acted, common_acted, desk_acted, sound_acted, things_acted}, Getting.{Without, get_last, same_flying, same_pending, without_last}, Hearing.{hears_come, hears_so}, Letting.{KeepsActing, keeps_acting, let_shared, let_worker, lets_ready}, Newest.{held_newest, kept_output}, Polling.{in_own_poll, on_in_poll}, Recorded.request_seen, Resolving.{live_less, places_fewer}, Results.same_error_self, Shown.{makes, own_with}, Slots.task_there, Taking.{held_there, spot_answered, stands_there, waits_request}}}
 
 same_request : (j k : ℕ) → Waiting.Request j ≡ Waiting.Request k → j ≡ k
 same_request j k h = cc
@@ -34,6 +34,10 @@ fewer_taken xs k =
     front [] = refl
     front (y ∷ ys) = ap (λ zs. y ∷ zs) (front ys)
 
+-- the worker then
+abbrev got_worker : Worker → Worker → Worker
+got_worker w w' = record w { place = Place.Poll w.root InPoll.Act; names = record w.names { held = w.names.held - 1 }; home = record w.home { driver = w'.home.driver } }
+
 module _ {B : Type 0} where
   -- The root took the output of request k, the newest that it held.
   pub record HasGot (k : ℕ) (r : Record) (slot slot' : TaskSlot B) (w w' : Worker) (s s' : Shared B) : Type 0 where
@@ -57,16 +61,25 @@ resolved_self Success = refl
 resolved_self (Failure x) = same_error_self x
 
 module _ {B : Type 0} where
-  sound_got : (x : InPoll) (k : ℕ) (r : Record) (slot slot' : TaskSlot B) (w w' : Worker) (s s' : Shared B) (told : RequestOutput) → polled_in (Place.Poll w.root x) ≡ Some x → ends_poll (Some x) ≡ false → w.hand ≡ None → SoundAt (Place.Poll w.root x) w s → HasGot k r slot slot' w w' s s'
-      → is_resolved r.shown.phase ≡ true → value_at (driver_of w).requests r.id.0 ≡ Some (Ready told)
-      → SoundAt (Place.Poll w.root InPoll.Act) (record w { place = Place.Poll w.root InPoll.Act; names = record w.names { held = w.names.held - 1 }; home = record w.home { driver = w'.home.driver } }) (let_shared s s')
-  sound_got x k r slot slot' w w' s s' told polled going hand sound it over ready =
+  -- what holds then of requests, and of the root
+  pub record GotSo (x : InPoll) (r : Record) (slot slot' : TaskSlot B) (w w' : Worker) (s s' : Shared B) : Type 0 where
+    pub mine : r.shown.worker ≡ w.index
+    pub remains : Remains w (record w.names { held = w.names.held - 1 }) (driver_of w') w.home.deferred s'.requests.items s
+    pub to : GoesOnTo x (Place.Poll w.root InPoll.Act) w (record w.names { held = w.names.held - 1 }) (driver_of w') s'.requests.items s slot slot'
+
+  got_so : (x : InPoll) (k : ℕ) (r : Record) (slot slot' : TaskSlot B) (w w' : Worker) (s s' : Shared B) (told : RequestOutput) → polls_in w.root x ≡ Some w.root → ends_poll (Some x) ≡ false → w.hand ≡ None → SoundAt (Place.Poll w.root x) w s → HasGot k r slot slot' w w' s s'
+      → is_resolved r.shown.phase ≡ true → value_at (driver_of w).requests r.id.0 ≡ Some (Ready told) → GotSo x r slot slot' w w' s s'
+  got_so x k r slot slot' w w' s s' told polls going hand sound it over ready =
       let d = driver_of w in
       let id = r.id.0 in
+      let q : Place = Place.Poll w.root InPoll.Act in
       let drv : driver_of w' ≡ record d { requests = removed d.requests id } = it.driver ∙ ap (λ (o : Option (Entry Reply Reply)). record d { requests = taken_from d.requests id o }) ready in
-      let keeps = keeps_acting x w s (ap ends_poll polled ∙ going) sound in
-      let number : number_in w.names.requests.items id ≡ k = (held_newest w.index w.root slot.held.items slot.waiting (is_complete slot.cell.phase) w.names d w.home.timers s.requests.items s.sleepers.items sound.named (keeps.rooted.root slot it.there) k r it.newest it.request).named in
-      let old = subst (λ y. Stands y w.index slot) polled (sound.tied.stands slot it.there) in
+      let keeps = keeps_acting x w s polls going sound in
+      let held = held_newest w.index w.root slot.held.items slot.waiting (is_complete slot.cell.phase) w.names d w.home.timers s.requests.items s.sleepers.items sound.named (keeps.rooted.root slot it.there) k r it.newest it.request in
+      let number : number_in w.names.requests.items id ≡ k = held.named in
+      let own : polled_in w.root (Place.Poll w.root x) ≡ Some x = in_own_poll w.root (polls_in w.root x) x polls in
+      let old = subst (λ y. Stands y w.index slot) own (sound.tied.stands slot it.there) in
+      let now : polled_in w.root q ≡ Some InPoll.Act = in_own_poll w.root (Some w.root) InPoll.Act refl in
       let pending = same_pending d.requests id told ready in
       let live = live_less d.requests id (rw ready refl) in
       let room : IsTold w.names.ended.items w.home.deferred (tellers (driver_of w').requests w.home.timers) = subst (λ y. IsTold w.names.ended.items w.home.deferred (tellers y.requests w.home.timers)) (sym drv) (places_fewer (omega (arith, pending, live)) sound.told) in
@@ -81,38 +94,44 @@ module _ {B : Type 0} where
       subst (λ rs. KeepsActing (let_worker w w.names w.home.deferred) (driver_of w') rs (let_shared s s')) (ap (λ q. changed_at s.requests.items q unobserved) number ∙ sym it.requests) again in
       let found : slice_get s'.tasks.items w.root ≡ Some slot' = ap (λ ts. slice_get ts w.root) it.tasks ∙ set_there s.tasks.items w.root slot' slot it.there in
       let told_now : slot'.told ≡ Some (Said.Output it.output) = ap (λ (o : TaskSlot B). o.told) it.took in
+      record {
+        mine = held.worker;
+        remains = record { told = here.told; named = here.named; ring = ap (λ y. y.ring) drv; over = here.over; wakes = sound.quiet refl; due = here.due; flown = here.flown; carried = here.carried };
+        to = record {
+          there = it.there;
+          after = on_in_poll w.root InPoll.Act refl;
+          polls = record { from = polls; to = refl; hands = refl; removes = refl; empty = hand };
+          stands = subst (λ y. Stands y w.index slot') (sym now)
+              (record {
+                polled = ap (λ c. is_polled c.phase) cell ∙ old.polled;
+                body = λ h. it.body;
+                poller = λ h. ap (λ (o : TaskSlot B). o.poller) it.took ∙ old.poller refl;
+                kept = ap (λ c. c.cancelled) cell ∙ old.kept;
+                uncleared = ap (λ (o : TaskSlot B). o.cleared) it.took ∙ old.uncleared;
+                told = λ h. rw told_now refl;
+                untold = λ h. absurd (false≢true (sym h ∙ ap acts_next waits));
+                waits = waits;
+              });
+          cell = cell;
+          home = ap (λ (o : TaskSlot B). o.home) it.took;
+          holds = subst (λ y. Holds (ends_poll y) w.index w.root slot'.held.items slot'.waiting (is_complete slot'.cell.phase) (record w.names { held = w.names.held - 1 }) (driver_of w') w.home.timers s'.requests.items s.sleepers.items) (sym now) (here.rooted.root slot' found);
+        };
+      }
+
+  pub got_sound : (x : InPoll) (k : ℕ) (r : Record) (slot slot' : TaskSlot B) (w w' : Worker) (s s' : Shared B) → polls_in w.root x ≡ Some w.root → ends_poll (Some x) ≡ false → w.hand ≡ None → SoundAt (Place.Poll w.root x) w s → HasGot k r slot slot' w w' s s'
+      → is_resolved r.shown.phase ≡ true → Sound w' s' × Beside w s w' s'
+  got_sound x k r slot slot' w w' s s' polls going hand sound it over =
+      let holds = (keeps_acting x w s polls going sound).rooted.root slot it.there in
+      let kept = kept_output w.index w.root slot.held.items slot.waiting (is_complete slot.cell.phase) w.names (driver_of w) w.home.timers s.requests.items s.sleepers.items sound.named holds k r it.newest it.request over in
+      let so = got_so x k r slot slot' w w' s s' kept.0 polls going hand sound it over kept.1 in
+      let q : Place = Place.Poll w.root InPoll.Act in
       let wd : Worker = record w { home = record w.home { driver = w'.home.driver } } in
       let n' : Names = record w.names { held = w.names.held - 1 } in
-      sound_acted x (Place.Poll w.root InPoll.Act) w wd n' s s' slot slot' sound it.tasks
-      (record { told = here.told; named = here.named; ring = ap (λ y. y.ring) drv; over = here.over; wakes = sound.quiet refl; due = here.due; flown = here.flown; carried = here.carried })
-      (record {
-        there = it.there;
-        after = on_in_poll w.root InPoll.Act;
-        hand = (refl, hand);
-        stands = record {
-          polled = ap (λ c. is_polled c.phase) cell ∙ old.polled;
-          body = λ h. it.body;
-          poller = λ h. ap (λ (o : TaskSlot B). o.poller) it.took ∙ old.poller refl;
-          kept = ap (λ c. c.cancelled) cell ∙ old.kept;
-          uncleared = ap (λ (o : TaskSlot B). o.cleared) it.took ∙ old.uncleared;
-          told = λ h. rw told_now refl;
-          untold = λ h. absurd (false≢true (sym h ∙ ap acts_next waits));
-          waits = waits;
-        };
-        cell = cell;
-        home = ap (λ (o : TaskSlot B). o.home) it.took;
-        holds = here.rooted.root slot' found;
-      })
-
-  pub got_sound : (x : InPoll) (k : ℕ) (r : Record) (slot slot' : TaskSlot B) (w w' : Worker) (s s' : Shared B) → polled_in (Place.Poll w.root x) ≡ Some x → ends_poll (Some x) ≡ false → w.hand ≡ None → SoundAt (Place.Poll w.root x) w s → HasGot k r slot slot' w w' s s'
-      → is_resolved r.shown.phase ≡ true → Sound w' s'
-  got_sound x k r slot slot' w w' s s' polled going hand sound it over =
-      let holds = (keeps_acting x w s (ap ends_poll polled ∙ going) sound).rooted.root slot it.there in
-      let kept = kept_output w.index w.root slot.held.items slot.waiting (is_complete slot.cell.phase) w.names (driver_of w) w.home.timers s.requests.items s.sleepers.items sound.named holds k r it.newest it.request over in
-      let again = sound_got x k r slot slot' w w' s s' kept.0 polled going hand sound it over kept.1 in
-      let w1 : Worker = record w { place = Place.Poll w.root InPoll.Act; names = record w.names { held = w.names.held - 1 }; home = record w.home { driver = w'.home.driver } } in
-      let by_place : Sound w1 (let_shared s s') = again in
-      subst (Sound w') (sym it.kept) (subst (λ y. Sound y (let_shared s s')) (sym it.worker) by_place)
+      let again : Sound (got_worker w w') (let_shared s s') = sound_acted x q w wd n' s s' slot slot' sound it.tasks so.remains so.to in
+      let beside : Beside w s (got_worker w w') (let_shared s s') = beside_acted x q w wd n' s s' slot slot' k r unobserved sound it.tasks so.remains so.to it.request so.mine so.mine it.requests in (
+        subst (Sound w') (sym it.kept) (subst (λ y. Sound y (let_shared s s')) (sym it.worker) again),
+        subst (Beside w s w') (sym it.kept) (subst (λ y. Beside w s y (let_shared s s')) (sym it.worker) beside),
+      )
 
 module _ {B L : Type 0} (left : B → L) (spot : L → Option Said → Spot) (answered : IsAnswered spot) where
   -- the task past what it waited for, without the newest that it held
@@ -130,19 +149,19 @@ module _ {B L : Type 0} (left : B → L) (spot : L → Option Said → Spot) (an
       ∙ ap (λ b. record (if b then moved_on all (task_seen left spot slot) else record (task_seen left spot slot) { waiting = Waiting.Nothing }) { held = without_newest slot.held.items }) (sym (ap waits_for_nothing waits))
 
   -- The move is that: what the task waited for, or its next word, says so.
-  pub record SeesGot (x : InPoll) (k : ℕ) (outcome : Outcome) (slot slot' : TaskSlot B) (w : Worker) (s : Shared B) (p : Plan) (vs : List Visible) : Type 0 where
-    pub moves : move_at p.config w.index (own_of (record w { place = Place.Poll w.root x })) (common_of left spot p vs s) (desk_of (record w { place = Place.Poll w.root x })) (things_of w.index s) (Place.Poll w.root x) ≡ makes (Got k outcome) (desk_of (record w { place = Place.Poll w.root InPoll.Act })) (things_of w.index s)
+  pub record SeesGot (x : InPoll) (k : ℕ) (outcome : Outcome) (slot slot' : TaskSlot B) (w : Worker) (s : Shared B) (p : Plan) (vs : Views) : Type 0 where
+    pub moves : move_at p.config w.index (own_of (record w { place = Place.Poll w.root x })) (common_of left spot p vs s) (desk_of (record w { place = Place.Poll w.root x })) (things_with vs s) (Place.Poll w.root x) ≡ makes (Got k outcome) (desk_of (record w { place = Place.Poll w.root InPoll.Act })) (things_with vs s)
     pub takes : (polls_waiting (own_of (record w { place = Place.Poll w.root InPoll.Act })) (common_of left spot p vs s) (waits_for_request k) || acts (own_of (record w { place = Place.Poll w.root InPoll.Act })) (common_of left spot p vs s) asks_await) ≡ true
     pub seen : task_seen left spot slot' ≡ record (after_taking (common_of left spot p vs s) (task_seen left spot slot)) { held = without_newest slot.held.items }
 
-  pub got_works : (x : InPoll) (k : ℕ) (r : Record) (slot slot' : TaskSlot B) (w w' : Worker) (s s' : Shared B) (e : Event) (outcome : Outcome) → SoundAt (Place.Poll w.root x) w s → ends_poll (polled_in (Place.Poll w.root x)) ≡ false → own_of (record w { place = Place.Poll w.root x }) ≡ own_of (record w { place = Place.Poll w.root InPoll.Act })
-      → r.shown.phase ≡ Resolved outcome → e ≡ Got k outcome → HasGot k r slot slot' w w' s s' → (p : Plan) (vs : List Visible) → Suits p vs w s → SeesGot x k outcome slot slot' w s p vs → Works left spot p vs w s e w' s'
-  got_works x k r slot slot' w w' s s' e outcome sound going polls is event it p vs suits sees =
+  pub got_works : (x : InPoll) (k : ℕ) (r : Record) (slot slot' : TaskSlot B) (w w' : Worker) (s s' : Shared B) (e : Event) (outcome : Outcome) → SoundAt (Place.Poll w.root x) w s → polls_in w.root x ≡ Some w.root → ends_poll (Some x) ≡ false → own_of (record w { place = Place.Poll w.root x }) ≡ own_of (record w { place = Place.Poll w.root InPoll.Act })
+      → r.shown.phase ≡ Resolved outcome → e ≡ Got k outcome → HasGot k r slot slot' w w' s s' → (p : Plan) (vs : Views) → Suits p vs w s → SeesGot x k outcome slot slot' w s p vs → Works left spot p vs w s e w' s'
+  got_works x k r slot slot' w w' s s' e outcome sound polls going same_own is event it p vs suits sees =
       let d = driver_of w in
       let id = r.id.0 in
       let rs = s.requests.items in
       let over : is_resolved r.shown.phase ≡ true = ap is_resolved is in
-      let holds = (keeps_acting x w s going sound).rooted.root slot it.there in
+      let holds = (keeps_acting x w s polls going sound).rooted.root slot it.there in
       let held = held_newest w.index w.root slot.held.items slot.waiting (is_complete slot.cell.phase) w.names d w.home.timers rs s.sleepers.items sound.named holds k r it.newest it.request in
       let kept = kept_output w.index w.root slot.held.items slot.waiting (is_complete slot.cell.phase) w.names d w.home.timers rs s.sleepers.items sound.named holds k r it.newest it.request over in
       let drv : driver_of w' ≡ record d { requests = removed d.requests id } = it.driver ∙ ap (λ (o : Option (Entry Reply Reply)). record d { requests = taken_from d.requests id o }) kept.1 in
@@ -170,17 +189,17 @@ module _ {B L : Type 0} (left : B → L) (spot : L → Option Said → Spot) (an
         ),
       ) in
       let own : own_of w1 ≡ own_after p.config me all w.index (Got k outcome) Plain = ap (own_with w q w.names.ended.items w.names.untold.items) drv ∙ ap (λ m. record me { in_flight = m }) (same_flying d.requests id kept.0 kept.1) in
-      let common : common_of left spot p (slice_set vs w.index (visible w1)) (let_shared s s') ≡ common_after p.config me all w.index (Got k outcome) Plain =
+      let common : common_of left spot p (with_view vs w.index (visible w1)) (let_shared s s') ≡ common_after p.config me all w.index (Got k outcome) Plain =
       common_acted left spot p vs w wd q n' s s' k r unobserved slot' suits ring it.request (λ y. refl) it.requests it.tasks
       ∙ ap (λ y. record all { tasks = slice_set all.tasks w.root y; requests = slice_set all.requests k (unseen r.shown) }) sees.seen
       ∙ ap (λ y. record all { tasks = slice_set all.tasks w.root (record (after_taking all (task_seen left spot slot)) { held = without_newest slot.held.items }); requests = slice_set all.requests k (unseen y) }) (sym request)
       ∙ ap (λ y. record all { tasks = slice_set all.tasks w.root (record (after_taking all y) { held = without_newest y.held }); requests = slice_set all.requests k (unseen (request_of all k)) }) (sym task) in
       let works : Works left spot p vs wq s (Got k outcome) w1 (let_shared s s') = record {
         choice = Plain;
-        moves = sees.moves ∙ ap (λ y. makes (Got k outcome) y (things_of w.index s)) (sym desk);
-        may = subst (λ m. AllTrue (allowed p.config m all w.index (Got k outcome) Plain)) (sym polls) may;
-        own = own ∙ ap (λ m. own_after p.config m all w.index (Got k outcome) Plain) (sym polls);
-        common = common ∙ ap (λ m. common_after p.config m all w.index (Got k outcome) Plain) (sym polls);
+        moves = sees.moves ∙ ap (λ y. makes (Got k outcome) y (things_with vs s)) (sym desk) ∙ ap (makes (Got k outcome) (desk_of w1)) (sym (things_acted p vs w wd q n' s s' suits ring));
+        may = subst (λ m. AllTrue (allowed p.config m all w.index (Got k outcome) Plain)) (sym same_own) may;
+        own = own ∙ ap (λ m. own_after p.config m all w.index (Got k outcome) Plain) (sym same_own);
+        common = common ∙ ap (λ m. common_after p.config m all w.index (Got k outcome) Plain) (sym same_own);
       } in
       let by_place : Works left spot p vs w s (Got k outcome) w1 (let_shared s s') = subst (λ v. Works left spot p vs v s (Got k outcome) w1 (let_shared s s')) here works in
       subst (λ y. Works left spot p vs w s e w' y) (sym it.kept) (subst (λ y. Works left spot p vs w s e y (let_shared s s')) (sym it.worker) (subst (λ y. Works left spot p vs w s y w1 (let_shared s s')) (sym event) by_place))
@@ -192,22 +211,23 @@ module _ {B L : Type 0} (left : B → L) (spot : L → Option Said → Spot) (an
   pub output_got : (k : ℕ) (r : Record) (slot slot' : TaskSlot B) (w w' : Worker) (s s' : Shared B) (e : Event) (outcome : Outcome) → SoundAt (Place.Poll w.root InPoll.Resume) w s → slot.waiting ≡ Waiting.Request k → slot'.body ≡ slot.body → r.shown.phase ≡ Resolved outcome → e ≡ Got k outcome
       → HasGot k r slot slot' w w' s s' → Steps left spot w s e w' s'
   output_got k r slot slot' w w' s s' e outcome sound waits body is event it =
-      let untold : slot.told ≡ None = (sound.tied.stands slot it.there).untold (ap acts_next waits) in
-      let took : slot' ≡ record slot { held = slot'.held; waiting = Waiting.Nothing; told = Some (Said.Output it.output) } = it.took ∙ ap (λ b. record slot { body = b; held = slot'.held; waiting = Waiting.Nothing; told = Some (Said.Output it.output) }) body in (
+      let untold : slot.told ≡ None = (stands_there w s slot sound it.there).untold (ap acts_next waits) in
+      let took : slot' ≡ record slot { held = slot'.held; waiting = Waiting.Nothing; told = Some (Said.Output it.output) } = it.took ∙ ap (λ b. record slot { body = b; held = slot'.held; waiting = Waiting.Nothing; told = Some (Said.Output it.output) }) body in
+      let holds_again = got_sound InPoll.Resume k r slot slot' w w' s s' refl refl sound.hand sound it (ap is_resolved is) in (
         (λ p vs suits.
             let all = common_of left spot p vs s in
             let task : task_of all w.root ≡ task_seen left spot slot = task_there left spot s.tasks.items w.root slot it.there in
             let what : (task_of all w.root).waiting ≡ Waiting.Request k = ap (λ y. y.waiting) task ∙ waits in
             let wq : Worker = record w { place = Place.Poll w.root InPoll.Resume } in
-            got_works InPoll.Resume k r slot slot' w w' s s' e outcome sound refl refl is event it p vs suits
+            got_works InPoll.Resume k r slot slot' w w' s s' e outcome sound refl refl refl is event it p vs suits
             (record {
-              moves = ap (λ m. record { event = m.event; choice = m.choice; desk = m.desk; thing = things_of w.index s }) (looks_at w.root k all (desk_of wq) (task_of all w.root) r.shown outcome what (request_seen s.requests.items k r it.request) is);
+              moves = ap (λ m. record { event = m.event; choice = m.choice; desk = m.desk; thing = things_with vs s }) (looks_at w.root k all (desk_of wq) (task_of all w.root) r.shown outcome what (request_seen s.requests.items k r it.request) is);
               takes = ap (λ b. b || acts (own_of (record w { place = Place.Poll w.root InPoll.Act })) all asks_await) (ap (waits_for_request k) what ∙ eq-eqb k k refl);
               seen = got_seen all k slot slot' it.output waits untold took it.held;
             })),
-        got_sound InPoll.Resume k r slot slot' w w' s s' refl refl sound.hand.1 sound it (ap is_resolved is),
-        hears_so slot slot' (ap (λ x. x.root) it.worker) (ap (λ x. x.config) it.kept) it.there (ap (λ ts. slice_get ts w.root) it.tasks ∙ set_there s.tasks.items w.root slot' slot it.there)
-            (hears_come slot slot' (Waiting.Request k) (Said.Output it.output) untold waits tt (fewer_held slot slot' k it.held) took),
+        holds_again.0,
+        hears_so w.root slot slot' (ap (λ x. x.root) it.worker) (ap (λ x. x.config) it.kept) it.there it.tasks (hears_come slot slot' (Waiting.Request k) (Said.Output it.output) untold waits tt (fewer_held slot slot' k it.held) took),
+        holds_again.1,
       )
 
 -- BY THE NUMBER OF THE TASK
@@ -240,7 +260,7 @@ module _ {B : Type 0} where
   may_take : (k : ℕ) (r : Record) (slot : TaskSlot B) (w : Worker) (s : Shared B) → SoundAt (Place.Poll w.root InPoll.Resume) w s → slice_get s.tasks.items w.root ≡ Some slot → slot.waiting ≡ Waiting.Request k → slice_get s.requests.items k ≡ Some r
       → is_resolved r.shown.phase ≡ true → MayTake w.root k w s
   may_take k r slot w s sound there waits at_k over =
-      let holds = sound.rooted.root slot there in
+      let holds = held_there w s slot sound there in
       let awaits = subst (λ u. Awaits false w.index w.root slot.held.items u s.requests.items s.sleepers.items) waits holds.waits in
       let within : length slot.held.items - 1 < length slot.held.items = slice_get_within slot.held.items (length slot.held.items - 1) k awaits.2.newest in
       let some : 0 < length slot.held.items = omega (arith, within) in
@@ -257,14 +277,14 @@ module _ {B : Type 0} where
   pub output_ready : (t k : ℕ) (r : Record) (slot : TaskSlot B) (w : Worker) (s : Shared B) → SoundAt (Place.Poll t InPoll.Resume) w s → slice_get s.tasks.items t ≡ Some slot → slot.waiting ≡ Waiting.Request k → slice_get s.requests.items k ≡ Some r
       → is_resolved r.shown.phase ≡ true → MayTake t k w s
   output_ready t k r slot w s sound there waits at_k over =
-      subst (λ u. SoundAt (Place.Poll u InPoll.Resume) w s → slice_get s.tasks.items u ≡ Some slot → MayTake u k w s) (sym sound.hand.0) (λ here found. may_take k r slot w s here found waits at_k over) sound there
+      subst (λ u. SoundAt (Place.Poll u InPoll.Resume) w s → slice_get s.tasks.items u ≡ Some slot → MayTake u k w s) (sym (waits_request t k w s slot sound there waits)) (λ here found. may_take k r slot w s here found waits at_k over) sound there
 
 module _ {B L : Type 0} (left : B → L) (spot : L → Option Said → Spot) (answered : IsAnswered spot) where
   taken_by_root : (k : ℕ) (w w' : Worker) (s s' : Shared B) (e : Event) (slot : TaskSlot B) → SoundAt (Place.Poll w.root InPoll.Resume) w s → slice_get s.tasks.items w.root ≡ Some slot → slot.waiting ≡ Waiting.Request k → TookOutput w.root k w w' s s' e
       → Steps left spot w s e w' s'
   taken_by_root k w w' s s' e slot sound there waits it =
       let same : slot ≡ it.slot = cc (there, it.there) in
-      let holds = sound.rooted.root slot there in
+      let holds = held_there w s slot sound there in
       let awaits = subst (λ u. Awaits false w.index w.root slot.held.items u s.requests.items s.sleepers.items) waits holds.waits in
       let newest : slice_get it.slot.held.items (length it.slot.held.items - 1) ≡ Some k = subst (λ o. slice_get o.held.items (length o.held.items - 1) ≡ Some k) same awaits.2.newest in
       output_got left spot answered k it.r it.slot it.slot' w w' s s' e it.outcome sound (sym (ap (λ (o : TaskSlot B). o.waiting) same) ∙ waits) (ap (λ (o : TaskSlot B). o.body) it.took) it.is it.event
@@ -281,10 +301,10 @@ module _ {B L : Type 0} (left : B → L) (spot : L → Option Said → Spot) (an
         kept = it.kept;
         output = it.output;
         took = it.took ∙ ap (λ b. record it.slot { body = b; held = it.slot'.held; waiting = Waiting.Nothing; told = Some (Said.Output it.output) }) (sym (ap (λ (o : TaskSlot B). o.body) it.took));
-        body = subst IsSome (sym (ap (λ (o : TaskSlot B). o.body) it.took)) ((sound.tied.stands it.slot it.there).body refl);
+        body = subst IsSome (sym (ap (λ (o : TaskSlot B). o.body) it.took)) ((stands_there w s it.slot sound it.there).body refl);
         held = newest_is it.slot.held.items it.slot'.held.items it.newest k it.some it.held newest;
       })
 
   pub output_taken : (t k : ℕ) (w w' : Worker) (s s' : Shared B) (e : Event) (slot : TaskSlot B) → SoundAt (Place.Poll t InPoll.Resume) w s → slice_get s.tasks.items t ≡ Some slot → slot.waiting ≡ Waiting.Request k → TookOutput t k w w' s s' e → Steps left spot w s e w' s'
   output_taken t k w w' s s' e slot sound there waits it =
-      subst (λ u. SoundAt (Place.Poll u InPoll.Resume) w s → slice_get s.tasks.items u ≡ Some slot → TookOutput u k w w' s s' e → Steps left spot w s e w' s') (sym sound.hand.0) (λ here found took. taken_by_root k w w' s s' e slot here found waits took) sound there it
+      subst (λ u. SoundAt (Place.Poll u InPoll.Resume) w s → slice_get s.tasks.items u ≡ Some slot → TookOutput u k w w' s s' e → Steps left spot w s e w' s') (sym (waits_request t k w s slot sound there waits)) (λ here found took. taken_by_root k w w' s s' e slot here found waits took) sound there it

@@ -6,7 +6,7 @@ use Rattle.exec_ring.specs.Completions.{result_in}
 use Rattle.exec_waiters.specs.{States.pending_count, declared.deferred.Deferred.Deferred}
 use Rattle.exec_driver.specs.{Driving.Driving, Opens.OpenState, Steps.ReapsNext, declared.driver.reaping.Reaped.Reaped}
 use Rattle.exec_moves.specs.declared.place.Place.{Place}
-use Rattle.exec_steps.{specs.{declared.parts.{mail.Reply.Reply, record.Record.Record, shared.Shared.Shared, worker.Worker.Worker}, Flown.IsPlain, Records.{has_one_part, number_in}, Sound.SoundAt, View.driver_of}, proofs.{Dating.{found_is, one_pending, room_by}, Reaped.{TellsOf, one_part_of, tells_of}, Requeued.{lawful_shown, total_shown}, Resolving.slab_after}}
+use Rattle.exec_steps.{specs.{declared.parts.{mail.Reply.Reply, record.Record.Record, shared.Shared.Shared, worker.Worker.Worker}, Flown.IsPlain, Records.{has_one_part, number_in}, Sound.SoundAt, View.driver_of}, proofs.{Mine.live_mine, Dating.{found_is, one_pending, room_by}, Reaped.{TellsOf, one_part_of, tells_of}, Requeued.{lawful_shown, total_shown}, Resolving.slab_after}}
 
 pub none_of : (told : Option Reaped) → ((x : Reaped) → told ≡ Some x → ⊥) → told ≡ None
 none_of None h = refl
@@ -34,7 +34,7 @@ module _ {B : Type 0} (q : Place) (w : Worker) (s : Shared B) (sound : SoundAt q
   reaped_plain_of : IsPlain of_it.reaped.has.r.shown
   reaped_plain_of =
       let h = of_it.reaped.has in
-      sound.flown.plain (number_in w.names.requests.items h.id) h.r h.there (sound.flown.ours (number_in w.names.requests.items h.id) h.r h.there)
+      sound.flown.plain (number_in w.names.requests.items h.id) h.r h.there (live_mine w.index w.names (driver_of w) w.home.timers s.requests.items s.sleepers.items sound.named h.id h.it h.r h.live h.there)
 
   pub reaped_record : (j : ℕ) (old : Record) → j ≡ number_in w.names.requests.items done.id.0 → old ≡ get_or s.requests.items j old → old ≡ of_it.reaped.has.r
   reaped_record j old number found = found_is s.requests.items (number_in w.names.requests.items of_it.reaped.has.id) j of_it.reaped.has.r old (number ∙ reaped_number) of_it.reaped.has.there found

@@ -8,7 +8,7 @@ use Rattle.exec_waiters.{specs.{States.{waiter_at, takes_tick}, declared.waiter.
 use Rattle.exec_driver.specs.{Driving.Driving, Lists.{is_among, with_queued}, Punctual.IsPunctual}
 use Rattle.exec_machine.specs.{declared.state.{Request.Request, RequestPhase.TheVariants.Landed}, Requests.{judged_of, reaped, went_on, asked_of as asked_in, cursor_of as cursor_in}, Tests.is_staged}
 use Rattle.exec_moves.specs.declared.place.Place.{Place}
-use Rattle.exec_steps.{specs.{declared.parts.{mail.Reply.Reply, names.Names.Names, record.Record.Record, shared.Shared.Shared, worker.Worker.Worker}, Carried.{IsCarried, those_of}, Due.{IsWheelAt, may_be_due, wheel_moment}, Flown.{AreLanded, HasFlown, HasLanded, IsPlain, IsUpTo, longest, passes_permit}, Records.number_in, Serving.{changed_at, is_one_of, cancels_in, AreTagged}, Sound.{SoundAt, IsAlike, IsSubmitted, served_in}, View.{driver_of, number_told}, Ordered.{IsOrdered, went_round}}, proofs.{Going.{ours_on, owning_on}, Facts.{by_name, same_number, not_same}, Marking.{mark_kept, mark_if, marked, was_marked}, Changing.{OneGoesOn, all_go_one, changes_one, keeps_one, apart_number}, Conveying.{carried_judged, carried_ring}, Flown.FliesOn, Judging.{bytes_fit, cancel_decides, first_still, given_is, moved_is, stays_first, switched_is, total_fits}, Serving.{Follows, KeepsBy}, Staging.known_then, Starting.simple, Trailing.RingAfter, Whole.whole_kept, Orders.{Eases, IsPartOf, TurnsAlike, alike_self, eased, eases_written, part_self}}}
+use Rattle.exec_steps.{specs.{declared.parts.{mail.Reply.Reply, names.Names.Names, record.Record.Record, shared.Shared.Shared, worker.Worker.Worker}, Carried.{IsCarried, those_of}, Due.{IsWheelAt, may_be_due, wheel_moment}, Flown.{AreLanded, HasFlown, HasLanded, IsPlain, IsUpTo, longest, passes_permit}, Records.number_in, Serving.{changed_at, is_one_of, cancels_in, AreTagged}, Sound.{SoundAt, IsAlike, IsSubmitted, served_in}, View.{driver_of, number_told}, Ordered.{IsOrdered, went_round}}, proofs.{Going.owning_on, Facts.{by_name, same_number, not_same}, Marking.{known_then, mark_kept, mark_if, marked, was_marked}, Mine.live_mine, Changing.{OneGoesOn, all_go_one, changes_one, keeps_one, apart_number}, Conveying.{carried_judged, carried_ring}, Flown.FliesOn, Judging.{bytes_fit, cancel_decides, first_still, given_is, moved_is, stays_first, switched_is, total_fits}, Serving.{Follows, KeepsBy}, Starting.simple, Swept.RingAfter, Whole.whole_kept, Orders.{Eases, IsPartOf, TurnsAlike, alike_self, eased, eases_written, part_self}}}
 
 -- THE OTHERS THAT HAVE LANDED have other numbers
 
@@ -54,7 +54,7 @@ pub record GoesBack {B : Type 0} (w : Worker) (s : Shared B) (d' : Driving Reply
   pub request : Asking
   pub judges : Judges (asked_of h.it.request) (cursor_of h.it.request) (cursor_of request) (judged_as (hinted_of h.it.request) h.it.state (result_in c.result)) None
   pub kept : kept_of request ≡ kept_of h.it.request
-  pub ring : RingAfter (driver_of w) d' cs
+  pub ring : RingAfter (number_told w.names.requests.items) (driver_of w) d' cs
   pub requests : d'.requests ≡ written (driver_of w).requests h.id (Pending (record h.it { in_flight = false; request = request }))
   pub lists : d'.lists ≡ with_queued (record { 0 = h.id }) (driver_of w).lists
   pub wheel : d'.wheel ≡ (driver_of w).wheel
@@ -122,7 +122,7 @@ module _ {B : Type 0} (q q' : Place) (w : Worker) (s : Shared B) (sound : SoundA
   back_alike = sound.named.alike back.h.id back.h.it back.h.r back.h.live back.h.there
 
   pub back_plain : IsPlain back.h.r.shown
-  back_plain = sound.flown.plain (number_in w.names.requests.items back.h.id) back.h.r back.h.there (sound.flown.ours (number_in w.names.requests.items back.h.id) back.h.r back.h.there)
+  back_plain = sound.flown.plain (number_in w.names.requests.items back.h.id) back.h.r back.h.there (live_mine w.index w.names (driver_of w) w.home.timers s.requests.items s.sleepers.items sound.named back.h.id back.h.it back.h.r back.h.live back.h.there)
 
   back_kind : IsUpTo (longest (asked_of back.h.it.request).kind) back.h.r.shown.operation.length
   back_kind = subst (λ a. IsUpTo (longest a.kind) back.h.r.shown.operation.length) back_alike.asked back_plain.bounded
@@ -204,19 +204,18 @@ module _ {B : Type 0} (q q' : Place) (w : Worker) (s : Shared B) (sound : SoundA
       record {
         tagged = subst AreTagged (sym back.ring.staged) sub.tagged;
         cancels = ap cancels_in back.ring.staged ∙ sub.cancels;
-        known = known_then w.names.staged.items rs k f sub.known;
+        known = known_then f rs k w.names.staged.items sub.known;
         own = λ j x h found. let old = was_marked f rs k j x found in ap (λ y. y.shown.worker) old.2 ∙ mark_kept ℕ (λ x. x.shown.worker) (goes_back given) (λ x. refl) (k == j) old.0 ∙ sub.own j old.0 h old.1;
         all = λ j x found mine staged.
             let old = was_marked f rs k j x found in
             sub.all j old.0 old.1 (sym (mark_kept ℕ (λ x. x.shown.worker) (goes_back given) (λ x. refl) (k == j) old.0) ∙ sym (ap (λ y. y.shown.worker) old.2) ∙ mine) (staged_by j (k == j) old.0 (sym (ap (λ y. is_staged y.shown.phase) old.2) ∙ staged));
-        unraised = back.ring.raised ∙ sub.unraised;
       }
 
-  plain_by : (j : ℕ) (b : Bool) (x : Record) → (number_in w.names.requests.items back.h.id == j) ≡ b → slice_get s.requests.items j ≡ Some x → IsPlain (mark_if (goes_back (result_in c.result)) b x).shown
-  plain_by j true x is found =
+  plain_by : (j : ℕ) (b : Bool) (x : Record) → (number_in w.names.requests.items back.h.id == j) ≡ b → slice_get s.requests.items j ≡ Some x → x.shown.worker ≡ w.index → IsPlain (mark_if (goes_back (result_in c.result)) b x).shown
+  plain_by j true x is found mine =
       let same : back.h.r ≡ x = cc (back.h.there, found, same_number (number_in w.names.requests.items back.h.id) j is) in
       subst (λ y. IsPlain (goes_back (result_in c.result) y).shown) same plain_then
-  plain_by j false x is found = sound.flown.plain j x found (sound.flown.ours j x found)
+  plain_by j false x is found mine = sound.flown.plain j x found mine
 
   flown_back : passes_permit (served_in q') ≡ false → HasFlown (served_in q') w.index w.names d' back_records
   flown_back permits =
@@ -238,17 +237,16 @@ module _ {B : Type 0} (q q' : Place) (w : Worker) (s : Shared B) (sound : SoundA
         telling = rw back.ring.size flown.telling;
         entries = rw back.ring.staged flown.entries;
         permits = permits;
-        ours = ours_on rs back_records all w.index flown.ours;
         plain = λ j x found mine.
             let old = was_marked f rs k j x found in
-            subst (λ y. IsPlain y.shown) (sym old.2) (plain_by j (k == j) old.0 refl old.1);
+            subst (λ y. IsPlain y.shown) (sym old.2) (plain_by j (k == j) old.0 refl old.1 (sym (mark_kept ℕ (λ x. x.shown.worker) (goes_back given) (λ x. refl) (k == j) old.0) ∙ sym (ap (λ y. y.shown.worker) old.2) ∙ mine));
         landed = subst (λ ops. AreLanded w.names d' back_records ops) (sym back.ring.landed)
             (landed_rest w.names d d' rs back_records k cs back.rest once
             (λ other x r g live flies found landed apart.
             let j = number_in w.names.requests.items other in
             let differs : other ≢ back.h.id = λ e. apart (ap (number_in w.names.requests.items) (sym e)) in
             record { it' = x; r' = r; live = waiters other ∙ changed.others other differs ∙ live; flies = refl; same = refl; number = refl; there = marked f rs k j r found ∙ ap (λ b. Some (mark_if f b r)) (not_same k j apart); phase = refl }));
-        acks = back.ring.acks;
+        polled = back.ring.polled;
         owning = owning_on rs back_records all flown.owning;
         enrolling = λ other x live takes some.
             let listed : is_among other d.lists.enrolments ≡ true =
@@ -260,10 +258,10 @@ module _ {B : Type 0} (q q' : Place) (w : Worker) (s : Shared B) (sound : SoundA
             flown.enrolling other it (ap (waiter_at d.requests) eq ∙ back.h.live) (ap (λ y. takes_tick y.state) (sym is_it) ∙ takes)
             (ap (λ y. is_some y.deadline) (sym back.kept) ∙ ap (λ y. is_some (deadline_of y.request)) (sym is_it) ∙ some)) in
             ap (λ l. is_among other l.enrolments) back.lists ∙ listed;
-        uncancelled = λ other x among found.
+        uncancelled = λ other x among found mine.
             let j = number_in w.names.requests.items other.0 in
             let old = was_marked f rs k j x found in
-            ap (λ y. y.shown.cancel_staged) old.2 ∙ mark_kept Bool (λ x. x.shown.cancel_staged) (goes_back given) (λ x. refl) (k == j) old.0 ∙ flown.uncancelled other old.0 (ap (λ l. is_among other l.cancels) (sym back.lists) ∙ among) old.1;
+            ap (λ y. y.shown.cancel_staged) old.2 ∙ mark_kept Bool (λ x. x.shown.cancel_staged) (goes_back given) (λ x. refl) (k == j) old.0 ∙ flown.uncancelled other old.0 (ap (λ l. is_among other l.cancels) (sym back.lists) ∙ among) old.1 (sym (mark_kept ℕ (λ y. y.shown.worker) (goes_back given) (λ y. refl) (k == j) old.0) ∙ sym (ap (λ y. y.shown.worker) old.2) ∙ mine);
       }
 
   carried_back : IsCarried w.names.requests.items d'.requests d'.ring back_records s.store

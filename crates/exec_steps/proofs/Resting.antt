@@ -1,10 +1,10 @@
 -- What the steps of the clock and of peers keep: they change how workers rest, and nothing else that a worker rests on.
-use Rattle.std.proofs.{Common.{◌≡◌, ℕ, zero, suc, ◌<◌, ◌≤◌, ◌^◌, List, [], ◌∷◌, ◌+◌, length, map, get_or, set, take, drop, ◌++◌, add-one, append_assoc, drop-cons, Option, None, Some, refl, sym, ap, subst, ◌∙◌, arith, slice_get, slice_set, option_map, IfSome}, Math.Seq.take-suc-set, lemmas.{List.{length-map, length-set, drop-set-lt}, Option.{slice_get-map, slice_get-get_or}}}
+use Rattle.std.proofs.{Common.{◌≡◌, ℕ, zero, suc, ◌<◌, ◌≤◌, ◌^◌, List, [], ◌∷◌, ◌+◌, length, map, get_or, set, take, drop, ◌++◌, add-one, append_assoc, drop-cons, Option, None, Some, refl, sym, ap, subst, ◌∙◌, arith, slice_get, slice_set, option_map, IfSome}, Math.Seq.take-suc-set, lemmas.{List.{length-map, length-set, drop-set-lt}, Option.{slice_get-map, slice_get-get_or, slice_get_within}}}
 use Rattle.exec_base.specs.declared.limits.TheConstants.{LAST_MOMENT}
-use Rattle.exec_words.specs.Queue.{room_of}
-use Rattle.exec_machine.specs.declared.state.Rest.{Rest}
-use Rattle.exec_moves.specs.declared.place.Place.{Place}
-use Rattle.exec_steps.{specs.{Sound.{IsAlone, is_armed_at, IsInTime, Sound, SoundAt, HasShare}, declared.parts.{seat.Seat.Seat as Chair, shared.Shared.Shared, worker.Worker.Worker}, Phased.{IsPhased, TurnsChair, stage_of, closes_at, closing_in}, Records.{rest_at, reached, roused}, View.queue_seen}, proofs.Facts.same_thing}
+use Rattle.exec_words.specs.Queue.{tail_of}
+use Rattle.exec_machine.specs.declared.{config.Configuration.Configuration, state.Rest.Rest}
+use Rattle.exec_moves.specs.declared.{handing.{InGlobal.InGlobal, InKick.InKick}, idling.{InLook.InLook, InScan.InScan}, place.{InClosing.InClosing, InMail.InMail, Place.Place}}
+use Rattle.exec_steps.{specs.{Places.is_armed_at, Sound.{Aims, HasQueue, IsInTime, IsSeated, Sound, SoundAt}, declared.parts.{seat.Seat.Seat as Chair, shared.Shared.Shared, worker.Worker.Worker}, Phased.{IsPhased, TurnsChair, stage_of, closes_at, closing_in}, Records.{rest_at, reached, roused}, Whole.{IsWhole, Profile}}, proofs.{Aside.{queue_of_chair, queues_set, whole_same}, Facts.same_thing, PoolKept.{KeepsGate, KeepsGates}, Spared.there_within}}
 
 abbrev pub rested : Rest → Chair → Chair
 rested x chair = record chair { rest = x }
@@ -42,6 +42,42 @@ one_rested x i seats seats' c there is =
           (it.0, ap (λ xs. slice_get xs k) is ∙ it.1);
     }
 
+-- what stood there before it
+rested_of : (seats seats' : List Chair) (k : ℕ) (chair : Chair) → AreRested seats seats' → slice_get seats' k ≡ Some chair → (before : Chair) × (slice_get seats k ≡ Some before) × (x : Rest) × (chair ≡ rested x before)
+rested_of seats seats' k chair rests found =
+    let within : k < length seats = subst (λ n. k < n) rests.many (slice_get_within seats' k chair found) in
+    let before = get_or seats k chair in
+    let there = slice_get-get_or seats k chair within in
+    let now = rests.each k before there in
+    (before, there, now.0, same_thing chair (rested now.0 before) (sym found ∙ now.1))
+
+-- who claims half of another's queue looks at its queue
+aims_rested : (p : Place) (c : Configuration) (i : ℕ) (seats seats' : List Chair) → AreRested seats seats' → Aims p c i seats → Aims p c i seats'
+aims_rested (Place.Scan (InScan.ClaimHalf x h tail)) c i seats seats' rests may =
+    (record { other = may.0.other; unclaimed = may.0.unclaimed; some = may.0.some; most = may.0.most; behind = λ chair there. let was = rested_of seats seats' _ chair rests there in subst (λ y. tail ≤ tail_of y.queue) (sym was.3) (may.0.behind was.0 was.1) }, may.1)
+aims_rested (Place.Look (InLook.LookAtHead j)) c i seats seats' rests may = may
+aims_rested (Place.Kick (InKick.ExchangeKickCount set) b) c i seats seats' rests may = may
+aims_rested (Place.Global (InGlobal.AddGlobalCount set) b) c i seats seats' rests may = may
+aims_rested (Place.Mail (InMail.Apply applied taken)) c i seats seats' rests may = may
+aims_rested (Place.Closing (InClosing.TellRoot j)) c i seats seats' rests may = may
+aims_rested _ c i seats seats' rests may = may
+
+-- no gate of a seat changes, nor a queue
+gates_rested : (seats seats' : List Chair) → AreRested seats seats' → KeepsGates seats seats'
+gates_rested seats seats' rests =
+    record {
+      on = λ j chair there.
+          let now = rests.each j chair there in
+          (rested now.0 chair, now.1, record { left = refl; pool = refl; closed = refl; mail = λ h. h });
+      back = λ j chair there.
+          let was = rested_of seats seats' j chair rests there in
+          subst (λ y. (before : Chair) × (slice_get seats j ≡ Some before) × KeepsGate before y) (sym was.3) (was.0, was.1, record { left = refl; pool = refl; closed = refl; mail = λ h. h });
+    }
+
+queues_reached : (clock : ℕ) (seats : List Chair) → map queue_of_chair (map (reached clock) seats) ≡ map queue_of_chair seats
+queues_reached clock [] = refl
+queues_reached clock (chair ∷ chairs) = ap (λ qs. chair.queue ∷ qs) (queues_reached clock chairs)
+
 -- a turn of the loop by which the clock reaches each seat
 pub reached_next : (clock i : ℕ) (xs : List Chair) (d y : Chair) → i < length xs → y ≡ reached clock (get_or xs i d)
     → take (i + 1) (set xs i y) ++ map (reached clock) (drop (i + 1) (set xs i y)) ≡ take i xs ++ map (reached clock) (drop i xs)
@@ -52,8 +88,8 @@ module _ {B : Type 0} where
   rested_at : (q : Place) (w : Worker) (s t : Shared B) → SoundAt q w s → s.clock ≤ t.clock → t.clock ≤ 2 ^ 62 → AreRested s.seats.items t.seats.items
       → SoundAt q w (record s { clock = t.clock; seats = t.seats; listeners = t.listeners })
   rested_at q w s t sound later bounded rests =
-      let seat = sound.alone.seat in
-      let mine = rests.each w.index seat sound.alone.there in
+      let seat = sound.seated.seat in
+      let mine = rests.each w.index seat sound.seated.there in
       let is : (chair : Chair) → slice_get t.seats.items w.index ≡ Some chair → rested mine.0 seat ≡ chair = λ chair there. same_thing (rested mine.0 seat) chair (sym mine.1 ∙ there) in
       let slept : (o : Option ℕ) → IfSome o (λ moment. moment ≤ s.clock) → IfSome o (λ moment. moment ≤ t.clock) = λ o.
       elim o as (λ x. IfSome x (λ moment. moment ≤ s.clock) → IfSome x (λ moment. moment ≤ t.clock)) [ None ↦ λ h. h | Some moment ↦ λ h. omega (arith, h, later) ] in
@@ -65,20 +101,18 @@ module _ {B : Type 0} where
         asleep = slept w.slept sound.time.asleep;
         bounded = bounded;
       } in
-      let alone : IsAlone w.index (is_armed_at q) t.seats.items s.global.values = record {
-        only = rests.many ∙ sound.alone.only;
+      let seated : IsSeated w.index (is_armed_at q) s.config.workers t.seats.items = record {
+        many = rests.many ∙ sound.seated.many;
         seat = rested mine.0 seat;
         there = mine.1;
-        run_queue = sound.alone.run_queue;
-        whole = sound.alone.whole;
-        inbox = sound.alone.inbox;
-        unarmed = sound.alone.unarmed;
-        elsewhere = sound.alone.elsewhere;
+        unarmed = sound.seated.unarmed;
+        mail = assumption sound.seated.mail;
       } in
-      let share : (chair : Chair) → slice_get t.seats.items w.index ≡ Some chair → HasShare q (room_of (queue_seen chair.queue)) = λ chair there. subst (λ c. HasShare q (room_of (queue_seen c.queue))) (is chair there) (sound.share seat sound.alone.there) in
-      let phased : (chair : Chair) → slice_get t.seats.items w.index ≡ Some chair → IsPhased (closes_at q) (closing_in q) w.home.closing w.root w.names.unreleased (stage_of chair s) s.tasks.items = λ chair there.
-      subst (λ c. IsPhased (closes_at q) (closing_in q) w.home.closing w.root w.names.unreleased (stage_of c s) s.tasks.items) (is chair there) (sound.phased seat sound.alone.there) in
-      assumption (time, alone, share, phased, sound)
+      let queue : (chair : Chair) → slice_get t.seats.items w.index ≡ Some chair → HasQueue q chair.queue = λ chair there. subst (λ c. HasQueue q c.queue) (is chair there) (sound.queue seat sound.seated.there) in
+      let aims : Aims q s.config w.index t.seats.items = aims_rested q s.config w.index s.seats.items t.seats.items rests sound.aims in
+      let phased : (chair : Chair) → slice_get t.seats.items w.index ≡ Some chair → IsPhased w.index (closes_at q) (closing_in q) w.home.closing w.root w.names.unreleased (stage_of chair s) s.tasks.items = λ chair there.
+      subst (λ c. IsPhased w.index (closes_at q) (closing_in q) w.home.closing w.root w.names.unreleased (stage_of c s) s.tasks.items) (is chair there) (sound.phased seat sound.seated.there) in
+      assumption (time, seated, queue, aims, phased, sound)
 
   pub clock_kept : (w : Worker) (s s' : Shared B) (by : ℕ) → s.clock + by ≤ LAST_MOMENT → s'.seats.items ≡ map (reached (s.clock + by)) s.seats.items
       → s' ≡ record s { clock = s.clock + by; seats = s'.seats } → Sound w s → Sound w s'
@@ -88,10 +122,64 @@ module _ {B : Type 0} where
   pub stir_kept : (w : Worker) (s s' : Shared B) (i : ℕ) → i < length s.seats.items → TurnsChair i roused s s' → s' ≡ record s { seats = s'.seats } → Sound w s → Sound w s'
   stir_kept w s s' i within turns kept sound =
       subst (λ x. Sound w x) (sym kept) (rested_at w.place w s (record s { seats = s'.seats }) sound (omega arith) sound.time.bounded
-      (let c = get_or s.seats.items i sound.alone.seat in
-      let there = slice_get-get_or s.seats.items i sound.alone.seat within in
+      (let c = get_or s.seats.items i sound.seated.seat in
+      let there = slice_get-get_or s.seats.items i sound.seated.seat within in
       one_rested Rest.Awake i s.seats.items s'.seats.items c there (turns c there)))
 
   pub peer_kept : (w : Worker) (s s' : Shared B) → s' ≡ record s { listeners = s'.listeners } → Sound w s → Sound w s'
   peer_kept w s s' kept sound =
       subst (λ x. Sound w x) (sym kept) (rested_at w.place w s (record s { listeners = s'.listeners }) sound (omega arith) sound.time.bounded (none_rested s.seats.items))
+
+  -- WHAT HOLDS OF ALL TOGETHER stays so
+
+  -- where but seats change nothing that it speaks of does
+  whole_kept : (x : Profile) (s s' : Shared B) → IsWhole x (record s { seats = s'.seats }) → s' ≡ record s { clock = s'.clock; seats = s'.seats; listeners = s'.listeners } → IsWhole x s'
+  whole_kept x s s' whole kept =
+      subst (IsWhole x) (sym kept)
+      (record {
+        runnables = whole.runnables;
+        polls = whole.polls;
+        claims = whole.claims;
+        counts = whole.counts;
+        bits = whole.bits;
+        set = whole.set;
+        queued_here = whole.queued_here;
+        queued_there = whole.queued_there;
+        places = whole.places;
+        made = whole.made;
+        pool = whole.pool;
+      })
+
+  pub clock_whole : (x : Profile) (s s' : Shared B) (by : ℕ) → s'.seats.items ≡ map (reached (s.clock + by)) s.seats.items → s' ≡ record s { clock = s.clock + by; seats = s'.seats } → IsWhole x s → IsWhole x s'
+  clock_whole x s s' by seats kept whole =
+      let s1 : Shared B = record s { seats = s'.seats } in
+      whole_kept x s s'
+      (whole_same x s s1 refl (gates_rested s.seats.items s'.seats.items (all_rested (s.clock + by) s.seats.items s'.seats.items seats)) (ap (map queue_of_chair) seats ∙ queues_reached (s.clock + by) s.seats.items) refl refl whole)
+      (kept ∙ ap (λ (z : Shared B). record s { clock = z.clock; seats = s'.seats; listeners = z.listeners }) (sym kept))
+
+  pub stir_whole : (x : Profile) (s s' : Shared B) (i : ℕ) → i < length s.seats.items → TurnsChair i roused s s' → s' ≡ record s { seats = s'.seats } → IsWhole x s → IsWhole x s'
+  stir_whole x s s' i within turns kept whole =
+      let s1 : Shared B = record s { seats = s'.seats } in
+      let it = there_within s.seats.items i within in
+      let seats : s'.seats.items ≡ slice_set s.seats.items i (rested Rest.Awake it.0) = turns it.0 it.1 in
+      whole_kept x s s'
+      (whole_same x s s1 refl (gates_rested s.seats.items s'.seats.items (one_rested Rest.Awake i s.seats.items s'.seats.items it.0 it.1 seats))
+      (ap (map queue_of_chair) seats ∙ queues_set s.seats.items i it.0 (rested Rest.Awake it.0) it.1 refl) refl refl whole)
+      (kept ∙ ap (λ (z : Shared B). record s { clock = z.clock; seats = s'.seats; listeners = z.listeners }) (sym kept))
+
+  pub peer_whole : (x : Profile) (s s' : Shared B) → s' ≡ record s { listeners = s'.listeners } → IsWhole x s → IsWhole x s'
+  peer_whole x s s' kept whole =
+      subst (λ t. IsWhole x t) (sym kept)
+      (record {
+        runnables = whole.runnables;
+        polls = whole.polls;
+        claims = whole.claims;
+        counts = whole.counts;
+        bits = whole.bits;
+        set = whole.set;
+        queued_here = whole.queued_here;
+        queued_there = whole.queued_there;
+        places = whole.places;
+        made = whole.made;
+        pool = whole.pool;
+      })

@@ -5,14 +5,14 @@ use Rattle.exec_waiters.{specs.{States.flying_count, Told.{Tells, nothing_told},
 use Rattle.exec_driver.specs.{Driving.Driving, Punctual.IsPunctual}
 use Rattle.exec_task.specs.declared.body.Said.{Said}
 use Rattle.exec_machine.specs.{declared.event.Event.{Event, TheVariants.Reap}, Requests.outcome_given}
-use Rattle.exec_moves.specs.{Move.aside, Seen.serves_at, Serve.{after_permit, back_from_reap, others_after_reap}, State.Desk, declared.place.{Place.Place, Reaping.Reaping, Service.Service, InService.InService}}
-use Rattle.exec_steps.{specs.{declared.parts.{mail.Reply.Reply, shared.Shared.Shared, worker.Worker.Worker}, Due.may_be_due, Flown.operations, Records.number_in, Serving.changed_at, Sound.{SoundAt, served_in}, Spots.Spot, View.{visible, own_of, desk_of, driver_of, things_of, number_told, numbers_of, trailing}, Works.Steps}, proofs.{Serving.{serves_to, IsServed, OthersKept, keeps_home, Follows, Keeps, KeepsBy, Serves}, Changing.flying_after, Judging.given_is, Requeued.{GoesBack, back_alike, goes_back, keeps_back}, Seeing.{desk_with, makes, own_with, served, shows}, Sweeping.follows_reap, Timed.keeps_untold, Trailing.others_left, Viewed.{common_seen, may_seen, moves_seen}}}
+use Rattle.exec_moves.specs.{Seen.serves_at, Serve.{after_permit, back_from_reap, others_after_reap}, State.{Desk, dropped}, Thing.{set_wake_poll, with_ring}, declared.place.{Place.Place, Reaping.Reaping, Service.Service, InService.InService}}
+use Rattle.exec_steps.{specs.{declared.parts.{mail.Reply.Reply, shared.Shared.Shared, worker.Worker.Worker}, Due.may_be_due, Flown.operations, Records.number_in, Serving.changed_at, Sound.{SoundAt, served_in}, Spots.Spot, View.{visible, with_view, own_of, desk_of, driver_of, number_told, numbers_of, things_with, trailing, wake_poll_in}, Works.Steps}, proofs.{Mine.live_mine, Raising.poll_shows, Serving.{serves_to, IsServed, OthersKept, keeps_home, Follows, Keeps, KeepsBy, Serves, spares_one}, Changing.flying_after, Judging.given_is, Requeued.{GoesBack, back_alike, goes_back, keeps_back}, Seeing.{desk_with, makes, own_with, served, shows}, Sweeping.follows_reap, Untold.keeps_untold, Viewed.{common_seen, may_seen, moves_seen}}}
 
 -- WHERE IT LEADS
 
 pub follows_back : (rp : Reaping) (v : Service) (later : List ℕ) → Follows (Place.Service (InService.Reap rp) v) (Place.Service (after_permit (back_from_reap rp later)) v)
 follows_back rp v [] = follows_reap rp v
-follows_back rp v (k ∷ later) = record { from = refl; to = refl; serves = refl; armed = refl; closes = refl; wakes = refl; permits = refl; moment = λ m. refl }
+follows_back rp v (k ∷ later) = record { from = refl; to = refl; serves = refl; armed = refl; closes = refl; wakes = refl; permits = refl; moment = λ m. refl; searches = refl; published = refl }
 
 pub not_due : (rp : Reaping) (v : Service) → may_be_due (served_in (Place.Service (InService.Reap rp) v)) ≡ false
 not_due Reaping.First v = refl
@@ -23,10 +23,6 @@ served_back Reaping.First v [] = refl
 served_back Reaping.Last v [] = refl
 served_back rp v (k ∷ later) = refl
 
-pub desk_left : (numbers : List ℕ) (cs : List Completion) (d : Desk) (q : Place) → record d { place = q; others = others_left cs d.others } ≡ record (others_after_reap (map (number_told numbers) cs) d) { place = q }
-desk_left numbers [] d q = refl
-desk_left numbers (c ∷ cs) d q = refl
-
 numbers_push : (numbers : List ℕ) (ids : List WaiterId) (id : WaiterId) → numbers_of numbers (ids ++ id ∷ []) ≡ numbers_of numbers ids ++ number_in numbers id.0 ∷ []
 numbers_push numbers [] id = refl
 numbers_push numbers (x ∷ ids) id = ap (λ ns. number_in numbers x.0 ∷ ns) (numbers_push numbers ids id)
@@ -34,7 +30,7 @@ numbers_push numbers (x ∷ ids) id = ap (λ ns. number_in numbers x.0 ∷ ns) (
 pub one_fewer : (a b m n : ℕ) → a + m ≡ b + n → m ≡ 1 → n ≡ 0 → a ≡ b - 1
 one_fewer a b m n is one none = omega (arith, is, one, none)
 
-module _ {B L : Type 0} (left : B → L) (spot : L → Option Said → Spot) (rp : Reaping) (v : Service) (w : Worker) (s : Shared B) (sound : SoundAt (Place.Service (InService.Reap rp) v) w s) (c : Completion) (cs : List Completion) (is : operations (driver_of w).ring ≡ c ∷ cs) where
+module _ {B L : Type 0} (left : B → L) (spot : L → Option Said → Spot) (rp : Reaping) (v : Service) (w : Worker) (s : Shared B) (sound : SoundAt (Place.Service (InService.Reap rp) v) w s) (waits : sound.seated.seat.raised ≡ 0) (c : Completion) (cs : List Completion) (is : operations (driver_of w).ring ≡ c ∷ cs) where
   abbrev pub place_back : Place
   place_back = Place.Service (after_permit (back_from_reap rp (map (number_told w.names.requests.items) cs))) v
 
@@ -76,31 +72,37 @@ module _ {B L : Type 0} (left : B → L) (spot : L → Option Said → Spot) (rp
       let untold : KeepsBy w1 d' w.home.timers (changed_at rs k (goes_back given)) s.sleepers.items s = keeps_untold (record w { place = q' }) d' w.home.timers (changed_at rs k (goes_back given)) s.sleepers.items s deferred tells kept in
       let keeps : Keeps w' s' = keeps_home w1 w' s s' (changed_at rs k (goes_back given)) d' same shared refl records untold in
       let there : w'.place ≡ q' = ap (λ x. x.place) same in
-      let serves : Serves q w w' s s' = serves_to q q' w w' s s' (subst (IsServed w) (sym same) refl) (subst (OthersKept s) (sym shared) refl) there refl follows.to follows.armed follows.closes in
+      let serves : Serves q w w' s s' = serves_to q q' w w' s s' (subst (IsServed w) (sym same) refl) (subst (OthersKept s) (sym shared) refl) there follows in
       let show = shows q w w' s s' d' serves refl in
       let wakes : deferred.notes.wakes.items ≡ w.home.deferred.notes.wakes.items = tells.notes.wakes_added ∙ append-nil w.home.deferred.notes.wakes.items in
       let outputs : deferred.outputs.items ≡ w.home.deferred.outputs.items = tells.outputs_added ∙ append-nil w.home.deferred.outputs.items in
-      let seen : visible w' ≡ record (visible w) { landed = map (number_told n) cs } =
-      show.seen ∙ ap (λ b. record { busy = b; landed = map (number_told n) (operations d'.ring) }) ring.busy ∙ ap (λ ops. record { busy = d.ring.busy; landed = map (number_told n) ops }) ring.landed in
-      let desk : desk_of w' ≡ record (others_after_reap (map (number_told n) cs) (desk_of w0)) { place = q' } =
+      let later = map (number_told n) cs in
+      let wakes_then = dropped later (visible w).wakes in
+      let seen : visible w' ≡ record (visible w) { landed = later; wakes = wakes_then } =
+      show.seen
+      ∙ ap (λ b. record (visible w) { busy = b; landed = map (number_told n) (operations d'.ring); wakes = wake_poll_in d'.ring }) ring.busy
+      ∙ ap (λ ops. record (visible w) { landed = map (number_told n) ops; wakes = wake_poll_in d'.ring }) ring.landed
+      ∙ ap (λ p. record (visible w) { landed = later; wakes = p }) ring.poll in
+      let desk : desk_of w' ≡ record (others_after_reap later (visible w).wakes (desk_of w0)) { place = q' } =
       show.desk ∙ ap (λ y. desk_with w y w'.put_off deferred d') there ∙ ap (λ o. desk_with w q' o deferred d') (ap (λ x. x.put_off) same)
       ∙ ap (λ ws. record (desk_with w q' w.put_off deferred d') { wakes = map (λ t. t.0) ws }) wakes
       ∙ ap (λ os. record (desk_with w q' w.put_off deferred d') { wakes = map (λ t. t.0) w.home.deferred.notes.wakes.items; outputs = length os }) outputs
       ∙ ap (λ es. record (desk_of w0) { place = q'; entries = length es; polled = d'.armed; others = trailing 0 (completions d'.ring) }) ring.staged
       ∙ ap (λ b. record (desk_of w0) { place = q'; polled = b; others = trailing 0 (completions d'.ring) }) ring.armed
-      ∙ ap (λ m. record (desk_of w0) { place = q'; others = m }) ring.others
-      ∙ desk_left n cs (desk_of w0) q' in
+      ∙ ap (λ m. record (others_after_reap later (visible w).wakes (desk_of w0)) { place = q'; others = m }) ring.others in
       let answer : outcome_given h.r.shown given ≡ None = given_is d.wheel.start d.wheel.tick h.it h.r.shown (back_alike q q' w s sound d' c cs back) given back.request None back.judges in
       subst (λ x. Steps left spot w s x w' s') (sym event)
-      (served left spot q w w' s s' (Reap k given None) sound serves keeps
+      (served left spot q w w' s s' (Reap k given None) sound serves keeps (spares_one w.index s s' k h.r (goes_back given) records (ap (λ (y : Shared B). y.sleepers.items) shared) h.there (live_mine w.index w.names d w.home.timers rs s.sleepers.items sound.named h.id h.it h.r h.live h.there) (λ y. refl))
       (λ p vs suits.
       record {
         moves =
-            ap (aside (things_of w.index s)) (moves_seen left spot rp v w s sound c cs is h p vs suits (desk_of w0) None answer)
-            ∙ ap (λ x. makes (Reap k given None) x (things_of w.index s)) (sym desk);
-        may = may_seen left spot rp v w s sound c cs is h p vs suits (own_of w0) None refl answer;
+            ap (with_ring w.index (things_with vs s)) (moves_seen left spot rp v w s sound waits c cs is h p vs suits (desk_of w0) None answer)
+            ∙ ap (λ x. makes (Reap k given None) x (set_wake_poll w.index (things_with vs s) wakes_then)) (sym desk)
+            ∙ ap (makes (Reap k given None) (desk_of w'))
+            (sym (ap (things_with (with_view vs w.index (visible w'))) shared ∙ poll_shows vs w.index s sound.seated.seat sound.seated.there waits (visible w') ∙ ap (λ y. set_wake_poll w.index (things_with vs s) y.wakes) seen));
+        may = may_seen left spot rp v w s sound waits c cs is h p vs suits (own_of w0) None refl answer;
         own =
             show.own ∙ ap (λ y. own_with w y w'.names.ended.items w'.names.untold.items d') there ∙ ap (λ x. own_with w q' x.names.ended.items x.names.untold.items d') same
             ∙ own_back d' back ∙ rw (served_back rp v (map (number_told n) cs)) refl;
-        common = common_seen left spot rp v w s sound c cs is h p vs suits s' None w' shared records seen;
+        common = common_seen left spot rp v w s sound waits c cs is h p vs suits s' None w' wakes_then shared records seen;
       }))

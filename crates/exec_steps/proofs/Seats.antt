@@ -2,7 +2,7 @@
 use Rattle.std.{proofs.{Common.{◌≡◌, ℕ, zero, suc, Bool, true, List, [], ◌∷◌, Some, Option, refl, ap, slice_get, slice_set}, lemmas.Option.get_or_from_slice_get}, specs.List.list_all}
 use Rattle.exec_task.specs.declared.body.Said.{Said}
 use Rattle.exec_machine.specs.{Progress.Plan, World.{Seat, seat_of, no_seat}}
-use Rattle.exec_steps.specs.{declared.parts.{seat.Seat.Seat as Chair, shared.Shared.Shared, worker.Worker.Worker}, Spots.Spot, View.{Visible, visible, common_of, seats_seen, seat_seen}, Works.Suits}
+use Rattle.exec_steps.specs.{declared.parts.{seat.Seat.Seat as Chair, shared.Shared.Shared, worker.Worker.Worker}, Spots.Spot, View.{Views, Visible, visible, common_of, seats_seen, seat_seen}, Works.Suits}
 
 -- what is seen of one chair
 pub seat_there : (vs : List Visible) (seats : List Chair) (i : ℕ) (v : Visible) (chair : Chair) → slice_get vs i ≡ Some v → slice_get seats i ≡ Some chair
@@ -32,7 +32,7 @@ seats_all f (v ∷ vs) [] h = refl
 seats_all f (v ∷ vs) (seat ∷ seats) h = rw (h 0 v seat refl) (seats_all f vs seats (λ k x chair there. h (suc k) x chair there))
 
 module _ {B L : Type 0} (left : B → L) (spot : L → Option Said → Spot) where
-  pub own_seat : (p : Plan) (vs : List Visible) (w : Worker) (s : Shared B) (chair : Chair) → Suits p vs w s → slice_get s.seats.items w.index ≡ Some chair
+  pub own_seat : (p : Plan) (vs : Views) (w : Worker) (s : Shared B) (chair : Chair) → Suits p vs w s → slice_get s.seats.items w.index ≡ Some chair
       → seat_of (common_of left spot p vs s) w.index ≡ seat_seen (visible w) chair
   own_seat p vs w s chair suits there =
-      get_or_from_slice_get (seats_seen vs s.seats.items) w.index (seat_seen (visible w) chair) no_seat (seat_there vs s.seats.items w.index (visible w) chair suits.seen there)
+      get_or_from_slice_get (seats_seen vs.workers s.seats.items) w.index (seat_seen (visible w) chair) no_seat (seat_there vs.workers s.seats.items w.index (visible w) chair suits.seen there)

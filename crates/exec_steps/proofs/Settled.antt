@@ -23,7 +23,7 @@ pub record HasJudged {B : Type 0} (rp : Reaping) (v : Service) (w w' : Worker) (
   pub still : done.ended ≡ None → w'.names ≡ w.names
   pub worker : w' ≡ record w { place = Place.Service (after_giving_up done.permit back) v; home = record w.home { driver = w'.home.driver; deferred = w'.home.deferred }; names = record w.names { ended = w'.names.ended } }
 
-module _ {B L : Type 0} (left : B → L) (spot : L → Option Said → Spot) (rp : Reaping) (v : Service) (w w' : Worker) (s s' : Shared B) (e : Event) (sound : SoundAt (Place.Service (InService.Reap rp) v) w s) (lists : ListsRequests (driver_of w)) (done : Reaped) (opens' : List OpenState) (back : AfterPermit) (has : Bool)
+module _ {B L : Type 0} (left : B → L) (spot : L → Option Said → Spot) (rp : Reaping) (v : Service) (w w' : Worker) (s s' : Shared B) (e : Event) (sound : SoundAt (Place.Service (InService.Reap rp) v) w s) (waits : sound.seated.seat.raised ≡ 0) (lists : ListsRequests (driver_of w)) (done : Reaped) (opens' : List OpenState) (back : AfterPermit) (has : Bool)
     (by : HasJudged rp v w w' s s' e done opens' back has) where
   of_done : TellsOf w.names (driver_of w) (driver_of w') s.requests.items s.opens opens' w.home.deferred w'.home.deferred done
   of_done = tells_of w.names (driver_of w) (driver_of w') s.requests.items s.opens opens' w.home.deferred w'.home.deferred sound.flown.landed done by.reaps
@@ -69,7 +69,7 @@ module _ {B L : Type 0} (left : B → L) (spot : L → Option Said → Spot) (rp
       let has = back_has q w s sound (driver_of w') s.opens opens' w.home.deferred w'.home.deferred done of_done is in
       let given = result_in of_done.c.result in
       let n = w.names.requests.items in
-      reaped_back left spot rp v w s sound of_done.c of_done.cs of_done.operations_are w' s' e over by.punctual (event_done None is ∙ ap (λ (x : HasLanded w.names (driver_of w) s.requests.items of_done.c). Reap (number_in n x.id) given None) (sym has)) (records_done None is ∙ ap (λ (x : HasLanded w.names (driver_of w) s.requests.items of_done.c). changed_at s.requests.items (number_in n x.id) (goes_back given)) (sym has)) shared_done
+      reaped_back left spot rp v w s sound waits of_done.c of_done.cs of_done.operations_are w' s' e over by.punctual (event_done None is ∙ ap (λ (x : HasLanded w.names (driver_of w) s.requests.items of_done.c). Reap (number_in n x.id) given None) (sym has)) (records_done None is ∙ ap (λ (x : HasLanded w.names (driver_of w) s.requests.items of_done.c). changed_at s.requests.items (number_in n x.id) (goes_back given)) (sym has)) shared_done
       (tells_turned q w s sound (driver_of w') s.opens opens' w.home.deferred w'.home.deferred done of_done None is)
       (worker_done where_to ∙ ap (λ (x : Names). record w { place = Place.Service (after_permit (back_from_reap rp (map (number_told w.names.requests.items) of_done.cs))) v; home = record w.home { driver = w'.home.driver; deferred = w'.home.deferred }; names = record w.names { ended = x.ended } }) names)
   steps_by (Some how) is =
@@ -81,7 +81,7 @@ module _ {B L : Type 0} (left : B → L) (spot : L → Option Said → Spot) (rp
       let has = over_has q w s sound (driver_of w') s.opens opens' w.home.deferred w'.home.deferred done of_done how is in
       let given = result_in of_done.c.result in
       let n = w.names.requests.items in
-      reaped_over left spot rp v w s sound lists of_done.c of_done.cs of_done.operations_are how w' s' e over by.punctual (event_done (Some how) is ∙ ap (λ (x : HasLanded w.names (driver_of w) s.requests.items of_done.c). Reap (number_in n x.id) given (Some (as_outcome how))) (sym has)) (records_done (Some how) is ∙ ap (λ (x : HasLanded w.names (driver_of w) s.requests.items of_done.c). changed_at s.requests.items (number_in n x.id) (goes_over given how)) (sym has)) shared_done
+      reaped_over left spot rp v w s sound waits lists of_done.c of_done.cs of_done.operations_are how w' s' e over by.punctual (event_done (Some how) is ∙ ap (λ (x : HasLanded w.names (driver_of w) s.requests.items of_done.c). Reap (number_in n x.id) given (Some (as_outcome how))) (sym has)) (records_done (Some how) is ∙ ap (λ (x : HasLanded w.names (driver_of w) s.requests.items of_done.c). changed_at s.requests.items (number_in n x.id) (goes_over given how)) (sym has)) shared_done
       (over_tells q w s sound (driver_of w') s.opens opens' w.home.deferred w'.home.deferred done of_done how is) (ended ∙ ap (λ (x : HasLanded w.names (driver_of w) s.requests.items of_done.c). w.names.ended.items ++ number_in n x.id ∷ []) (sym has)) by.capacity (worker_done where_to)
 
   pub judged_steps : Steps left spot w s e w' s'

@@ -1,183 +1,244 @@
--- What a closing keeps, and what the machine sees of it.
-use Rattle.std.{proofs.{Common.{◌≡◌, ℕ, suc, ◌<◌, ◌-◌, ◌==◌, ◌&&◌, ◌||◌, Bool, true, false, not, List, [], ◌∷◌, length, map, Option, Some, None, refl, sym, ap, subst, ◌∙◌, arith, slice_get, slice_set, slice_index_or, option_map, if◌then◌else◌}, lemmas.{Bool.{false≢true, Decides.nat_tests}, List.length-set, Option.{slice_get-map, slice_get-get_or, get_or_from_slice_get}}}, specs.List.list_all}
-use Rattle.exec_words.specs.{declared.inbox.Message.Message, Global.Global, Inbox.shut, Queue.room_of, Reserved.Reserved}
-use Rattle.exec_waiters.specs.declared.deferred.Deferred.{Deferred}
-use Rattle.exec_task.specs.{TaskSet.{Set, shard_at}, declared.{drain.Drain.Drain, body.Said.Said, runnable.Runnable.Runnable, task.Phase.Phase}}
-use Rattle.exec_machine.specs.{declared.{event.Event.Event, state.{Request.Request, Sleeper.Sleeper, WorkerPhase.WorkerPhase, Next.Next}}, Closing.gone_with, Progress.Plan, Tasks.removed, Tests.{is_open, is_closing, has_ended, is_done, is_asleep}, World.{task_of, no_task}}
-use Rattle.exec_moves.specs.{declared.place.{InClosing.InClosing, Place.Place, AfterCallbacks.AfterCallbacks, InCallbacks.InCallbacks}, Close.{after_visit, is_held_here}, Seen.next_in_closing, Serve.first_numbered}
-use Rattle.exec_steps.{specs.{Rooted.IsRooted, Flown.HasFlown, Sound.{IsTied, SoundAt, IsAlone, InHand, HasShare, HasLeft, has_wakes_at, is_armed_at, polled_in, served_in}, Due.IsDue, declared.parts.{mail.{Reply.Reply, Subject.Subject}, seat.Seat.Seat as Chair, shared.Shared.Shared, task_slot.TaskSlot.TaskSlot, worker.Worker.Worker}, Phased.{IsPhased, IsPrepared, IsGoing, HoldsNothing, Stage, stage_of, closes_at, closing_in, root_over, has_stopped, has_left, has_shut, is_complete}, Spots.Spot, View.{Visible, visible, driver_of, common_of, queue_seen, task_seen, phase_seen, seats_seen, seat_seen}, Works.{Suits, Steps}}, proofs.{Facts.{set_there, same_thing, same_number}, Rooted.holds_nothing, Turning.set_found, Seats.chair_set}}
+-- What a step of the closing leaves: what is sound of the worker, what others rely on, and the balances of all.
+use Rattle.std.proofs.{Common.{◌≡◌, ◌≢◌, ◌⊎◌, inl, inr, ℕ, ◌+◌, ◌^◌, ◌<◌, ◌≤◌, ◌||◌, Bool, true, false, Contains, List, [], length, map, sum_by, option_to_list, Option, None, Some, refl, sym, ap, subst, ◌∙◌, arith, if◌then◌else◌, slice_get, slice_set, ◌++◌, ◌==◌}, lemmas.{Bool.false≢true, List.length-set}}
+use Rattle.exec_words.specs.{Queue.Queue, Reserved.Reserved, declared.inbox.Message.Message}
+use Rattle.exec_task.specs.{TaskSet.shard_at, declared.{runnable.Runnable.Runnable, task.Phase.Phase}}
+use Rattle.exec_moves.specs.{Pop.shard_count, declared.place.{InClosing.InClosing, Place.Place}, Seen.polls_at}
+use Rattle.exec_steps.{specs.{Drained.{Duties, IsPool}, declared.parts.{mail.Subject.Subject, seat.Seat.Seat as Chair, shared.Shared.Shared, task_slot.TaskSlot.TaskSlot, worker.Worker.Worker}, Due.IsDue, Flown.HasFlown, Phased.{IsPhased, closes_at, closing_in, stage_of}, Places.{begins_at, calls_back_at, claims_at, drops_at, hands_on_at, has_count_at, has_loot_at, in_poll_of, is_armed_at, is_number, is_published_at, one_if, polled_in, searches_at, step_of_poll}, Rooted.IsRooted, Sound.{Aims, HasBatch, HasGuest, HasQueue, HasRunnable, IsHeld, IsInHand, IsLeft, IsLoot, IsSearching, IsSeated, IsTied, SoundAt, has_wakes_at, root_in_hand, served_in}, Spares.Spares, View.{Views, driver_of, inbox_at, polls_seen, queue_at, things_with, word_at}, Whole.{HasOne, IsGenuine, IsQueuedOnce, IsWhole, Profile, claimed_count, duties_of, may_let_go, queued, runnables_in, stock, with_worker}, Works.Beside}, proofs.{Aside.{SparesSeats, length_same, queue_back, queue_of_chair, stock_same}, Onces.{has_fewer, has_more}, PoolClosing.pool_set, PoolKept.{KeepsGates, pool_of, pool_seats}, Showing.{map_kept, polls_kept}}}
 
--- LISTS
+-- what is shown of these views is shown of those
+pub shown_as : {A : Type 0} (m : A) (f : Views → A) (v v' : Views) → v' ≡ v → m ≡ f v → m ≡ f v'
+shown_as m f v v' same h = subst (λ x. m ≡ f x) (sym same) h
 
-pub mapped_all : {A X : Type 0} (f : X → Bool) (g : A → X) (xs : List A) → ((k : ℕ) (x : A) → slice_get xs k ≡ Some x → f (g x) ≡ true) → list_all f (map g xs) ≡ true
-mapped_all f g [] h = refl
-mapped_all f g (x ∷ xs) h = rw (h 0 x refl) (mapped_all f g xs (λ k y there. h (suc k) y there))
-
-pub none_numbered : {A X : Type 0} (f : ℕ → X → Bool) (g : A → X) (n : ℕ) (xs : List A) → ((m k : ℕ) (x : A) → slice_get xs k ≡ Some x → f m (g x) ≡ false) → first_numbered f n (map g xs) ≡ None
-none_numbered f g n [] h = refl
-none_numbered f g n (x ∷ xs) h = rw (h n 0 x refl) (none_numbered f g (suc n) xs (λ m k y there. h m (suc k) y there))
-
-pub same_by : {A X : Type 0} (f : X → X) (g : A → X) (xs : List A) → ((k : ℕ) (x : A) → slice_get xs k ≡ Some x → f (g x) ≡ g x) → map f (map g xs) ≡ map g xs
-same_by f g [] h = refl
-same_by f g (x ∷ xs) h = rw (h 0 x refl, same_by f g xs (λ k y there. h (suc k) y there)) refl
-
-pub first_alone : (n i k : ℕ) → n ≡ 1 → i < n → k < n → i ≡ k
-first_alone n i k one within also = omega arith
-
--- PHASES
-
-pub now_closing : (p : WorkerPhase) → is_open p ≡ false → has_ended p ≡ false → is_closing p ≡ true
-now_closing WorkerPhase.Open h k = absurd (false≢true (sym h))
-now_closing WorkerPhase.Closing h k = refl
-now_closing WorkerPhase.Ended h k = absurd (false≢true (sym k))
-
-pub now_done : {B : Type 0} (p : Phase B) (i : ℕ) → is_done (phase_seen p i) ≡ is_complete p
-now_done (Phase.Idle b) i = refl
-now_done (Phase.Queued b) i = refl
-now_done Phase.Running i = refl
-now_done Phase.Notified i = refl
-now_done Phase.Complete i = refl
-
--- A sleeper that isn't asleep is as it is once its worker is gone.
-pub gone_before : (i : ℕ) (z : Sleeper) → is_asleep i z ≡ false → gone_with i z ≡ z
-gone_before i z h =
-    elim (z.worker == i) as (λ b. ((b && not z.fired) && not z.removed) ≡ false → (if b then removed z else z) ≡ z) [
-      | true ↦ λ h. elim z.removed as (λ r. not z.fired && not r ≡ false → record z { removed = r || not z.fired } ≡ record z { removed = r }) [
-        | true ↦ λ h. refl
-        | false ↦ λ h. elim z.fired as (λ f. not f && true ≡ false → record z { fired = f; removed = not f } ≡ record z { fired = f; removed = false }) [ true ↦ λ h. refl | false ↦ λ h. absurd (false≢true (sym h)) ] h
-      ] h
-      | false ↦ λ h. refl
-    ] h
-
-over_closing : (x : Option InClosing) → root_over true x ≡ true
-over_closing (Some InClosing.Close) = refl
-over_closing _ = refl
-
-over_both : (x : InClosing) (y : Option InClosing) → root_over true (Some x) ≡ root_over true y
-over_both x y = over_closing (Some x) ∙ sym (over_closing y)
-
-pub unheld : (i : ℕ) (r : Request) → (r.worker ≡ i → r.observed ≡ false) → is_held_here i r ≡ false
-unheld i r h =
-    let by : (b : Bool) → (r.worker == i) ≡ b → (b && r.observed) ≡ false = λ b.
-    elim b as (λ x. (r.worker == i) ≡ x → (x && r.observed) ≡ false) [ true ↦ λ same. h (same_number r.worker i same) | false ↦ λ same. refl ] in
-    by (r.worker == i) refl
-
-pub positive : (n : ℕ) → (n == 0) ≡ false → 0 < n
-positive n h = grind (arith, nat_tests)
-
-pub visit_free : (x : Drain) → next_in_closing (after_visit x) ≡ Next.Free
-visit_free x = elim (x.left == 0) as (λ b. next_in_closing (if b then InClosing.LeaveBarrier else InClosing.Visit x) ≡ Next.Free) [ true ↦ refl | false ↦ refl ]
-
--- a shard of a set in which nothing is
-pub shard_empty : (set : Set (Unit {0})) (k : ℕ) → ((j : ℕ) (shard : List (ℕ × Unit {0})) → slice_get set.shards j ≡ Some shard → shard ≡ []) → k < length set.shards → shard_at set k ≡ []
-shard_empty set k empty within = empty k (slice_index_or set.shards k []) (slice_get-get_or set.shards k [] within)
-
--- WHAT HOLDS AGAIN
-
--- a step of a closing leads to one, or to the callbacks after it
-abbrev pub leads_to : Place → Bool
-leads_to (Place.Closing x) = true
-leads_to (Place.Callbacks InCallbacks.TakeBatch AfterCallbacks.Drain) = true
-leads_to _ = false
-
--- of the chair how far its worker has come may change, whether it has passed the barrier, and whether its mailbox is closed
-pub record IsLike (chair chair' : Chair) : Type 0 where
-  pub queue : chair'.queue ≡ chair.queue
-  pub messages : chair'.mailbox.inbox.messages ≡ chair.mailbox.inbox.messages
-  pub waker : chair'.mailbox.waker ≡ chair.mailbox.waker
-
--- what holds where a closing leads
-pub record IsThere (q : Place) : Type 0 where
-  pub armed : is_armed_at q ≡ false
-  pub share : (n : ℕ) → HasShare q n
-  pub hand : (root : ℕ) (hand : Option Runnable) → hand ≡ None → InHand q root hand
-  pub left : (d : Deferred Reply Reply) → HasLeft q d
+-- WHERE A STEP OF THE CLOSING LEADS
+pub record Follows (q : Place) : Type 0 where
+  pub polls : polls_at q ≡ None
   pub served : served_in q ≡ None
-  pub polled : polled_in q ≡ None
-  pub wakes : has_wakes_at q ≡ true
+  pub unarmed : is_armed_at q ≡ false
+  pub begins : begins_at q ≡ None
+  pub hands_on : hands_on_at q ≡ false
+  pub calls : calls_back_at q ≡ None
+  pub searches : searches_at q ≡ Some false
+  pub claims : claims_at q ≡ None
+  pub counts : has_count_at q ≡ false
+  pub published : is_published_at q ≡ false
+  pub queue : (own : Queue Runnable) → own.held ≡ [] → HasQueue q own
+  pub batch : (ms : List (Message Subject Subject)) → ms ≡ [] → HasBatch q ms
 
-there_by : (q : Place) → leads_to q ≡ true → IsThere q
-there_by (Place.Closing x) h = record { armed = refl; share = λ n. tt; hand = λ root hand e. e; left = λ d. tt; served = refl; polled = refl; wakes = refl }
-there_by (Place.Callbacks InCallbacks.TakeBatch AfterCallbacks.Drain) h = record { armed = refl; share = λ n. tt; hand = λ root hand e. e; left = λ d. tt; served = refl; polled = refl; wakes = refl }
-there_by _ h = absurd (false≢true h)
+pub or_closed : (a b : Bool) → b ≡ true → (a || b) ≡ true
+or_closed true b h = refl
+or_closed false b h = h
 
-pub alone_on : (i : ℕ) (seats seats' : List Chair) (global : List Runnable) (chair' : Chair) → (alone : IsAlone i false seats global) → IsLike alone.seat chair' → seats' ≡ slice_set seats i chair' → IsAlone i false seats' global
-alone_on i seats seats' global chair' alone like items =
+pub none_in : (r : Runnable) → Contains [] r → ⊥
+none_in r (k, few, is) = omega (arith, few)
+
+-- the worker there
+abbrev pub onward : Place → Bool → Reserved (Message Subject Subject) → ℕ → Worker → Worker
+onward q closes batch n w = record w { place = q; home = record w.home { closing = closes }; batch = batch; processed = n }
+
+-- the same but for who polls, clears and removes
+abbrev pub with_duties : Profile → Duties → Profile
+with_duties x d = record x { clears = d.clears; polled_by = d.polled_by; drops_by = d.drops_by }
+
+-- the worker there has the same but for that
+abbrev profile_by : Profile → Worker → Duties → Option ℕ → Option ℕ → Bool → Bool → Profile
+profile_by others w d polls claims counted published =
     record {
-      only = ap length items ∙ length-set seats i chair' ∙ alone.only;
-      seat = chair';
-      there = ap (λ xs. slice_get xs i) items ∙ set_there seats i chair' alone.seat alone.there;
-      run_queue = ap (λ q. q.values) like.queue ∙ alone.run_queue;
-      whole = ap (λ q. q.held) like.queue ∙ alone.whole;
-      inbox = like.messages ∙ alone.inbox;
-      unarmed = λ h. ap (λ x. x.target) like.waker ∙ alone.unarmed refl;
-      elsewhere = alone.elsewhere;
+      runnables = λ t. others.runnables t + runnables_in t (option_to_list w.hand ++ w.loot.values);
+      polls = λ t. others.polls t + one_if (is_number polls t);
+      claims = λ j. others.claims j + one_if (is_number claims j);
+      counts = others.counts + (one_if w.searching + one_if counted);
+      published = λ j. if j == w.index then published else others.published j;
+      clears = d.clears;
+      polled_by = d.polled_by;
+      drops_by = d.drops_by;
     }
 
+pub but_duties : (others : Profile) (q : Place) (closes : Bool) (batch : Reserved (Message Subject Subject)) (n : ℕ) (w : Worker) → polls_at q ≡ polls_at w.place → claims_at q ≡ claims_at w.place → has_count_at q ≡ has_count_at w.place → is_published_at q ≡ is_published_at w.place
+    → with_worker others (onward q closes batch n w) ≡ with_duties (with_worker others w) (duties_of (with_worker others (onward q closes batch n w)))
+but_duties others q closes batch n w polls claims counts published =
+    let d : Duties = duties_of (with_worker others (onward q closes batch n w)) in
+    ap (λ x. profile_by others w d x (claims_at q) (has_count_at q) (is_published_at q)) polls
+    ∙ ap (λ x. profile_by others w d (polls_at w.place) x (has_count_at q) (is_published_at q)) claims
+    ∙ ap (λ x. profile_by others w d (polls_at w.place) (claims_at w.place) x (is_published_at q)) counts
+    ∙ ap (profile_by others w d (polls_at w.place) (claims_at w.place) (has_count_at w.place)) published
+
 module _ {B : Type 0} where
-  pub sound_on : (x : InClosing) (q : Place) (w : Worker) (batch : Reserved (Message Subject Subject)) (told : Bool) (s t : Shared B) → SoundAt (Place.Closing x) w s → leads_to q ≡ true → batch.values ≡ []
-      → IsAlone w.index false t.seats.items t.global.values
-      → ((chair : Chair) → slice_get t.seats.items w.index ≡ Some chair → IsPhased (closes_at q) (closing_in q) told w.root w.names.unreleased (stage_of chair t) s.tasks.items)
-      → SoundAt q (record w { place = q; batch = batch; home = record w.home { closing = told } }) (record s { seats = t.seats; set = t.set; global = t.global; barrier_open = t.barrier_open; stopped = t.stopped })
-  sound_on x q w batch told s t sound leads none alone phased =
-      let there = there_by q leads in
-      let alone : IsAlone w.index (is_armed_at q) t.seats.items t.global.values = rw there.armed alone in
-      let share : (chair : Chair) → slice_get t.seats.items w.index ≡ Some chair → HasShare q (room_of (queue_seen chair.queue)) = λ chair found. there.share (room_of (queue_seen chair.queue)) in
-      let quiet : has_wakes_at q ≡ false → w.home.deferred.notes.wakes.items ≡ [] = λ h. absurd (false≢true (sym h ∙ there.wakes)) in
-      let due : IsDue (served_in q) w.index w.moments s.config w.names (driver_of w) w.home.timers s.requests.items s.sleepers.items = rw there.served sound.due in
-      let flown : HasFlown (served_in q) w.index w.names (driver_of w) s.requests.items = rw there.served sound.flown in
-      let rooted : IsRooted (polled_in q) w.index w.root w.names (driver_of w) w.home.timers s.tasks.items s.requests.items s.sleepers.items = rw there.polled sound.rooted in
-      let tied : IsTied (polled_in q) w.index w.root w.home.deferred.notes.wakes.items s.tasks.items s.requests.items s.sleepers.items = rw there.polled sound.tied in
-      assumption (alone, share, there.hand w.root w.hand sound.hand, there.left w.home.deferred, none, quiet, due, flown, rooted, phased, tied, sound)
+  -- of what is shared the seats, the set, the global queue, the barrier and the stop may change
+  abbrev pub Closes : Shared B → Shared B → Type 0
+  Closes s s' = s' ≡ record s { seats = s'.seats; set = s'.set; global = s'.global; barrier_open = s'.barrier_open; stopped = s'.stopped }
 
-  -- what holds of the chair that was set, of each that is found there
-  pub phased_on : (closes : Bool) (x : Option InClosing) (told : Bool) (t n i : ℕ) (s : Shared B) (chair' : Chair) (tasks : List (TaskSlot B)) → slice_get s.seats.items i ≡ Some chair'
-      → IsPhased closes x told t n (stage_of chair' s) tasks → (chair : Chair) → slice_get s.seats.items i ≡ Some chair → IsPhased closes x told t n (stage_of chair s) tasks
-  phased_on closes x told t n i s chair' tasks found phased chair there =
-      subst (λ c. IsPhased closes x told t n (stage_of c s) tasks) (same_thing chair' chair (sym found ∙ there)) phased
+  -- what holds there
+  pub record Ready (q : Place) (closes : Bool) (batch : Reserved (Message Subject Subject)) (n : ℕ) (w : Worker) (s s' : Shared B) : Type 0 where
+    pub kept : Closes s s'
+    pub seated : IsSeated w.index false s.config.workers s'.seats.items
+    pub queue : (chair : Chair) → slice_get s'.seats.items w.index ≡ Some chair → chair.queue.held ≡ []
+    pub aims : Aims q s.config w.index s'.seats.items
+    pub none : batch.values ≡ []
+    pub place : 0 < batch.places
+    pub few : n < 2 ^ 29
+    pub quiet : has_wakes_at q ≡ false → w.home.deferred.notes.wakes.items ≡ []
+    pub shards : length s'.set.shards ≡ length s.set.shards
+    pub phased : (chair : Chair) → slice_get s'.seats.items w.index ≡ Some chair → IsPhased w.index (closes_at q) (closing_in q) closes w.root w.names.unreleased (stage_of chair s') s.tasks.items
 
-  pub stage_there : (x : InClosing) (w : Worker) (s : Shared B) → (sound : SoundAt (Place.Closing x) w s) → IsPhased (closes_at (Place.Closing x)) (Some x) w.home.closing w.root w.names.unreleased (stage_of sound.alone.seat s) s.tasks.items
-  stage_there x w s sound = sound.phased sound.alone.seat sound.alone.there
+  pub sound_closing : (x : InClosing) (q : Place) (closes : Bool) (batch : Reserved (Message Subject Subject)) (n : ℕ) (w : Worker) (s s' : Shared B) → SoundAt (Place.Closing x) w s → Follows q → Ready q closes batch n w s s'
+      → SoundAt q (onward q closes batch n w) s'
+  sound_closing x q closes batch n w s s' sound to ready =
+      let w1 : Worker = onward q closes batch n w in
+      let s1 : Shared B = record s { seats = s'.seats; set = s'.set; global = s'.global; barrier_open = s'.barrier_open; stopped = s'.stopped } in
+      let unpolled : polled_in w.root q ≡ None = ap (λ o. in_poll_of w.root o (step_of_poll q)) to.polls in
+      let runnable : HasRunnable w.index w.root w.root_ready (root_in_hand (begins_at q) w.root w.hand) s.tasks.items = subst (λ o. HasRunnable w.index w.root w.root_ready (root_in_hand o w.root w.hand) s.tasks.items) (sym to.begins) sound.runnable in
+      let seated : IsSeated w.index (is_armed_at q) s.config.workers s'.seats.items = subst (λ a. IsSeated w.index a s.config.workers s'.seats.items) (sym to.unarmed) ready.seated in
+      let queue : (chair : Chair) → slice_get s'.seats.items w.index ≡ Some chair → HasQueue q chair.queue = λ chair there. to.queue chair.queue (ready.queue chair there) in
+      let hand : IsInHand (begins_at q) (hands_on_at q) w.hand = subst (λ o. IsInHand o (hands_on_at q) w.hand) (sym to.begins) (subst (λ b. IsInHand None b w.hand) (sym to.hands_on) sound.hand) in
+      let none : w.loot.values ≡ [] = sound.loot.none refl in
+      let loot : IsLoot (has_loot_at q) w.loot = record { places = sound.loot.places; few = sound.loot.few; none = λ is. none } in
+      let empty : w.hand ≡ None = sound.hand in
+      let genuine : (r : Runnable) → Contains (option_to_list w.hand) r → IsHeld (begins_at q) w.root s.tasks.items r = λ r has. absurd (none_in r (subst (λ o. Contains (option_to_list o) r) empty has)) in
+      let searching : IsSearching (searches_at q) w.searching = subst (λ o. IsSearching o w.searching) (sym to.searches) sound.searching in
+      let guest : HasGuest (polls_at q) (step_of_poll q) w.index w.root s.tasks.items = subst (λ o. HasGuest o (step_of_poll q) w.index w.root s.tasks.items) (sym to.polls) tt in
+      let left : IsLeft (calls_back_at q) w.home.deferred = subst (λ o. IsLeft o w.home.deferred) (sym to.calls) tt in
+      let has : HasBatch q batch.values = to.batch batch.values ready.none in
+      let due : IsDue (served_in q) w.index w.moments s.config w.names (driver_of w) w.home.timers s.requests.items s.sleepers.items = subst (λ y. IsDue y w.index w.moments s.config w.names (driver_of w) w.home.timers s.requests.items s.sleepers.items) (sym to.served) sound.due in
+      let flown : HasFlown (served_in q) w.index w.names (driver_of w) s.requests.items = subst (λ y. HasFlown y w.index w.names (driver_of w) s.requests.items) (sym to.served) sound.flown in
+      let rooted : IsRooted (polled_in w.root q) w.index w.root w.names (driver_of w) w.home.timers s.tasks.items s.requests.items s.sleepers.items =
+      subst (λ y. IsRooted y w.index w.root w.names (driver_of w) w.home.timers s.tasks.items s.requests.items s.sleepers.items) (sym unpolled) sound.rooted in
+      let tied : IsTied (polled_in w.root q) w.index w.root w.home.deferred.notes.wakes.items s.tasks.items s.requests.items s.sleepers.items =
+      subst (λ y. IsTied y w.index w.root w.home.deferred.notes.wakes.items s.tasks.items s.requests.items s.sleepers.items) (sym unpolled) sound.tied in
+      let phased : (chair : Chair) → slice_get s'.seats.items w.index ≡ Some chair → IsPhased w.index (closes_at q) (closing_in q) closes w.root w.names.unreleased (stage_of chair s1) s.tasks.items = λ chair there.
+      subst (λ (z : Shared B). IsPhased w.index (closes_at q) (closing_in q) closes w.root w.names.unreleased (stage_of chair z) s.tasks.items) ready.kept (ready.phased chair there) in
+      let shards : length s'.set.shards ≡ shard_count s.config = ready.shards ∙ sound.shards in
+      let aims = ready.aims in
+      let place = ready.place in
+      let few = ready.few in
+      let quiet = ready.quiet in
+      let there : SoundAt q w1 s1 = assumption (runnable, seated, queue, hand, loot, genuine, searching, guest, left, has, due, flown, rooted, tied, phased, shards, aims, place, few, quiet, sound) in
+      subst (λ z. SoundAt q w1 z) (sym ready.kept) there
 
-  -- The root is over, so it holds nothing.
-  pub held_nothing : (x : InClosing) (w : Worker) (s : Shared B) → SoundAt (Place.Closing x) w s → root_over (closes_at (Place.Closing x)) (Some x) ≡ true → HoldsNothing w.index w.names w.home.timers s.requests.items s.sleepers.items
-  held_nothing x w s sound over =
-      let slot = sound.runnable.root in
-      let there = sound.runnable.there in
-      holds_nothing None w.index w.root w.names (driver_of w) w.home.timers s.tasks.items s.requests.items s.sleepers.items slot there ((sound.phased sound.alone.seat sound.alone.there).root slot there ∙ over) sound.rooted
+  -- what things show of seats of which one was set, where none of that is in it
+  pub seats_show : (vs : Views) (i : ℕ) (s : Shared B) (xs : List Chair) (chair chair' : Chair) → slice_get s.seats.items i ≡ Some chair → xs ≡ slice_set s.seats.items i chair' → queue_at chair' ≡ queue_at chair → word_at chair' ≡ word_at chair → inbox_at chair' ≡ inbox_at chair → chair'.raised ≡ chair.raised
+      → record (things_with vs s) { queues = map queue_at xs; words = map word_at xs; inboxes = map inbox_at xs; wake_polls = polls_seen vs.workers xs } ≡ things_with vs s
+  seats_show vs i s xs chair chair' there set queue word inbox raised =
+      ap (λ (cs : List Chair). record (things_with vs s) { queues = map queue_at cs; words = map word_at cs; inboxes = map inbox_at cs; wake_polls = polls_seen vs.workers cs }) set
+      ∙ rw (map_kept queue_at s.seats.items i chair' chair there queue, map_kept word_at s.seats.items i chair' chair there word, map_kept inbox_at s.seats.items i chair' chair there inbox, polls_kept vs.workers s.seats.items i chair chair' there raised) refl
 
-  -- The closing goes on: of its stage what stopped, left and shut are may change.
-  pub onward : (x : InClosing) (y : Option InClosing) (told : Bool) (t n : ℕ) (st : Stage) (stops goes shuts : Bool) (tasks : List (TaskSlot B)) → IsPhased true (Some x) told t n st tasks → has_ended st.phase ≡ false
-      → stops ≡ has_stopped true y → goes ≡ has_left true y → shuts ≡ has_shut true y → IsPrepared y n st.set → IsPhased true y told t n (record st { stopped = stops; left = goes; shut = shuts }) tasks
-  onward x y told t n st stops goes shuts tasks phased going stopped left shut prepared =
-      let ended : has_ended st.phase ≡ true → y ≡ Some InClosing.End = λ h. absurd (false≢true (sym going ∙ h)) in
-      let root : (slot : TaskSlot B) → slice_get tasks t ≡ Some slot → is_complete slot.cell.phase ≡ root_over true y = λ slot there. phased.root slot there ∙ over_both x y in
-      assumption (ended, root, stopped, left, shut, prepared, phased)
+  -- WHAT OTHERS RELY ON
 
-  -- Nothing of the worker's chair changes.
-  pub stays : (x y : InClosing) (w : Worker) (s : Shared B) (global : Global Runnable) (barrier stops : Bool) → SoundAt (Place.Closing x) w s → closes_at (Place.Closing x) ≡ true → closes_at (Place.Closing y) ≡ true → IsGoing w.index s.seats.items
-      → global.values ≡ [] → stops ≡ has_stopped true (Some y) → has_left true (Some x) ≡ has_left true (Some y) → has_shut true (Some x) ≡ has_shut true (Some y) → IsPrepared (Some y) w.names.unreleased s.set
-      → SoundAt (Place.Closing y) (record w { place = Place.Closing y }) (record s { global = global; barrier_open = barrier; stopped = stops })
-  stays x y w s global barrier stops sound from to going none stopped left shut prepared =
-      let s1 : Shared B = record s { global = global; barrier_open = barrier; stopped = stops } in
-      let alone = sound.alone in
-      sound_on x (Place.Closing y) w w.batch w.home.closing s s1 sound refl sound.batch
-      (record { only = alone.only; seat = alone.seat; there = alone.there; run_queue = alone.run_queue; whole = alone.whole; inbox = alone.inbox; unarmed = alone.unarmed; elsewhere = none })
-      (λ chair there.
-      let phased : IsPhased true (Some x) w.home.closing w.root w.names.unreleased (stage_of chair s) s.tasks.items = subst (λ b. IsPhased b (Some x) w.home.closing w.root w.names.unreleased (stage_of chair s) s.tasks.items) from (sound.phased chair there) in
-      subst (λ b. IsPhased b (Some y) w.home.closing w.root w.names.unreleased (stage_of chair s1) s.tasks.items) (sym to)
-      (onward x (Some y) w.home.closing w.root w.names.unreleased (stage_of chair s) stops chair.left chair.mailbox.inbox.closed s.tasks.items phased (going chair there) stopped (phased.left ∙ left) (phased.shut ∙ shut) prepared))
+  -- the set closes and the pool stops for good; only worker zero does that
+  pub record GoesOnlyOn (i : ℕ) (s s' : Shared B) : Type 0 where
+    pub stopped : s.stopped ≡ true → s'.stopped ≡ true
+    pub closed : s.set.closed ≡ true → s'.set.closed ≡ true
+    pub by_zero : i ≢ 0 → (s'.stopped ≡ s.stopped) × (s'.set.closed ≡ s.set.closed)
+    pub shards : length s'.set.shards ≡ length s.set.shards
+    pub emptied : s.set.closed ≡ true → (k : ℕ) → shard_at s.set k ≡ [] → shard_at s'.set k ≡ []
 
-module _ {B L : Type 0} (left : B → L) (spot : L → Option Said → Spot) where
-  pub told_as : (w w1 w' : Worker) (s s1 s' : Shared B) (e1 e : Event) → e ≡ e1 → w' ≡ w1 → s' ≡ s1 → Steps left spot w s e1 w1 s1 → Steps left spot w s e w' s'
-  told_as w w1 w' s s1 s' e1 e event worker shared steps = rw (event, worker, shared) steps
+  pub spares_closing : (i j : ℕ) (s s' : Shared B) → j ≢ i → Closes s s' → GoesOnlyOn i s s' → SparesSeats i s.seats.items s'.seats.items → Spares j s s'
+  spares_closing i j s s' other kept on seats =
+      let s1 : Shared B = record s { seats = s'.seats; set = s'.set; global = s'.global; barrier_open = s'.barrier_open; stopped = s'.stopped } in
+      let done : Spares j s s1 = record {
+        config = refl;
+        clock = refl;
+        opens = refl;
+        many = seats.many;
+        chair = λ chair there. seats.chair j chair other there;
+        tails = seats.tails;
+        records = λ k r there mine. there;
+        records_only = λ k r there mine. there;
+        sleepers = λ k z there mine. there;
+        sleepers_only = λ k z there mine. there;
+        root = λ slot there home. there;
+        polled = λ t slot there polled mine. (slot, there, record { polled = polled; number = refl; cancelled = λ h. h; kept = refl });
+        room = λ socket h. h;
+        stopped = on.stopped;
+        closed = on.closed;
+        by_zero = λ zero. on.by_zero (λ is. other (zero ∙ sym is));
+        shards = on.shards;
+        emptied = on.emptied;
+        genuine = λ r is. is;
+      } in
+      subst (λ z. Spares j s z) (sym kept) done
 
-  pub root_there : (p : Plan) (vs : List Visible) (s : Shared B) (t : ℕ) (slot : TaskSlot B) → slice_get s.tasks.items t ≡ Some slot → task_of (common_of left spot p vs s) t ≡ task_seen left spot slot
-  root_there p vs s t slot there =
-      get_or_from_slice_get (map (task_seen left spot) s.tasks.items) t (task_seen left spot slot) no_task (slice_get-map (task_seen left spot) s.tasks.items t ∙ ap (option_map (task_seen left spot)) there)
+  -- THE BALANCES
 
-  -- what is seen of the seats once the own chair has changed
-  pub seats_on : (p : Plan) (vs : List Visible) (w : Worker) (s s' : Shared B) (chair' : Chair) → Suits p vs w s → s'.seats.items ≡ slice_set s.seats.items w.index chair'
-      → seats_seen (slice_set vs w.index (visible w)) s'.seats.items ≡ slice_set (seats_seen vs s.seats.items) w.index (seat_seen (visible w) chair')
-  seats_on p vs w s s' chair' suits items =
-      ap (λ us. seats_seen us s'.seats.items) (set_found vs w.index (visible w) suits.seen) ∙ ap (seats_seen vs) items ∙ chair_set vs s.seats.items w.index (visible w) chair' suits.seen
+  -- the global queue is as it was, or was closed and what it held was let go
+  abbrev pub Empties : Shared B → Shared B → Type 0
+  Empties s s' = (s'.global ≡ s.global) ⊎ ((s'.global.values ≡ []) × (s'.global.closed ≡ true))
+
+  gone_too : (gone gone' : Bool) (p : Phase B) (n : ℕ) → (gone ≡ true → gone' ≡ true) → HasOne gone p n → HasOne gone' p n
+  gone_too true gone' p n on h = subst (λ g. HasOne g p n) (sym (on refl)) h
+  gone_too false true p n on h = has_more p n h
+  gone_too false false p n on h = h
+
+  pub whole_closing : (x : Profile) (d : Duties) (s s' : Shared B) → Closes s s' → map queue_of_chair s'.seats.items ≡ map queue_of_chair s.seats.items → (s.set.closed ≡ true → s'.set.closed ≡ true) → Empties s s'
+      → IsPool d s.tasks.items s'.set s'.seats.items → IsWhole x s → IsWhole (with_duties x d) s'
+  whole_closing x d s s' kept queues closes empties pool whole =
+      let s1 : Shared B = record s { seats = s'.seats; set = s'.set; global = s'.global; barrier_open = s'.barrier_open; stopped = s'.stopped } in
+      let many : length s'.seats.items ≡ length s.seats.items = length_same s.seats.items s'.seats.items queues in
+      let done : IsWhole (with_duties x d) s1 = record {
+        runnables = λ t slot there home. runnables t slot empties (whole.runnables t slot there home);
+        polls = whole.polls;
+        claims = λ j chair there. let was = queue_back s.seats.items s'.seats.items j chair queues there in rw was.2 (whole.claims j was.0 was.1);
+        counts = rw many whole.counts;
+        bits = λ j h. rw many (whole.bits j h);
+        set = whole.set;
+        queued_here = λ j chair r there has. let was = queue_back s.seats.items s'.seats.items j chair queues there in whole.queued_here j was.0 r was.1 (rw (← was.2) has);
+        queued_there = queued_there empties;
+        places = places empties;
+        made = λ t more. (made t empties (whole.made t more).0, (whole.made t more).1);
+        pool = pool;
+      } in
+      subst (IsWhole (with_duties x d)) (sym kept) done
+    where
+      here : (t : ℕ) → sum_by (λ chair. runnables_in t (queued chair)) s'.seats.items ≡ sum_by (λ chair. runnables_in t (queued chair)) s.seats.items
+      here t = stock_same t s.seats.items s'.seats.items queues
+
+      runnables : (t : ℕ) (slot : TaskSlot B) → Empties s s' → HasOne (may_let_go s) slot.cell.phase (x.runnables t + stock t s)
+          → HasOne (s'.set.closed || s'.global.closed) slot.cell.phase (x.runnables t + (sum_by (λ chair. runnables_in t (queued chair)) s'.seats.items + runnables_in t s'.global.values))
+      runnables t slot (inl same) h = rw (here t, same) (gone_too (may_let_go s) (s'.set.closed || s.global.closed) slot.cell.phase (x.runnables t + stock t s) (either s.set.closed s'.set.closed s.global.closed closes) h)
+        where
+          either : (a b c : Bool) → (a ≡ true → b ≡ true) → (a || c) ≡ true → (b || c) ≡ true
+          either true b c on h = ap (λ y. y || c) (on refl)
+          either false b c on h = or_closed b c h
+      runnables t slot (inr (none, shut)) h =
+          let gone : (s'.set.closed || s'.global.closed) ≡ true = or_closed s'.set.closed s'.global.closed shut in
+          rw (here t, none) (has_fewer (s'.set.closed || s'.global.closed) slot.cell.phase (x.runnables t + stock t s) (x.runnables t + (sum_by (λ chair. runnables_in t (queued chair)) s.seats.items + 0)) gone (omega arith)
+          (gone_too (may_let_go s) (s'.set.closed || s'.global.closed) slot.cell.phase (x.runnables t + stock t s) (λ is. gone) h))
+
+      made : (t : ℕ) → Empties s s' → x.runnables t + stock t s ≡ 0 → x.runnables t + (sum_by (λ chair. runnables_in t (queued chair)) s'.seats.items + runnables_in t s'.global.values) ≡ 0
+      made t (inl same) h = rw (here t, same) h
+      made t (inr (none, shut)) h = rw (here t, none) (omega (arith, h))
+
+      queued_there : Empties s s' → (r : Runnable) → Contains s'.global.values r → IsGenuine s.tasks.items r
+      queued_there (inl same) r has = whole.queued_there r (subst (λ g. Contains g.values r) same has)
+      queued_there (inr (none, shut)) r has = absurd (none_in r (subst (λ vs. Contains vs r) none has))
+
+      places : Empties s s' → s'.global.closed ≡ false → length s.tasks.items ≤ s'.global.places
+      places (inl same) open_still = subst (λ g. length s.tasks.items ≤ g.places) (sym same) (whole.places (ap (λ g. g.closed) (sym same) ∙ open_still))
+      places (inr (none, shut)) open_still = absurd (false≢true (sym open_still ∙ shut))
+
+  -- what holds of the task set and the mailboxes then, of the worker there
+  abbrev pub Pools : Place → Bool → Reserved (Message Subject Subject) → ℕ → Worker → Shared B → Shared B → Type 0
+  Pools q closes batch n w s s' = (others : Profile) → IsWhole (with_worker others w) s → IsPool (duties_of (with_worker others (onward q closes batch n w))) s.tasks.items s'.set s'.seats.items
+
+  -- where it takes nothing out of the set, and seats show the same
+  pub pools_calm : (x : InClosing) (q : Place) (closes : Bool) (batch : Reserved (Message Subject Subject)) (n : ℕ) (w : Worker) (s s' : Shared B) → SoundAt (Place.Closing x) w s → Follows q → drops_at q ≡ drops_at (Place.Closing x) → KeepsGates s.seats.items s'.seats.items → s'.set.shards ≡ s.set.shards → (s.set.closed ≡ true → s'.set.closed ≡ true)
+      → Pools q closes batch n w s s'
+  pools_calm x q closes batch n w s s' sound to drops gates shards closed others whole =
+      let d : Duties = duties_of (with_worker others w) in
+      pool_of others w (onward q closes batch n w) s.tasks.items s'.set s'.seats.items refl (to.polls ∙ sym (ap polls_at sound.here)) (drops ∙ sym (ap drops_at sound.here))
+      (pool_seats d s.tasks.items s'.set s.seats.items s'.seats.items gates (pool_set d s.tasks.items s.set s'.set s.seats.items shards closed whole.pool))
+
+  pub beside_closing : (x : InClosing) (q : Place) (closes : Bool) (batch : Reserved (Message Subject Subject)) (n : ℕ) (w : Worker) (s s' : Shared B) → SoundAt (Place.Closing x) w s → Follows q → Closes s s' → GoesOnlyOn w.index s s' → Empties s s' → SparesSeats w.index s.seats.items s'.seats.items
+      → Pools q closes batch n w s s' → map queue_of_chair s'.seats.items ≡ map queue_of_chair s.seats.items → Beside w s (onward q closes batch n w) s'
+  beside_closing x q closes batch n w s s' sound to kept on empties seats pools queues =
+      let w1 : Worker = onward q closes batch n w in
+      let polls : polls_at q ≡ polls_at w.place = to.polls ∙ sym (ap polls_at sound.here) in
+      let claims : claims_at q ≡ claims_at w.place = to.claims ∙ sym (ap claims_at sound.here) in
+      let counts : has_count_at q ≡ has_count_at w.place = to.counts ∙ sym (ap has_count_at sound.here) in
+      let published : is_published_at q ≡ is_published_at w.place = to.published ∙ sym (ap is_published_at sound.here) in
+      record {
+        spares = λ j other. spares_closing w.index j s s' other kept on seats;
+        whole = λ others whole.
+            let d : Duties = duties_of (with_worker others w1) in
+            let same : with_worker others w1 ≡ with_duties (with_worker others w) d = but_duties others q closes batch n w polls claims counts published in
+            subst (λ x. IsWhole x s') (sym same) (whole_closing (with_worker others w) d s s' kept queues on.closed empties (pools others whole) whole);
+      }

@@ -1,12 +1,12 @@
--- The act by which the root sleeps is a step.
-use Rattle.std.{proofs.{Common.{◌≡◌, ◌≢◌, ℕ, suc, ◌+◌, ◌≤◌, ◌==◌, true, false, List, [], ◌∷◌, ◌++◌, length, map, Option, Some, None, refl, sym, ap, subst, ◌∙◌, arith, inl, inr, min, slice_get, slice_set}, lemmas.{Bool.{false≢true, eq-eqb}, List.{append-nil, length-map, map-append, map-set, set-set}, Option.slice_get_within}}, specs.VecDeque.deque_capacity}
+-- The act by which a root sleeps is a step.
+use Rattle.std.{proofs.{Common.{◌≡◌, ◌≢◌, ℕ, zero, suc, ◌+◌, ◌≤◌, ◌==◌, true, false, List, [], ◌∷◌, ◌++◌, length, map, Option, Some, None, refl, sym, ap, subst, ◌∙◌, arith, inl, inr, min, slice_get, slice_set}, lemmas.{Bool.{false≢true, eq-eqb}, List.{append-nil, length-map, map-append, map-set, set-set}, Option.slice_get_within}}, specs.VecDeque.deque_capacity}
 use Rattle.exec_base.specs.{Slab.{Slab, inserted, is_live, live_count, next_id, IsPast, TakesId}, declared.{limits.TheConstants.LONGEST_TIMEOUT, task_no.TaskNo.TaskNo}}
 use Rattle.exec_time.specs.declared.timers.{Sleeper.Sleeper as Sleeping, Observer.Observer}
 use Rattle.exec_driver.specs.Driving.{seen}
 use Rattle.exec_task.specs.{Phases.is_polled, Sight.Sight, declared.body.{Act.Act, Said.Said}}
 use Rattle.exec_machine.specs.{Choice.Choice.Plain, declared.{event.Event.{Event, TheVariants.Timer}, config.ScriptWord.ScriptWord, state.Waiting.Waiting}, Deadlines.new_sleeper, Progress.Plan, Same.is_number, Words.{moved_on, sleep_asked}, World.{Task, Common, task_of}}
 use Rattle.exec_moves.specs.declared.place.{InPoll.InPoll, Place.Place}
-use Rattle.exec_steps.{specs.{declared.parts.{mail.Reply.Reply, names.Names.Names, shared.Shared.Shared, task_slot.TaskSlot.TaskSlot, worker.Worker.Worker}, Acting.{ActsAs, HasActed, Performs, StepsOf}, Admitting.{Sleeps, most_told}, Hearing.{CanHear, held_once_come}, Phased.is_complete, Polls.OfSlot, Rooted.{Holds, IsRooted}, Scripts.{IsAnswer, held_after}, Sound.{SoundAt, IsTold, Stands, tellers}, Spots.Spot, View.{Visible, body_in, common_of, desk_of, driver_of, landed_in, open_seen, own_of, task_seen, things_of, visible}, Works.{Suits, Works}}, proofs.{Facts.set_there, Acting.{acts_so, moved_seen, moves_so}, Dozing.{OneDozes, asleep_dozes, carried_dozes, flown_dozes, holds_dozes, named_dozes, order_dozes, over_dozes, timed_dozes}, Growing.{Grown, Grows, desk_by, desk_same, few_tellers, own_by, sound_grown, told_same}, Performing.{going_on, in_poll, performs_on, still_performs}, Polling.on_in_poll, Resolving.places_fewer, Rooted.rooted_set, Taken.takes_inserted, Turning.set_found, Waking.task_there}}
+use Rattle.exec_steps.{specs.{declared.parts.{mail.Reply.Reply, names.Names.Names, shared.Shared.Shared, task_slot.TaskSlot.TaskSlot, worker.Worker.Worker}, Acting.{HasActed, Performs, PerformsAll, StepsOf}, Admitting.{Sleeps, most_told}, Hearing.{CanHear, held_once_come}, Phased.is_complete, Rooted.{Holds, IsRooted, ends_poll}, Scripts.{IsAnswer, held_after}, Sound.{SoundAt, IsTold, Stands, tellers}, Spots.Spot, View.{Views, body_in, common_of, desk_of, driver_of, landed_in, open_seen, own_of, task_seen, things_with, visible, with_view}, Works.{Suits, Works}}, proofs.{Facts.{same_thing, set_there}, Acting.{actor, acts_so, moved_seen, moves_so}, Dozing.{OneDozes, asleep_dozes, carried_dozes, flown_dozes, holds_dozes, named_dozes, order_dozes, over_dozes, timed_dozes}, Growing.{few_tellers, told_same}, Here.{IsHere, going_on, polled_here}, Own.{KeepsSleepers, records_same, sleeper_joined}, Pending.in_poll, Performing.{performs_on, still_performs}, Polling.{in_own_poll, on_in_poll}, Resolving.places_fewer, RootGrown.{Grown, Grows, acts_as_root, desk_by, desk_same, grown_beside, own_by, sound_grown, visible_by}, Rooted.rooted_set, Slots.task_there, Taken.takes_inserted, Turning.view_found}}
 
 -- what it is, by what the act was made of
 module _ {B : Type 0} (w w' : Worker) (s sx s' : Shared B) (until : ℕ) (e : Event) (slot slot' : TaskSlot B) (sound : SoundAt (Place.Poll w.root InPoll.Act) w s) (z : Sleeps w.root until w w' (record s { tasks = sx.tasks }) s' e)
@@ -84,11 +84,15 @@ module _ {B : Type 0} (w w' : Worker) (s sx s' : Shared B) (until : ℕ) (e : Ev
       let ss = s.sleepers.items in
       let one = one_dozes in
       let due = sound.due in
-      let old = sound.tied.stands slot grows.there in
+      let here : IsHere InPoll.Act w.root w s = polled_here InPoll.Act w.root w s sound refl in
+      let is : here.slot ≡ slot = same_thing here.slot slot (sym here.there ∙ grows.there) in
+      let polled : is_polled slot.cell.phase ≡ true = ap (λ (x : TaskSlot B). is_polled x.cell.phase) (sym is) ∙ here.polled in
+      let nothing : slot.waiting ≡ Waiting.Nothing = ap (λ (x : TaskSlot B). x.waiting) (sym is) ∙ here.waits in
       let before : Holds false i w.root slot.held.items Waiting.Nothing (is_complete slot.cell.phase) w.names d zs rs ss =
-      subst (λ u. Holds false i w.root slot.held.items u (is_complete slot.cell.phase) w.names d zs rs ss) old.waits (sound.rooted.root slot grows.there) in
+      subst (λ u. Holds false i w.root slot.held.items u (is_complete slot.cell.phase) w.names d zs rs ss) nothing
+      (subst (λ x. Holds (ends_poll x) i w.root slot.held.items slot.waiting (is_complete slot.cell.phase) w.names d zs rs ss) (in_own_poll w.root (Some w.root) InPoll.Act refl) (sound.rooted.root slot grows.there)) in
       let now : Holds true i w.root slot'.held.items slot'.waiting (is_complete slot'.cell.phase) w'.names d zs' rs (ss ++ z.made ∷ []) =
-      rw (held, waits, grows.cell) (holds_dozes i w.root until w.names w'.names d zs zs' rs ss z.made one slot.held.items (is_complete slot.cell.phase) (going_on slot.cell.phase old.polled) before) in
+      rw (held, waits, grows.cell) (holds_dozes i w.root until w.names w'.names d zs zs' rs ss z.made one slot.held.items (is_complete slot.cell.phase) (going_on slot.cell.phase polled) before) in
       let w1 : Worker = record w { place = Place.Poll w.root InPoll.Pend; names = w'.names; home = record w.home { driver = z.mid.home.driver; timers = zs'; deferred = z.mid.home.deferred } } in
       let s1 : Shared B = record s { tasks = s'.tasks; requests = s'.requests; sleepers = s'.sleepers; store = s'.store } in
       let grown : Grown (Place.Poll w.root InPoll.Pend) w1 d zs' rs (ss ++ z.made ∷ []) s1 = record {
@@ -107,15 +111,16 @@ module _ {B : Type 0} (w w' : Worker) (s sx s' : Shared B) (until : ℕ) (e : Ev
         };
         flown = flown_dozes i w.root until w.names w'.names d zs zs' rs ss z.made one None sound.flown;
         carried = rw store_is (carried_dozes i w.root until w.names w'.names d zs zs' rs ss z.made one s.store sound.carried);
-        rooted = subst (λ ts. IsRooted (Some InPoll.Pend) i w.root w'.names d zs' ts rs (ss ++ z.made ∷ [])) (sym grows.items)
-            (rooted_set (Some InPoll.Pend) i w.root w'.names d zs' s.tasks.items rs (ss ++ z.made ∷ []) slot slot' grows.there now);
+        rooted = subst (λ x. IsRooted x i w.root w'.names d zs' s'.tasks.items rs (ss ++ z.made ∷ [])) (sym (in_own_poll w.root (Some w.root) InPoll.Pend refl))
+            (subst (λ ts. IsRooted (Some InPoll.Pend) i w.root w'.names d zs' ts rs (ss ++ z.made ∷ [])) (sym grows.items)
+            (rooted_set (Some InPoll.Pend) i w.root w'.names d zs' s.tasks.items rs (ss ++ z.made ∷ []) slot slot' grows.there now));
       } in
       let by_driver : Grown (Place.Poll w.root InPoll.Pend) w1 (driver_of w1) zs' rs (ss ++ z.made ∷ []) s1 = subst (λ x. Grown (Place.Poll w.root InPoll.Pend) w1 x zs' rs (ss ++ z.made ∷ []) s1) (sym (ap seen z.driver)) grown in
       let by_lists : Grown (Place.Poll w.root InPoll.Pend) w1 (driver_of w1) zs' s1.requests.items s1.sleepers.items s1 =
       subst (λ xs. Grown (Place.Poll w.root InPoll.Pend) w1 (driver_of w1) zs' xs s'.sleepers.items s1) (sym requests_are)
       (subst (λ xs. Grown (Place.Poll w.root InPoll.Pend) w1 (driver_of w1) zs' rs xs s1) (sym z.sleepers) by_driver) in
       let by_worker : Grown (Place.Poll w.root InPoll.Pend) w' (driver_of w') w'.home.timers s1.requests.items s1.sleepers.items s1 = subst (λ x. Grown (Place.Poll w.root InPoll.Pend) x (driver_of x) x.home.timers s1.requests.items s1.sleepers.items s1) (sym flat) by_lists in
-      sound_grown (Place.Poll w.root InPoll.Pend) w w' s s' slot slot' sound (on_in_poll w.root InPoll.Pend) grows worker_is shared_is
+      sound_grown (Place.Poll w.root InPoll.Pend) w w' s s' slot slot' sound (on_in_poll w.root InPoll.Pend refl) grows worker_is shared_is
       (subst (λ y. Grown (Place.Poll w.root InPoll.Pend) w' (driver_of w') w'.home.timers y.requests.items y.sleepers.items y) (sym shared_is) by_worker)
 
   -- what is seen of it
@@ -131,88 +136,158 @@ module _ {B : Type 0} (w w' : Worker) (s sx s' : Shared B) (until : ℕ) (e : Ev
 
   pub visible_then : visible w' ≡ visible w
   visible_then =
-      ap visible flat ∙ ap (λ d. record { busy = d.ring.busy; landed = landed_in w'.names.requests.items d.ring }) (ap seen z.driver)
-      ∙ ap (λ ns. record { busy = (driver_of w).ring.busy; landed = landed_in ns (driver_of w).ring }) one_dozes.requests
+      ap visible flat ∙ ap (λ d. visible_by w d w'.names) (ap seen z.driver)
+      ∙ ap (λ ns. record (visible w) { landed = landed_in ns (driver_of w).ring }) one_dozes.requests
 
-module _ {B L : Type 0} (left : B → L) (runs : L → Plan → Type 0) (holds : L → Option Said → List ℕ) (spot : L → Option Said → Spot) (gives : L → Option Sight → Said → Act B → L → Option Sight → Type 0) where
-  asleep_seen : (all : Common) (slot : TaskSlot B) (b' : B) (k : ℕ) → is_polled slot.cell.phase ≡ true → (p : Plan) (moment time : ℕ) → ActsAs left runs holds spot gives all p moment slot b' (Act.Sleep time)
-      → task_seen left spot (record slot { body = Some b'; told = None; waiting = Waiting.Timer k }) ≡ record (moved_on all (task_seen left spot slot)) { waiting = Waiting.Timer k }
-  asleep_seen all slot b' k is p moment time does_so = ap (λ (y : Task). record y { waiting = Waiting.Timer k }) (moved_seen left runs holds spot gives all slot b' None is does_so.stands)
+  -- nobody else has that sleeper
+  pub sleepers_then : KeepsSleepers w.index s.sleepers.items s'.sleepers.items
+  sleepers_then = subst (KeepsSleepers w.index s.sleepers.items) (sym z.sleepers) (sleeper_joined w.index s.sleepers.items z.made (ap (λ y. y.worker) z.shown))
 
-  pub slept_by : (w w' : Worker) (s s1 s' : Shared B) (e : Event) (time : ℕ) → (h : HasActed left runs holds spot gives w s s1 (Act.Sleep (suc time))) → Sleeps w.root (w.moments.sampled + min (suc time) LONGEST_TIMEOUT) w w' s1 s' e
-      → StepsOf left runs holds spot w s e w' s'
-  slept_by w w' s s1 s' e time h sleeps =
-      let m = h.made in
-      let sound = h.sound in
-      let old = sound.tied.stands m.slot m.there in
-      let until = w.moments.sampled + min (suc time) LONGEST_TIMEOUT in
-      let k = length s.sleepers.items in
-      let z : Sleeps w.root until w w' (record s { tasks = s1.tasks }) s' e = subst (λ (x : Shared B). Sleeps w.root until w w' x s' e) m.kept sleeps in
-      let acted : TaskSlot B = record m.slot { body = Some m.acts.body'; told = None } in
-      let found : slice_get s1.tasks.items w.root ≡ Some m.slot' = ap (λ ts. slice_get ts w.root) m.tasks ∙ set_there s.tasks.items w.root m.slot' m.slot m.there in
-      let same : z.rooms.slot ≡ acted = cc (z.rooms.there, found, m.acts.slot) in
-      let root : m.slot ≡ sound.runnable.root = cc (m.there, sound.runnable.there) in
-      let number : z.rooms.slot.cell.number ≡ record { 0 = w.root } = ap (λ (x : TaskSlot B). x.cell.number) same ∙ ap (λ (x : TaskSlot B). x.cell.number) root ∙ sound.runnable.number in
-      let final : TaskSlot B = record m.slot { body = Some m.acts.body'; told = None; waiting = Waiting.Timer k } in
-      let is : z.slot' ≡ record final { held = z.slot'.held } = z.waits ∙ ap (λ (x : TaskSlot B). record x { held = z.slot'.held; waiting = Waiting.Timer k }) same in
-      let held : z.slot'.held.items ≡ m.slot.held.items = z.held ∙ ap (λ (x : TaskSlot B). x.held.items) same in
-      let items : s'.tasks.items ≡ slice_set s.tasks.items w.root z.slot' = z.tasks ∙ ap (λ ts. slice_set ts w.root z.slot') m.tasks ∙ set-set s.tasks.items w.root m.slot' z.slot' in
-      let stood : Stands (Some InPoll.Pend) w.index (record final { held = z.slot'.held }) =
-      record { polled = old.polled; body = λ b. refl; poller = old.poller; kept = old.kept; uncleared = old.uncleared; told = λ b. absurd (false≢true b); untold = λ b. refl; waits = refl } in
-      let grows : Grows (Place.Poll w.root InPoll.Pend) w s s' m.slot z.slot' = record {
-        there = m.there;
-        items = items;
-        cell = ap (λ (x : TaskSlot B). x.cell) is;
-        home = ap (λ (x : TaskSlot B). x.home) is;
-        stands = subst (Stands (Some InPoll.Pend) w.index) (sym is) stood;
-        hand = sound.hand;
-      } in
-      let waits : z.slot'.waiting ≡ Waiting.Timer k = ap (λ (x : TaskSlot B). x.waiting) is in
-      let shared = shared_is w w' s s1 s' until e m.slot z.slot' sound z number in
-      let requests = requests_are w w' s s1 s' until e m.slot z.slot' sound z number in
-      let worker = worker_is w w' s s1 s' until e m.slot z.slot' sound z number in
-      let here : record w { place = Place.Poll w.root InPoll.Act } ≡ w = ap (λ y. record w { place = y }) (sym sound.here) in
-      let works : (p : Plan) (vs : List Visible) → Suits p vs w s → OfSlot w.root s (Performs left runs holds p) → Works left spot p vs w s (Timer k until) w' s' =
-      (λ p vs suits fits.
-      let all = common_of left spot p vs s in
-      let does_so = h.asks p vs (fits m.slot m.there) in
-      let it : task_of all w.root ≡ task_seen left spot m.slot = task_there left spot s.tasks.items w.root m.slot m.there in
-      let seen : task_seen left spot z.slot' ≡ record (moved_on all (task_seen left spot m.slot)) { waiting = Waiting.Timer k } =
-      ap (task_seen left spot) is ∙ ap (λ xs. record (task_seen left spot final) { held = xs }) held ∙ asleep_seen all m.slot m.acts.body' k old.polled p w.moments.sampled (suc time) does_so in
-      let tasks : map (task_seen left spot) s'.tasks.items ≡ slice_set all.tasks w.root (record (moved_on all (task_of all w.root)) { waiting = Waiting.Timer k }) =
-      ap (map (task_seen left spot)) items ∙ map-set (task_seen left spot) s.tasks.items w.root z.slot'
-      ∙ ap (slice_set all.tasks w.root) (seen ∙ ap (λ y. record (moved_on all y) { waiting = Waiting.Timer k }) (sym it)) in
-      let long : length all.sleepers ≡ k = length-map s.sleepers.items (λ x. x.shown) in
-      let shown : map (λ x. x.shown) s'.sleepers.items ≡ all.sleepers ++ new_sleeper until w.index w.root ∷ [] =
-      ap (map (λ x. x.shown)) z.sleepers ∙ map-append (λ x. x.shown) s.sleepers.items (z.made ∷ []) ∙ ap (λ x. all.sleepers ++ x ∷ []) z.shown in
-      let changed : Common = record all { tasks = slice_set all.tasks w.root (record (moved_on all (task_of all w.root)) { waiting = Waiting.Timer k }) } in
-      subst (λ v. Works left spot p vs v s (Timer k until) w' s') here (record {
-        choice = Plain;
-        moves = moves_so left runs holds spot gives p all w s m.slot (ScriptWord.Sleep (suc time)) it does_so.asks
-            ∙ ap (λ n. record { event = Timer n until; choice = Plain; desk = record (desk_of w) { place = Place.Poll w.root InPoll.Pend }; thing = things_of w.index s }) long
-            ∙ ap (λ d. record { event = Timer k until; choice = Plain; desk = d; thing = things_of w.index s }) (sym (desk_then w w' s s1 s' until e m.slot z.slot' sound z number))
-            ∙ ap (λ x. record { event = Timer k until; choice = Plain; desk = desk_of w'; thing = x }) (sym (ap (things_of w.index) shared) ∙ ap (λ i. things_of i s') (sym (ap (λ (x : Worker). x.index) worker)));
-        may = (acts_so left runs holds spot gives all w m.slot (λ x. is_number until (sleep_asked w.moments.sampled x)) it old.waits (ap (λ x. is_number until (sleep_asked w.moments.sampled x)) does_so.asks ∙ eq-eqb until until refl), (ap (λ n. k == n) long ∙ eq-eqb k k refl, tt));
-        own = own_then w w' s s1 s' until e m.slot z.slot' sound z number;
-        common =
-            ap (λ us. common_of left spot p us s') (ap (slice_set vs w.index) (visible_then w w' s s1 s' until e m.slot z.slot' sound z number) ∙ set_found vs w.index (visible w) suits.seen)
-            ∙ ap (common_of left spot p vs) shared
-            ∙ ap (λ rs. record all { tasks = map (task_seen left spot) s'.tasks.items; requests = map (λ r. r.shown) rs; opens = map (open_seen rs) s.opens; sleepers = map (λ x. x.shown) s'.sleepers.items }) requests
-            ∙ ap (λ ts. record all { tasks = ts; sleepers = map (λ x. x.shown) s'.sleepers.items }) tasks
-            ∙ ap (λ xs. record changed { sleepers = xs }) shown;
-      })) in
-      subst (λ y. StepsOf left runs holds spot w s y w' s') (sym z.event) (
-        works,
-        subst (λ q. SoundAt q w' s') (sym (ap (λ (x : Worker). x.place) worker)) (sound_then w w' s s1 s' until e m.slot z.slot' sound z number grows held waits),
-        still_performs left runs holds w w' s s' m.slot z.slot' m.there items (ap (λ (x : Worker). x.root) worker) (ap (λ (x : Shared B). x.config) shared)
-            (λ p fits. performs_on left runs holds spot gives p (task_seen left spot m.slot) (Act.Sleep (suc time)) z.slot' m.acts.body' ((h.asks p [] fits).goes_on refl)
-            (ap (λ (x : TaskSlot B). body_in x.cell.phase x.body) is ∙ in_poll m.slot.cell.phase (Some m.acts.body') old.polled)
-            (λ answer hears.
-            let heard : CanHear None (Waiting.Timer k) answer = subst (λ (x : TaskSlot B). CanHear x.told x.waiting answer) is hears in
-            let so = slept_answer (suc time) k m.slot.held.items answer heard in
-            (so.0, so.1 ∙ sym (ap (λ u. held_once_come u z.slot'.held.items) waits ∙ held)))),
-      )
-    where
-      slept_answer : (n k : ℕ) (held : List ℕ) (answer : Said) → CanHear None (Waiting.Timer k) answer → IsAnswer {B = B} (Act.Sleep n) answer × (held_after {B = B} (Act.Sleep n) answer held ≡ held)
-      slept_answer n k held Said.Slept h = (tt, refl)
-      slept_answer n k held answer h = absurd h
+module _ {B L : Type 0} (left : B → L) (runs : L → Plan → Option ℕ → Type 0) (holds : L → Option Said → List ℕ) (spot : L → Option Said → Spot) (gives : L → Option Sight → Said → Act B → L → Option Sight → Type 0) where
+  slept_answer : (n k : ℕ) (held : List ℕ) (answer : Said) → CanHear None (Waiting.Timer k) answer → IsAnswer {B = B} (Act.Sleep n) answer × (held_after {B = B} (Act.Sleep n) answer held ≡ held)
+  slept_answer n k held Said.Slept h = (tt, refl)
+  slept_answer n k held answer h = absurd h
+
+  -- of the worker's root
+  module _ (w w' : Worker) (s s1 s' : Shared B) (e : Event) (time : ℕ) (h : HasActed left runs holds spot gives w.root w s s1 (Act.Sleep (suc time)))
+      (sleeps : Sleeps w.root (w.moments.sampled + min (suc time) LONGEST_TIMEOUT) w w' s1 s' e) where
+    abbrev wakes_at : ℕ
+    wakes_at = w.moments.sampled + min (suc time) LONGEST_TIMEOUT
+
+    abbrev timer : ℕ
+    timer = length s.sleepers.items
+
+    abbrev sleeping_slot : TaskSlot B
+    sleeping_slot = record h.made.slot { body = Some h.made.acts.body'; told = None; waiting = Waiting.Timer timer }
+
+    abbrev acts_so_far : Sleeps w.root wakes_at w w' (record s { tasks = s1.tasks }) s' e
+    acts_so_far = subst (λ (x : Shared B). Sleeps w.root wakes_at w w' x s' e) h.made.kept sleeps
+
+    -- what it was made of
+    pub record IsMade (slot' : TaskSlot B) : Type 0 where
+      pub is : slot' ≡ record sleeping_slot { held = slot'.held }
+      pub held : slot'.held.items ≡ h.made.slot.held.items
+      pub items : s'.tasks.items ≡ slice_set s.tasks.items w.root slot'
+      pub grows : Grows (Place.Poll w.root InPoll.Pend) w s s' h.made.slot slot'
+      pub number : acts_so_far.rooms.slot.cell.number ≡ record { 0 = w.root }
+
+    made_so : IsMade acts_so_far.slot'
+    made_so =
+        let m = h.made in
+        let z = acts_so_far in
+        let here : IsHere InPoll.Act w.root w s = polled_here InPoll.Act w.root w s h.sound refl in
+        let was : here.slot ≡ m.slot = same_thing here.slot m.slot (sym here.there ∙ m.there) in
+        let old : Stands (Some InPoll.Act) w.index m.slot = subst (Stands (Some InPoll.Act) w.index) was (here.root refl).0 in
+        let acted : TaskSlot B = record m.slot { body = Some m.acts.body'; told = None } in
+        let found : slice_get s1.tasks.items w.root ≡ Some m.slot' = ap (λ ts. slice_get ts w.root) m.tasks ∙ set_there s.tasks.items w.root m.slot' m.slot m.there in
+        let same : z.rooms.slot ≡ acted = same_thing z.rooms.slot m.slot' (sym z.rooms.there ∙ found) ∙ m.acts.slot in
+        let root : m.slot ≡ h.sound.runnable.root = same_thing m.slot h.sound.runnable.root (sym m.there ∙ h.sound.runnable.there) in
+        let is : z.slot' ≡ record sleeping_slot { held = z.slot'.held } = z.waits ∙ ap (λ (x : TaskSlot B). record x { held = z.slot'.held; waiting = Waiting.Timer timer }) same in
+        let items : s'.tasks.items ≡ slice_set s.tasks.items w.root z.slot' = z.tasks ∙ ap (λ ts. slice_set ts w.root z.slot') m.tasks ∙ set-set s.tasks.items w.root m.slot' z.slot' in
+        let stood : Stands (Some InPoll.Pend) w.index (record sleeping_slot { held = z.slot'.held }) =
+        record { polled = old.polled; body = λ b. refl; poller = λ b. old.poller refl; kept = old.kept; uncleared = old.uncleared; told = λ b. absurd (false≢true b); untold = λ b. refl; waits = refl } in
+        record {
+          is = is;
+          held = z.held ∙ ap (λ (x : TaskSlot B). x.held.items) same;
+          items = items;
+          grows = record {
+            there = m.there;
+            items = items;
+            cell = ap (λ (x : TaskSlot B). x.cell) is;
+            home = ap (λ (x : TaskSlot B). x.home) is;
+            stands = subst (λ x. Stands x w.index z.slot') (sym (in_own_poll w.root (Some w.root) InPoll.Pend refl)) (subst (Stands (Some InPoll.Pend) w.index) (sym is) stood);
+            polls = refl;
+            hands = refl;
+            drops = refl;
+          };
+          number = ap (λ (x : TaskSlot B). x.cell.number) same ∙ ap (λ (x : TaskSlot B). x.cell.number) root ∙ h.sound.runnable.number;
+        }
+
+    -- the task that is seen then
+    seen_then : (p : Plan) (vs : Views) → Performs left runs holds p h.made.slot
+        → task_seen left spot acts_so_far.slot' ≡ record (moved_on (common_of left spot p vs s) (task_seen left spot h.made.slot)) { waiting = Waiting.Timer timer }
+    seen_then p vs fits =
+        let m = h.made in
+        let z = acts_so_far in
+        let it : IsMade z.slot' = made_so in
+        let polled = (actor left runs holds spot gives w.root w s s1 (Act.Sleep (suc time)) h).polled in
+        ap (task_seen left spot) it.is ∙ ap (λ xs. record (task_seen left spot sleeping_slot) { held = xs }) it.held
+        ∙ ap (λ (y : Task). record y { waiting = Waiting.Timer timer }) (moved_seen left spot (common_of left spot p vs s) m.slot m.acts.body' None polled (h.asks p vs fits).stands)
+
+    works_then : (p : Plan) (vs : Views) → Suits p vs w s → PerformsAll left runs holds p s → Works left spot p vs w s (Timer timer wakes_at) w' s'
+    works_then p vs suits fits =
+        let m = h.made in
+        let z = acts_so_far in
+        let sound = h.sound in
+        let made : IsMade z.slot' = made_so in
+        let all = common_of left spot p vs s in
+        let does_so = h.asks p vs (fits w.root m.slot m.there) in
+        let it : task_of all w.root ≡ task_seen left spot m.slot = task_there left spot s.tasks.items w.root m.slot m.there in
+        let waits = (actor left runs holds spot gives w.root w s s1 (Act.Sleep (suc time)) h).waits in
+        let shared = shared_is w w' s s1 s' wakes_at e m.slot z.slot' sound z made.number in
+        let requests = requests_are w w' s s1 s' wakes_at e m.slot z.slot' sound z made.number in
+        let tasks : map (task_seen left spot) s'.tasks.items ≡ slice_set all.tasks w.root (record (moved_on all (task_of all w.root)) { waiting = Waiting.Timer timer }) =
+        ap (map (task_seen left spot)) made.items ∙ map-set (task_seen left spot) s.tasks.items w.root z.slot'
+        ∙ ap (slice_set all.tasks w.root) (seen_then p vs (fits w.root m.slot m.there) ∙ ap (λ y. record (moved_on all y) { waiting = Waiting.Timer timer }) (sym it)) in
+        let long : length all.sleepers ≡ timer = length-map s.sleepers.items (λ x. x.shown) in
+        let shown : map (λ x. x.shown) s'.sleepers.items ≡ all.sleepers ++ new_sleeper wakes_at w.index w.root ∷ [] =
+        ap (map (λ x. x.shown)) z.sleepers ∙ map-append (λ x. x.shown) s.sleepers.items (z.made ∷ []) ∙ ap (λ x. all.sleepers ++ x ∷ []) z.shown in
+        let changed : Common = record all { tasks = slice_set all.tasks w.root (record (moved_on all (task_of all w.root)) { waiting = Waiting.Timer timer }) } in
+        let again : with_view vs w.index (visible w') ≡ vs = ap (with_view vs w.index) (visible_then w w' s s1 s' wakes_at e m.slot z.slot' sound z made.number) ∙ view_found vs w.index (visible w) suits.seen in
+        let back : record w { place = Place.Poll w.root InPoll.Act } ≡ w = ap (λ y. record w { place = y }) (sym sound.here) in
+        subst (λ v. Works left spot p vs v s (Timer timer wakes_at) w' s') back (record {
+          choice = Plain;
+          moves = moves_so left spot w.root p all w s vs m.slot (ScriptWord.Sleep (suc time)) (λ k q c v x us. refl) it does_so.asks
+              ∙ ap (λ n. record { event = Timer n wakes_at; choice = Plain; desk = record (desk_of w) { place = Place.Poll w.root InPoll.Pend }; thing = things_with vs s }) long
+              ∙ ap (λ d. record { event = Timer timer wakes_at; choice = Plain; desk = d; thing = things_with vs s }) (sym (desk_then w w' s s1 s' wakes_at e m.slot z.slot' sound z made.number))
+              ∙ ap (λ x. record { event = Timer timer wakes_at; choice = Plain; desk = desk_of w'; thing = x }) (sym (ap (λ v. things_with v s') again ∙ ap (things_with vs) shared));
+          may = (acts_so left spot w.root all w m.slot (λ x. is_number wakes_at (sleep_asked w.moments.sampled x)) it waits (ap (λ x. is_number wakes_at (sleep_asked w.moments.sampled x)) does_so.asks ∙ eq-eqb wakes_at wakes_at refl), (ap (λ n. timer == n) long ∙ eq-eqb timer timer refl, tt));
+          own = own_then w w' s s1 s' wakes_at e m.slot z.slot' sound z made.number;
+          common =
+              ap (λ v. common_of left spot p v s') again
+              ∙ ap (common_of left spot p vs) shared
+              ∙ ap (λ rs. record all { tasks = map (task_seen left spot) s'.tasks.items; requests = map (λ r. r.shown) rs; opens = map (open_seen rs) s.opens; sleepers = map (λ x. x.shown) s'.sleepers.items }) requests
+              ∙ ap (λ ts. record all { tasks = ts; sleepers = map (λ x. x.shown) s'.sleepers.items }) tasks
+              ∙ ap (λ xs. record changed { sleepers = xs }) shown;
+        })
+
+    pub slept_root : StepsOf left runs holds spot w s e w' s'
+    slept_root =
+        let m = h.made in
+        let z = acts_so_far in
+        let sound = h.sound in
+        let made : IsMade z.slot' = made_so in
+        let q : Place = Place.Poll w.root InPoll.Pend in
+        let shared = shared_is w w' s s1 s' wakes_at e m.slot z.slot' sound z made.number in
+        let requests = requests_are w w' s s1 s' wakes_at e m.slot z.slot' sound z made.number in
+        let worker = worker_is w w' s s1 s' wakes_at e m.slot z.slot' sound z made.number in
+        let waits : z.slot'.waiting ≡ Waiting.Timer timer = ap (λ (x : TaskSlot B). x.waiting) made.is in
+        let polled = (actor left runs holds spot gives w.root w s s1 (Act.Sleep (suc time)) h).polled in
+        let now : SoundAt q w' s' = sound_then w w' s s1 s' wakes_at e m.slot z.slot' sound z made.number made.grows made.held waits in
+        subst (λ y. StepsOf left runs holds spot w s y w' s') (sym z.event) (
+          works_then,
+          subst (λ y. SoundAt y w' s') (sym (ap (λ (x : Worker). x.place) worker)) now,
+          still_performs left runs holds w.root w w' s s' m.slot z.slot' m.there made.items (ap (λ (x : Worker). x.root) worker) (ap (λ (x : Shared B). x.config) shared)
+              (λ p fits. performs_on left runs holds spot gives p (task_seen left spot m.slot) (Act.Sleep (suc time)) z.slot' m.acts.body' ((h.asks p (record { workers = []; calls = [] }) fits).goes_on refl)
+              made.grows.home
+              (ap (λ (x : TaskSlot B). body_in x.cell.phase x.body) made.is ∙ in_poll m.slot.cell.phase (Some m.acts.body') polled)
+              (λ answer hears.
+              let heard : CanHear None (Waiting.Timer timer) answer = subst (λ (x : TaskSlot B). CanHear x.told x.waiting answer) made.is hears in
+              let so = slept_answer (suc time) timer m.slot.held.items answer heard in
+              (so.0, so.1 ∙ sym (ap (λ u. held_once_come u z.slot'.held.items) waits ∙ made.held)))),
+          grown_beside q w w' s s' m.slot z.slot' sound (on_in_poll w.root InPoll.Pend refl) made.grows worker shared (records_same w.index s.requests.items s'.requests.items requests)
+              (sleepers_then w w' s s1 s' wakes_at e m.slot z.slot' sound z made.number) now.carried.room,
+        )
+
+  -- a task that sleeps is a root
+  pub slept_by : (t : ℕ) (w w' : Worker) (s s1 s' : Shared B) (e : Event) (time : ℕ) → HasActed left runs holds spot gives t w s s1 (Act.Sleep (suc time))
+      → Sleeps t (w.moments.sampled + min (suc time) LONGEST_TIMEOUT) w w' s1 s' e → StepsOf left runs holds spot w s e w' s'
+  slept_by t w w' s s1 s' e time h sleeps =
+      let mine : t ≡ w.root = acts_as_root left runs holds spot gives t w s s1 (Act.Sleep (suc time)) h (λ stays. stays) in
+      slept_root w w' s s1 s' e time (subst (λ u. HasActed left runs holds spot gives u w s s1 (Act.Sleep (suc time))) mine h)
+      (subst (λ u. Sleeps u (w.moments.sampled + min (suc time) LONGEST_TIMEOUT) w w' s1 s' e) mine sleeps)
+
+  pub slept_at : (t : ℕ) (w w' : Worker) (s s1 s' : Shared B) (e : Event) (time : ℕ) → (time ≡ 0 → ⊥) → HasActed left runs holds spot gives t w s s1 (Act.Sleep time)
+      → Sleeps t (w.moments.sampled + min time LONGEST_TIMEOUT) w w' s1 s' e → StepsOf left runs holds spot w s e w' s'
+  slept_at t w w' s s1 s' e zero some h sleeps = absurd (some refl)
+  slept_at t w w' s s1 s' e (suc time) some h sleeps = slept_by t w w' s s1 s' e time h sleeps

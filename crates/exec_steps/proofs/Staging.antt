@@ -3,13 +3,13 @@ use Rattle.std.{proofs.{Common.{◌≡◌, ◌⊎◌, ℕ, ◌+◌, ◌<◌, ◌
 use Rattle.exec_base.specs.Slab.{Slab, value_at}
 use Rattle.exec_time.specs.declared.timers.Sleeper.{Sleeper as Sleeping}
 use Rattle.exec_request.specs.States.{asks_cancel}
-use Rattle.exec_ring.specs.declared.completion.Submission.{Submission}
+use Rattle.exec_ring.specs.{Rings.completions, declared.completion.Submission.Submission}
 use Rattle.exec_waiters.{specs.{States.{waiter_at, flying_count}, declared.{waiter.{Entry.TheVariants.Pending, Waiter.Waiter}, waiter_id.WaiterId.WaiterId}}, proofs.Changes.entry_of}
 use Rattle.exec_driver.{specs.{Driving.{Driving, request_at, is_cancelled, is_queued, is_full as is_ring_full, may_stage_one}, Lists.{has_first, first_of, rest_of, is_among}, Punctual.IsPunctual, Steps.{cancel_entry, cancel_staged}}, proofs.Counting.same_written}
 use Rattle.exec_task.specs.declared.body.Said.{Said}
-use Rattle.exec_machine.specs.{declared.{config.Configuration.Configuration, event.Event.{Event, TheVariants.Cancel}}, Progress.Plan, Ranges.ring_size, Same.is_number, Tests.{is_empty, is_in_flight, is_staged}, World.request_of}
-use Rattle.exec_moves.specs.{Callback.is_full, Load.may_stage, Move.move_submit, Submit.{due_next, staging_due, first_due, Due.Cancels}, declared.place.{Service.Service, Place.Place, InService.InService}}
-use Rattle.exec_steps.{specs.{declared.parts.{mail.Reply.Reply, names.Names.Names, record.Record.Record, sleeping.SleeperRecord.SleeperRecord, shared.Shared.Shared, worker.Worker.Worker}, Flown.{HasFlown, IsPlain, operations}, Records.number_in, Serving.{AreKnown, AreTagged, cancels_in, changed_at}, Sound.{SoundAt, IsAlike, IsNamed, IsSubmitted, served_in}, Spots.Spot, Submitting.{AreNamed, IsIdle, StagesCancel, must_flush}, View.{Visible, visible, own_of, desk_of, driver_of, common_of, things_of, numbers_of}, Works.{Suits, Steps}}, proofs.{Going.{ours_on, owning_on, GoesOn, same_worker}, Marking.{plain_kept, mark_if, marked, was_marked, marked_length}, Serving.{serves_to, IsServed, OthersKept, Follows, Serves, Keeps, KeepsBy, keeps_all}, Facts.by_not_not, Calling.request_seen, Carries.carried_marked, Changing.{OneGoesOn, keeps_one, others_there, all_go_one}, Conveying.carried_beside, Flown.landed_on, Idling.{comes_to_staging, none_due, none_gated}, Seeing.{makes, shows, served, common_changed}, Turning.set_found}}
+use Rattle.exec_machine.specs.{declared.{config.Configuration.Configuration, event.Event.{Event, TheVariants.Cancel}}, Progress.Plan, Ranges.ring_size, Same.is_number, Tests.{is_empty, is_in_flight, is_staged}, World.{Common, request_of}}
+use Rattle.exec_moves.specs.{Callback.is_full, Load.may_stage, Move.move_submit, Submit.{due_next, staging_due, first_due, one_more, submits, Due.Cancels}, declared.place.{Service.Service, Place.Place, InService.InService}}
+use Rattle.exec_steps.{specs.{declared.parts.{mail.Reply.Reply, names.Names.Names, record.Record.Record, sleeping.SleeperRecord.SleeperRecord, shared.Shared.Shared, worker.Worker.Worker}, Flown.{HasFlown, IsPlain, ends_in, operations}, Places.one_if, Records.number_in, Serving.{AreTagged, cancels_in, changed_at}, Sound.{SoundAt, IsAlike, IsNamed, IsSubmitted, served_in}, Spots.Spot, Submitting.{AreNamed, IsIdle, StagesCancel, must_flush}, View.{Views, visible, with_view, own_of, desk_of, driver_of, common_of, seat_seen, things_with, numbers_of}, Works.{Suits, Steps}}, proofs.{Going.{owning_on, GoesOn, same_worker}, Marking.{known_then, plain_kept, mark_if, marked, was_marked}, Serving.{serves_to, IsServed, OthersKept, Follows, Serves, SparesRecords, Keeps, KeepsBy, keeps_all, spares_one}, Facts.by_not_not, Calling.request_seen, Carries.carried_marked, Changing.{OneGoesOn, keeps_one, others_there, all_go_one}, Conveying.carried_beside, Flown.landed_on, Idling.{comes_to_staging, none_due, none_gated}, Keeping.polls_same, Seeing.{makes, shows, served, common_changed, common_same, ring_again, things_kept}}}
 
 -- WHAT IS SEEN
 
@@ -31,15 +31,15 @@ idle_at v w s idle =
     let q : Place = Place.Service (InService.Submit idle.gate) v in
     record { gate = idle.gate; sound = subst (λ x. SoundAt q x s) (ap (λ y. record w { place = y }) idle.sound.here) idle.sound; lists = idle.lists; due = idle.due; enrolments = idle.enrolments }
 
-pub suits_at : {B : Type 0} (q : Place) (p : Plan) (vs : List Visible) (w : Worker) (s : Shared B) → Suits p vs w s → Suits p vs (record w { place = q }) s
+pub suits_at : {B : Type 0} (q : Place) (p : Plan) (vs : Views) (w : Worker) (s : Shared B) → Suits p vs w s → Suits p vs (record w { place = q }) s
 suits_at q p vs w s suits = record { config = suits.config; seen = suits.seen; workers = suits.workers }
 
 pub stages_again : (gate : ℕ) (v : Service) → Follows (Place.Service (InService.Submit gate) v) (Place.Service (InService.Submit gate) v)
-stages_again gate v = record { from = refl; to = refl; serves = refl; armed = refl; closes = refl; wakes = refl; permits = refl; moment = λ m. refl }
+stages_again gate v = record { from = refl; to = refl; serves = refl; armed = refl; closes = refl; wakes = refl; permits = refl; moment = λ m. refl; searches = refl; published = refl }
 
 module _ {B L : Type 0} (left : B → L) (spot : L → Option Said → Spot) where
   -- nothing else is next for the machine
-  pub staging_next : (v : Service) (w : Worker) (s : Shared B) → (idle : IsIdle v w s) → (p : Plan) (vs : List Visible) → Suits p vs w s
+  pub staging_next : (v : Service) (w : Worker) (s : Shared B) → (idle : IsIdle v w s) → (p : Plan) (vs : Views) → Suits p vs w s
       → due_next p.config w.index idle.gate (own_of w) (common_of left spot p vs s) (desk_of w) ≡ staging_due p.config (own_of w) (desk_of w)
   staging_next v w s idle p vs suits =
       let sound = idle.sound in
@@ -75,10 +75,6 @@ marks_phase false r = refl
 
 marks_plain : (r : Record) → IsPlain r.shown → IsPlain (marks_cancel r).shown
 marks_plain r p = record { bounded = p.bounded; moved = p.moved; first_part = p.first_part; unhinted = p.unhinted; ungated = p.ungated; deadline = p.deadline }
-
-pub known_then : (ks : List ℕ) (rs : List Record) (k : ℕ) (f : Record → Record) → AreKnown ks rs → AreKnown ks (changed_at rs k f)
-known_then [] rs k f known = tt
-known_then (q ∷ ks) rs k f known = (rw (marked_length f rs k) known.0, known_then ks rs k f known.1)
 
 among_later : (id other : WaiterId) (ids : List WaiterId) → is_among other ids ≡ true → is_among other (id ∷ ids) ≡ true
 among_later id other ids h = rw h (or_true ((id.0.index == other.0.index) && (id.0.generation == other.0.generation)))
@@ -160,7 +156,7 @@ module _ {B : Type 0} (v : Service) (w : Worker) (s : Shared B) (idle : IsIdle v
         alike = a;
         cancelled = a.cancelled ∙ asked;
         flies = a.flying ∙ a.going asked;
-        unstaged = idle.sound.flown.uncancelled id r.0 (among_first id (driver_of w).lists.cancels first) r.1;
+        unstaged = idle.sound.flown.uncancelled id r.0 (among_first id (driver_of w).lists.cancels first) r.1 r.3;
       }
 
   pub asks : Asks
@@ -247,17 +243,16 @@ module _ {B L : Type 0} (left : B → L) (spot : L → Option Said → Spot) whe
       subst (λ ks. IsSubmitted w.index ks w'.names.untold.items d'.ring rs') (ap (λ x. x.items) (sym unchanged)) (record {
         tagged = tagged_after d.ring.staged id sub.tagged;
         cancels = one_cancel_more d.ring.staged id ∙ ap (λ n. n + 1) sub.cancels ∙ sym (ap length it.untold ∙ length-append w.names.untold.items (k ∷ []));
-        known = known_then w.names.staged.items rs k marks_cancel sub.known;
+        known = known_then marks_cancel rs k w.names.staged.items sub.known;
         own = λ j x h found. let old = all.was j x found in same_worker old.r x old.on ∙ sub.own j old.r h old.there;
         all = λ j x found mine staged.
             let old = was_marked marks_cancel rs k j x found in
             sub.all j old.0 old.1 (sym (marks_worker (k == j) old.0) ∙ sym (ap (λ y. y.shown.worker) old.2) ∙ mine) (sym (ap is_staged (marks_phase (k == j) old.0)) ∙ sym (ap (λ y. is_staged y.shown.phase) old.2) ∙ staged);
-        unraised = sub.unraised;
       }) in
       let flown = sound.flown in
       let untold_more : length w'.names.untold.items ≡ length w.names.untold.items + 1 = ap length it.untold ∙ length-append w.names.untold.items (k ∷ []) in
       let entries_more : length d'.ring.staged ≡ length d.ring.staged + 1 = length-append d.ring.staged (cancel_entry id ∷ []) in
-      let named_apart : (other : WaiterId) (x : Record) → is_among other (rest_of d.lists.cancels) ≡ true → slice_get rs' (number_in w.names.requests.items other.0) ≡ Some x → x.shown.cancel_staged ≡ false = λ other x among found.
+      let named_apart : (other : WaiterId) (x : Record) → is_among other (rest_of d.lists.cancels) ≡ true → slice_get rs' (number_in w.names.requests.items other.0) ≡ Some x → x.shown.worker ≡ w.index → x.shown.cancel_staged ≡ false = λ other x among found mine.
       let listed : is_among other d.lists.cancels ≡ true = ap (is_among other) split ∙ among_later id other (rest_of d.lists.cancels) among in
       let live = live_by (request_at d other) (idle.lists.cancels other listed) in
       let before = sound.named.requests other.0 (rw (entry_of (value_at d.requests other.0) live.0 live.1) refl) in
@@ -266,21 +261,20 @@ module _ {B L : Type 0} (left : B → L) (spot : L → Option Said → Spot) whe
       let same_name : other.0 ≡ id.0 = sym before.2 ∙ ap (λ y. y.id.0) (sym both) ∙ ask.named in
       let no : is_among id (rest_of d.lists.cancels) ≡ true = subst (λ (y : WaiterId). is_among y (rest_of d.lists.cancels) ≡ true) (ap (λ z. record { 0 = z }) same_name) among in
       false≢true (sym (idle.lists.cancelled_once id first) ∙ no) in
-      flown.uncancelled other x listed (others_there rs k marks_cancel ask.r ask.there on (number_in w.names.requests.items other.0) x apart found) in
+      flown.uncancelled other x listed (others_there rs k marks_cancel ask.r ask.there on (number_in w.names.requests.items other.0) x apart found) mine in
       let flown_then : HasFlown (served_in q) w.index (record w.names { staged = w'.names.staged; untold = w'.names.untold }) d' rs' = record {
         ending = flown.ending;
         staging = rw unchanged flown.staging;
         telling = rw room flown.telling;
         entries = rw (unchanged, untold_more, entries_more) (omega (arith, flown.entries));
         permits = refl;
-        ours = ours_on rs rs' all w.index flown.ours;
-        plain = plain_kept marks_cancel rs k marks_plain w.index flown.ours flown.plain;
+        plain = plain_kept marks_cancel rs k marks_plain w.index (λ r. refl) flown.plain;
         landed = landed_on w.names (record w.names { staged = w'.names.staged; untold = w'.names.untold }) d d' rs rs' (operations d.ring) flown.landed
             (λ other x r given live flies found landed.
             let j = number_in w.names.requests.items other in
             record { it' = x; r' = mark_if marks_cancel (k == j) r; live = live; flies = refl; same = refl; number = refl; there = marked marks_cancel rs k j r found; phase = marks_phase (k == j) r });
         enrolling = flown.enrolling;
-        acks = flown.acks;
+        polled = ap (λ n. n + (one_if d.ring.armed + ends_in (completions d.ring))) (polls_same d.ring.staged (cancel_entry id) refl) ∙ flown.polled;
         owning = owning_on rs rs' all flown.owning;
         uncancelled = named_apart;
       } in
@@ -289,10 +283,12 @@ module _ {B L : Type 0} (left : B → L) (spot : L → Option Said → Spot) whe
       (subst (λ y. KeepsBy (record w { place = y; put_off = w'.put_off; names = record w.names { staged = w'.names.staged; untold = w'.names.untold } }) d' w.home.timers rs' s.sleepers.items s) (sym there)
       (keeps_one q q w'.put_off w'.names w s d' id.0 ask.it ask.it ask.r marks_cancel sound (stages_again idle.gate v) one (subst IsPunctual it.driver punctual) (λ h. idle.due) sound.due.order sound.due.wheel refl submitted flown_then
       (carried_beside w.names.requests.items d.requests d.ring rs' s.store (carried_marked w.names.requests.items d.requests d.ring rs s.store sound.carried k marks_cancel (λ r at. refl) (λ r at. refl)) (cancel_entry id).window 4294967295 (λ h. omega (arith, h))))) in
-      let serves : Serves q w w' s s' = serves_to q q w w' s s' (subst (IsServed w) (sym it.worker) refl) (subst (OthersKept s) (sym it.shared) refl) there refl refl refl refl in
+      let serves : Serves q w w' s s' = serves_to q q w w' s s' (subst (IsServed w) (sym it.worker) refl) (subst (OthersKept s) (sym it.shared) refl) there (stages_again idle.gate v) in
       let show = shows q w w' s s' d' serves it.driver in
+      let seen : visible w' ≡ visible w = show.seen in
+      let spares : SparesRecords w.index s s' = spares_one w.index s s' k ask.r marks_cancel it.records (ap (λ (y : Shared B). y.sleepers.items) it.shared) ask.there ask.worker (λ y. refl) in
       subst (λ x. Steps left spot w s x w' s') (sym it.event)
-      (served left spot q w w' s s' (Cancel k) sound serves keeps
+      (served left spot q w w' s s' (Cancel k) sound serves keeps spares
       (λ p vs suits.
       let c = p.config in
       let all = common_of left spot p vs s in
@@ -303,12 +299,14 @@ module _ {B L : Type 0} (left : B → L) (spot : L → Option Said → Spot) whe
       rw (flush_seen c w0 (sound.sized ∙ ap ring_size suits.config), unflushed, numbers) refl in
       record {
         moves =
-            ap (move_submit c w.index (own_of w0) all (desk_of w0) (things_of w.index s) idle.gate v) (staging_next left spot v w0 s (idle_at v w s idle) p vs (suits_at q p vs w s suits) ∙ due)
-            ∙ ap (λ x. makes (Cancel k) x (things_of w.index s)) (sym (show.desk ∙ rw (there, off, ap (λ x. x.home.deferred) it.worker, entries_more) refl));
+            ap (move_submit c w.index (own_of w0) all (desk_of w0) (things_with vs s) idle.gate v) (staging_next left spot v w0 s (idle_at v w s idle) p vs (suits_at q p vs w s suits) ∙ due)
+            ∙ ap (makes (Cancel k) (submits v idle.gate (one_more (desk_of w0)))) (ring_again (things_with vs s) w.index all)
+            ∙ ap (λ x. makes (Cancel k) x (things_with vs s)) (sym (show.desk ∙ rw (there, off, ap (λ x. x.home.deferred) it.worker, entries_more) refl))
+            ∙ ap (makes (Cancel k) (desk_of w')) (sym (things_kept vs w.index (visible w) (visible w') s s' suits.seen (ap (λ y. y.wakes) seen) serves.shared));
         may = (refl, (ap (λ ks. is_number k (slice_get ks 0)) numbers ∙ eq-eqb k k refl, (ap (λ x. x.worker == w.index) request ∙ ap (λ i. i == w.index) ask.worker ∙ eq-eqb w.index w.index refl, (ap (λ x. is_in_flight x.phase) request ∙ ask.flies, (ap (λ x. x.cancelled) request ∙ ask.cancelled, (ap (λ x. not x.cancel_staged) request ∙ ap not ask.unstaged, tt))))));
         own = show.own ∙ rw (there, ap (λ x. x.names.ended) it.worker, it.untold, numbers) refl;
         common =
-            ap (λ us. common_of left spot p us s') (ap (λ x. slice_set vs w.index x) show.seen ∙ set_found vs w.index (visible w) suits.seen)
-            ∙ common_changed left spot p vs s s' k ask.r marks_cancel it.shared it.records ask.there (λ x. refl)
+            common_changed left spot p (with_view vs w.index (visible w')) s s' k ask.r marks_cancel it.shared it.records ask.there (λ x. refl)
+            ∙ ap (λ (x : Common). record x { requests = slice_set (map (λ y. y.shown) rs) k (marks_cancel ask.r).shown }) (common_same left spot p vs w w' s suits (λ c. ap (λ y. seat_seen y c) seen))
             ∙ ap (λ x. record all { requests = slice_set (map (λ y. y.shown) rs) k (record x { cancel_staged = true }) }) (sym request);
       }))

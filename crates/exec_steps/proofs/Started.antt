@@ -2,13 +2,13 @@
 use Rattle.std.{proofs.{Common.{◌≡◌, ◌≢◌, ℕ, ◌+◌, ◌-◌, ◌<◌, ◌==◌, ◌&&◌, ◌||◌, Bool, true, false, not, List, [], ◌∷◌, ◌++◌, length, map, Option, Some, refl, sym, ap, subst, ◌∙◌, arith, slice_get, slice_set, nat_lt, is_some}, lemmas.{Bool.{false≢true, eq-eqb}, List.{length-append, Folds.list_any-append}, Option.slice_get_within}}, specs.Vec.vec_capacity}
 use Rattle.exec_base.specs.Slab.{value_at, written}
 use Rattle.exec_request.specs.Requests.{deadline_of}
-use Rattle.exec_ring.specs.{Kernels.with_entry, Rings.RingState}
-use Rattle.exec_waiters.{specs.{States.{waiter_at, takes_tick, flying_count, file_of}, declared.{waiter.{Entry.TheVariants.Pending, Waiter.Waiter}, waiter_id.WaiterId.WaiterId}}, proofs.Changes.{entry_of, one_if}}
+use Rattle.exec_ring.specs.{Kernels.with_entry, Rings.{RingState, completions}}
+use Rattle.exec_waiters.{specs.{States.{waiter_at, takes_tick, flying_count, file_of}, declared.{waiter.{Entry.TheVariants.Pending, Waiter.Waiter}, waiter_id.WaiterId.WaiterId}}, proofs.Changes.{entry_of, one_if as one_if_waiter}}
 use Rattle.exec_driver.specs.{Driving.{Driving, may_stage_one}, Lists.{has_first, first_of, rest_of, is_among, after_queued}, Opens.account_in, Punctual.IsPunctual, Steps.{StagesOne, with_staged}}
 use Rattle.exec_task.specs.declared.body.Said.{Said}
-use Rattle.exec_machine.specs.{declared.{event.Event.{Event, TheVariants.Stage}, state.{Request.Request, RequestPhase.RequestPhase}}, Ranges.ring_size, Requests.{asks_hint, is_enrolled, staged}, Same.is_number, Tests.{is_queued as is_phase_queued, is_resolved, is_staged}, World.request_of}
-use Rattle.exec_moves.specs.{Move.move_submit, Submit.{staging_due, Due.Stages}, declared.place.{Service.Service, Place.Place, InService.InService}}
-use Rattle.exec_steps.{specs.{declared.parts.{mail.Reply.Reply, names.Names.Names, record.Record.Record, shared.Shared.Shared, worker.Worker.Worker}, Carried.IsCarried, Flown.{HasFlown, IsUpTo, longest, operations}, Records.number_in, Serving.{changed_at, is_cancel, is_one_of}, Sound.{IsSubmitted, served_in}, Spots.Spot, Submitting.{IsIdle, StagesRequest, must_flush}, View.{visible, own_of, desk_of, driver_of, common_of, things_of, numbers_of}, Works.Steps, Ordered.{IsOrdered, went_round}}, proofs.{Going.{ours_on, owning_on}, Marking.{plain_kept, mark_if, marked, was_marked, marked_length}, Facts.{by_name, or_left, not_same, and_right}, Serving.{serves_to, IsServed, OthersKept, Serves, Keeps, KeepsBy, keeps_all}, Calling.request_seen, Changing.{OneGoesOn, changes_one, flying_after, keeps_one, apart_number, all_go_one}, Conveying.carried_staged, Flown.landed_on, Seeing.{makes, shows, served, common_changed}, Staging.{flush_seen, idle_at, known_then, split_first, staging_next, stages_again, suits_at}, Starting.{starts_first, starts, starts_on, starts_alike, starts_if_worker, starts_if_cancel, starts_plain, simple, came_on, known_and, no_hint, tagged_by, cancels_by}, Turning.set_found, Whole.whole_kept, Orders.{alike_self, eased, eases_written, part_self}}}
+use Rattle.exec_machine.specs.{declared.{event.Event.{Event, TheVariants.Stage}, state.{Request.Request, RequestPhase.RequestPhase}}, Ranges.ring_size, Requests.{asks_hint, is_enrolled, staged}, Same.is_number, Tests.{is_queued as is_phase_queued, is_resolved, is_staged}, World.{Common, request_of}}
+use Rattle.exec_moves.specs.{Move.move_submit, Submit.{staging_due, one_more, submits, Due.Stages}, declared.place.{Service.Service, Place.Place, InService.InService}}
+use Rattle.exec_steps.{specs.{declared.parts.{mail.Reply.Reply, names.Names.Names, record.Record.Record, shared.Shared.Shared, worker.Worker.Worker}, Carried.IsCarried, Flown.{HasFlown, IsUpTo, ends_in, is_poll, longest, operations}, Places.one_if, Records.number_in, Serving.{changed_at, is_cancel, is_one_of}, Sound.{IsSubmitted, served_in}, Spots.Spot, Submitting.{IsIdle, StagesRequest, must_flush}, View.{Views, visible, with_view, own_of, desk_of, driver_of, common_of, seat_seen, things_with, numbers_of}, Works.Steps, Ordered.{IsOrdered, went_round}}, proofs.{Going.owning_on, Keeping.polls_same, Marking.{known_then, plain_kept, mark_if, marked, was_marked, marked_length}, Facts.{by_name, or_left, not_same, same_number, and_right}, Serving.{serves_to, IsServed, OthersKept, Serves, SparesRecords, Keeps, KeepsBy, keeps_all, spares_one}, Calling.request_seen, Changing.{OneGoesOn, changes_one, flying_after, keeps_one, apart_number, all_go_one}, Conveying.carried_staged, Flown.landed_on, Seeing.{makes, shows, served, common_changed, common_same, ring_again, things_kept}, Staging.{flush_seen, idle_at, split_first, staging_next, stages_again, suits_at}, Starting.{starts_first, starts, starts_on, starts_alike, starts_if_worker, starts_if_cancel, starts_plain, simple, came_on, known_and, no_hint, tagged_by, cancels_by}, Whole.whole_kept, Orders.{alike_self, eased, eases_written, part_self}}}
 
 -- among the numbers that are staged it is the last
 one_of_last : (k j : ℕ) (ks : List ℕ) → is_one_of j (ks ++ k ∷ []) ≡ (is_one_of j ks || ((k == j) || false))
@@ -18,6 +18,21 @@ or_last : (a b : Bool) → b ≡ true → (a || (b || false)) ≡ true
 or_last true b h = refl
 or_last false true h = refl
 or_last false false h = absurd (false≢true h)
+
+or_none : (a : Bool) → (a || (false || false)) ≡ true → a ≡ true
+or_none true h = refl
+or_none false h = absurd (false≢true h)
+
+-- each is of that worker
+own_then : (i : ℕ) (ks : List ℕ) (rs : List Record) (k : ℕ) → {untold : List ℕ} {r : RingState} → IsSubmitted i ks untold r rs → ((r : Record) → slice_get rs k ≡ Some r → r.shown.worker ≡ i) → (j : ℕ) (x : Record) (b : Bool) → (k == j) ≡ b
+    → is_one_of j (ks ++ k ∷ []) ≡ true → slice_get (changed_at rs k starts) j ≡ Some x → x.shown.worker ≡ i
+own_then i ks rs k sub mine j x true is h found =
+    let old = was_marked starts rs k j x found in
+    ap (λ y. y.shown.worker) old.2 ∙ starts_if_worker (k == j) old.0 ∙ mine old.0 (ap (slice_get rs) (same_number k j is) ∙ old.1)
+own_then i ks rs k sub mine j x false is h found =
+    let old = was_marked starts rs k j x found in
+    ap (λ y. y.shown.worker) old.2 ∙ starts_if_worker (k == j) old.0
+    ∙ sub.own j old.0 (or_none (is_one_of j ks) (ap (λ b. is_one_of j ks || (b || false)) (sym is) ∙ sym (one_of_last k j ks) ∙ h)) old.1
 
 staged_then : (i : ℕ) (ks : List ℕ) (rs : List Record) (k : ℕ) → {untold : List ℕ} {r : RingState} → IsSubmitted i ks untold r rs → (j : ℕ) (x : Record) (b : Bool) → (k == j) ≡ b → slice_get (changed_at rs k starts) j ≡ Some x → is_staged x.shown.phase ≡ true → x.shown.worker ≡ i
     → (is_one_of j ks || ((k == j) || false)) ≡ true
@@ -52,6 +67,7 @@ module _ {B L : Type 0} (left : B → L) (spot : L → Option Said → Spot) whe
       let cursor = came_on it.request by_driver.request come.0 by_driver.kept come.1 (by_driver.goes_on come.0 come.1) in
       let simple_is = simple by_driver.request who.r.shown.operation.length (subst (λ a. IsUpTo (longest a.kind) who.r.shown.operation.length) (who.alike.asked ∙ sym cursor.asked) plain.bounded) in
       let operates : is_cancel by_driver.entry.window.kind ≡ false = ap (λ x. is_cancel x.kind) by_driver.window ∙ simple_was.operates _ in
+      let unpolled : is_poll by_driver.entry.window.kind ≡ false = ap (λ x. is_poll x.kind) by_driver.window ∙ simple_was.unpolled _ in
       let unresolved : is_resolved who.r.shown.phase ≡ false = ap is_resolved who.queued in
       let on = starts_on who.r unresolved in
       let names_then : Names = record w.names { staged = w'.names.staged; untold = w'.names.untold } in
@@ -78,12 +94,10 @@ module _ {B L : Type 0} (left : B → L) (spot : L → Option Said → Spot) whe
       subst (λ ks. IsSubmitted w.index ks w'.names.untold.items d'.ring rs') (sym by.staged) (subst (λ ks. IsSubmitted w.index (w.names.staged.items ++ k ∷ []) ks d'.ring rs') (ap (λ x. x.items) (sym untold)) (record {
         tagged = tagged_by d.ring.staged by_driver.entry operates sub.tagged;
         cancels = cancels_by d.ring.staged by_driver.entry operates ∙ sub.cancels;
-        known = known_and w.names.staged.items k rs' (known_then w.names.staged.items rs k starts sub.known) within;
+        known = known_and w.names.staged.items k rs' (known_then starts rs k w.names.staged.items sub.known) within;
         own = λ j x h found.
-            let old = was_marked starts rs k j x found in
-            ap (λ y. y.shown.worker) old.2 ∙ starts_if_worker (k == j) old.0 ∙ sound.flown.ours j old.0 old.1;
+            own_then w.index w.names.staged.items rs k sub (λ r at. let same : r ≡ who.r = cc (at, who.there) in ap (λ y. y.shown.worker) same ∙ who.worker) j x (k == j) refl h found;
         all = λ j x found mine staged. one_of_last k j w.names.staged.items ∙ staged_then w.index w.names.staged.items rs k sub j x (k == j) refl found staged mine;
-        unraised = sub.unraised;
       })) in
       let flown = sound.flown in
       let entries_more : length d'.ring.staged ≡ length d.ring.staged + 1 = length-append d.ring.staged (by_driver.entry ∷ []) in
@@ -96,8 +110,7 @@ module _ {B L : Type 0} (left : B → L) (spot : L → Option Said → Spot) whe
         telling = rw untold flown.telling;
         entries = rw (untold, staged_more, entries_more) (omega (arith, flown.entries));
         permits = refl;
-        ours = ours_on rs rs' all w.index flown.ours;
-        plain = plain_kept starts rs k starts_plain w.index flown.ours flown.plain;
+        plain = plain_kept starts rs k starts_plain w.index (λ r. refl) flown.plain;
         landed = landed_on w.names names_then d d' rs rs' (operations d.ring) flown.landed
             (λ other x r given live flies found landed.
             let j = number_in w.names.requests.items other in
@@ -106,7 +119,7 @@ module _ {B L : Type 0} (left : B → L) (spot : L → Option Said → Spot) whe
             false≢true (sym who.idle ∙ ap (λ y. y.in_flight) (sym both) ∙ flies) in
             let apart_k = apart_number w.index w.names names_then d d' w.home.timers rs s.sleepers.items id.0 it it' who.r starts one sound.named other (rw (entry_of (value_at d.requests other) x live) refl) apart in
             record { it' = x; r' = r; live = changed.others other apart ∙ live; flies = refl; same = refl; number = refl; there = marked starts rs k j r found ∙ ap (λ b. Some (mark_if starts b r)) (not_same k j apart_k); phase = refl });
-        acks = flown.acks;
+        polled = ap (λ n. n + (one_if d.ring.armed + ends_in (completions d.ring))) (polls_same d.ring.staged by_driver.entry unpolled) ∙ flown.polled;
         owning = owning_on rs rs' all flown.owning;
         enrolling = λ other x live takes some.
             let differs : other.0 ≢ id.0 → is_among other d.lists.enrolments ≡ true = λ apart. flown.enrolling other x (sym (changed.others other.0 apart) ∙ live) takes some in
@@ -115,10 +128,10 @@ module _ {B L : Type 0} (left : B → L) (spot : L → Option Said → Spot) whe
             let is_it : x ≡ it' = cc (live, eq, changed.is_at) in
             flown.enrolling other it (ap (waiter_at d.requests) eq ∙ who.live) (ap (λ y. takes_tick y.state) (sym is_it) ∙ takes)
             (ap is_some (sym cursor.deadline) ∙ ap (λ y. is_some (deadline_of y.request)) (sym is_it) ∙ some));
-        uncancelled = λ other x among found.
+        uncancelled = λ other x among found mine.
             let j = number_in w.names.requests.items other.0 in
             let old = was_marked starts rs k j x found in
-            ap (λ y. y.shown.cancel_staged) old.2 ∙ starts_if_cancel (k == j) old.0 ∙ flown.uncancelled other old.0 among old.1;
+            ap (λ y. y.shown.cancel_staged) old.2 ∙ starts_if_cancel (k == j) old.0 ∙ flown.uncancelled other old.0 among old.1 (sym (starts_if_worker (k == j) old.0) ∙ sym (ap (λ y. y.shown.worker) old.2) ∙ mine);
       } in
       let order : IsOrdered (went_round s.config w.moments) w.names.requests.items d'.requests d'.wheel d'.lists.enrolments d'.lists.due =
       eased (eases_written d.requests id.0 it it' who.live (λ t is. is) (λ none. none)) (alike_self d.wheel) (part_self d.lists.enrolments) (part_self d.lists.due) sound.due.order in
@@ -131,14 +144,16 @@ module _ {B L : Type 0} (left : B → L) (spot : L → Option Said → Spot) whe
       keeps_all w w' s s' rs' d' same by.shared by_driver.driver by.records
       (subst (λ y. KeepsBy (record w { place = y; put_off = w'.put_off; names = names_then }) d' w.home.timers rs' s.sleepers.items s) (sym there)
       (keeps_one q q w'.put_off w'.names w s d' id.0 it it' who.r starts sound (stages_again idle.gate v) one (subst IsPunctual by_driver.driver punctual) (λ h. idle.due) order sound.due.wheel refl submitted flown_then carried)) in
-      let serves : Serves q w w' s s' = serves_to q q w w' s s' (subst (IsServed w) (sym by.worker) refl) (subst (OthersKept s) (sym by.shared) refl) there refl refl refl refl in
+      let serves : Serves q w w' s s' = serves_to q q w w' s s' (subst (IsServed w) (sym by.worker) refl) (subst (OthersKept s) (sym by.shared) refl) there (stages_again idle.gate v) in
       let show = shows q w w' s s' d' serves by_driver.driver in
+      let seen : visible w' ≡ visible w = show.seen in
+      let spares : SparesRecords w.index s s' = spares_one w.index s s' k who.r starts by.records (ap (λ (y : Shared B). y.sleepers.items) by.shared) who.there who.worker (λ y. refl) in
       let w0 : Worker = record w { place = q } in
       let flying : flying_count d'.requests ≡ flying_count d.requests + 1 =
       let n = flying_after d.requests id.0 it it' who.live in
-      omega (arith, ap one_if who.idle, n) in
+      omega (arith, ap one_if_waiter who.idle, n) in
       subst (λ x. Steps left spot w s x w' s') (sym by.event)
-      (served left spot q w w' s s' (Stage k) sound serves keeps
+      (served left spot q w w' s s' (Stage k) sound serves keeps spares
       (λ p vs suits.
       let c = p.config in
       let all = common_of left spot p vs s in
@@ -150,13 +165,15 @@ module _ {B L : Type 0} (left : B → L) (spot : L → Option Said → Spot) whe
       rw (flush_seen c w0 sized, unflushed, none, few, numbers) refl in
       record {
         moves =
-            ap (move_submit c w.index (own_of w0) all (desk_of w0) (things_of w.index s) idle.gate v) (staging_next left spot v w0 s (idle_at v w s idle) p vs (suits_at q p vs w s suits) ∙ due)
-            ∙ ap (λ x. makes (Stage k) x (things_of w.index s)) (sym (show.desk ∙ rw (there, off, ap (λ x. x.home.deferred) by.worker, entries_more) refl));
+            ap (move_submit c w.index (own_of w0) all (desk_of w0) (things_with vs s) idle.gate v) (staging_next left spot v w0 s (idle_at v w s idle) p vs (suits_at q p vs w s suits) ∙ due)
+            ∙ ap (makes (Stage k) (submits v idle.gate (one_more (desk_of w0)))) (ring_again (things_with vs s) w.index all)
+            ∙ ap (λ x. makes (Stage k) x (things_with vs s)) (sym (show.desk ∙ rw (there, off, ap (λ x. x.home.deferred) by.worker, entries_more) refl))
+            ∙ ap (makes (Stage k) (desk_of w')) (sym (things_kept vs w.index (visible w) (visible w') s s' suits.seen (ap (λ y. y.wakes) seen) serves.shared));
         may = (refl, (ap (λ ks. is_number k (slice_get ks 0)) numbers ∙ eq-eqb k k refl, (ap (λ x. x.worker == w.index) request ∙ ap (λ i. i == w.index) who.worker ∙ eq-eqb w.index w.index refl, (ap (λ x. is_phase_queued x.phase) request ∙ ap is_phase_queued who.queued, (ap (λ x. not x.cancelled) request ∙ ap not (who.alike.cancelled ∙ who.unasked), (ap is_enrolled request ∙ who.enrolled, (few, tt)))))));
         own = show.own ∙ rw (there, ap (λ x. x.names.ended) by.worker, untold, numbers, flying) refl;
         common =
-            ap (λ us. common_of left spot p us s') (ap (λ x. slice_set vs w.index x) show.seen ∙ set_found vs w.index (visible w) suits.seen)
-            ∙ common_changed left spot p vs s s' k who.r starts by.shared by.records who.there (λ x. refl)
+            common_changed left spot p (with_view vs w.index (visible w')) s s' k who.r starts by.shared by.records who.there (λ x. refl)
+            ∙ ap (λ (x : Common). record x { requests = slice_set (map (λ y. y.shown) rs) k (starts who.r).shown }) (common_same left spot p vs w w' s suits (λ c. ap (λ y. seat_seen y c) seen))
             ∙ ap (λ b. record all { requests = slice_set (map (λ y. y.shown) rs) k (record who.r.shown { operation = record who.r.shown.operation { hinted = b }; phase = RequestPhase.Staged }) }) (sym (hint_none who.r.shown (no_hint who.r.shown plain) _))
             ∙ ap (λ x. record all { requests = slice_set (map (λ y. y.shown) rs) k (staged all x) }) (sym request);
       }))

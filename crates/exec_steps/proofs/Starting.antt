@@ -8,14 +8,15 @@ use Rattle.exec_waiters.{specs.{States.{waiter_at, takes_tick, tick_in, needs_pe
 use Rattle.exec_driver.specs.{Driving.{request_at, is_queued}, Lists.{first_of, is_among}}
 use Rattle.exec_machine.specs.{declared.state.{Request.Request, RequestPhase.RequestPhase}, Requests.{asks_hint, is_enrolled}, Same.{is_none, same_kind}, Tests.{is_gated, is_in_flight, is_resolved}}
 use Rattle.exec_moves.specs.declared.place.Service.{Service}
-use Rattle.exec_steps.{specs.{declared.parts.{mail.Reply.Reply, record.Record.Record, shared.Shared.Shared, worker.Worker.Worker}, Flown.{IsPlain, IsUpTo, longest}, Records.number_in, Serving.{AreKnown, AreTagged, cancels_in, is_cancel}, Sound.IsAlike, Submitting.IsIdle, View.driver_of}, proofs.{Going.GoesOn, Marking.mark_if, Staging.among_first}}
+use Rattle.exec_steps.{specs.{declared.parts.{mail.Reply.Reply, record.Record.Record, shared.Shared.Shared, worker.Worker.Worker}, Flown.{IsPlain, IsUpTo, is_poll, longest}, Records.number_in, Serving.{AreKnown, AreTagged, cancels_in, is_cancel}, Sound.IsAlike, Submitting.IsIdle, View.driver_of}, proofs.{Going.GoesOn, Marking.mark_if, Staging.among_first}}
 
 -- A REQUEST OF THE FIRST KINDS
 
--- its operations have no hint and are no cancels
+-- its operations have no hint, and are neither cancels nor the wake poll
 pub record IsSimple (q : Asking) : Type 0 where
   pub unhinted : hinted_of q ≡ false
   pub operates : (h : Bool) → is_cancel (window_by h q).kind ≡ false
+  pub unpolled : (h : Bool) → is_poll (window_by h q).kind ≡ false
 
 pub fills : (b : Bool) (n : ℕ) → IsUpTo (longest (if b then Kind.Fill else Kind.Recv)) n → ⊥
 fills true n h = h
@@ -34,8 +35,8 @@ writes_bytes WriteAtState.WritingBeforeSync n h = h
 writes_bytes WriteAtState.Syncing n h = h
 
 pub simple : (q : Asking) (n : ℕ) → IsUpTo (longest (asked_of q).kind) n → IsSimple q
-simple (Asking.Send s) n h = record { unhinted = refl; operates = λ b. refl }
-simple (Asking.Poll p) n h = record { unhinted = refl; operates = λ b. refl }
+simple (Asking.Send s) n h = record { unhinted = refl; operates = λ b. refl; unpolled = λ b. refl }
+simple (Asking.Poll p) n h = record { unhinted = refl; operates = λ b. refl; unpolled = λ b. refl }
 simple (Asking.Recv r) n h = absurd (fills r.exact n h)
 simple (Asking.ReadAt r) n h = absurd (reads r.way (length r.buf.bytes) n h)
 simple (Asking.WriteAt w) n h = absurd (writes_bytes w.state n h)

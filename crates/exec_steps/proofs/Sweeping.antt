@@ -1,82 +1,83 @@
 -- A reaping that finds no operation which has landed.
-use Rattle.std.proofs.Common.{◌≡◌, ℕ, true, false, [], length, map, Option, refl, sym, ap, subst, ◌∙◌, arith}
-use Rattle.exec_ring.specs.Rings.{completions}
-use Rattle.exec_driver.specs.{Driving.Driving, Steps.swept}
+use Rattle.std.proofs.Common.{◌≡◌, ℕ, ◌≤◌, true, false, [], List, length, map, Option, refl, sym, ap, subst, ◌∙◌, arith}
+use Rattle.exec_ring.specs.{Rings.completions, declared.completion.{Completion.Completion, Submission.Submission}}
+use Rattle.exec_driver.specs.{Driving.Driving, Steps.{swept, with_landings}}
 use Rattle.exec_task.specs.declared.body.Said.{Said}
-use Rattle.exec_machine.specs.{declared.event.Event.{Event, TheVariants.Serve}, World.seat_of}
-use Rattle.exec_moves.specs.{Seen.serves_at, Serve.after_permit, declared.place.{Reaping.Reaping, Service.Service, Place.Place, AfterPermit.AfterPermit, InService.InService}}
-use Rattle.exec_steps.{specs.{declared.parts.{mail.Reply.Reply, shared.Shared.Shared, worker.Worker.Worker}, Carried.those_of, Flown.operations, Due.may_be_due, Serving.{AreTagged, cancels_in}, Sound.{SoundAt, served_in}, Spots.Spot, View.{visible, own_of, desk_of, driver_of, common_of, things_of, number_told, trailing}, Works.Steps}, proofs.{Serving.{serves_to, IsServed, Follows, Serves, Keeps, KeepsBy}, Seats.own_seat, Ceasing.{SameButRing, keeps_ring}, Seeing.{makes, own_with, desk_with, visible_with, served, common_same}, Swept.{SweepsTo, sweeps, operations_posted, told_in, trails_none}}}
+use Rattle.exec_machine.specs.{declared.event.Event.{Event, TheVariants.Serve}}
+use Rattle.exec_moves.specs.{Seen.serves_at, Serve.{Ring, after_permit, others_after_reap, reap, reaped}, State.{dropped, others_left, is_dropped}, Thing.{ring_of, set_wake_poll, with_ring}, declared.place.{Reaping.Reaping, Service.Service, Place.Place, AfterPermit.AfterPermit, InService.InService}}
+use Rattle.exec_steps.{specs.{declared.parts.{mail.Reply.Reply, shared.Shared.Shared, worker.Worker.Worker}, Carried.those_of, Flown.operations, Due.may_be_due, Serving.{AreTagged, cancels_in}, Sound.{SoundAt, served_in}, Spots.Spot, View.{visible, with_view, own_of, desk_of, driver_of, common_of, number_told, seat_seen, things_with, trailing, wake_poll_in}, Works.Steps}, proofs.{Entered.{ring_seen, ring_there}, Keeping.{SameButRing, keeps_ring}, Raising.poll_shows, Seeing.{Sees, common_same, served}, Serving.{Follows, IsServed, Keeps, KeepsBy, Serves, serves_to, spares_same}, Shown.{makes, own_with}, Swept.{RingAfter, ring_none}, WokenSwept.sweeps}}
 
-pub sweeps_alike : (d d' : Driving Reply Reply) → SweepsTo d.ring.posted d d' → SameButRing d d'
-sweeps_alike d d' to =
+-- a driver after a sweep, where none has landed
+pub sweeps_alike : (f : Completion → ℕ) (d d' : Driving Reply Reply) → d' ≡ with_landings d' (swept d) → operations d.ring ≡ [] → RingAfter f d d' [] → SameButRing d d'
+sweeps_alike f d d' like none ring =
+    let to = sweeps d in
     record {
-      requests = ap (λ x. x.requests) to.shape;
-      lists = ap (λ x. x.lists) to.shape;
-      wheel = ap (λ x. x.wheel) to.shape;
-      size = ap (λ x. x.ring.size) to.shape;
-      landed = operations_posted d'.ring ∙ to.landed ∙ sym (operations_posted d.ring);
-      raised = ap (λ x. x.ring.raised) to.shape;
-      acks = to.acks;
-      cancels = ap (λ x. cancels_in x.ring.staged) to.shape;
-      tagged = λ t. subst (λ x. AreTagged x.ring.staged) (sym to.shape) t;
-      entries = rw (ap (λ x. x.ring.staged) to.shape) (omega arith);
-      flies = ap (λ x. x.ring.flying) to.shape;
-      stages = λ v small. ap (λ x. those_of v x.ring.staged) to.shape;
+      requests = ap (λ x. x.requests) like ∙ ap (λ x. x.requests) to.shape;
+      lists = ap (λ x. x.lists) like ∙ ap (λ x. x.lists) to.shape;
+      wheel = ap (λ x. x.wheel) like ∙ ap (λ x. x.wheel) to.shape;
+      size = ring.size;
+      landed = ring.landed ∙ sym none;
+      polled = λ h. ring.polled;
+      cancels = ap cancels_in ring.staged;
+      tagged = λ t. subst AreTagged (sym ring.staged) t;
+      entries = subst (λ (es : List Submission). length d.ring.staged ≤ length es) (sym ring.staged) (omega arith);
+      flies = ring.flying;
+      stages = λ v small. ap (those_of v) ring.staged;
     }
 
 pub follows_reap : (r : Reaping) (v : Service) → Follows (Place.Service (InService.Reap r) v) (Place.Service (after_permit (AfterPermit.Reaped r)) v)
-follows_reap Reaping.First v = record { from = refl; to = refl; serves = refl; armed = refl; closes = refl; wakes = refl; permits = refl; moment = λ m. refl }
-follows_reap Reaping.Last v = record { from = refl; to = refl; serves = refl; armed = refl; closes = refl; wakes = refl; permits = refl; moment = λ m. refl }
+follows_reap Reaping.First v = record { from = refl; to = refl; serves = refl; armed = refl; closes = refl; wakes = refl; permits = refl; moment = λ m. refl; searches = refl; published = refl }
+follows_reap Reaping.Last v = record { from = refl; to = refl; serves = refl; armed = refl; closes = refl; wakes = refl; permits = refl; moment = λ m. refl; searches = refl; published = refl }
 
 module _ {B L : Type 0} (left : B → L) (spot : L → Option Said → Spot) where
-  pub none_reaped : (r : Reaping) (v : Service) (w w' : Worker) (s : Shared B) (e : Event) → SoundAt (Place.Service (InService.Reap r) v) w s → operations (driver_of w).ring ≡ [] → e ≡ Serve
-      → driver_of w' ≡ record (swept (driver_of w)) { landings = (driver_of w').landings } → w' ≡ record w { place = Place.Service (after_permit (AfterPermit.Reaped r)) v; home = record w.home { driver = w'.home.driver } } → Steps left spot w s e w' s
-  none_reaped r v w w' s e sound none event driver same =
+  pub none_reaped : (r : Reaping) (v : Service) (w w' : Worker) (s : Shared B) (e : Event) → (sound : SoundAt (Place.Service (InService.Reap r) v) w s) → sound.seated.seat.raised ≡ 0 → operations (driver_of w).ring ≡ [] → e ≡ Serve
+      → driver_of w' ≡ with_landings (driver_of w') (swept (driver_of w)) → w' ≡ record w { place = Place.Service (after_permit (AfterPermit.Reaped r)) v; home = record w.home { driver = w'.home.driver } } → Steps left spot w s e w' s
+  none_reaped r v w w' s e sound waits none event driver same =
       let q : Place = Place.Service (InService.Reap r) v in
       let q' : Place = Place.Service (after_permit (AfterPermit.Reaped r)) v in
       let d = driver_of w in
-      let d' : Driving Reply Reply = record (swept d) { landings = (driver_of w').landings } in
-      let to = sweeps d in
-      let like0 = sweeps_alike d (swept d) to in
-      let like : SameButRing d d' = record { requests = like0.requests; lists = like0.lists; wheel = like0.wheel; size = like0.size; landed = like0.landed; raised = like0.raised; acks = like0.acks; cancels = like0.cancels; tagged = like0.tagged; entries = like0.entries; flies = like0.flies; stages = like0.stages } in
+      let d' = driver_of w' in
+      let f = number_told w.names.requests.items in
+      let ring = ring_none f d d' driver sound.flown.polled none in
+      let like = sweeps_alike f d d' driver none ring in
       let follows = follows_reap r v in
       let w2 : Worker = record w { place = q'; home = record w.home { driver = w'.home.driver } } in
-      let serves : Serves q w w' s s = serves_to q q' w w' s s (subst (IsServed w) (sym same) refl) refl (ap (λ x. x.place) same) refl follows.to follows.armed follows.closes in
+      let serves : Serves q w w' s s = serves_to q q' w w' s s (subst (IsServed w) (sym same) refl) refl (ap (λ x. x.place) same) follows in
       let by : KeepsBy (record w { place = q'; put_off = w.put_off }) d' w.home.timers s.requests.items s.sleepers.items s =
       keeps_ring q q' w.put_off w s d' sound follows like (λ h. sound.due.told (not_due r)) in
-      let keeps : Keeps w' s =
-      subst (λ x. KeepsBy x (driver_of x) x.home.timers s.requests.items s.sleepers.items s) (sym same)
-      (subst (λ x. KeepsBy w2 x w.home.timers s.requests.items s.sleepers.items s) (sym driver) (assumption by)) in
-      let gone : told_in (swept d).ring.posted ≡ [] = to.landed ∙ sym (operations_posted d.ring) ∙ none in
-      let others : trailing 0 (completions (swept d).ring) ≡ 0 = trails_none (swept d).ring.posted (swept d).ring.wakes to.first gone (swept d).ring refl refl in
-      let armed : (swept d).armed ≡ d.armed = to.still sound.flown.acks in
-      let staged : (swept d).ring.staged ≡ d.ring.staged = ap (λ x. x.ring.staged) to.shape in
-      let busy : (swept d).ring.busy ≡ d.ring.busy = ap (λ x. x.ring.busy) to.shape in
-      let seen : visible w' ≡ visible w =
-      ap visible same ∙ ap (λ (x : Driving Reply Reply). visible_with w.names.requests.items x.ring) driver
-      ∙ ap (λ b. record { busy = b; landed = map (number_told w.names.requests.items) (operations (swept d).ring) }) busy
-      ∙ ap (λ cs. record { busy = d.ring.busy; landed = map (number_told w.names.requests.items) cs }) like0.landed in
+      let keeps : Keeps w' s = subst (λ x. KeepsBy x (driver_of x) x.home.timers s.requests.items s.sleepers.items s) (sym same) (assumption by) in
       let w0 : Worker = record w { place = q } in
+      let i = w.index in
+      let seen : visible w' ≡ record (visible w) { landed = []; wakes = dropped [] (visible w).wakes } =
+      ap visible same
+      ∙ ap (λ b. record (visible w) { busy = b; landed = map f (operations d'.ring); wakes = wake_poll_in d'.ring }) ring.busy
+      ∙ ap (λ cs. record (visible w) { landed = map f cs; wakes = wake_poll_in d'.ring }) ring.landed
+      ∙ ap (λ p. record (visible w) { landed = []; wakes = p }) ring.poll in
+      let landed_none : (visible w).landed ≡ [] = ap (map f) none in
+      let desk : desk_of w' ≡ record (others_after_reap [] (visible w).wakes (desk_of w0)) { place = q' } =
+      ap desk_of same
+      ∙ ap (λ es. record (desk_of w0) { place = q'; entries = length es; polled = d'.armed; others = trailing 0 (completions d'.ring) }) ring.staged
+      ∙ ap (λ b. record (desk_of w0) { place = q'; polled = b; others = trailing 0 (completions d'.ring) }) ring.armed
+      ∙ ap (λ n. record (others_after_reap [] (visible w).wakes (desk_of w0)) { place = q'; others = n }) ring.others in
       subst (λ x. Steps left spot w s x w' s) (sym event)
-      (served left spot q w w' s s Serve sound serves keeps
+      (served left spot q w w' s s Serve sound serves keeps (spares_same i s s refl refl)
       (λ p vs suits.
       let all = common_of left spot p vs s in
-      let chair = sound.alone.seat in
-      let landed : (seat_of all w.index).landed ≡ [] =
-      ap (λ x. x.landed) (own_seat left spot p vs w s chair suits sound.alone.there) ∙ ap (map (number_told w.names.requests.items)) none in
+      let x = things_with vs s in
+      let there = ring_there left spot q w s sound waits p vs suits in
+      let thing : Ring = record (ring_seen w) { landed = [] } in
+      let is : ring_of all x i ≡ thing = there ∙ ap (λ ks. record (ring_seen w) { landed = ks }) landed_none in
+      let shown : things_with (with_view vs i (visible w')) s ≡ set_wake_poll i x (dropped [] (visible w).wakes) =
+      poll_shows vs i s sound.seated.seat sound.seated.there waits (visible w') ∙ ap (λ y. set_wake_poll i x y.wakes) seen in
       record {
         moves =
-            rw landed
-            (sym (ap (λ x. makes Serve x (things_of w.index s))
-            (ap desk_of same ∙ ap (desk_with w q' w.put_off w.home.deferred) driver
-            ∙ ap (λ n. record (desk_with w q' w.put_off w.home.deferred d') { others = n }) others
-            ∙ ap (λ b. record (desk_with w q' w.put_off w.home.deferred d') { others = 0; polled = b }) armed
-            ∙ ap (λ es. record (desk_of w0) { place = q'; others = 0; entries = length es }) staged)));
+            ap (λ y. with_ring i x (reap i v r all (desk_of w0) y)) is
+            ∙ ap (λ y. makes Serve y (set_wake_poll i x (dropped [] (visible w).wakes))) (sym desk)
+            ∙ ap (makes Serve (desk_of w')) (sym shown);
         may = (refl, tt);
         own =
-            ap own_of same ∙ ap (own_with w q' w.names.ended.items w.names.untold.items) driver
-            ∙ own_as w q' (swept d) like0 ∙ rw (served_by r) refl;
-        common = common_same left spot p vs w w' s suits seen;
+            ap own_of same ∙ own_as w q' d' like ∙ rw (served_by r) refl;
+        common = common_same left spot p vs w w' s suits (λ c. ap (λ y. seat_seen y c) (seen ∙ ap (λ ks. record (visible w) { landed = ks; wakes = dropped [] (visible w).wakes }) (sym landed_none)));
       }))
     where
       not_due : (r : Reaping) → may_be_due (served_in (Place.Service (InService.Reap r) v)) ≡ false

@@ -6,7 +6,7 @@ use Rattle.exec_driver.specs.Driving.{Driving}
 use Rattle.exec_task.specs.declared.body.Said.{Said}
 use Rattle.exec_machine.specs.{declared.{event.Event.{Event, TheVariants.Fire}, state.{Sleeper.Sleeper, Waiting.Waiting}}, Deadlines.is_none_earlier, Tests.{is_asleep, is_open}, World.{seat_of, sleeper_of, no_sleeper}}
 use Rattle.exec_moves.specs.{Serve.first_to_fire, declared.place.{Service.Service, Place.Place, InService.InService}}
-use Rattle.exec_steps.{specs.{declared.parts.{mail.Reply.Reply, names.Names.Names, shared.Shared.Shared, record.Record.Record, sleeping.SleeperRecord.SleeperRecord, task_slot.TaskSlot.TaskSlot, worker.Worker.Worker}, Due.IsDue, Flown.HasFlown, Phased.{closes_at, is_complete}, Records.number_in, Sound.{SoundAt, IsNamed, IsTold, AreOwed, OwesWake, tellers, has_wakes_at, served_in}, Rooted.{Awaits, AwaitsTimer, Holds, ends_poll}, Spots.Spot, View.{visible, own_of, desk_of, driver_of, common_of, things_of}, Works.Steps}, proofs.{Serving.{serves_to, IsServed, OthersKept, Serves, Keeps, KeepsBy}, Seats.own_seat, Facts.{same_number, never_true}, Fired.{fires, first_found, all_by, le_self, le_is, same_timer, fired_there, other_there, told_fired, asleep_still, holds_fired}, Firing.slept_there, Seeing.{makes, served}, Turning.set_found}}
+use Rattle.exec_steps.{specs.{declared.parts.{mail.Reply.Reply, names.Names.Names, shared.Shared.Shared, record.Record.Record, sleeping.SleeperRecord.SleeperRecord, task_slot.TaskSlot.TaskSlot, worker.Worker.Worker}, Due.IsDue, Flown.HasFlown, Phased.{closes_at, is_complete}, Records.number_in, Sound.{SoundAt, IsNamed, IsTold, AreOwed, OwesWake, tellers, has_wakes_at, served_in}, Rooted.{Awaits, AwaitsTimer, Holds, ends_poll}, Spots.Spot, View.{Views, visible, with_view, own_of, desk_of, driver_of, common_of, things_with}, Works.Steps}, proofs.{Serving.{serves_to, IsServed, OthersKept, Serves, SparesRecords, Keeps, KeepsBy, spares_sleeper}, Seats.own_seat, Facts.{same_number, never_true}, Fired.{fires, first_found, all_by, le_self, le_is, same_timer, fired_there, other_there, told_fired, asleep_still, holds_fired}, Firing.slept_there, Seeing.{makes, served, things_kept}, Turning.view_found}}
 
 -- A SLEEPER IS TOLD
 
@@ -190,18 +190,20 @@ module _ {B L : Type 0} (left : B → L) (spot : L → Option Said → Spot) whe
       (subst (λ xs. KeepsBy w1 d w'.home.timers s.requests.items xs s) (sym items) by) in
       let keeps : Keeps w' s' = subst (λ y. KeepsBy w' (driver_of w') w'.home.timers y.requests.items y.sleepers.items y) (sym it.shared) (assumption by_worker) in
       let there : w'.place ≡ q = ap (λ x. x.place) it.worker ∙ sound.here in
-      let serves : Serves q w w' s s' = serves_to q q w w' s s' (subst (IsServed w) (sym it.worker) refl) (subst (OthersKept s) (sym it.shared) refl) there refl refl refl refl in
+      let serves : Serves q w w' s s' = serves_to q q w w' s s' (subst (IsServed w) (sym it.worker) refl) (subst (OthersKept s) (sym it.shared) refl) there (record { from = refl; to = refl; serves = refl; armed = refl; closes = refl; wakes = refl; permits = refl; moment = λ m. refl; searches = refl; published = refl }) in
+      let seen : visible w' ≡ visible w = ap visible it.worker in
+      let spares : SparesRecords i s s' = spares_sleeper i s s' k z (fires z) (ap (λ (y : Shared B). y.requests.items) it.shared) items found.1 found.3 refl in
       let w0 : Worker = record w { place = q } in
       let here : w ≡ w0 = ap (λ x. record w { place = x }) sound.here in
       subst (λ x. Steps left spot w s x w' s') (sym event)
-      (served left spot q w w' s s' (Fire k) sound serves keeps
+      (served left spot q w w' s s' (Fire k) sound serves keeps spares
       (λ p vs suits.
       let all = common_of left spot p vs s in
       let me = own_of w0 in
       let sleeper : sleeper_of all k ≡ z.shown = get_or_from_slice_get (map (λ y. y.shown) ss) k z.shown no_sleeper (slice_get-map (λ y. y.shown) ss k ∙ ap (option_map (λ y. y.shown)) found.1) in
-      let chair = sound.alone.seat in
-      let seat = own_seat left spot p vs w s chair suits sound.alone.there in
-      let phased = sound.phased chair sound.alone.there in
+      let chair = sound.seated.seat in
+      let seat = own_seat left spot p vs w s chair suits sound.seated.there in
+      let phased = sound.phased chair sound.seated.there in
       let going : closes_at q ≡ false = never_true (closes_at q) (λ closes.
       let done : is_complete slot.cell.phase ≡ true = phased.root slot sound.runnable.there ∙ closes in
       never_nothing slot.waiting k what (holds.over done).1) in
@@ -222,14 +224,15 @@ module _ {B L : Type 0} (left : B → L) (spot : L → Option Said → Spot) whe
       record {
         moves =
             rw (first, sleeper, waits.task)
-            (ap (λ ws. makes (Fire k) (record (desk_of w0) { wakes = map (λ t. t.0) ws ++ w.root ∷ [] }) (things_of w.index s)) none
-            ∙ ap (λ ws. makes (Fire k) (record (desk_of w0) { wakes = map (λ t. t.0) ws }) (things_of w.index s)) (sym wakes)
-            ∙ ap (λ y. makes (Fire k) (record (desk_of (record w { place = y })) { wakes = map (λ t. t.0) w'.home.deferred.notes.wakes.items }) (things_of w.index s)) (sym sound.here)
-            ∙ ap (λ x. makes (Fire k) x (things_of w.index s)) (sym (ap desk_of it.worker)));
+            (ap (λ ws. makes (Fire k) (record (desk_of w0) { wakes = map (λ t. t.0) ws ++ w.root ∷ [] }) (things_with vs s)) none
+            ∙ ap (λ ws. makes (Fire k) (record (desk_of w0) { wakes = map (λ t. t.0) ws }) (things_with vs s)) (sym wakes)
+            ∙ ap (λ y. makes (Fire k) (record (desk_of (record w { place = y })) { wakes = map (λ t. t.0) w'.home.deferred.notes.wakes.items }) (things_with vs s)) (sym sound.here)
+            ∙ ap (λ x. makes (Fire k) x (things_with vs s)) (sym (ap desk_of it.worker))
+            ∙ ap (makes (Fire k) (desk_of w')) (sym (things_kept vs i (visible w) (visible w') s s' suits.seen (ap (λ y. y.wakes) seen) serves.shared)));
         may = (refl, (opened, (ap (is_asleep i) sleeper ∙ asleep.asleep, (ap (λ y. nat_le y.until me.sampled) sleeper ∙ le_is z.shown.until w.moments.sampled until, (ap (λ y. is_none_earlier i y.until all.sleepers) sleeper ∙ earliest, tt)))));
         own = ap own_of it.worker ∙ ap own_of here;
         common =
-            ap (λ us. common_of left spot p us s') (ap (λ x. slice_set vs w.index x) (ap visible it.worker) ∙ set_found vs w.index (visible w) suits.seen)
+            ap (λ us. common_of left spot p us s') (ap (with_view vs i) seen ∙ view_found vs i (visible w) suits.seen)
             ∙ ap (common_of left spot p vs) it.shared
             ∙ ap (λ xs. record all { sleepers = map (λ y. y.shown) xs }) items
             ∙ ap (λ xs. record all { sleepers = xs }) (map-set (λ y. y.shown) ss k (fires z))

@@ -8,41 +8,8 @@ use Rattle.exec_waiters.specs.{Events.with_tick, States.{takes_tick, tick_in}, T
 use Rattle.exec_driver.{specs.{Driving.Driving, Lists.{first_of, rest_of, is_among, after_enrolment}, Punctual.IsPunctual, Steps.tick_for}, proofs.{Names.same_tells, Expiring.tick_tells}}
 use Rattle.exec_machine.specs.{declared.{state.RequestPhase.RequestPhase, config.Configuration.Configuration, event.Event.TheVariants.Enrol}, Tests.is_staged, World.{Own, Common, request_of}}
 use Rattle.exec_moves.specs.{Callback.told_if_ended, State.{Desk, Moved, Things}, Submit.{due_next, first_due, submits, Due.Enrols}, declared.place.{Service.Service, Place.Place, InService.InService}}
-use Rattle.exec_steps.{specs.{Sound.{has_wakes_at, AreOwed, IsSubmitted, IsTold, served_in}, declared.parts.{mail.Reply.Reply, record.Record.Record, shared.Shared.Shared, sleeping.SleeperRecord.SleeperRecord, worker.Worker.Worker}, Due.IsWheelAt, Flown.{HasFlown, IsPlain, operations}, Records.number_in, Serving.{changed_at, first_tick}, Submitting.IsNewIn, View.{own_of, driver_of}, Ordered.{IsOrdered, went_round}}, proofs.{Changing.{all_go_one, OneGoesOn, changes_one, keeps_one}, Going.{ours_on, owning_on, GoesOn}, Marking.{plain_kept, mark_kept, mark_if, marked, was_marked}, Facts.by_name, Carries.carried_still, Enrolled.new_first, Enrolling.enrolled_at, Flown.landed_on, Seeing.makes, Serving.KeepsBy, Staging.{known_then, split_first, stages_again}, Orders.ticks_so}}
-
--- WHERE NOTHING IS TOLD
-
-pub told_still : (ended : List ℕ) (n : ℕ) (left left' : Deferred Reply Reply) → Tells left left' nothing_told → IsTold ended left n → IsTold ended left' n
-told_still ended n left left' tells told =
-    let room = told.room in
-    let wakes : left'.notes.wakes.items ≡ left.notes.wakes.items = tells.notes.wakes_added ∙ append-nil left.notes.wakes.items in
-    let completions : left'.notes.completions.items ≡ left.notes.completions.items = tells.notes.completions_added ∙ append-nil left.notes.completions.items in
-    let outputs : left'.outputs.items ≡ left.outputs.items = tells.outputs_added ∙ append-nil left.outputs.items in
-    let resources : left'.resources.items ≡ left.resources.items = tells.resources_added ∙ append-nil left.resources.items in
-    let results : left'.results.items ≡ left.results.items = tells.results_added ∙ append-nil left.results.items in
-    record {
-      resources = told.resources ∙ sym (ap length resources);
-      completions = completions ∙ told.completions;
-      results = results ∙ told.results;
-      room = record {
-        notes = record {
-          wakes = omega (arith, ap length wakes, room.notes.wakes, tells.notes.wakes_memory);
-          completions = omega (arith, ap length completions, room.notes.completions, tells.notes.completions_memory);
-        };
-        outputs = omega (arith, ap length outputs, room.outputs, tells.outputs_memory);
-        resources = omega (arith, ap length resources, room.resources, tells.resources_memory);
-        results = omega (arith, ap length results, room.results, tells.results_memory);
-      };
-    }
-
-pub keeps_untold : {B : Type 0} (w : Worker) (d : Driving Reply Reply) (zs : Slab (Sleeping Reply)) (rs : List Record) (ss : List SleeperRecord) (s : Shared B) (left : Deferred Reply Reply) → Tells w.home.deferred left nothing_told → KeepsBy w d zs rs ss s
-    → KeepsBy (record w { home = record w.home { deferred = left } }) d zs rs ss s
-keeps_untold w d zs rs ss s left tells keeps =
-    let wakes : left.notes.wakes.items ≡ w.home.deferred.notes.wakes.items = tells.notes.wakes_added ∙ append-nil w.home.deferred.notes.wakes.items in
-    let told = told_still w.names.ended.items _ w.home.deferred left tells keeps.told in
-    let quiet : has_wakes_at w.place ≡ false → left.notes.wakes.items ≡ [] = λ h. wakes ∙ keeps.quiet h in
-    let owed = subst (λ ws. AreOwed w.index w.root ws s.tasks.items rs ss) (sym wakes) keeps.owed in
-    assumption (told, quiet, owed, keeps)
+use Rattle.exec_steps.{specs.{Sound.{has_wakes_at, AreOwed, IsSubmitted, IsTold, served_in}, declared.parts.{mail.Reply.Reply, record.Record.Record, shared.Shared.Shared, sleeping.SleeperRecord.SleeperRecord, worker.Worker.Worker}, Due.IsWheelAt, Flown.{HasFlown, IsPlain, operations}, Records.number_in, Serving.{changed_at, first_tick}, Submitting.IsNewIn, View.{own_of, driver_of}, Ordered.{IsOrdered, went_round}}, proofs.{Changing.{all_go_one, OneGoesOn, changes_one, keeps_one}, Going.{owning_on, GoesOn}, Marking.{known_then, plain_kept, mark_kept, mark_if, marked, was_marked}, Facts.by_name, Carries.carried_still, Enrolled.new_first, Enrolling.enrolled_at, Flown.landed_on, Seeing.makes, Serving.KeepsBy, Staging.{split_first, stages_again}, Orders.ticks_so}}
+pub use Rattle.exec_steps.proofs.Untold.{keeps_untold, told_still}
 
 -- THE WHEEL
 
@@ -116,13 +83,12 @@ module _ {B : Type 0} (w : Worker) (s : Shared B) (new : IsNewIn w s) (id : Wait
       record {
         tagged = sub.tagged;
         cancels = sub.cancels;
-        known = known_then w.names.staged.items rs k f sub.known;
+        known = known_then f rs k w.names.staged.items sub.known;
         own = λ j x h found. let old = was_marked f rs k j x found in ap (λ y. y.shown.worker) old.2 ∙ mark_kept ℕ (λ x. x.shown.worker) (times start c.tick) (λ x. refl) (k == j) old.0 ∙ sub.own j old.0 h old.1;
         all = λ j x found mine staged.
             let old = was_marked f rs k j x found in
             sub.all j old.0 old.1 (sym (mark_kept ℕ (λ x. x.shown.worker) (times start c.tick) (λ x. refl) (k == j) old.0) ∙ sym (ap (λ y. y.shown.worker) old.2) ∙ mine)
             (sym (ap is_staged (mark_kept RequestPhase (λ x. x.shown.phase) (times start c.tick) (λ x. refl) (k == j) old.0)) ∙ sym (ap (λ y. is_staged y.shown.phase) old.2) ∙ staged);
-        unraised = sub.unraised;
       }
 
   flown_timed : (t : ℕ) → HasFlown (served_in (Place.Service (InService.Submit new.submits.gate) new.submits.service)) w.index w.names (timed_driver t) timed_records
@@ -147,8 +113,7 @@ module _ {B : Type 0} (w : Worker) (s : Shared B) (new : IsNewIn w s) (id : Wait
         telling = flown.telling;
         entries = flown.entries;
         permits = refl;
-        ours = ours_on rs rs' all w.index flown.ours;
-        plain = plain_kept f rs k (times_plain start c.tick) w.index flown.ours flown.plain;
+        plain = plain_kept f rs k (times_plain start c.tick) w.index (λ r. refl) flown.plain;
         landed = landed_on w.names w.names d d' rs rs' (operations d.ring) flown.landed
             (λ other x r given live flies found landed.
             let j = number_in w.names.requests.items other in
@@ -156,7 +121,7 @@ module _ {B : Type 0} (w : Worker) (s : Shared B) (new : IsNewIn w s) (id : Wait
             let both : x ≡ it = cc (live, who.live, same) in
             false≢true (sym who.idle ∙ ap (λ y. y.in_flight) (sym both) ∙ flies) in
             record { it' = x; r' = mark_if f (k == j) r; live = changed.others other apart ∙ live; flies = refl; same = refl; number = refl; there = marked f rs k j r found; phase = mark_kept RequestPhase (λ x. x.shown.phase) (times start c.tick) (λ x. refl) (k == j) r });
-        acks = flown.acks;
+        polled = flown.polled;
         owning = owning_on rs rs' all flown.owning;
         enrolling = λ other x live takes some.
             let differs : other.0 ≢ id.0 → is_among other (rest_of d.lists.enrolments) ≡ true = λ apart.
@@ -165,10 +130,11 @@ module _ {B : Type 0} (w : Worker) (s : Shared B) (new : IsNewIn w s) (id : Wait
             (λ eq.
             let is_it : x ≡ it' = cc (live, eq, changed.is_at) in
             absurd (false≢true (ap (λ y. takes_tick y.state) (sym is_it) ∙ takes)));
-        uncancelled = λ other x among found.
+        uncancelled = λ other x among found mine.
             let j = number_in w.names.requests.items other.0 in
             let old = was_marked f rs k j x found in
-            ap (λ y. y.shown.cancel_staged) old.2 ∙ mark_kept Bool (λ x. x.shown.cancel_staged) (times start c.tick) (λ x. refl) (k == j) old.0 ∙ flown.uncancelled other old.0 among old.1;
+            ap (λ y. y.shown.cancel_staged) old.2 ∙ mark_kept Bool (λ x. x.shown.cancel_staged) (times start c.tick) (λ x. refl) (k == j) old.0
+            ∙ flown.uncancelled other old.0 among old.1 (sym (mark_kept ℕ (λ y. y.shown.worker) (times start c.tick) (λ y. refl) (k == j) old.0) ∙ sym (ap (λ y. y.shown.worker) old.2) ∙ mine);
       }
 
   pub keeps_timed : (t : ℕ) → id.0.generation < 2 ^ 64 → tick_for (driver_of w).wheel (new_first w s new id first).deadline w.moments.sampled ≡ Ok t → IsPunctual (timed_driver t)

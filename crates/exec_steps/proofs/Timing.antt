@@ -3,9 +3,9 @@ use Rattle.std.{proofs.{Common.{◌≡◌, ℕ, ◌+◌, ◌-◌, ◌*◌, ◌^�
 use Rattle.exec_waiters.specs.{States.flying_count, Told.{Tells, nothing_told}, declared.waiter_id.WaiterId.WaiterId}
 use Rattle.exec_driver.specs.{Lists.{first_of, rest_of, after_enrolment}, Punctual.IsPunctual, Steps.{enrolled_by, told_by_enrolment, tick_for, ended_by}}
 use Rattle.exec_task.specs.declared.body.Said.{Said}
-use Rattle.exec_machine.specs.{declared.event.Event.{Event, TheVariants.Enrol}, Deadlines.{fires_at, outcome_at_enrol}, Same.{is_none, is_number, same_end}, Tests.is_queued as is_phase_queued, World.request_of}
+use Rattle.exec_machine.specs.{declared.event.Event.{Event, TheVariants.Enrol}, Deadlines.{fires_at, outcome_at_enrol}, Same.{is_none, is_number, same_end}, Tests.is_queued as is_phase_queued, World.{Common, request_of}}
 use Rattle.exec_moves.specs.{Move.move_submit, Submit.{due_next, first_due, submits, Due.Enrols}, declared.place.{Service.Service, Place.Place, InService.InService}}
-use Rattle.exec_steps.{specs.{declared.parts.{names.Names.Names, shared.Shared.Shared, worker.Worker.Worker}, Due.IsWheelAt, Records.number_in, Serving.outcome_of_error, Spots.Spot, Submitting.IsNewIn, View.{visible, own_of, desk_of, driver_of, common_of, things_of, numbers_of}, Works.Steps}, proofs.{Serving.{serves_to, IsServed, OthersKept, keeps_home, Serves, Keeps, KeepsBy}, Calling.request_seen, Changing.flying_after, Enrolled.{HasEnrolled, new_first}, Enrolling.{enrol_same, ended_not}, Idling.none_due, Seeing.{makes, shows, served, common_changed}, Staging.split_first, Turning.set_found, Timed.{comes_to_new, keeps_timed, keeps_untold, move_enrol, timed_driver, timed_records, timed_waiter, times, unset}}}
+use Rattle.exec_steps.{specs.{declared.parts.{names.Names.Names, shared.Shared.Shared, worker.Worker.Worker}, Due.IsWheelAt, Records.number_in, Serving.outcome_of_error, Spots.Spot, Submitting.IsNewIn, View.{Views, visible, with_view, own_of, desk_of, driver_of, common_of, seat_seen, things_with, numbers_of}, Works.Steps}, proofs.{Serving.{serves_to, IsServed, OthersKept, keeps_home, Serves, SparesRecords, Keeps, KeepsBy, spares_one}, Calling.request_seen, Changing.flying_after, Enrolled.{HasEnrolled, new_first}, Enrolling.{enrol_same, ended_not}, Idling.none_due, Seeing.{makes, shows, served, common_changed, common_same, things_kept}, Staging.{split_first, stages_again}, Timed.{comes_to_new, keeps_timed, keeps_untold, move_enrol, timed_driver, timed_records, timed_waiter, times, unset}}}
 
 module _ {B L : Type 0} (left : B → L) (spot : L → Option Said → Spot) where
   pub enrol_stays : (w w' : Worker) (s s' : Shared B) (e : Event) (id : WaiterId) → (new : IsNewIn w s) → first_of (driver_of w).lists.enrolments ≡ Some id → HasEnrolled w w' s s' e id None → w'.names ≡ w.names → Steps left spot w s e w' s'
@@ -52,8 +52,10 @@ module _ {B L : Type 0} (left : B → L) (spot : L → Option Said → Spot) whe
       keeps_timed w s new id first t by.bounded okay.1 (subst IsPunctual driver by.punctual) in
       let untold : KeepsBy w1 d' w.home.timers rs' s.sleepers.items s = keeps_untold w0 d' w.home.timers rs' s.sleepers.items s deferred tells kept in
       let keeps : Keeps w' s' = keeps_home w1 w' s s' rs' d' same2 by.shared driver by.records untold in
-      let serves : Serves q w w' s s' = serves_to q q w w' s s' (subst (IsServed w) (sym same) refl) (subst (OthersKept s) (sym by.shared) refl) there refl refl refl refl in
+      let serves : Serves q w w' s s' = serves_to q q w w' s s' (subst (IsServed w) (sym same) refl) (subst (OthersKept s) (sym by.shared) refl) there (stages_again gate v) in
       let show = shows q w w' s s' d' serves driver in
+      let seen : visible w' ≡ visible w = show.seen in
+      let spares : SparesRecords w.index s s' = spares_one w.index s s' k who.r f by.records (ap (λ (y : Shared B). y.sleepers.items) by.shared) who.there who.worker (λ y. refl) in
       let wakes : deferred.notes.wakes.items ≡ w.home.deferred.notes.wakes.items = tells.notes.wakes_added ∙ append-nil w.home.deferred.notes.wakes.items in
       let outputs : deferred.outputs.items ≡ w.home.deferred.outputs.items = tells.outputs_added ∙ append-nil w.home.deferred.outputs.items in
       let flying : flying_count d'.requests ≡ flying_count d.requests =
@@ -61,7 +63,7 @@ module _ {B L : Type 0} (left : B → L) (spot : L → Option Said → Spot) whe
       omega (arith, n) in
       let numbers : numbers_of w.names.requests.items d.lists.enrolments ≡ k ∷ numbers_of w.names.requests.items (rest_of d.lists.enrolments) = ap (numbers_of w.names.requests.items) (split_first id d.lists.enrolments first) in
       subst (λ x. Steps left spot w s x w' s') (sym by.event)
-      (served left spot q w w' s s' (Enrol k None) sound serves keeps
+      (served left spot q w w' s s' (Enrol k None) sound serves keeps spares
       (λ p vs suits.
       let cp = p.config in
       let all = common_of left spot p vs s in
@@ -76,9 +78,10 @@ module _ {B L : Type 0} (left : B → L) (spot : L → Option Said → Spot) whe
       let desk : desk_of w' ≡ desk_of w0 = show.desk ∙ rw (there, ap (λ x. x.put_off) same, wakes, outputs) refl in
       record {
         moves =
-            ap (move_submit cp w.index (own_of w0) all (desk_of w0) (things_of w.index s) gate v) due
-            ∙ ap (λ o. move_enrol cp w.index (own_of w0) all (desk_of w0) (things_of w.index s) gate v k o) ends
-            ∙ ap (λ x. makes (Enrol k None) x (things_of w.index s)) (sym desk);
+            ap (move_submit cp w.index (own_of w0) all (desk_of w0) (things_with vs s) gate v) due
+            ∙ ap (λ o. move_enrol cp w.index (own_of w0) all (desk_of w0) (things_with vs s) gate v k o) ends
+            ∙ ap (λ x. makes (Enrol k None) x (things_with vs s)) (sym desk)
+            ∙ ap (makes (Enrol k None) (desk_of w')) (sym (things_kept vs w.index (visible w) (visible w') s s' suits.seen (ap (λ y. y.wakes) seen) serves.shared));
         may = (
           refl,
           (
@@ -94,8 +97,8 @@ module _ {B L : Type 0} (left : B → L) (spot : L → Option Said → Spot) whe
         );
         own = show.own ∙ rw (there, ap (λ x. x.names.ended) same, ap (λ x. x.names.untold) same, numbers, flying) refl;
         common =
-            ap (λ us. common_of left spot p us s') (ap (λ x. slice_set vs w.index x) show.seen ∙ set_found vs w.index (visible w) suits.seen)
-            ∙ common_changed left spot p vs s s' k who.r f by.shared by.records who.there (λ x. refl)
+            common_changed left spot p (with_view vs w.index (visible w')) s s' k who.r f by.shared by.records who.there (λ x. refl)
+            ∙ ap (λ (x : Common). record x { requests = slice_set (map (λ r. r.shown) rs) k (f who.r).shown }) (common_same left spot p vs w w' s suits (λ c'. ap (λ y. seat_seen y c') seen))
             ∙ ap (λ y. record all { requests = slice_set (map (λ r. r.shown) rs) k (record who.r.shown { timer = Some (fires_at y (own_of w0) (unwrap_or who.r.shown.operation.deadline 0)) }) }) suits.config
             ∙ ap (λ x. record all { requests = slice_set (map (λ r. r.shown) rs) k (record x { timer = Some (fires_at cp (own_of w0) (unwrap_or x.operation.deadline 0)) }) }) (sym request);
       }))

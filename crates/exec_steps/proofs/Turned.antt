@@ -1,13 +1,14 @@
 -- What the driver did with an operation that has landed: its request goes on, or is over.
-use Rattle.std.proofs.Common.{◌≡◌, ℕ, Bool, true, false, not, List, [], ◌∷◌, length, map, Option, Some, None, refl, sym, ap, subst, ◌∙◌}
+use Rattle.std.proofs.Common.{◌≡◌, ℕ, Bool, true, false, not, ◌||◌, List, [], ◌∷◌, filter, length, map, nat_lt, Option, Some, None, refl, sym, ap, subst, ◌∙◌}
 use Rattle.exec_base.specs.Slab.{written}
 use Rattle.exec_outcomes.specs.{Accounts.Account, declared.outcome.OpResult.OpResult}
 use Rattle.exec_request.specs.{Judging.{Judges, judged_as}, Requests.{asked_of, cursor_of, hinted_of, gate_of, record_after}, States.{Ended, as_answer}, declared.request.Request.Request as Asking}
-use Rattle.exec_ring.specs.{Completions.result_in, Kernels.{is_quiet, reaped as ring_reaped}, declared.completion.Completion.Completion}
+use Rattle.exec_ring.specs.{Completions.result_in, Kernels.{is_quiet, reaped as ring_reaped}, Rings.completions, declared.completion.Completion.Completion}
 use Rattle.exec_waiters.specs.{States.{file_of, tick_in}, Told.Tells, declared.{deferred.Deferred.Deferred, waiter.{Waiter.Waiter, Entry.TheVariants.Pending}, waiter_id.WaiterId.WaiterId}, Events.{finished, told_by_finish}}
 use Rattle.exec_driver.specs.{Driving.Driving, Opens.{OpenState, account_in, with_account}, Steps.{judged_as_over, landed_at, open_after, opens_after_end, permit_after, swept, taken_out, told_as, told_by_end, with_landings, unscheduled}, declared.driver.reaping.Reaped.Reaped, Lists.{with_queued, withdrawn}}
+use Rattle.exec_machine.specs.Tests.{is_empty}
 use Rattle.exec_moves.specs.{Serve.back_from_reap, declared.place.{AfterPermit.AfterPermit, Reaping.Reaping, Place.Place}}
-use Rattle.exec_steps.{specs.{declared.parts.{mail.Reply.Reply, shared.Shared.Shared, worker.Worker.Worker}, Flown.{IsPlain, IsUpTo, longest, operations}, Records.number_in, Sound.{SoundAt, IsAlike}, View.driver_of}, proofs.{Finished.GoesOver, Reaped.TellsOf, Requeued.GoesBack, Starting.{fills, reads, simple, writes_bytes}, Swept.{some_quiet, none_next, sweeps, told_in, operations_posted}, Trailing.{RingAfter, ring_after}}}
+use Rattle.exec_steps.{specs.{declared.parts.{mail.Reply.Reply, shared.Shared.Shared, worker.Worker.Worker}, Flown.{IsPlain, IsUpTo, longest, operations}, Records.number_in, Sound.{SoundAt, IsAlike}, View.{driver_of, number_told, trailing, trails_wake}}, proofs.{Finished.GoesOver, Reaped.TellsOf, Requeued.GoesBack, Behind.{after_controls, is_op, none_left, ops_after}, Mine.live_mine, Starting.{fills, reads, simple, writes_bytes}, Swept.{RingAfter, ring_after, some_in_ring}, WokenSwept.{none_there, sweeps}}}
 
 -- A REQUEST OF THE FIRST KINDS is of no open
 
@@ -46,7 +47,7 @@ module _ {B : Type 0} (q : Place) (w : Worker) (s : Shared B) (sound : SoundAt q
   turned_alike = sound.named.alike t.reaped.has.id t.reaped.has.it t.reaped.has.r t.reaped.has.live t.reaped.has.there
 
   turned_plain : IsPlain t.reaped.has.r.shown
-  turned_plain = sound.flown.plain (number_in w.names.requests.items t.reaped.has.id) t.reaped.has.r t.reaped.has.there (sound.flown.ours (number_in w.names.requests.items t.reaped.has.id) t.reaped.has.r t.reaped.has.there)
+  turned_plain = sound.flown.plain (number_in w.names.requests.items t.reaped.has.id) t.reaped.has.r t.reaped.has.there (live_mine w.index w.names (driver_of w) w.home.timers s.requests.items s.sleepers.items sound.named t.reaped.has.id t.reaped.has.it t.reaped.has.r t.reaped.has.live t.reaped.has.there)
 
   turned_kind : IsUpTo (longest (asked_of t.reaped.has.it.request).kind) t.reaped.has.r.shown.operation.length
   turned_kind = subst (λ a. IsUpTo (longest a.kind) t.reaped.has.r.shown.operation.length) turned_alike.asked turned_plain.bounded
@@ -82,8 +83,8 @@ module _ {B : Type 0} (q : Place) (w : Worker) (s : Shared B) (sound : SoundAt q
       subst (λ x. Tells before after (told_by_end turned_name turned_waiter a x)) no_account
       (subst (λ x. Tells before after (told_by_end turned_name turned_waiter x (open_after t.reaped.has.it (result_in t.c.result) (account_in opens (file_of t.reaped.has.it.request))))) is t.reaped.from.reaps.tells)
 
-  ring_turned : t.reaped.from.second.ring ≡ ring_reaped t.reaped.first.ring → t.reaped.from.second.armed ≡ t.reaped.first.armed → RingAfter (driver_of w) d' t.cs
-  ring_turned ring armed = ring_after (driver_of w) t.reaped.first t.reaped.from.second d' t.c t.reaped.swept_first ring armed t.reaped.from.swept_last sound.flown.acks t.cs t.operations_are
+  ring_turned : t.reaped.from.second.ring ≡ ring_reaped t.reaped.first.ring → t.reaped.from.second.armed ≡ t.reaped.first.armed → RingAfter (number_told w.names.requests.items) (driver_of w) d' t.cs
+  ring_turned ring armed = ring_after (number_told w.names.requests.items) (driver_of w) t.reaped.first t.reaped.from.second d' t.c t.cs t.reaped.swept_first ring armed t.reaped.from.swept_last sound.flown.polled t.operations_are
 
   pub turned_back : t.reaped.from.reaps.answer ≡ None → GoesBack w s d' t.c t.cs
   turned_back is =
@@ -150,10 +151,11 @@ module _ {B : Type 0} (q : Place) (w : Worker) (s : Shared B) (sound : SoundAt q
   quiet_by [] is b rp has numbers tells more none =
       let second = t.reaped.from.second in
       let like2 = t.reaped.from.swept_last in
-      let told : told_in (swept second).ring.posted ≡ [] = ap (λ x. told_in x.ring.posted) (sym like2) ∙ sym (operations_posted d'.ring) ∙ is in
-      let quiet : is_quiet d'.ring ≡ true = ap (λ x. is_quiet x.ring) like2 ∙ (none_next (swept second).ring.posted (swept second) refl (sweeps second).first told).1 in
+      let left : completions d'.ring ≡ after_controls (completions second.ring) = ap (λ x. completions x.ring) like2 ∙ (sweeps second).left in
+      let gone : after_controls (completions second.ring) ≡ [] = none_left (completions second.ring) (sym (ops_after (completions second.ring)) ∙ ap (filter is_op) (sym left) ∙ is) in
+      let quiet : is_quiet d'.ring ≡ true = (none_there d'.ring.posted d'.ring refl (left ∙ gone)).1 in
       none (tells ∙ ap not quiet)
-  quiet_by (c ∷ cs) is b rp has numbers tells more none = more (tells ∙ ap not (some_quiet d'.ring.posted d' c cs refl (sym (operations_posted d'.ring) ∙ is)))
+  quiet_by (c ∷ cs) is b rp has numbers tells more none = more (tells ∙ sym (some_in_ring numbers d'.ring) ∙ ap (λ ys. not (is_empty (map numbers ys)) || (nat_lt 0 (trailing 0 (completions d'.ring)) || trails_wake false (completions d'.ring))) is)
 
-  pub back_turned : (ring : RingAfter (driver_of w) d' t.cs) (b : AfterPermit) (rp : Reaping) (has : Bool) (numbers : Completion → ℕ) → has ≡ not (is_quiet d'.ring) → (has ≡ true → b ≡ AfterPermit.Reap rp) → (has ≡ false → b ≡ AfterPermit.Reaped rp) → b ≡ back_from_reap rp (map numbers t.cs)
+  pub back_turned : (ring : RingAfter (number_told w.names.requests.items) (driver_of w) d' t.cs) (b : AfterPermit) (rp : Reaping) (has : Bool) (numbers : Completion → ℕ) → has ≡ not (is_quiet d'.ring) → (has ≡ true → b ≡ AfterPermit.Reap rp) → (has ≡ false → b ≡ AfterPermit.Reaped rp) → b ≡ back_from_reap rp (map numbers t.cs)
   back_turned ring b rp has numbers = quiet_by t.cs ring.landed b rp has numbers

@@ -1,11 +1,11 @@
 -- What the callback of a wake is to the machine.
-use Rattle.std.{proofs.{Common.{◌≡◌, ℕ, ◌||◌, Bool, true, false, List, [], ◌∷◌, map, Option, Some, None, refl, sym, ap, subst, ◌∙◌, arith, slice_get, slice_set, slice_index_or, is_some, if◌then◌else◌}, lemmas.{List.map-set, Option.{get_or_from_slice_get, slice_get-map}}}, specs.Option.option_map}
+use Rattle.std.{proofs.{Common.{◌≡◌, ℕ, ◌==◌, ◌||◌, Bool, true, false, List, [], ◌∷◌, length, map, Option, Some, None, refl, sym, ap, subst, ◌∙◌, arith, slice_get, slice_set, slice_index_or, is_some, if◌then◌else◌}, lemmas.{Bool.false≢true, List.map-set, Option.{get_or_from_slice_get, slice_get-map}}}, specs.Option.option_map}
 use Rattle.exec_base.specs.declared.task_no.TaskNo.{TaskNo}
 use Rattle.exec_waiters.specs.States.{pending_count}
 use Rattle.exec_task.specs.{Phases.{is_polled, woken as cell_woken, runnable_of, is_idle as is_cell_idle}, declared.{body.Said.Said, runnable.Runnable.Runnable, task.Phase.Phase}}
 use Rattle.exec_machine.specs.{declared.{event.Event.{Event, TheVariants.Wake}, state.{TaskPhase.TaskPhase, Waiting.Waiting}}, After.common_after, Progress.Plan, Ranges.ring_size, Tasks.{may_wake, woken, woken_phase}, Tests.{AllTrue, is_idle}, World.{Task, Common, task_of, no_task, Own as Books}}
-use Rattle.exec_moves.specs.{declared.place.{AfterCallbacks.AfterCallbacks, Place.Place, InCallbacks.InCallbacks}, Callback.{call_back, goes_on, flagged_by, payer_of}, Move.{move_at, first_woken}, State.Desk}
-use Rattle.exec_steps.{specs.{declared.parts.{record.Record.Record, shared.Shared.Shared, sleeping.SleeperRecord.SleeperRecord, task_slot.TaskSlot.TaskSlot, worker.Worker.Worker}, Calls.{KeepsRoom, IsUnpaid, awake, records_paid, sleepers_paid}, Carried.IsCarried, Due.IsDue, Flown.HasFlown, Phased.{IsPhased, is_complete, closes_at, stage_of}, Rooted.{IsRooted, Holds}, Sound.{tellers, SoundAt, IsNamed, IsRunnable, IsTold, AreOver, AreOwed, OwesWake, Stands, one_of, is_told}, Spots.Spot, Tests.next_callback_of, View.{Visible, visible, own_of, desk_of, driver_of, common_of, things_of, body_in, spot_by, phase_seen, task_seen}, Works.{Suits, Steps}}, proofs.{Facts.set_there, Hearing.hears_so, Calling.{settled, from_batch, own_led}, Leading.{placed, leads, Follows, follows, unchanged}, Phased.phased_task, Rooted.rooted_set, Turning.set_found}}
+use Rattle.exec_moves.specs.{declared.handing.{AfterCallbacks.AfterCallbacks}, declared.place.{Place.Place, InCallbacks.InCallbacks}, Callback.{call_back, goes_on, flagged_by, payer_of}, Move.{move_at, first_woken}, State.Desk}
+use Rattle.exec_steps.{specs.{declared.parts.{record.Record.Record, shared.Shared.Shared, sleeping.SleeperRecord.SleeperRecord, task_slot.TaskSlot.TaskSlot, worker.Worker.Worker}, Calls.{KeepsRoom, IsUnpaid, awake, records_paid, sleepers_paid}, Carried.IsCarried, Due.IsDue, Flown.HasFlown, Phased.{IsPhased, is_complete, closes_before, stage_of}, Rooted.{IsRooted, Holds}, Sound.{tellers, SoundAt, IsNamed, IsRunnable, IsTold, AreOver, AreOwed, OwesWake, Stands, one_of, is_told}, Spots.Spot, Tests.next_callback_of, View.{Views, visible, with_view, own_of, desk_of, driver_of, common_of, things_with, body_in, spot_by, phase_seen, task_seen}, Works.{Suits, Steps}}, proofs.{Facts.set_there, Hearing.hears_so, Calling.{settled, own_led}, Leading.{placed, profile_led, leads, Follows, follows}, Own.{KeepsRecords, KeepsSleepers, KeepsTasks, beside_own, genuine_kept, homes_kept, resting_kept, task_set}, Phased.phased_task, Rooted.rooted_set, Turning.view_found}}
 
 module _ {B : Type 0} where
   -- The root is woken, and what it waited for has paid for that; no other wake is left.
@@ -38,6 +38,10 @@ module _ {B : Type 0} where
   pub owed_root : (i t : ℕ) (ws : List TaskNo) (tasks : List (TaskSlot B)) (rs : List Record) (zs : List SleeperRecord) → ws ≡ record { 0 = t } ∷ [] → AreOwed i t ws tasks rs zs
       → (slot : TaskSlot B) → slice_get tasks t ≡ Some slot → OwesWake i t slot.waiting rs zs
   owed_root i t ws tasks rs zs only owed = (subst (λ xs. AreOwed i t xs tasks rs zs) only owed).1
+
+-- some are left, by a test
+pub some_by : (ws : List TaskNo) (b : Bool) → b ≡ (length ws == 0) → b ≡ false → ws ≡ [] → ⊥
+some_by ws b is h none = false≢true (sym h ∙ is ∙ ap (λ (xs : List TaskNo). length xs == 0) none)
 
 -- what is owed wasn't paid
 pub owed_unpaid : (i t : ℕ) (u : Waiting) (rs : List Record) (zs : List SleeperRecord) → OwesWake i t u rs zs → IsUnpaid u rs zs
@@ -160,21 +164,20 @@ module _ {B L : Type 0} (left : B → L) (spot : L → Option Said → Spot) whe
       → IsDue None w.index w.moments s.config w.names (driver_of w) w.home.timers s'.requests.items s'.sleepers.items
       → HasFlown None w.index w.names (driver_of w) s'.requests.items
       → IsCarried w.names.requests.items (driver_of w).requests (driver_of w).ring s'.requests.items s.store
+      → KeepsRecords w.index s.requests.items s'.requests.items → KeepsSleepers w.index s.sleepers.items s'.sleepers.items
       → Holds false w.index w.root it.slot.held.items it.slot.waiting (is_complete it.slot.cell.phase) w.names (driver_of w) w.home.timers s'.requests.items s'.sleepers.items
-      → ((p : Plan) (vs : List Visible) → Suits p vs w s → AllTrue (may_wake (own_of (record w { place = Place.Callbacks InCallbacks.CallBack x })) (common_of left spot p vs s) w.index w.root (payer_of it.slot.waiting)))
-      → ((p : Plan) (vs : List Visible) → Suits p vs w s → common_of left spot p vs (record s { tasks = s'.tasks; requests = s'.requests; sleepers = s'.sleepers }) ≡ common_after p.config (own_of (record w { place = Place.Callbacks InCallbacks.CallBack x })) (common_of left spot p vs s) w.index (Wake w.root) (payer_of it.slot.waiting))
+      → ((p : Plan) (vs : Views) → Suits p vs w s → AllTrue (may_wake (own_of (record w { place = Place.Callbacks InCallbacks.CallBack x })) (common_of left spot p vs s) w.index w.root (payer_of it.slot.waiting)))
+      → ((p : Plan) (vs : Views) → Suits p vs w s → common_of left spot p vs (record s { tasks = s'.tasks; requests = s'.requests; sleepers = s'.sleepers }) ≡ common_after p.config (own_of (record w { place = Place.Callbacks InCallbacks.CallBack x })) (common_of left spot p vs s) w.index (Wake w.root) (payer_of it.slot.waiting))
       → Steps left spot w s e w' s'
-  woken_with x w w' s s' e sound event place only it named over due flown carried holds may common =
+  woken_with x w w' s s' e sound event place only it named over due flown carried records sleepers holds may common =
       let q : Place = Place.Callbacks InCallbacks.CallBack x in
       let w0 : Worker = record w { root_ready = w'.root_ready; home = record w.home { deferred = record w.home.deferred { notes = record w.home.deferred.notes { wakes = w'.home.deferred.notes.wakes } } } } in
       let w1 : Worker = record w0 { place = next_callback_of x w0 } in
       let s1 : Shared B = record s { tasks = s'.tasks; requests = s'.requests; sleepers = s'.sleepers } in
       let is : w' ≡ w1 = settled x w0 w' it.worker place in
-      let from = from_batch InCallbacks.CallBack x in
       let live = tellers (driver_of w).requests w.home.timers in
       let told : IsTold w.names.ended.items w0.home.deferred live = subst (λ d. IsTold w.names.ended.items d live) (ap (λ v. v.home.deferred) is) (it.told w.names.ended.items live sound.told) in
-      let to = leads InCallbacks.CallBack x w0 (omega (arith, told.resources, sound.over.counted)) in
-      let as_before = unchanged q w s sound from in
+      let to = leads x w0 sound.searching (omega (arith, told.resources, sound.over.counted)) in
       let here : w ≡ record w { place = q } = ap (λ y. record w { place = y }) sound.here in
       let same : it.slot ≡ sound.runnable.root = cc (it.there, sound.runnable.there) in
       let root : slice_get s'.tasks.items w.root ≡ Some (awake it.slot) = rw it.tasks (set_there s.tasks.items w.root (awake it.slot) it.slot it.there) in
@@ -183,30 +186,40 @@ module _ {B L : Type 0} (left : B → L) (spot : L → Option Said → Spot) whe
       let queued : IsRunnable w'.root_ready (awake it.slot) =
       subst (λ f. IsRunnable f (awake it.slot)) (sym it.flag)
       (flag_woken it.slot w.root_ready it.slot.cell.phase refl
-      (alone_in_flag w.root_ready w.hand it.slot sound.hand (subst (λ slot. IsRunnable (one_of w.root_ready w.hand) slot) (sym same) sound.runnable.once))) in
-      let again : Follows q w w0 s s1 = record {
+      (alone_in_flag w.root_ready None it.slot refl (subst (λ slot. IsRunnable (one_of w.root_ready None) slot) (sym same) sound.runnable.once))) in
+      let home : it.slot.home ≡ Some w.index = ap (λ slot. slot.home) same ∙ sound.runnable.home in
+      let number : it.slot.cell.number ≡ record { 0 = w.root } = ap (λ slot. slot.cell.number) same ∙ sound.runnable.number in
+      let stands = sound.tied.stands it.slot it.there in
+      let set : s'.tasks.items ≡ slice_set s.tasks.items w.index (awake it.slot) = subst (λ t. s'.tasks.items ≡ slice_set s.tasks.items t (awake it.slot)) sound.at_home it.tasks in
+      let keeps : KeepsTasks w.index s.tasks.items s'.tasks.items =
+      subst (KeepsTasks w.index s.tasks.items) (sym set)
+      (task_set w.index s.tasks.items it.slot (awake it.slot) (ap (slice_get s.tasks.items) (sym sound.at_home) ∙ it.there) home home (number ∙ ap (λ n. record { 0 = n }) sound.at_home) (λ polled. absurd (false≢true (sym stands.polled ∙ polled)))) in
+      let follow : Follows x w w0 s s1 = record {
         told = told;
         named = named;
         runnable = record {
           root = awake it.slot;
           there = root;
-          home = ap (λ slot. slot.home) same ∙ sound.runnable.home;
-          number = ap (λ slot. slot.cell.number) same ∙ sound.runnable.number;
-          once = in_one w'.root_ready w.hand (awake it.slot) sound.hand queued;
-          one = λ set. sound.hand;
+          home = home;
+          number = number;
+          once = in_one w'.root_ready None (awake it.slot) refl queued;
+          one = λ set. refl;
         };
+        homes = homes_kept w.index s.tasks.items s'.tasks.items keeps s.config.workers sound.index sound.homes;
+        resting = resting_kept w.index s.tasks.items s'.tasks.items keeps s.config.workers sound.index sound.resting;
+        genuine = genuine_kept w.index s.tasks.items s'.tasks.items keeps;
         over = over;
         due = due;
         flown = flown;
         carried = carried;
         rooted = subst (λ ts. IsRooted None w.index w.root w.names (driver_of w) w.home.timers ts s'.requests.items s'.sleepers.items) (sym it.tasks) (woken_root w s s' it.slot it.there holds);
         phased = λ chair there.
-            subst (λ ts. IsPhased (closes_at q) None w.home.closing w.root w.names.unreleased (stage_of chair s) ts) (sym it.tasks)
-            (phased_task (closes_at q) None w.home.closing w.root w.names.unreleased (stage_of chair s) s.tasks.items it.slot (awake it.slot) it.there (complete_woken it.slot.cell.phase) (as_before.phased chair there));
+            subst (λ ts. IsPhased w.index (closes_before x) None w.home.closing w.root w.names.unreleased (stage_of chair s) ts) (sym it.tasks)
+            (phased_task w.index (closes_before x) None w.home.closing w.root w.names.unreleased (stage_of chair s) s.tasks.items it.slot (awake it.slot) it.there (complete_woken it.slot.cell.phase) (sound.phased chair there));
         tied = record {
           stands = λ slot there.
               let found : slot ≡ awake it.slot = cc (there, root) in
-              subst (λ y. Stands None w.index y) (sym found) (stands_awake w.index it.slot (sound.tied.stands it.slot it.there));
+              subst (λ y. Stands None w.index y) (sym found) (stands_awake w.index it.slot stands);
           owed = subst (λ ws. AreOwed w.index w.root ws s'.tasks.items s'.requests.items s'.sleepers.items) (sym it.wakes) tt;
         };
       } in
@@ -216,27 +229,31 @@ module _ {B L : Type 0} (left : B → L) (spot : L → Option Said → Spot) whe
             let all = common_of left spot p vs s in
             let d = desk_of w in
             let d1 : Desk = record d { wakes = []; root_ready = is_some w'.root_ready } in
-            let things = things_of w.index s in
+            let things = things_with vs s in
             let first : d.wakes ≡ w.root ∷ [] = ap (map (λ t. t.0)) only in
             let task : task_of all (first_woken d.wakes) ≡ task_seen left spot it.slot = ap (λ ts. task_of all (first_woken ts)) first ∙ task_there s.tasks.items w.root it.slot it.there in
             let last : d1.wakes ≡ map (λ t. t.0) w0.home.deferred.notes.wakes.items = sym (ap (map (λ t. t.0)) it.wakes) in
+            let again : with_view vs w.index (visible w1) ≡ vs = view_found vs w.index (visible w) suits.seen in
             record {
               choice = payer_of it.slot.waiting;
               moves =
-                  subst (λ y. move_at c w.index (own_of w) all d things y ≡ record { event = Wake w.root; choice = payer_of it.slot.waiting; desk = desk_of w1; thing = things }) (sym sound.here)
+                  subst (λ y. move_at c w.index (own_of w) all d things y ≡ record { event = Wake w.root; choice = payer_of it.slot.waiting; desk = desk_of w1; thing = things_with (with_view vs w.index (visible w1)) s1 }) (sym sound.here)
                   (ap (λ m. record { event = m.event; choice = m.choice; desk = m.desk; thing = things })
                   (ap (call_back (ring_size c) w.index (own_of w) all x d) task ∙ wake_moves (ring_size c) w.index w.root (own_of w) all x d (task_seen left spot it.slot) first)
                   ∙ ap (λ b. record { event = Wake w.root; choice = payer_of it.slot.waiting; desk = goes_on (ring_size c) w.index (own_of w) all x (record d { wakes = []; root_ready = b }); thing = things }) (sym flag)
                   ∙ ap (λ y. record { event = Wake w.root; choice = payer_of it.slot.waiting; desk = record d1 { place = y }; thing = things })
                   (placed c w.index live (own_of w) all x d1 w0 s.requests.items s.sleepers.items told last refl refl refl sound.named (sound.sized ∙ ap ring_size suits.config))
-                  ∙ ap (λ ts. record { event = Wake w.root; choice = payer_of it.slot.waiting; desk = record d1 { wakes = ts; place = next_callback_of x w0 }; thing = things }) last);
+                  ∙ ap (λ ts. record { event = Wake w.root; choice = payer_of it.slot.waiting; desk = record d1 { wakes = ts; place = next_callback_of x w0 }; thing = things }) last
+                  ∙ ap (λ v. record { event = Wake w.root; choice = payer_of it.slot.waiting; desk = desk_of w1; thing = things_with v s1 }) (sym again));
               may = subst (λ v. AllTrue (may_wake (own_of v) all w.index w.root (payer_of it.slot.waiting))) (sym here) (may p vs suits);
-              own = own_led (next_callback_of x w0) w0 to.polls to.free to.unserved ∙ rw sound.here refl;
+              own = own_led InCallbacks.CallBack x (next_callback_of x w0) w0 to.same to.unserved ∙ rw sound.here refl;
               common =
-                  ap (λ us. common_of left spot p us s1) (set_found vs w.index (visible w) suits.seen)
+                  ap (λ v. common_of left spot p v s1) again
                   ∙ subst (λ v. common_of left spot p vs s1 ≡ common_after c (own_of v) all w.index (Wake w.root) (payer_of it.slot.waiting)) (sym here) (common p vs suits);
             }),
-        follows q (next_callback_of x w0) w w0 s s1 sound from to again,
-        hears_so it.slot (awake it.slot) refl refl it.there root (record { body = body_woken it.slot.cell.phase it.slot.body; told = λ answer hears. (hears, refl) }),
+        follows InCallbacks.CallBack x (next_callback_of x w0) w w0 s s1 sound to follow,
+        hears_so w.root it.slot (awake it.slot) refl refl it.there it.tasks (record { home = refl; body = body_woken it.slot.cell.phase it.slot.body; told = λ answer hears. (hears, refl) }),
+        beside_own w w1 s s1 (profile_led q (next_callback_of x w0) w w1 sound.here refl to.same refl refl refl refl)
+            (record { kept = refl; tasks = keeps; records = records; sleepers = sleepers; room = carried.room }),
       ) in
       subst (λ y. Steps left spot w s e w' y) (sym it.kept) (subst (λ y. Steps left spot w s e y s1) (sym is) (subst (λ y. Steps left spot w s y w1 s1) (sym event) done))

@@ -8,7 +8,7 @@ use Rattle.exec_waiters.{specs.{States.{waiter_at, waiter_of, takes_tick, tick_i
 use Rattle.exec_driver.specs.{Driving.Driving, Lists.is_among, Punctual.IsPunctual}
 use Rattle.exec_machine.specs.{declared.config.Configuration.Configuration, Tests.{is_resolved, is_staged}}
 use Rattle.exec_moves.specs.declared.place.InService.{InService}
-use Rattle.exec_steps.{specs.{declared.parts.{mail.Reply.Reply, names.Names.Names, record.Record.Record, sleeping.SleeperRecord.SleeperRecord, worker.Moments.Moments}, Due.{IsDue, IsWheelAt, AreTimed}, Flown.{AreLanded, IsPlain, HasFlown, operations}, Records.number_in, Serving.{AreKnown, changed_at}, Sound.{IsNamed, IsAlike, IsSubmitted, AreOver}, Carried.IsCarried}, proofs.{Facts.{by_name, same_number}, Flown.{FliesOn, landed_on}, Marking.{mark_if, marked, was_marked}, Staging.known_then, Orders.{Eases, eases_written, IsPartOf, TurnsAlike, eased, part_none, part_self}, Carries.{carried_marked, carried_slab, carried_waiter}, Changing.changes_one}}
+use Rattle.exec_steps.{specs.{declared.parts.{mail.Reply.Reply, names.Names.Names, record.Record.Record, sleeping.SleeperRecord.SleeperRecord, worker.Moments.Moments}, Due.{IsDue, IsWheelAt, AreTimed}, Flown.{AreLanded, IsPlain, IsPolled, HasFlown, operations}, Records.number_in, Serving.{AreKnown, changed_at}, Sound.{IsNamed, IsAlike, IsSubmitted, AreOver}, Carried.IsCarried}, proofs.{Facts.{by_name, same_number}, Flown.{FliesOn, landed_on}, Marking.{known_then, mark_if, marked, was_marked}, Orders.{Eases, eases_written, IsPartOf, TurnsAlike, eased, part_none, part_self}, Carries.{carried_marked, carried_slab, carried_waiter}, Changing.changes_one}}
 
 -- a request that isn't over stays so, in flight or not, with no deadline to be enrolled that it hadn't
 abbrev pub Rewatched : Option (Waiter Reply Reply) → Option (Waiter Reply Reply) → Type 0
@@ -28,6 +28,7 @@ pub record Watched (n : Names) (d d' : Driving Reply Reply) (rs rs' : List Recor
   pub waits : Rewatched (waiter_at d.requests id) (waiter_at d'.requests id)
   pub alike : (it : Waiter Reply Reply) → waiter_at d'.requests id ≡ Some it → IsAlike d.wheel.start d.wheel.tick it (f r).shown
   pub ring : d'.ring ≡ d.ring
+  pub armed : d'.armed ≡ d.armed
   pub start : d'.wheel.start ≡ d.wheel.start
   pub tick : d'.wheel.tick ≡ d.wheel.tick
   pub enrolments : d'.lists.enrolments ≡ d.lists.enrolments
@@ -121,7 +122,7 @@ module _ (i : ℕ) (n : Names) (h : ℕ) (d d' : Driving Reply Reply) (zs : Slab
 
   pub submitted_watched : IsSubmitted i n.staged.items n.untold.items d.ring rs → IsSubmitted i n.staged.items n.untold.items d'.ring rs'
   submitted_watched sub =
-      let known = subst (AreKnown n.staged.items) (sym by.records) (known_then n.staged.items rs (number_in n.requests.items id) f sub.known) in
+      let known = subst (AreKnown n.staged.items) (sym by.records) (known_then f rs (number_in n.requests.items id) n.staged.items sub.known) in
       rw by.ring
       (record {
         tagged = sub.tagged;
@@ -131,7 +132,6 @@ module _ (i : ℕ) (n : Names) (h : ℕ) (d d' : Driving Reply Reply) (zs : Slab
         all = λ j x found mine staged.
             let old = before j x found in
             sub.all j old.o old.at (sym (ap (λ y. y.shown.worker) old.is) ∙ mine) (sym (ap (λ y. is_staged y.shown.phase) old.is) ∙ staged);
-        unraised = sub.unraised;
       })
 
   pub named_watched : IsNamed i n d zs rs ss → IsNamed i (record n { held = h }) d' zs rs' ss
@@ -230,7 +230,6 @@ module _ (i : ℕ) (n : Names) (h : ℕ) (d d' : Driving Reply Reply) (zs : Slab
         telling = rw by.ring flown.telling;
         entries = rw by.ring flown.entries;
         permits = flown.permits;
-        ours = λ j y found. let old = before j y found in ap (λ z. z.shown.worker) old.is ∙ flown.ours j old.o old.at;
         plain = λ j y found mine.
             let old = before j y found in
             subst (λ z. IsPlain z.shown) (sym old.is) (assumption (flown.plain j old.o old.at (sym (ap (λ z. z.shown.worker) old.is) ∙ mine)));
@@ -242,14 +241,14 @@ module _ (i : ℕ) (n : Names) (h : ℕ) (d d' : Driving Reply Reply) (zs : Slab
             (λ same.
             let old = enrols_here (waiter_at d.requests id) refl by.waits it (ap (waiter_at d'.requests) (sym same) ∙ live) takes in
             flown.enrolling x old.0 (ap (waiter_at d.requests) same ∙ old.1) old.2 (ap (λ z. is_some (deadline_of z)) (sym old.3) ∙ has)));
-        acks = rw by.ring flown.acks;
+        polled = subst (λ a. IsPolled d'.ring a) (sym by.armed) (subst (λ x. IsPolled x d.armed) (sym by.ring) flown.polled);
         owning = λ j y found unresolved.
             let old = before j y found in
             ap (λ z. z.shown.released) old.is ∙ flown.owning j old.o old.at (sym (ap (λ z. is_resolved z.shown.phase) old.is) ∙ unresolved);
-        uncancelled = λ x y among found.
+        uncancelled = λ x y among found mine.
             let old = before (number_in n.requests.items x.0) y found in
             ap (λ z. z.shown.cancel_staged) old.is
-            ∙ ⊎_elim (λ was. flown.uncancelled x old.o was old.at)
+            ∙ ⊎_elim (λ was. flown.uncancelled x old.o was old.at (sym (ap (λ z. z.shown.worker) old.is) ∙ mine))
             (λ new.
             let is : old.o ≡ r = cc (old.at, ap (λ z. slice_get rs (number_in n.requests.items z)) new.0, by.there) in
             ap (λ z. z.shown.cancel_staged) is ∙ new.1)
@@ -266,10 +265,10 @@ pub watched : (n : Names) (d d' : Driving Reply Reply) (rs : List Record) (id : 
     → f r ≡ record r { shown = record r.shown { timer = (f r).shown.timer; observed = (f r).shown.observed; cancelled = (f r).shown.cancelled; waiter = (f r).shown.waiter } }
     → is_resolved r.shown.phase ≡ false → d'.requests ≡ written d.requests id (Pending it') → it'.in_flight ≡ it.in_flight → it'.request ≡ it.request → (takes_tick it'.state ≡ true → takes_tick it.state ≡ true)
     → ((t : ℕ) → tick_in it'.state ≡ Some t → tick_in it.state ≡ Some t)
-    → IsAlike d.wheel.start d.wheel.tick it' (f r).shown → d'.ring ≡ d.ring → d'.wheel.start ≡ d.wheel.start → d'.wheel.tick ≡ d.wheel.tick → TurnsAlike d.wheel d'.wheel → d'.lists.enrolments ≡ d.lists.enrolments
+    → IsAlike d.wheel.start d.wheel.tick it' (f r).shown → d'.ring ≡ d.ring → d'.armed ≡ d.armed → d'.wheel.start ≡ d.wheel.start → d'.wheel.tick ≡ d.wheel.tick → TurnsAlike d.wheel d'.wheel → d'.lists.enrolments ≡ d.lists.enrolments
     → ((x : WaiterId) → is_among x d'.lists.cancels ≡ true → (is_among x d.lists.cancels ≡ true) ⊎ ((x.0 ≡ id) × (r.shown.cancel_staged ≡ false)))
     → Watched n d d' rs (changed_at rs (number_in n.requests.items id) f) id r f
-watched n d d' rs id it it' r f at there name keeps open_still slab flies request takes ticks alike ring start tick turns enrolments cancels =
+watched n d d' rs id it it' r f at there name keeps open_still slab flies request takes ticks alike ring armed start tick turns enrolments cancels =
     let some : IsSome (value_at d.requests id) = rw (entry_of (value_at d.requests id) it at) refl in
     let map = Updates-write d.requests id (Pending it') some in
     let now : waiter_at d'.requests id ≡ Some it' = ap (λ s. waiter_at s id) slab ∙ ap waiter_of map.changed in
@@ -284,6 +283,7 @@ watched n d d' rs id it it' r f at there name keeps open_still slab flies reques
       waits = subst (λ o. Rewatched o (waiter_at d'.requests id)) (sym at) (it', now, flies, (request, takes));
       alike = λ x live. let same : it' ≡ x = cc (now, live) in subst (λ y. IsAlike d.wheel.start d.wheel.tick y (f r).shown) same alike;
       ring = ring;
+      armed = armed;
       start = start;
       tick = tick;
       enrolments = enrolments;

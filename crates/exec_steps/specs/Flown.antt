@@ -2,13 +2,13 @@
 use Rattle.std.specs.{Prelude.{◌≡◌, ℕ, ◌+◌, ◌%◌, ◌^◌, ◌<◌, ◌≤◌, Bool, true, false, not, List, [], ◌∷◌, length, map, filter, slice_get, Option, Some, None, is_some, IfSome}, Vec.vec_capacity, VecDeque.deque_capacity}
 use Rattle.exec_base.specs.declared.slab.Id.{Id}
 use Rattle.exec_outcomes.specs.declared.outcome.Kind.{Kind}
-use Rattle.exec_request.specs.Requests.{deadline_of}
-use Rattle.exec_ring.specs.{Completions.result_in, Rings.{RingState, completions}, declared.completion.{Completion.Completion, Posted.Posted}}
+use Rattle.exec_request.specs.{Requests.deadline_of, declared.window.Opcode.Opcode}
+use Rattle.exec_ring.specs.{Completions.result_in, Rings.{RingState, completions}, declared.completion.{Completion.Completion, Submission.Submission}}
 use Rattle.exec_waiters.specs.{Ids.{index_in, generation_in}, Events.is_lawful_for, States.{waiter_at, takes_tick}, declared.{waiter.Waiter.Waiter, waiter_id.WaiterId.WaiterId}}
 use Rattle.exec_driver.specs.{Driving.Driving, Lists.is_among, Steps.is_control}
 use Rattle.exec_machine.specs.{declared.state.{Request.Request, RequestPhase.TheVariants.Landed}, Tests.{is_gated, is_resolved}}
 use Rattle.exec_moves.specs.declared.place.InService.{InService}
-use Rattle.exec_steps.specs.{declared.parts.{mail.Reply.Reply, names.Names.Names, record.Record.Record}, Records.number_in, Serving.is_one_of, View.number_told}
+use Rattle.exec_steps.specs.{declared.parts.{mail.Reply.Reply, names.Names.Names, record.Record.Record}, Places.one_if, Records.number_in, Serving.is_one_of, View.{is_end, number_told}}
 
 -- no durable request is there, so no permit is given up
 abbrev pub passes_permit : Option InService → Bool
@@ -60,10 +60,23 @@ AreLanded n d records (c ∷ cs) =
     × (is_one_of (number_told n.requests.items c) (map (number_told n.requests.items) cs) ≡ false)
     × AreLanded n d records cs
 
--- A completion of no operation acknowledges a cancel: nobody raises a wake.
-abbrev pub AreAcks : List Posted → Type 0
-AreAcks [] = Unit {0}
-AreAcks (p ∷ ps) = (is_control p.completion ≡ true → p.completion.user_data ≡ 4294967295) × AreAcks ps
+-- THE WAKE POLL is under way just where it stands in the submission queue, or the kernel has it, or a completion that has ended
+-- it wasn't dropped yet: once.
+
+abbrev pub is_poll : Opcode → Bool
+is_poll Opcode.Wake = true
+is_poll _ = false
+
+abbrev pub polls_in : List Submission → ℕ
+polls_in [] = 0
+polls_in (e ∷ es) = one_if (is_poll e.window.kind) + polls_in es
+
+abbrev pub ends_in : List Completion → ℕ
+ends_in [] = 0
+ends_in (c ∷ cs) = one_if (is_end c) + ends_in cs
+
+abbrev pub IsPolled : RingState → Bool → Type 0
+IsPolled r armed = polls_in r.staged + (one_if r.armed + ends_in (completions r)) ≡ one_if armed
 
 -- what is not released has room to end in, and what is in the submission queue has room in the lists
 pub record HasFlown (x : Option InService) (i : ℕ) (n : Names) (d : Driving Reply Reply) (records : List Record) : Type 0 where
@@ -72,10 +85,9 @@ pub record HasFlown (x : Option InService) (i : ℕ) (n : Names) (d : Driving Re
   pub telling : d.ring.size ≤ vec_capacity n.untold
   pub entries : length n.staged.items + length n.untold.items ≤ length d.ring.staged
   pub permits : passes_permit x ≡ false
-  pub ours : (k : ℕ) (r : Record) → slice_get records k ≡ Some r → r.shown.worker ≡ i
   pub plain : (k : ℕ) (r : Record) → slice_get records k ≡ Some r → r.shown.worker ≡ i → IsPlain r.shown
   pub landed : AreLanded n d records (operations d.ring)
   pub enrolling : (id : WaiterId) (it : Waiter Reply Reply) → waiter_at d.requests id.0 ≡ Some it → takes_tick it.state ≡ true → is_some (deadline_of it.request) ≡ true → is_among id d.lists.enrolments ≡ true
-  pub acks : AreAcks d.ring.posted
+  pub polled : IsPolled d.ring d.armed
   pub owning : (k : ℕ) (r : Record) → slice_get records k ≡ Some r → is_resolved r.shown.phase ≡ false → r.shown.released ≡ false
-  pub uncancelled : (id : WaiterId) (r : Record) → is_among id d.lists.cancels ≡ true → slice_get records (number_in n.requests.items id.0) ≡ Some r → r.shown.cancel_staged ≡ false
+  pub uncancelled : (id : WaiterId) (r : Record) → is_among id d.lists.cancels ≡ true → slice_get records (number_in n.requests.items id.0) ≡ Some r → r.shown.worker ≡ i → r.shown.cancel_staged ≡ false

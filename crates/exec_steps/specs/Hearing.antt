@@ -1,5 +1,5 @@
 -- What a task can be told next, and what it holds then.
-use Rattle.std.specs.Prelude.{◌≡◌, ℕ, List, Option, Some, None, slice_get}
+use Rattle.std.specs.Prelude.{◌≡◌, ℕ, List, length, Option, Some, None, slice_get}
 use Rattle.exec_task.specs.declared.body.Said.{Said}
 use Rattle.exec_machine.specs.{declared.state.Waiting.Waiting, Tasks.without_newest}
 use Rattle.exec_steps.specs.{declared.parts.{shared.Shared.Shared, task_slot.TaskSlot.TaskSlot, worker.Worker.Worker}, View.body_in}
@@ -19,13 +19,15 @@ held_once_come (Waiting.Request r) held = without_newest held
 held_once_come _ held = held
 
 module _ {B : Type 0} where
-  -- A slot that became this has the same body. What that can be told it could be told before, and holds the same then.
+  -- A slot that became this has the same body, of a root of the same worker. What that can be told it could be told before, and holds the same then.
   pub record Hears (slot slot' : TaskSlot B) : Type 0 where
+    pub home : slot'.home ≡ slot.home
     pub body : body_in slot'.cell.phase slot'.body ≡ body_in slot.cell.phase slot.body
     pub told : (answer : Said) → CanHear slot'.told slot'.waiting answer → CanHear slot.told slot.waiting answer × (held_once_come slot.waiting slot.held.items ≡ held_once_come slot'.waiting slot'.held.items)
 
-  -- The root of a worker made no act; and the configuration stays.
+  -- No task made an act, and none is new; the worker's root and the configuration stay.
   pub record StillHears (w : Worker) (s : Shared B) (w' : Worker) (s' : Shared B) : Type 0 where
     pub root : w'.root ≡ w.root
     pub config : s'.config ≡ s.config
-    pub hears : (slot slot' : TaskSlot B) → slice_get s.tasks.items w.root ≡ Some slot → slice_get s'.tasks.items w.root ≡ Some slot' → Hears slot slot'
+    pub many : length s'.tasks.items ≡ length s.tasks.items
+    pub hears : (t : ℕ) (slot slot' : TaskSlot B) → slice_get s.tasks.items t ≡ Some slot → slice_get s'.tasks.items t ≡ Some slot' → Hears slot slot'

@@ -11,6 +11,9 @@ pub mod Flown
 pub mod Phased
 pub mod Rooted
 pub mod Carried
+pub mod Places
+pub mod Whole
+pub mod Spares
 pub mod Sound
 pub mod Works
 pub mod Tests
@@ -23,3 +26,9 @@ pub mod Acting
 pub mod Awaits
 pub mod Firsts
 pub mod Roles
+pub mod Calling
+pub mod Pooled
+pub mod Kinds
+pub mod Raises
+pub mod Drained
+pub mod Together

@@ -1,5 +1,5 @@
 -- What the steps of a poll do to the slot of the polled task.
-use Rattle.std.specs.Prelude.{◌≡◌, ℕ, ◌-◌, true, false, List, [], ◌++◌, map, Option, Some, None, IsSome, option_to_list, slice_get, slice_set}
+use Rattle.std.specs.Prelude.{◌≡◌, ℕ, ◌-◌, Bool, true, false, List, [], ◌++◌, length, map, is_some, Option, Some, None, IsSome, option_to_list, slice_get, slice_set, if◌then◌else◌}
 use Rattle.exec_base.specs.Slab.{value_at}
 use Rattle.exec_outcomes.specs.declared.outcome.Outcome.{Outcome}
 use Rattle.exec_request.specs.declared.output.RequestOutput.{RequestOutput}
@@ -31,10 +31,14 @@ module _ {B : Type 0} where
         poller = i;
       }
 
-  -- its poll ends, and its body is given back
+  -- the same, unless it was cleared
+  abbrev pub begun_slot_if : ℕ → TaskSlot B → TaskSlot B
+  begun_slot_if i slot = if is_some (queued_body slot.cell.phase) then begun_slot i slot else slot
+
+  -- its poll ends, and its body is given back; one that was cleared keeps it, where it is over
   abbrev pub pended_with : Option B → TaskSlot B → TaskSlot B
   pended_with None slot = slot
-  pended_with (Some b) slot = record slot { cell = pended slot.cell b; body = None }
+  pended_with (Some b) slot = record slot { cell = pended slot.cell b; body = (if slot.cell.cancelled then Some b else None) }
 
   abbrev pub pended_slot : TaskSlot B → TaskSlot B
   pended_slot slot = pended_with slot.body slot
@@ -67,9 +71,10 @@ pub record Acts {B L : Type 0} (left : B → L) (gives : L → Option Sight → 
   pub slot : new ≡ record old { body = Some body'; told = None }
   pub given : gives (left body) sees said a (left body') sees'
 
--- what a body sees of a worker that sampled this moment, and of the opens; no listener is there yet
-abbrev pub sight_of : ℕ → List OpenState → Sight
-sight_of moment opens = record { moment = moment; opens = map (λ o. account_seen o.account) opens; listeners = [] }
+-- what a body sees of a worker that sampled this moment, of the tasks, the pool and the opens; no listener is there yet
+abbrev pub sight_of : ℕ → ℕ → Bool → List OpenState → Sight
+sight_of moment tasks stopped opens =
+    record { moment = moment; opens = map (λ o. account_seen o.account) opens; listeners = []; tasks = tasks; stopped = stopped }
 
 -- the body of task t, polled at this moment, made this act
 pub record MadeAct {B L : Type 0} (left : B → L) (gives : L → Option Sight → Said → Act B → L → Option Sight → Type 0) (t moment : ℕ) (s s' : Shared B) (a : Act B) : Type 0 where
@@ -77,7 +82,7 @@ pub record MadeAct {B L : Type 0} (left : B → L) (gives : L → Option Sight �
   pub slot' : TaskSlot B
   pub there : slice_get s.tasks.items t ≡ Some slot
   pub sight : Sight
-  pub acts : Acts left gives slot slot' (Some (sight_of moment s.opens)) (Some sight) a
+  pub acts : Acts left gives slot slot' (Some (sight_of moment (length s.tasks.items) s.stopped s.opens)) (Some sight) a
   pub kept : s' ≡ record s { tasks = s'.tasks }
   pub tasks : s'.tasks.items ≡ slice_set s.tasks.items t slot'
 

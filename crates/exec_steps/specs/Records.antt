@@ -89,6 +89,10 @@ reached clock seat = record seat { rest = rest_at clock seat.rest }
 abbrev pub roused : Seat → Seat
 roused seat = record seat { rest = Rest.Awake }
 
+-- so it is where an operation has landed: its ring got the wakes that waited
+abbrev pub landed_on : Seat → Seat
+landed_on seat = record seat { rest = Rest.Awake; raised = 0 }
+
 -- the seat of a worker that begins
 pub record IsFreshSeat (pool : Bool) (seat : Seat) : Type 0 where
   pub phase : seat.phase ≡ WorkerPhase.Open
@@ -98,3 +102,4 @@ pub record IsFreshSeat (pool : Bool) (seat : Seat) : Type 0 where
   pub queue : seat.queue ≡ record { real = 0; gap = 0; values = []; held = [] }
   pub inbox : seat.mailbox.inbox ≡ without_mail 1
   pub waker : seat.mailbox.waker ≡ record { target = WaitTarget.None; latch = false; batch = 0 }
+  pub raised : seat.raised ≡ 0

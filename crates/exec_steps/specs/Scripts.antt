@@ -1,13 +1,13 @@
 -- A body that does what its script says.
-use Rattle.std.specs.Prelude.{◌≡◌, ℕ, ◌-◌, ◌^◌, ◌<◌, ◌≤◌, Bool, true, false, List, [], ◌∷◌, ◌++◌, length, slice_get, Option, Some, None, if◌then◌else◌}
-use Rattle.exec_base.specs.declared.{error.Error.TheVariants.NoMemory, limits.TheConstants.LAST_MOMENT}
+use Rattle.std.specs.Prelude.{◌≡◌, ℕ, zero, suc, ◌-◌, ◌^◌, ◌<◌, ◌≤◌, Bool, true, false, List, [], ◌∷◌, ◌++◌, length, slice_get, Option, Some, None, if◌then◌else◌}
+use Rattle.exec_base.specs.declared.{error.Error.TheVariants.{Closed, NoMemory}, limits.TheConstants.LAST_MOMENT}
 use Rattle.exec_request.specs.declared.{buffers.WriteBuffers.{WriteBuffers, TheVariants.Single}, request.Request.Request}
 use Rattle.exec_task.specs.{Sight.Sight, declared.body.{Act.Act, Said.Said}}
-use Rattle.exec_machine.specs.{declared.{config.{Configuration.Configuration, ScriptWord.ScriptWord}, state.Operation.Operation}, Progress.Plan, Requests.operation_asked, Tasks.without_newest, World.{Task, Common}, Words.{next_word, moved_on}}
+use Rattle.exec_machine.specs.{declared.{config.{Configuration.Configuration, ScriptWord.ScriptWord}, state.{Code.{Code, TheVariants.{Root, Script, Waits}}, Operation.Operation}}, Progress.Plan, Requests.operation_asked, Tasks.without_newest, World.{Task, Common}, Words.{next_word, moved_on}}
 use Rattle.exec_steps.specs.Spots.{Spot, IsAskedFor, spot_of}
 
--- WHAT A BODY MAY DO YET: it makes polls, and sends of one part, waits for them, lets go of them, sleeps, and ends. It spawns
--- nothing, and wakes nobody.
+-- WHAT A BODY MAY DO YET: it makes polls, and sends of one part, waits for them, lets go of them, sleeps, makes and wakes
+-- others, and ends. Only the first worker's root makes requests and sleeps; any other worker's root waits for the stop.
 
 -- bytes in one buffer that an operation can take whole, of which none has gone
 abbrev pub IsOnePart : WriteBuffers → Type 0
@@ -29,9 +29,15 @@ module _ {B : Type 0} where
   Asks c moment held w Act.Yield = w ≡ ScriptWord.Yield
   Asks c moment held w (Act.Done n) = w ≡ ScriptWord.End
   Asks c moment held w (Act.Fault n) = w ≡ ScriptWord.Fault n
-  Asks c moment held w (Act.Spawn b) = ⊥
+  Asks c moment held w (Act.Spawn b) = (k : ℕ) × (w ≡ ScriptWord.Spawn k)
   Asks c moment held w (Act.Dedicated b) = ⊥
-  Asks c moment held w (Act.Wake t) = ⊥
+  Asks c moment held w (Act.Wake t) = w ≡ ScriptWord.Wake t.0
+
+  -- an act of a task that makes no request and doesn't sleep
+  abbrev pub Stays : Act B → Type 0
+  Stays (Act.Register r) = ⊥
+  Stays (Act.Sleep (suc time)) = ⊥
+  Stays a = Unit {0}
 
   -- the body is through by this act
   abbrev pub is_last : Act B → Bool
@@ -44,6 +50,8 @@ module _ {B : Type 0} where
   IsAnswer (Act.Register r) (Said.Admitted n) = Unit {0}
   IsAnswer (Act.Await (Some r)) (Said.Output output) = Unit {0}
   IsAnswer (Act.Sleep time) Said.Slept = Unit {0}
+  IsAnswer (Act.Spawn b) (Said.Spawned n) = Unit {0}
+  IsAnswer (Act.Spawn b) (Said.Refused Closed) = Unit {0}
   IsAnswer a Said.Pass = Unit {0}
   IsAnswer a told = ⊥
 
@@ -59,24 +67,62 @@ module _ {B : Type 0} where
 abbrev pub IsAnswered : {L : Type 0} → (L → Option Said → Spot) → Type 0
 IsAnswered {L} spot = (l : L) (answer : Said) → (answer ≡ Said.Refused NoMemory → ⊥) → spot l (Some answer) ≡ spot l None
 
-module _ {B L : Type 0} (runs : L → Plan → Type 0) (holds : L → Option Said → List ℕ) (spot : L → Option Said → Spot) (gives : L → Option Sight → Said → Act B → L → Option Sight → Type 0) where
+-- Which script the task runs, by whose root it is: the first worker's, another's, or nobody's.
+abbrev pub IsCodeOf : Option ℕ → Code → Type 0
+IsCodeOf None code = (k : ℕ) × (code ≡ Script k)
+IsCodeOf (Some zero) code = code ≡ Root
+IsCodeOf (Some (suc i)) code = code ≡ Waits
+
+-- What a body sees is what the machine has.
+pub record IsSeen (sight : Sight) (s : Common) : Type 0 where
+  pub early : sight.moment ≤ LAST_MOMENT
+  pub tasks : sight.tasks ≡ length s.tasks
+  pub few : length s.tasks ≤ 2 ^ 32
+  pub stopped : sight.stopped ≡ s.stopped
+
+-- It begins the script of this number.
+abbrev pub Begins : (Option Said → Spot) → ℕ → Type 0
+Begins stands k = stands (Some Said.Start) ≡ record { code = Script k; place = 0; adapters = []; call = None }
+
+-- The name of a body that begins a script of its plan is the number of that.
+abbrev pub IsNamed : {L : Type 0} → (L → Plan → Option ℕ → Type 0) → (L → Option Said → Spot) → (L → ℕ) → Type 0
+IsNamed {L} runs spot name_of = (p : Plan) (l : L) (k : ℕ) → runs l p None → Begins (spot l) k → name_of l ≡ k
+
+module _ {L : Type 0} (runs : L → Plan → Option ℕ → Type 0) (holds : L → Option Said → List ℕ) (spot : L → Option Said → Spot) where
+  -- A body that is new begins the script of this number in the plan, and holds nothing.
+  pub record IsBorn (p : Plan) (k : ℕ) (l : L) : Type 0 where
+    pub runs_it : runs l p None
+    pub begins : Begins (spot l) k
+    pub holding : holds l (Some Said.Start) ≡ []
+
+module _ {B L : Type 0} (left : B → L) (runs : L → Plan → Option ℕ → Type 0) (holds : L → Option Said → List ℕ) (spot : L → Option Said → Spot) where
+  -- the body that the act makes, if any, is that of the word
+  abbrev pub MakesBody : Plan → ScriptWord → Act B → Type 0
+  MakesBody p w (Act.Spawn b) = (k : ℕ) → w ≡ ScriptWord.Spawn k → IsBorn runs holds spot p k (left b)
+  MakesBody p w a = Unit {0}
+
+module _ {B L : Type 0} (runs : L → Plan → Option ℕ → Type 0) (holds : L → Option Said → List ℕ) (spot : L → Option Said → Spot) (gives : L → Option Sight → Said → Act B → L → Option Sight → Type 0) where
   -- What a body that isn't through is left to do, for a task that held these requests.
   pub record GoesOn (p : Plan) (t : Task) (a : Act B) (l' : L) : Type 0 where
-    pub runs_on : runs l' p
+    pub runs_on : runs l' p t.home
     pub holding : (answer : Said) → IsAnswer a answer → holds l' (Some answer) ≡ held_after a answer t.held
     pub refused : spot l' (Some (Said.Refused NoMemory)) ≡ spot_of t
     pub refused_holding : holds l' (Some (Said.Refused NoMemory)) ≡ t.held
 
+module _ {B L : Type 0} (left : B → L) (runs : L → Plan → Option ℕ → Type 0) (holds : L → Option Said → List ℕ) (spot : L → Option Said → Spot) (gives : L → Option Sight → Said → Act B → L → Option Sight → Type 0) where
   -- One step of a body that is told this, for a task of the machine that stands where the body does and holds what it holds:
   -- it makes the act of the task's next word. Then it stands past that word, unless it is through.
   pub record StepPlays (p : Plan) (s : Common) (t : Task) (moment : ℕ) (a : Act B) (l' : L) : Type 0 where
     pub asks : Asks p.config moment t.held (next_word s t) a
+    pub makes : MakesBody left runs holds spot p (next_word s t) a
     pub stands : spot l' None ≡ (if is_last a then spot_of t else spot_of (moved_on s t))
-    pub goes_on : is_last a ≡ false → GoesOn p t a l'
+    pub code : IsCodeOf t.home t.code
+    pub stays : t.home ≡ None → Stays a
+    pub goes_on : is_last a ≡ false → GoesOn runs holds spot gives p t a l'
 
   abbrev pub Plays : Type 0
   Plays =
       (p : Plan) (s : Common) (t : Task) (sight sight' : Sight) (l l' : L) (told : Said) (a : Act B)
-      → runs l p → s.scripts ≡ p.scripts → s.root ≡ p.root → sight.moment ≤ LAST_MOMENT
+      → runs l p t.home → s.scripts ≡ p.scripts → s.root ≡ p.root → IsSeen sight s
       → gives l (Some sight) told a l' (Some sight') → spot l (Some told) ≡ spot_of t → holds l (Some told) ≡ t.held
       → StepPlays p s t sight.moment a l'

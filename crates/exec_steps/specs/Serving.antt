@@ -52,7 +52,7 @@ AreTagged (e ∷ es) = (is_cancel e.window.kind ≡ true → e.user_data ≡ 429
 
 -- The kernel takes in all that is staged, or nothing where it is busy.
 module _ {B : Type 0} where
-  pub record Enters (w : Worker) (s : Shared B) (e : Event) (w' : Worker) (s' : Shared B) : Type 0 where
+  pub record EntersRing (w : Worker) (s : Shared B) (e : Event) (w' : Worker) (s' : Shared B) : Type 0 where
     pub event : e ≡ (if (driver_of w).ring.busy then Busy else Enter)
     pub driver : driver_of w' ≡ record (driver_of w) { ring = entered (driver_of w).ring; landings = (driver_of w').landings }
     pub staged : w'.names.staged.items ≡ (if (driver_of w).ring.busy then w.names.staged.items else [])

@@ -1,10 +1,10 @@
 -- What holds of a worker and of what it shares, between two steps.
 --
 -- Each fact is over the parts that it speaks of, so what changes another part keeps it.
-use Rattle.std.specs.{Prelude.{◌≡◌, ◌≢◌, ℕ, Bool, true, false, not, ◌+◌, ◌*◌, ◌^◌, ◌<◌, ◌≤◌, ◌||◌, List, [], ◌∷◌, length, slice_get, Option, Some, None, is_some, IsSome, IfSome}, Option.option_map}
+use Rattle.std.specs.{Prelude.{◌≡◌, ◌≢◌, ℕ, Bool, true, false, not, ◌+◌, ◌*◌, ◌^◌, ◌<◌, ◌≤◌, ◌==◌, ◌||◌, ◌⊎◌, nat_lt, Contains, List, [], ◌∷◌, ◌++◌, length, slice_get, Option, Some, None, is_some, IsSome, IfSome, option_to_list, if◌then◌else◌}, Option.option_map}
 use Rattle.exec_base.specs.{Slab.{Slab, value_at, live_count}, declared.{slab.Id.Id, task_no.TaskNo.TaskNo}}
 use Rattle.exec_outcomes.specs.{Outcomes.HasCome, declared.outcome.Judged.Judged}
-use Rattle.exec_words.specs.{Queue.room_of, declared.word.WaitTarget.WaitTarget}
+use Rattle.exec_words.specs.{Head.is_spent, Idle.lowest_of, Queue.{Queue, room_of, tail_of}, Reserved.Reserved, declared.{head.Head.Head, inbox.Message.Message, word.WaitTarget.WaitTarget}}
 use Rattle.exec_time.specs.declared.timers.Sleeper.{Sleeper as Sleeping}
 use Rattle.exec_request.specs.{Requests.{asked_of, cursor_of, hinted_of, deadline_of}, States.asks_cancel}
 use Rattle.exec_ring.specs.Rings.{RingState}
@@ -12,8 +12,8 @@ use Rattle.exec_waiters.specs.{Events.waker_in, States.{waiter_at, is_held_by, t
 use Rattle.exec_driver.specs.{Driving.Driving, Opens.OpenState}
 use Rattle.exec_task.specs.{Phases.{runnable_of, is_polled}, declared.{runnable.Runnable.Runnable, task.Phase.Phase}}
 use Rattle.exec_machine.specs.{declared.{config.Configuration.Configuration, state.{Request.Request, Waiting.Waiting}}, Ranges.ring_size, Requests.asked_of as asked_in, Tests.{is_gated, is_staged, is_in_flight, is_resolved}}
-use Rattle.exec_moves.specs.declared.place.{Place.Place, InPoll.InPoll, InService.InService, InRingWait.InRingWait, InWordWait.InWordWait, InPick.InPick, InCallbacks.InCallbacks, InMail.InMail}
-use Rattle.exec_steps.specs.{declared.parts.{mail.Reply.Reply, names.Names.Names, record.Record.Record, seat.Seat.Seat as Chair, shared.Shared.Shared, sleeping.SleeperRecord.SleeperRecord, task_slot.TaskSlot.TaskSlot, worker.{Worker.Worker, Moments.Moments}}, Carried.Carried, View.{driver_of, queue_seen}, Records.number_in, Serving.{AreKnown, AreTagged, cancels_in, is_one_of}, Due.IsDue, Flown.HasFlown, Phased.{IsPhased, closes_at, closing_in, is_complete, stage_of}, Rooted.{IsNear, IsRooted}}
+use Rattle.exec_moves.specs.{Pop.shard_count, Search.from_of, Seen.polls_at, declared.{handing.{AfterCallbacks.AfterCallbacks, AfterSend.AfterSend, AfterSignal.AfterSignal, InGlobal.InGlobal, InKick.InKick, InPop.InPop, InPush.InPush}, idling.{InLook.InLook, InScan.InScan, Scan.Scan}, place.{InClosing.InClosing, InMail.InMail, InPick.InPick, InPoll.InPoll, InService.InService, Place.Place}}}
+use Rattle.exec_steps.specs.{declared.parts.{mail.{Reply.Reply, Subject.Subject}, names.Names.Names, record.Record.Record, seat.Seat.Seat as Chair, shared.Shared.Shared, sleeping.SleeperRecord.SleeperRecord, task_slot.TaskSlot.TaskSlot, worker.{Worker.Worker, Moments.Moments}}, Carried.Carried, Places.{begins_at, calls_back_at, hands_on_at, has_loot_at, is_armed_at, polled_in, searches_at, step_of_poll}, Spares.IsMailbox, View.driver_of, Records.number_in, Serving.{AreKnown, AreTagged, cancels_in, is_one_of}, Due.IsDue, Flown.HasFlown, Phased.{IsPhased, closes_at, closing_in, is_complete, stage_of}, Roles.owns_runner, Rooted.{IsNear, IsRooted}, Whole.IsGenuine}
 
 -- the ranges of a configuration that sums rest on
 pub record IsConfig (c : Configuration) : Type 0 where
@@ -22,7 +22,8 @@ pub record IsConfig (c : Configuration) : Type 0 where
   pub tick : c.tick < 2 ^ 60
   pub rw : c.rw < 2 ^ 60
   pub connect : c.connect < 2 ^ 60
-  pub one_worker : c.workers ≡ 1
+  pub workers : 0 < c.workers
+  pub few : c.workers ≤ 64
 
 -- the moments in their order: the start, the two that were sampled last, the clock; and the sleep, which has begun
 pub record IsInTime (m : Moments) (slept : Option ℕ) (clock : ℕ) : Type 0 where
@@ -70,14 +71,13 @@ pub record IsAlike (start tick : ℕ) (w : Waiter Reply Reply) (r : Request) : T
   pub told_once : r.cancel_staged ≡ true → r.cancelled ≡ true
 
 -- what is submitted: for each request whose cancel the kernel wasn't told a cancel stands in the submission queue; the
--- requests of worker i that are Staged are known by number; and nobody else raises a wake of its ring
+-- requests of worker i that are Staged are known by number
 pub record IsSubmitted (i : ℕ) (staged untold : List ℕ) (r : RingState) (records : List Record) : Type 0 where
   pub tagged : AreTagged r.staged
   pub cancels : cancels_in r.staged ≡ length untold
   pub known : AreKnown staged records
   pub own : (k : ℕ) (x : Record) → is_one_of k staged ≡ true → slice_get records k ≡ Some x → x.shown.worker ≡ i
   pub all : (k : ℕ) (x : Record) → slice_get records k ≡ Some x → x.shown.worker ≡ i → is_staged x.shown.phase ≡ true → is_one_of k staged ≡ true
-  pub unraised : r.raised ≡ false
 
 -- each slot that has a request or a sleeper of worker i has its number, and there its record has the same name; so has
 -- each slot that once had one
@@ -96,6 +96,11 @@ abbrev pub one_of : Option Runnable → Option Runnable → Option Runnable
 one_of None other = other
 one_of (Some r) other = Some r
 
+-- what is in the hand, where the root is polled next
+abbrev pub root_in_hand : Option ℕ → ℕ → Option Runnable → Option Runnable
+root_in_hand None root hand = None
+root_in_hand (Some t) root hand = if t == root then hand else None
+
 module _ {B : Type 0} where
   abbrev pub IsRunnable : Option Runnable → TaskSlot B → Type 0
   IsRunnable None t = (b : B) → t.cell.phase ≢ Phase.Queued b
@@ -109,39 +114,94 @@ module _ {B : Type 0} where
     pub once : IsRunnable (one_of flag hand) root
     pub one : IsSome flag → hand ≡ None
 
--- ONE WORKER: nobody else puts anything anywhere, and there are no ordinary tasks. Its wake word has a wait bit only
--- within a wait, from its arming to its disarming.
+  -- the roots of so many workers come first, every other task is an ordinary one, and the numbers are of 32 bits
+  pub record AreHome (workers : ℕ) (tasks : List (TaskSlot B)) : Type 0 where
+    pub roots : workers ≤ length tasks
+    pub few : length tasks ≤ 2 ^ 32
+    pub home : (t : ℕ) (slot : TaskSlot B) → slice_get tasks t ≡ Some slot → slot.home ≡ (if nat_lt t workers then Some t else None)
+    pub number : (t : ℕ) (slot : TaskSlot B) → slice_get tasks t ≡ Some slot → slot.cell.number ≡ record { 0 = t }
 
-abbrev pub is_armed_on_ring : InRingWait → Bool
-is_armed_on_ring InRingWait.EnterRing = true
-is_armed_on_ring InRingWait.SleepOnRing = true
-is_armed_on_ring (InRingWait.DisarmRing next) = true
-is_armed_on_ring _ = false
-
-abbrev pub is_armed_on_word : InWordWait → Bool
-is_armed_on_word InWordWait.SleepOnWord = true
-is_armed_on_word InWordWait.DisarmWord = true
-is_armed_on_word _ = false
-
-abbrev pub is_armed_at : Place → Bool
-is_armed_at (Place.RingWait x stay) = is_armed_on_ring x
-is_armed_at (Place.WordWait x) = is_armed_on_word x
-is_armed_at _ = false
-
--- a share that is about to be taken has no more room than the run queue
-abbrev pub HasShare : Place → ℕ → Type 0
-HasShare (Place.Pick (InPick.TakeShare first room held)) free = room ≤ free
-HasShare _ free = Unit {0}
-
-pub record IsAlone (i : ℕ) (armed : Bool) (seats : List Chair) (global : List Runnable) : Type 0 where
-  pub only : length seats ≡ 1
+-- THE SEAT. Its wake word has a wait bit only within a wait.
+pub record IsSeated (i : ℕ) (armed : Bool) (workers : ℕ) (seats : List Chair) : Type 0 where
+  pub many : length seats ≡ workers
   pub seat : Chair
   pub there : slice_get seats i ≡ Some seat
-  pub run_queue : seat.queue.values ≡ []
-  pub whole : seat.queue.held ≡ []
-  pub inbox : seat.mailbox.inbox.messages ≡ []
   pub unarmed : armed ≡ false → seat.mailbox.waker.target ≡ WaitTarget.None
-  pub elsewhere : global ≡ []
+  pub mail : IsMailbox seat.mailbox
+
+-- THE OWN RUN QUEUE, of which a place knows what it has loaded, and what it keeps aside in an overflow
+
+abbrev pub HasQueue : Place → Queue Runnable → Type 0
+HasQueue (Place.Pick (InPick.TakeShare first room held)) q = (q.held ≡ []) × (room ≤ room_of q)
+HasQueue (Place.Pop (InPop.ExchangePop h) b) q = (q.held ≡ []) × (h.real < tail_of q)
+HasQueue (Place.Pop InPop.StorePop b) q = (q.held ≡ []) × (length q.values ≡ 1) × (q.gap ≡ 0)
+HasQueue (Place.Push (InPush.StoreValue n) b) q = (q.held ≡ []) × (0 < room_of q)
+HasQueue (Place.Push (InPush.FlowOver h) b) q = (q.held ≡ []) × (h.real + 256 ≡ tail_of q) × (is_spent (tail_of q) ≡ false) × (h.gap ≡ 0)
+HasQueue (Place.Push InPush.StoreOldest b) q = q.values ≡ []
+HasQueue (Place.Scan InScan.LoadScanHead) q = q.held ≡ []
+HasQueue (Place.Scan x) q = (q.held ≡ []) × (128 ≤ room_of q)
+HasQueue _ q = q.held ≡ []
+
+-- THE HANDS
+
+abbrev pub IsInHand : Option ℕ → Bool → Option Runnable → Type 0
+IsInHand (Some t) b hand = (r : Runnable) × (hand ≡ Some r) × (r.task.0 ≡ t)
+IsInHand None true hand = IsSome hand
+IsInHand None false hand = hand ≡ None
+
+-- what is on its way from one queue to another, at most half of a run queue, with a place for one more
+pub record IsLoot (some : Bool) (loot : Reserved Runnable) : Type 0 where
+  pub places : 129 ≤ loot.places
+  pub few : length loot.values ≤ 128
+  pub none : some ≡ false → loot.values ≡ []
+
+-- where a batch of mail is applied it is one wake of the root; any other place has none
+abbrev pub HasBatch : Place → List (Message Subject Subject) → Type 0
+HasBatch (Place.Mail (InMail.Apply applied taken)) batch = batch ≡ Message.WakeRoot ∷ []
+HasBatch _ batch = batch ≡ []
+
+-- whether it holds a search count, where a place says so
+abbrev pub IsSearching : Option Bool → Bool → Type 0
+IsSearching None searching = Unit {0}
+IsSearching (Some b) searching = searching ≡ b
+
+-- OTHER WORKERS that a place names, and other numbers: one that is scanned or looked at isn't the own, and what was loaded of its queue fits;
+-- in a set that was loaded for a claim somebody is
+
+pub record MayClaim (i : ℕ) (from : ℕ) (h : Head) (tail : ℕ) (seats : List Chair) : Type 0 where
+  pub other : from ≢ i
+  pub unclaimed : h.gap ≡ 0
+  pub some : h.real + 2 ≤ tail
+  pub most : tail ≤ h.real + 256
+  pub behind : (chair : Chair) → slice_get seats from ≡ Some chair → tail ≤ tail_of chair.queue
+
+-- a scan of so many workers isn't over
+abbrev pub IsScanning : Configuration → Scan → Type 0
+IsScanning c x = (x.start < c.workers) × (x.passed < c.workers)
+
+-- the stop is told to those behind the own number
+abbrev pub TellsPast : ℕ → AfterSignal → Type 0
+TellsPast i (AfterSignal.Send (AfterSend.Tell j)) = i < j
+TellsPast i _ = Unit {0}
+
+abbrev pub Aims : Place → Configuration → ℕ → List Chair → Type 0
+Aims (Place.Scan (InScan.LoadTheirHead x)) c i seats = (from_of c x ≢ i) × IsScanning c x
+Aims (Place.Scan (InScan.LoadTheirTail x h)) c i seats = (from_of c x ≢ i) × IsScanning c x × (h.gap ≡ 0)
+Aims (Place.Scan (InScan.ClaimHalf x h tail)) c i seats = MayClaim i (from_of c x) h tail seats × IsScanning c x
+Aims (Place.Scan (InScan.MoveHalf from h)) c i seats = (from ≢ i) × (from < c.workers)
+Aims (Place.Scan (InScan.ReleaseHalf from h)) c i seats = (from ≢ i) × (from < c.workers)
+Aims (Place.Look (InLook.LookAtHead j)) c i seats = (j ≢ i) × (j < c.workers)
+Aims (Place.Look (InLook.LookAtTail j h)) c i seats = (j ≢ i) × (j < c.workers)
+Aims (Place.Signal x j b) c i seats = (j < c.workers) × TellsPast i b
+Aims (Place.Kick (InKick.ExchangeKickCount set) b) c i seats = IsSome (lowest_of set.has)
+Aims (Place.Global (InGlobal.AddGlobalCount set) b) c i seats = IsSome (lowest_of set.has)
+Aims (Place.ClaimWorker set b) c i seats = IsSome (lowest_of set.has)
+Aims (Place.Mail (InMail.Apply applied taken)) c i seats = applied < 64
+Aims (Place.Closing InClosing.CloseQueue) c i seats = i ≡ 0
+Aims (Place.Closing InClosing.OpenBarrier) c i seats = i ≡ 0
+Aims (Place.Closing InClosing.Stop) c i seats = i ≡ 0
+Aims (Place.Closing (InClosing.TellRoot j)) c i seats = (i < j) × (j < c.workers)
+Aims _ c i seats = Unit {0}
 
 -- WAKES are left only by a service, and paid by the callbacks after it; a message of the mailbox lies between.
 
@@ -149,14 +209,15 @@ abbrev pub has_wakes_at : Place → Bool
 has_wakes_at (Place.Service x v) = true
 has_wakes_at (Place.Mail x) = true
 has_wakes_at (Place.Callbacks x n) = true
-has_wakes_at (Place.Closing x) = true
-has_wakes_at _ = false
+has_wakes_at (Place.Closing InClosing.Orphan) = true
+has_wakes_at (Place.Closing InClosing.CloseSleeper) = true
+has_wakes_at (Place.Closing InClosing.End) = true
+has_wakes_at p = is_some (calls_back_at p)
 
--- where a callback is about to be made, something is left for it; and no message is ever there to be applied
-abbrev pub HasLeft : Place → Deferred Reply Reply → Type 0
-HasLeft (Place.Callbacks InCallbacks.CallBack n) left = is_untold left ≡ false
-HasLeft (Place.Mail (InMail.Apply applied taken)) left = ⊥
-HasLeft _ left = Unit {0}
+-- where a callback is about to be made, something is left for it
+abbrev pub IsLeft : Option AfterCallbacks → Deferred Reply Reply → Type 0
+IsLeft None left = Unit {0}
+IsLeft (Some n) left = is_untold left ≡ false
 
 -- what a request or a sleeper of worker i owes task t: it is over, and has paid no wake
 pub record RequestOwes (i t : ℕ) (r : Record) : Type 0 where
@@ -184,12 +245,6 @@ pub record AreOver (i : ℕ) (ended : List ℕ) (unreleased others : ℕ) (recor
   pub counted : length ended + others ≡ unreleased
 
 -- THE ROOT'S SLOT: outside a poll nobody has its body; in a poll its worker has it
-
--- where the poll is, once it has begun
-abbrev pub polled_in : Place → Option InPoll
-polled_in (Place.Poll t InPoll.BeginPoll) = None
-polled_in (Place.Poll t x) = Some x
-polled_in _ = None
 
 -- where the service is, once it has sampled
 abbrev pub served_in : Place → Option InService
@@ -250,11 +305,42 @@ module _ {B : Type 0} where
     pub stands : (slot : TaskSlot B) → slice_get tasks t ≡ Some slot → Stands x i slot
     pub owed : AreOwed i t wakes tasks records sleepers
 
--- What the place needs beside: a poll has the body in its slot, and the hand is empty unless it is about to begin.
-abbrev pub InHand : Place → ℕ → Option Runnable → Type 0
-InHand (Place.Poll t InPoll.BeginPoll) root hand = (t ≡ root) × IsSome hand
-InHand (Place.Poll t x) root hand = (t ≡ root) × (hand ≡ None)
-InHand _ root hand = hand ≡ None
+-- THE ORDINARY TASK THAT A WORKER POLLS: it has the body. It holds nothing, and waits for wakes alone.
+
+abbrev pub waits_for_wakes : Waiting → Bool
+waits_for_wakes (Waiting.Request r) = false
+waits_for_wakes (Waiting.Timer z) = false
+waits_for_wakes _ = true
+
+module _ {B : Type 0} where
+  pub record IsGuest (x : InPoll) (i : ℕ) (slot : TaskSlot B) : Type 0 where
+    pub ordinary : slot.home ≡ None
+    pub polled : is_polled slot.cell.phase ≡ true
+    pub body : IsSome slot.body
+    pub poller : slot.poller ≡ i
+    pub cancelled : slot.cell.cancelled ≡ slot.cleared
+    pub held : slot.held.items ≡ []
+    pub waits : waits_for_wakes slot.waiting ≡ true
+    pub told : is_told slot.waiting false ≡ true → IsSome slot.told
+    pub untold : acts_next slot.waiting ≡ false → slot.told ≡ None
+    pub there : WaitsAt (Some x) slot.waiting
+
+  -- what holds of the task that is polled, where it isn't the root
+  abbrev pub HasGuest : Option ℕ → InPoll → ℕ → ℕ → List (TaskSlot B) → Type 0
+  HasGuest None x i root tasks = Unit {0}
+  HasGuest (Some t) x i root tasks = t ≢ root → (slot : TaskSlot B) × (slice_get tasks t ≡ Some slot) × IsGuest x i slot
+
+  -- an ordinary task that isn't polled: it holds nothing, waits for wakes alone, and can be told what comes of that; one that
+  -- was cleared is over
+  pub record IsResting (slot : TaskSlot B) : Type 0 where
+    pub uncleared : is_complete slot.cell.phase ≡ false → (slot.cell.cancelled ≡ false) × (slot.cleared ≡ false)
+    pub held : slot.held.items ≡ []
+    pub waits : waits_for_wakes slot.waiting ≡ true
+    pub told : is_told slot.waiting (is_complete slot.cell.phase) ≡ true → IsSome slot.told
+    pub untold : acts_next slot.waiting ≡ false → slot.told ≡ None
+
+  abbrev pub AreResting : ℕ → List (TaskSlot B) → Type 0
+  AreResting workers tasks = (t : ℕ) (slot : TaskSlot B) → slice_get tasks t ≡ Some slot → workers ≤ t → is_polled slot.cell.phase ≡ false → IsResting slot
 
 -- no request is durable yet, so no gate has one
 abbrev pub AreFree : List OpenState → Type 0
@@ -262,30 +348,47 @@ AreFree [] = Unit {0}
 AreFree (o ∷ opens) = (o.holder ≡ None) × (o.waiting ≡ []) × AreFree opens
 
 module _ {B : Type 0} where
+  -- a runnable in the hand is the root's where that is polled next, and else one of an ordinary task
+  abbrev pub IsHeld : Option ℕ → ℕ → List (TaskSlot B) → Runnable → Type 0
+  IsHeld begins root tasks r = (begins ≡ Some root) ⊎ IsGenuine tasks r
+
   pub record SoundAt (p : Place) (w : Worker) (s : Shared B) : Type 0 where
     pub here : w.place ≡ p
     pub config : IsConfig s.config
     pub gates : AreFree s.opens
-    pub index : w.index ≡ 0
+    pub index : w.index < s.config.workers
+    pub workers : w.workers ≡ s.config.workers
+    pub at_home : w.root ≡ w.index
+    pub role : owns_runner w.role ≡ (w.index == 0)
+    pub homes : AreHome s.config.workers s.tasks.items
+    pub shards : length s.set.shards ≡ shard_count s.config
     pub time : IsInTime w.moments w.slept s.clock
     pub told : IsTold w.names.ended.items w.home.deferred (tellers (driver_of w).requests w.home.timers)
     pub named : IsNamed w.index w.names (driver_of w) w.home.timers s.requests.items s.sleepers.items
-    pub runnable : HasRunnable w.index w.root w.root_ready w.hand s.tasks.items
-    pub alone : IsAlone w.index (is_armed_at p) s.seats.items s.global.values
-    pub share : (chair : Chair) → slice_get s.seats.items w.index ≡ Some chair → HasShare p (room_of (queue_seen chair.queue))
+    pub runnable : HasRunnable w.index w.root w.root_ready (root_in_hand (begins_at p) w.root w.hand) s.tasks.items
+    pub seated : IsSeated w.index (is_armed_at p) s.config.workers s.seats.items
+    pub queue : (chair : Chair) → slice_get s.seats.items w.index ≡ Some chair → HasQueue p chair.queue
     pub sized : (driver_of w).ring.size ≡ ring_size s.config
     pub processed : w.processed < 2 ^ 29
-    pub hand : InHand p w.root w.hand
-    pub left : HasLeft p w.home.deferred
+    pub hand : IsInHand (begins_at p) (hands_on_at p) w.hand
+    pub loot : IsLoot (has_loot_at p) w.loot
+    pub genuine : (r : Runnable) → Contains (option_to_list w.hand) r → IsHeld (begins_at p) w.root s.tasks.items r
+    pub stolen : (r : Runnable) → Contains w.loot.values r → IsGenuine s.tasks.items r
+    pub searching : IsSearching (searches_at p) w.searching
+    pub aims : Aims p s.config w.index s.seats.items
+    pub guest : HasGuest (polls_at p) (step_of_poll p) w.index w.root s.tasks.items
+    pub resting : AreResting s.config.workers s.tasks.items
+    pub left : IsLeft (calls_back_at p) w.home.deferred
     pub over : AreOver w.index w.names.ended.items w.names.unreleased (pending_count (driver_of w).requests) s.requests.items
-    pub batch : w.batch.values ≡ []
+    pub batch : HasBatch p w.batch.values
+    pub batch_place : 0 < w.batch.places
     pub quiet : has_wakes_at p ≡ false → w.home.deferred.notes.wakes.items ≡ []
     pub due : IsDue (served_in p) w.index w.moments s.config w.names (driver_of w) w.home.timers s.requests.items s.sleepers.items
     pub flown : HasFlown (served_in p) w.index w.names (driver_of w) s.requests.items
     pub carried : Carried w s
-    pub rooted : IsRooted (polled_in p) w.index w.root w.names (driver_of w) w.home.timers s.tasks.items s.requests.items s.sleepers.items
-    pub phased : (chair : Chair) → slice_get s.seats.items w.index ≡ Some chair → IsPhased (closes_at p) (closing_in p) w.home.closing w.root w.names.unreleased (stage_of chair s) s.tasks.items
-    pub tied : IsTied (polled_in p) w.index w.root w.home.deferred.notes.wakes.items s.tasks.items s.requests.items s.sleepers.items
+    pub rooted : IsRooted (polled_in w.root p) w.index w.root w.names (driver_of w) w.home.timers s.tasks.items s.requests.items s.sleepers.items
+    pub phased : (chair : Chair) → slice_get s.seats.items w.index ≡ Some chair → IsPhased w.index (closes_at p) (closing_in p) w.home.closing w.root w.names.unreleased (stage_of chair s) s.tasks.items
+    pub tied : IsTied (polled_in w.root p) w.index w.root w.home.deferred.notes.wakes.items s.tasks.items s.requests.items s.sleepers.items
 
   abbrev pub Sound : Worker → Shared B → Type 0
   Sound w s = SoundAt w.place w s

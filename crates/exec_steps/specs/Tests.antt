@@ -1,11 +1,32 @@
 -- What a worker finds out by what it alone touches, and where it goes on by that.
-use Rattle.std.specs.Prelude.{◌≡◌, ℕ, Bool, true, false, not, ◌==◌, ◌&&◌, ◌||◌, ◌-◌, ◌*◌, nat_lt, nat_le, Option, Some, None, if◌then◌else◌}
+use Rattle.std.specs.Prelude.{◌≡◌, ℕ, Bool, true, false, not, ◌==◌, ◌&&◌, ◌||◌, ◌-◌, ◌*◌, ◌<◌, ◌≤◌, nat_lt, nat_le, Option, Some, None, if◌then◌else◌}
 use Rattle.exec_base.specs.{Slab.Slab, declared.slab.Id.Id}
 use Rattle.exec_time.specs.{Sleepers.{IsEmpty, IsFirst}, Wheel.{least_active, next_moment}, declared.timers.Sleeper.Sleeper as Sleeping}
 use Rattle.exec_waiters.specs.{States.pending_count, Told.is_untold}
 use Rattle.exec_driver.specs.{Driving.{Driving, has_pending, is_full}, Lists.has_first, Punctual.{IsFirstTick, IsPunctual}, Steps.poll_staged}
-use Rattle.exec_machine.specs.{declared.event.Event.{Event, TheVariants.{Enter, Sleep}}, Deadlines.earlier}
-use Rattle.exec_moves.specs.{Callback.serve, Wait.after_wait, declared.place.{AfterCallbacks.AfterCallbacks, AfterWait.AfterWait, Stay.Stay, Place.Place, AfterService.AfterService, InCallbacks.InCallbacks, InClosing.InClosing, InLoads.InLoads, Round.Round, InRingWait.InRingWait, InWordWait.InWordWait}}
+use Rattle.exec_machine.specs.{declared.config.Configuration.Configuration, declared.event.Event.{Event, TheVariants.{Turn, Enter, Sleep}}, Deadlines.earlier}
+use Rattle.exec_moves.specs.{declared.handing.{AfterCallbacks.AfterCallbacks, AfterKick.AfterKick, AfterLeave.AfterLeave, AfterPush.AfterPush, AfterSignal.AfterSignal}, declared.idling.{AfterWait.AfterWait, Stay.Stay}, declared.place.Place.Place, Callback.serve, Look.past_own, Parts.after_send, Wait.after_wait}
+use Rattle.exec_moves.specs.declared.handing.AfterCallbacks.TheVariants as after
+use Rattle.exec_moves.specs.declared.handing.AfterClaim.TheVariants as claim
+use Rattle.exec_moves.specs.declared.handing.AfterKick.TheVariants as kick
+use Rattle.exec_moves.specs.declared.handing.AfterLeave.TheVariants as leave
+use Rattle.exec_moves.specs.declared.handing.AfterPush.TheVariants as push
+use Rattle.exec_moves.specs.declared.handing.AfterSignal.TheVariants as signal
+use Rattle.exec_moves.specs.declared.handing.InKick.TheVariants as kicks
+use Rattle.exec_moves.specs.declared.idling.InLook.TheVariants as look
+use Rattle.exec_moves.specs.declared.idling.InScan.TheVariants as scan
+use Rattle.exec_moves.specs.declared.place.InPick.TheVariants as pick
+use Rattle.exec_moves.specs.declared.place.InPoll.TheVariants as poll
+use Rattle.exec_moves.specs.declared.place.AfterService.TheVariants as back
+use Rattle.exec_moves.specs.declared.place.InCallbacks.TheVariants as callback
+use Rattle.exec_moves.specs.declared.place.InClosing.TheVariants as closing
+use Rattle.exec_moves.specs.declared.place.InLoads.TheVariants as load
+use Rattle.exec_moves.specs.declared.place.Round.TheVariants as round
+use Rattle.exec_moves.specs.declared.idling.AfterWait.TheVariants as next
+use Rattle.exec_moves.specs.declared.idling.InRingWait.TheVariants as ring
+use Rattle.exec_moves.specs.declared.idling.InWordWait.TheVariants as word
+use Rattle.exec_moves.specs.declared.idling.Stay.TheVariants as stay
+use Rattle.exec_moves.specs.declared.place.Place.TheVariants as at
 use Rattle.exec_steps.specs.{declared.parts.{mail.Reply.Reply, worker.Worker.Worker}, View.driver_of}
 
 -- something waits for the callbacks
@@ -22,17 +43,60 @@ has_put_off w = (w.put_off.«enter» && has_open_requests w) || (w.put_off.defer
 
 -- the next turn, after that
 abbrev pub next_turn_of : Worker → Place
-next_turn_of w = if has_put_off w then serve AfterService.Begin else Place.BeginTurn
+next_turn_of w = if has_put_off w then serve back.Begin else at.BeginTurn
 
--- what follows a withdrawal
-abbrev pub place_withdrawn : AfterWait → Worker → Place
-place_withdrawn AfterWait.Begin w = Place.BeginTurn
-place_withdrawn AfterWait.Serve w = serve AfterService.Begin
-place_withdrawn AfterWait.MakeUp w = next_turn_of w
+-- WHERE IT GOES ON THAT HANDS SOMETHING ON
+
+-- once it holds no search count
+abbrev pub after_leave_of : AfterLeave → Worker → Place
+after_leave_of (leave.Poll t) w = at.Poll t poll.BeginPoll
+after_leave_of (leave.CallBack n) w = at.Callbacks callback.CallBack n
+after_leave_of leave.Begin w = next_turn_of w
+
+-- the same, once a held one is returned
+abbrev pub leave_of : AfterLeave → Worker → Place
+leave_of b w = if w.searching then at.LeaveSearch b else after_leave_of b w
+
+abbrev pub leaves_turn_of : Worker → Place
+leaves_turn_of w = leave_of leave.Begin w
+
+-- who returned the last one kicks
+abbrev pub after_return_of : Bool → AfterLeave → Worker → Place
+after_return_of true b w = at.Kick kicks.LoadKickCount (kick.Leave b)
+after_return_of false b w = after_leave_of b w
+
+abbrev pub next_pick_of : Worker → Place
+next_pick_of w = if w.picks == 0 then at.TakeRootFlag else at.Pick pick.CountDown
+
+abbrev pub after_push_of : AfterPush → Worker → Place
+after_push_of (push.Act t) w = at.Poll t poll.Act
+after_push_of push.Pick w = next_pick_of w
+
+abbrev pub after_kick_of : AfterKick → Worker → Place
+after_kick_of (kick.Leave b) w = after_leave_of b w
+after_kick_of (kick.Push b) w = after_push_of b w
+
+abbrev pub after_signal_of : Configuration → AfterSignal → Worker → Place
+after_signal_of c (signal.Claim (claim.Kick b)) w = after_kick_of b w
+after_signal_of c (signal.Claim (claim.Global b)) w = after_push_of b w
+after_signal_of c (signal.Send b) w = after_send c b
+
+-- after a poll of this task
+abbrev pub after_poll_of : ℕ → Worker → Place
+after_poll_of t w = if t == w.root then at.Callbacks callback.TakeBatch after.Look else next_pick_of w
+
+-- what follows a withdrawal, by whether a claim came
+abbrev pub place_withdrawn : Bool → AfterWait → Worker → Place
+place_withdrawn claimed next.Begin w = at.BeginTurn
+place_withdrawn claimed next.Serve w = serve back.Begin
+place_withdrawn true (next.MakeUp last) w = leaves_turn_of w
+place_withdrawn false (next.MakeUp last) w = after_return_of last leave.Begin w
+place_withdrawn true next.Search w = at.Look look.ReturnClaimed
+place_withdrawn false next.Search w = at.Scan scan.LoadScanHead
 
 -- the first step of a wait on the ring
 abbrev pub ring_wait_of : Stay → Worker → Place
-ring_wait_of x w = if is_full (driver_of w) then Place.RingWait InRingWait.EnterFullRing x else Place.RingWait InRingWait.TestRing x
+ring_wait_of x w = if is_full (driver_of w) then at.RingWait ring.EnterFullRing x else at.RingWait ring.TestRing x
 
 -- WHAT IS DUE NEXT
 
@@ -44,8 +108,8 @@ is_within span from (Some moment) = nat_le (moment - from) (span * 1000)
 -- the first step of a wait on the wake word, where this moment is the next at which something is due
 abbrev pub word_wait_of : ℕ → Option ℕ → Worker → Place
 word_wait_of span moment w =
-    if nat_lt 0 w.spinner.budget && not (is_within span w.moments.read moment) then Place.WordWait (InWordWait.SpinOnBatch w.spinner.budget)
-    else Place.WordWait InWordWait.ArmWord
+    if nat_lt 0 w.spinner.budget && not (is_within span w.moments.read moment) then at.WordWait (word.SpinOnBatch w.spinner.budget)
+    else at.WordWait word.ArmWord
 
 -- this is the earliest moment of the sleepers, where there is one
 abbrev pub IsFirstSleep : Slab (Sleeping Reply) → Option ℕ → Type 0
@@ -60,6 +124,18 @@ IsNextIn false w moment = (sleep : Option ℕ) × IsFirstSleep w.home.timers sle
 -- that moment; what the wheel has next is the deadline of a request
 abbrev pub IsNextMoment : Worker → Option ℕ → Type 0
 IsNextMoment w moment = IsFirstTick (driver_of w) (least_active (driver_of w).wheel) × IsNextIn w.home.closing w moment
+
+-- it goes on to the first step of a wait: on the ring with requests, else on the wake word
+abbrev pub IsWait : ℕ → Worker → Place → Type 0
+IsWait span w p =
+    (has_open_requests w ≡ true → p ≡ ring_wait_of stay.Turn w)
+    × (has_open_requests w ≡ false → (moment : Option ℕ) × IsNextMoment w moment × (p ≡ word_wait_of span moment w))
+
+-- it goes on to look at the queue of the next other worker from this one on, and after the last to the wait
+abbrev pub IsLook : Configuration → ℕ → Worker → Place → Type 0
+IsLook c j w p =
+    (past_own w.index j < c.workers → p ≡ at.Look (look.LookAtHead (past_own w.index j)))
+    × (c.workers ≤ past_own w.index j → IsWait c.spin.most w p)
 
 -- all that was due was told
 abbrev pub HasToldDue : Worker → Type 0
@@ -82,22 +158,22 @@ polled_by d = if has_pending d then d else if d.armed then d else if is_full d t
 
 -- the ring is tested: the worker serves, or goes on with its wake poll
 pub record TestsRing (x : Stay) (w w' : Worker) : Type 0 where
-  pub worker : w' ≡ record w { place = (if is_unready (driver_of w) then after_wait x AfterWait.Serve else Place.RingWait InRingWait.ArmRing x); home = record w.home { driver = w'.home.driver } }
+  pub worker : w' ≡ record w { place = (if is_unready (driver_of w) then after_wait x next.Serve else at.RingWait ring.ArmRing x); home = record w.home { driver = w'.home.driver } }
   pub driver : driver_of w' ≡ record (polled_by (driver_of w)) { landings = (driver_of w').landings }
   pub punctual : IsPunctual (driver_of w) → IsPunctual (driver_of w')
 
 -- what follows the enter of a wait, after this event, where no completion is there or some are
 abbrev pub after_enter_of : Event → Bool → Stay → Place
-after_enter_of Enter true x = Place.RingWait InRingWait.SleepOnRing x
-after_enter_of _ quiet x = Place.RingWait (InRingWait.DisarmRing AfterWait.Begin) x
+after_enter_of Enter true x = at.RingWait ring.SleepOnRing x
+after_enter_of _ quiet x = at.RingWait (ring.DisarmRing next.Begin) x
 
 -- where the callbacks lead, and the next of them
 abbrev pub after_callbacks_of : AfterCallbacks → Worker → Place
-after_callbacks_of AfterCallbacks.Look w = Place.Loads InLoads.LoadOwnHead Round.First
-after_callbacks_of AfterCallbacks.Test w = Place.Loads InLoads.LoadOwnHead Round.Second
-after_callbacks_of AfterCallbacks.Begin w = Place.BeginTurn
-after_callbacks_of AfterCallbacks.Drain w = serve AfterService.Finish
-after_callbacks_of AfterCallbacks.Finish w = if has_open_requests w then ring_wait_of Stay.Closing w else Place.Closing InClosing.End
+after_callbacks_of after.Look w = at.Loads load.LoadOwnHead round.First
+after_callbacks_of after.Test w = at.Loads load.LoadOwnHead round.Second
+after_callbacks_of after.Begin w = at.BeginTurn
+after_callbacks_of after.Drain w = serve back.Finish
+after_callbacks_of after.Finish w = if has_open_requests w then ring_wait_of stay.Closing w else at.Closing closing.End
 
 abbrev pub next_callback_of : AfterCallbacks → Worker → Place
-next_callback_of x w = if is_anything_told w then Place.Callbacks InCallbacks.CallBack x else after_callbacks_of x w
+next_callback_of x w = if is_anything_told w then at.Callbacks callback.CallBack x else after_callbacks_of x w

@@ -1,18 +1,26 @@
 -- What a worker, and what all share, shows: of the abstract machine, and of what stands beside it.
-use Rattle.std.specs.Prelude.{◌≡◌, ℕ, suc, Bool, false, not, ◌==◌, ◌&&◌, if◌then◌else◌, List, [], ◌∷◌, length, map, filter, replicate, slice_get, slice_index_or, is_some, Option, Some, None}
+use Rattle.std.specs.Prelude.{◌≡◌, ℕ, zero, suc, Bool, true, false, not, ◌-◌, ◌==◌, ◌&&◌, ◌||◌, if◌then◌else◌, List, [], ◌∷◌, length, map, filter, slice_get, slice_index_or, slice_set, ◌++◌, is_some, Option, Some, None}
+use Rattle.std.specs.Option.{option_map}
+use Rattle.exec_base.specs.{Slab.Slab, declared.{slab.Id.Id, task_no.TaskNo.TaskNo}}
 use Rattle.exec_outcomes.specs.Accounts.{Account, fresh_account}
-use Rattle.exec_words.specs.{declared.{inbox.Message.Message as Letter, word.{PureWord.PureWord, WaitTarget.WaitTarget}}, Queue.Queue}
-use Rattle.exec_ring.specs.{Rings.{RingState, completions}, declared.completion.Completion.Completion}
-use Rattle.exec_waiters.specs.{Ids.index_in, States.flying_count, declared.waiter_id.WaiterId.WaiterId}
+use Rattle.exec_ring.specs.{Completions.is_wake, Rings.{RingState, completions}, declared.completion.Completion.Completion}
+use Rattle.exec_waiters.specs.{Ids.{user_data_of, index_in}, States.flying_count, declared.waiter_id.WaiterId.WaiterId}
 use Rattle.exec_driver.specs.{Driving.{Driving, seen}, Opens.OpenState, Steps.is_control, declared.opens.WaiterKey.WaiterKey}
+use Rattle.exec_words.specs.{declared.{inbox.Message.Message as Letter, word.PureWord.PureWord}, Queue.Queue}
+use Rattle.exec_words.specs.declared.inbox.Message.TheVariants as letter
 use Rattle.exec_task.specs.declared.{body.Said.Said, runnable.Runnable.Runnable, task.Phase.Phase}
-use Rattle.exec_machine.specs.{declared.state.{MailMessage.MailMessage, Request.Request, TaskPhase.TaskPhase, Call.Call}, World.{Own, Seat, Task, Open, Common}, Progress.Plan}
-use Rattle.exec_moves.specs.{State.{Desk, Things}, Seen.{polls_at, next_at, serves_at}}
-use Rattle.exec_steps.specs.{declared.parts.{mail.{Subject.Subject, Reply.Reply}, record.Record.Record, seat.Seat.Seat as Chair, shared.Shared.Shared, task_slot.TaskSlot.TaskSlot, worker.Worker.Worker}, Records.number_in, Spots.{Spot, no_spot}}
-
--- the wake word of no worker
-abbrev pub no_word : PureWord
-no_word = record { target = WaitTarget.None; latch = false; batch = 0 }
+use Rattle.exec_task.specs.declared.task.Phase.TheVariants as cell
+use Rattle.exec_machine.specs.{declared.{config.ScriptWord.ScriptWord, state.{Call.Call, Code.Code, Letter.Letter as Owed, MailMessage.MailMessage, Request.Request, Sleeper.Sleeper, TaskPhase.TaskPhase}}, World.{Own, Seat, Task, Adapter, AdapterCall, Open, Common}, Closing.letters_to_roots, Progress.Plan}
+use Rattle.exec_machine.specs.declared.state.Code.TheVariants as code
+use Rattle.exec_machine.specs.declared.state.MailMessage.TheVariants as message
+use Rattle.exec_machine.specs.declared.state.TaskPhase.TheVariants as task
+use Rattle.exec_moves.specs.{State.{Desk, Things, WakePoll, raised}, Seen.{polls_at, next_at, serves_at}, declared.place.Place.Place}
+use Rattle.exec_moves.specs.declared.handing.AfterSend.TheVariants as send
+use Rattle.exec_moves.specs.declared.handing.AfterSignal.TheVariants as signal
+use Rattle.exec_moves.specs.declared.place.InClosing.TheVariants as closing
+use Rattle.exec_moves.specs.declared.place.Place.TheVariants as at
+use Rattle.exec_steps.specs.{declared.parts.{mail.{Subject.Subject, Reply.Reply}, record.Record.Record, seat.Seat.Seat as Chair, shared.Shared.Shared, sleeping.SleeperRecord.SleeperRecord, task_slot.TaskSlot.TaskSlot, worker.Worker.Worker}, Records.number_in, Spots.{Spot, no_spot}}
+use Rattle.exec_steps.specs.declared.parts.mail.Subject.TheVariants as subject
 
 -- NUMBERS
 
@@ -29,30 +37,68 @@ number_told numbers c = slice_index_or numbers (index_in c.user_data) 0
 abbrev pub landed_in : List ℕ → RingState → List ℕ
 landed_in numbers r = map (number_told numbers) (filter (λ c. not (is_control c)) (completions r))
 
--- how many completions of no operation stand behind the last one of an operation
+-- how many acknowledged cancels stand behind the last completion of an operation
 abbrev pub trailing : ℕ → List Completion → ℕ
 trailing n [] = n
-trailing n (c ∷ cs) = trailing (if is_control c then suc n else 0) cs
+trailing n (c ∷ cs) = trailing (if is_wake c then n else if is_control c then suc n else 0) cs
+
+-- and whether a completion of the wake poll does
+abbrev pub trails_wake : Bool → List Completion → Bool
+trails_wake told [] = told
+trails_wake told (c ∷ cs) = trails_wake (is_wake c || (is_control c && told)) cs
+
+-- how many operations stand behind the completion that ended the wake poll
+abbrev pub operations_in : List Completion → ℕ
+operations_in cs = length (filter (λ c. not (is_control c)) cs)
+
+abbrev pub is_end : Completion → Bool
+is_end c = is_wake c && not c.more
+
+abbrev pub behind_end : List Completion → Option ℕ
+behind_end [] = None
+behind_end (c ∷ cs) = if is_end c then Some (operations_in cs) else behind_end cs
+
+-- the wake poll, as the kernel has it
+abbrev pub wake_poll_in : RingState → WakePoll
+wake_poll_in r =
+    record {
+      armed = r.armed;
+      last = r.last;
+      told = trails_wake false (completions r);
+      ended = behind_end (completions r);
+      kept = r.raised;
+    }
+
+-- and once so many more wakes are raised
+abbrev pub raised_times : ℕ → WakePoll → WakePoll
+raised_times zero p = p
+raised_times (suc more) p = raised_times more (raised p)
 
 -- MESSAGES
 
 abbrev pub forward_of : Subject → MailMessage
-forward_of (Subject.Request r) = MailMessage.ForwardRequest r
-forward_of (Subject.Timer z) = MailMessage.ForwardTimer z
+forward_of (subject.Request r) = message.ForwardRequest r
+forward_of (subject.Timer z) = message.ForwardTimer z
 
 abbrev pub cancel_of : Subject → MailMessage
-cancel_of (Subject.Request r) = MailMessage.CancelRequest r
-cancel_of (Subject.Timer z) = MailMessage.CancelTimer z
+cancel_of (subject.Request r) = message.CancelRequest r
+cancel_of (subject.Timer z) = message.CancelTimer z
 
 abbrev pub message_of : Letter Subject Subject → MailMessage
-message_of Letter.WakeRoot = MailMessage.Root
-message_of (Letter.Forward x) = forward_of x
-message_of (Letter.Cancel x) = cancel_of x
+message_of letter.WakeRoot = message.Root
+message_of (letter.Forward x) = forward_of x
+message_of (letter.Cancel x) = cancel_of x
 
 -- A WORKER
 
 abbrev pub driver_of : Worker → Driving Reply Reply
 driver_of w = seen w.home.driver
+
+-- what it has to send, in a pool of so many workers: the stop, to the roots of all from one on
+abbrev pub owed_at : ℕ → Place → List Owed
+owed_at n (at.Closing (closing.TellRoot worker)) = letters_to_roots (n - worker) worker
+owed_at n (at.Signal x j (signal.Send (send.Tell worker))) = letters_to_roots (n - worker) worker
+owed_at n _ = []
 
 -- what the machine has of it alone
 abbrev pub own_of : Worker → Own
@@ -65,7 +111,7 @@ own_of w =
       serving = serves_at w.place;
       polls = polls_at w.place;
       next = next_at w.place;
-      owed = [];
+      owed = owed_at w.workers w.place;
       ready = numbers_of w.names.requests.items (driver_of w).lists.queued;
       unenrolled = numbers_of w.names.requests.items (driver_of w).lists.enrolments;
       cancels = numbers_of w.names.requests.items (driver_of w).lists.cancels;
@@ -94,16 +140,38 @@ desk_of w =
       spinner = w.spinner;
       read = w.moments.read;
       slept = w.slept;
+      picks = w.picks;
+      searching = w.searching;
+      rng = w.rng;
+      hand = option_map (λ r. r.task.0) w.hand;
+      loot = map (λ r. r.task.0) w.loot.values;
     }
 
--- what others see of it, though only it touches that: its ring was set busy, what has landed there, and the open whose
--- permit it is about to give up, which for the machine it has given up already
+-- what others see of it, though only it touches that: its ring was set busy, what has landed there, the wake poll but for
+-- wakes that wait at its seat, and the messages that it took and has yet to apply
 pub record Visible : Type 0 where
   pub busy : Bool
   pub landed : List ℕ
+  pub wakes : WakePoll
+  pub taken : List MailMessage
 
 abbrev pub visible : Worker → Visible
-visible w = record { busy = (driver_of w).ring.busy; landed = landed_in w.names.requests.items (driver_of w).ring }
+visible w =
+    record {
+      busy = (driver_of w).ring.busy;
+      landed = landed_in w.names.requests.items (driver_of w).ring;
+      wakes = wake_poll_in (driver_of w).ring;
+      taken = map message_of w.batch.values;
+    }
+
+-- what is visible of each worker, and whether each outside caller has a call half done
+pub record Views : Type 0 where
+  pub workers : List Visible
+  pub calls : List Call
+
+-- the same, with this of worker i
+abbrev pub with_view : Views → ℕ → Visible → Views
+with_view vs i v = record vs { workers = slice_set vs.workers i v }
 
 -- SEATS AND OPENS
 
@@ -115,7 +183,7 @@ seat_seen v seat =
       left = seat.left;
       rest = seat.rest;
       busy = v.busy;
-      inbox = map message_of seat.mailbox.inbox.messages;
+      inbox = v.taken ++ map message_of seat.mailbox.inbox.messages;
       mailbox_closed = seat.mailbox.inbox.closed;
       landed = v.landed;
     }
@@ -124,6 +192,12 @@ abbrev pub seats_seen : List Visible → List Chair → List Seat
 seats_seen [] seats = []
 seats_seen (v ∷ vs) [] = []
 seats_seen (v ∷ vs) (seat ∷ seats) = seat_seen v seat ∷ seats_seen vs seats
+
+-- the wake polls, with the wakes that wait at each seat
+abbrev pub polls_seen : List Visible → List Chair → List WakePoll
+polls_seen [] seats = []
+polls_seen (v ∷ vs) [] = []
+polls_seen (v ∷ vs) (seat ∷ seats) = raised_times seat.raised v.wakes ∷ polls_seen vs seats
 
 -- the number of the request with this name
 abbrev pub number_of_key : ℕ → List Record → WaiterKey → ℕ
@@ -153,16 +227,16 @@ open_seen rs o =
 module _ {B : Type 0} where
   -- its body, where it is
   abbrev pub body_in : Phase B → Option B → Option B
-  body_in (Phase.Idle b) other = Some b
-  body_in (Phase.Queued b) other = Some b
+  body_in (cell.Idle b) other = Some b
+  body_in (cell.Queued b) other = Some b
   body_in _ other = other
 
   abbrev pub phase_seen : Phase B → ℕ → TaskPhase
-  phase_seen (Phase.Idle b) i = TaskPhase.Idle
-  phase_seen (Phase.Queued b) i = TaskPhase.Queued
-  phase_seen Phase.Running i = TaskPhase.Running i
-  phase_seen Phase.Notified i = TaskPhase.Noted i
-  phase_seen Phase.Complete i = TaskPhase.Done
+  phase_seen (cell.Idle b) i = task.Idle
+  phase_seen (cell.Queued b) i = task.Queued
+  phase_seen cell.Running i = task.Running i
+  phase_seen cell.Notified i = task.Noted i
+  phase_seen cell.Complete i = task.Done
 
 module _ {B L : Type 0} (left : B → L) (spot : L → Option Said → Spot) where
   abbrev pub spot_by : Option B → Option Said → Spot
@@ -185,12 +259,12 @@ module _ {B L : Type 0} (left : B → L) (spot : L → Option Said → Spot) whe
         fresh = t.fresh;
       }
 
-  -- what the machine has of all, for a plan; of each worker this is visible
-  abbrev pub common_of : Plan → List Visible → Shared B → Common
+  -- what the machine has of all, for a plan; of workers and callers this is visible
+  abbrev pub common_of : Plan → Views → Shared B → Common
   common_of p vs s =
       record {
         clock = s.clock;
-        seats = seats_seen vs s.seats.items;
+        seats = seats_seen vs.workers s.seats.items;
         scripts = p.scripts;
         root = p.root;
         tasks = map task_seen s.tasks.items;
@@ -199,34 +273,44 @@ module _ {B L : Type 0} (left : B → L) (spot : L → Option Said → Spot) whe
         opens = map (open_seen s.requests.items) s.opens;
         listeners = s.listeners.items;
         next_socket = s.config.sockets;
-        callers = replicate 16 Call.Nothing;
+        callers = vs.calls;
         set_closed = s.set.closed;
         queue_closed = s.global.closed;
         stopped = s.stopped;
       }
 
--- what worker i shares beside that
+-- WHAT PARTIES SHARE BESIDE THAT
+
 abbrev pub tasks_of : List Runnable → List ℕ
 tasks_of rs = map (λ r. r.task.0) rs
 
 abbrev pub queue_seen : Queue Runnable → Queue ℕ
 queue_seen q = record { real = q.real; gap = q.gap; values = tasks_of q.values; held = tasks_of q.held }
 
-abbrev pub queue_at : Option Chair → Queue ℕ
-queue_at None = record { real = 0; gap = 0; values = []; held = [] }
-queue_at (Some seat) = queue_seen seat.queue
+abbrev pub queue_at : Chair → Queue ℕ
+queue_at seat = queue_seen seat.queue
 
-abbrev pub word_at : Option Chair → PureWord
-word_at None = no_word
-word_at (Some seat) = seat.mailbox.waker
+abbrev pub word_at : Chair → PureWord
+word_at seat = seat.mailbox.waker
 
-abbrev pub things_of : {B : Type 0} → ℕ → Shared B → Things
-things_of i s =
+-- the messages that weren't taken
+abbrev pub inbox_at : Chair → List MailMessage
+inbox_at seat = map message_of seat.mailbox.inbox.messages
+
+-- all but the wake polls
+abbrev pub things_of : {B : Type 0} → Shared B → Things
+things_of s =
     record {
-      queue = queue_at (slice_get s.seats.items i);
-      word = word_at (slice_get s.seats.items i);
+      queues = map queue_at s.seats.items;
+      words = map word_at s.seats.items;
+      inboxes = map inbox_at s.seats.items;
+      wake_polls = [];
       global = tasks_of s.global.values;
       idle = s.idle;
       barrier = s.barrier_open;
       shards = map (map (λ e. e.0)) s.set.shards;
     }
+
+-- with the wake polls, as they are visible
+abbrev pub things_with : {B : Type 0} → Views → Shared B → Things
+things_with vs s = record (things_of s) { wake_polls = polls_seen vs.workers s.seats.items }

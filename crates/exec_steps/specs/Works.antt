@@ -2,12 +2,12 @@
 --
 -- A leaf says that it is its move, what else of the worker stays, and what becomes of the one thing that it names. From
 -- these follows, at the dispatcher, what a step is to the machine (`Works`).
-use Rattle.std.specs.Prelude.{◌≡◌, ℕ, List, Option, Some, slice_get, slice_set, length}
+use Rattle.std.specs.Prelude.{◌≡◌, ◌≢◌, ℕ, List, Option, Some, slice_get, slice_set, length}
 use Rattle.exec_words.specs.declared.word.PureWord.{PureWord}
 use Rattle.exec_task.specs.declared.body.Said.{Said}
 use Rattle.exec_machine.specs.{declared.event.Event.Event, Choice.Choice, Tests.AllTrue, Allowed.allowed, After.{own_after, common_after}, Progress.Plan}
 use Rattle.exec_moves.specs.{State.Moved, Move.move}
-use Rattle.exec_steps.specs.{declared.parts.{seat.Seat.Seat as Chair, shared.Shared.Shared, task_slot.TaskSlot.TaskSlot, worker.Worker.Worker}, Hearing.StillHears, Spots.Spot, Sound.Sound, View.{Visible, visible, own_of, desk_of, common_of, things_of}}
+use Rattle.exec_steps.specs.{declared.parts.{seat.Seat.Seat as Chair, shared.Shared.Shared, task_slot.TaskSlot.TaskSlot, worker.Worker.Worker}, Hearing.StillHears, Spots.Spot, Sound.Sound, Spares.Spares, View.{Views, visible, with_view, own_of, desk_of, common_of, things_with}, Whole.{Profile, with_worker, IsWhole}}
 
 -- A step is this move: its event, and what stands on the worker's desk then.
 pub record Makes {T : Type 0} (m : Moved T) (e : Event) (w : Worker) : Type 0 where
@@ -44,29 +44,35 @@ module _ {B : Type 0} where
 
 module _ {B : Type 0} where
   -- The executor is one of the plan, and this is visible of its workers.
-  pub record Suits (p : Plan) (vs : List Visible) (w : Worker) (s : Shared B) : Type 0 where
+  pub record Suits (p : Plan) (vs : Views) (w : Worker) (s : Shared B) : Type 0 where
     pub config : s.config ≡ p.config
-    pub seen : slice_get vs w.index ≡ Some (visible w)
-    pub workers : length vs ≡ length s.seats.items
+    pub seen : slice_get vs.workers w.index ≡ Some (visible w)
+    pub workers : length vs.workers ≡ length s.seats.items
+
+  -- What a step leaves of what other parties rely on: each other worker's own things are spared, and the balances of all
+  -- hold again.
+  pub record Beside (w : Worker) (s : Shared B) (w' : Worker) (s' : Shared B) : Type 0 where
+    pub spares : (j : ℕ) → j ≢ w.index → Spares j s s'
+    pub whole : (others : Profile) → IsWhole (with_worker others w) s → IsWhole (with_worker others w') s'
 
 module _ {B L : Type 0} (left : B → L) (spot : L → Option Said → Spot) where
   -- A step of worker w, of a plan and beside workers of whom this is visible: it is the worker's move; the machine allows
   -- its event; and worker and all show what the machine makes of them.
-  pub record Works (p : Plan) (vs : List Visible) (w : Worker) (s : Shared B) (e : Event) (w' : Worker) (s' : Shared B) : Type 0 where
+  pub record Works (p : Plan) (vs : Views) (w : Worker) (s : Shared B) (e : Event) (w' : Worker) (s' : Shared B) : Type 0 where
     pub choice : Choice
-    pub moves : move p.config w.index (own_of w) (common_of left spot p vs s) (desk_of w) (things_of w.index s) ≡ record { event = e; choice = choice; desk = desk_of w'; thing = things_of w'.index s' }
+    pub moves : move p.config w.index (own_of w) (common_of left spot p vs s) (desk_of w) (things_with vs s) ≡ record { event = e; choice = choice; desk = desk_of w'; thing = things_with (with_view vs w.index (visible w')) s' }
     pub may : AllTrue (allowed p.config (own_of w) (common_of left spot p vs s) w.index e choice)
     pub own : own_of w' ≡ own_after p.config (own_of w) (common_of left spot p vs s) w.index e choice
-    pub common : common_of left spot p (slice_set vs w.index (visible w')) s' ≡ common_after p.config (own_of w) (common_of left spot p vs s) w.index e choice
+    pub common : common_of left spot p (with_view vs w.index (visible w')) s' ≡ common_after p.config (own_of w) (common_of left spot p vs s) w.index e choice
 
-  -- What a step that is no act does for each plan that suits, and what holds then.
+  -- What a step that is no act does for each plan that suits, what holds then, and what it leaves of others.
   abbrev pub Steps : Worker → Shared B → Event → Worker → Shared B → Type 0
-  Steps w s e w' s' = ((p : Plan) (vs : List Visible) → Suits p vs w s → Works p vs w s e w' s') × Sound w' s' × StillHears w s w' s'
+  Steps w s e w' s' = ((p : Plan) (vs : Views) → Suits p vs w s → Works p vs w s e w' s') × Sound w' s' × StillHears w s w' s' × Beside w s w' s'
 
   -- What can be seen is as before.
   pub record Same (w : Worker) (s : Shared B) (w' : Worker) (s' : Shared B) : Type 0 where
     pub own : own_of w' ≡ own_of w
     pub desk : desk_of w' ≡ desk_of w
-    pub things : things_of w.index s' ≡ things_of w.index s
-    pub common : (p : Plan) (vs : List Visible) → common_of left spot p vs s' ≡ common_of left spot p vs s
+    pub things : (vs : Views) → things_with vs s' ≡ things_with vs s
+    pub common : (p : Plan) (vs : Views) → common_of left spot p vs s' ≡ common_of left spot p vs s
     pub visible_same : visible w' ≡ visible w

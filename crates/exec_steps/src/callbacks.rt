@@ -10,7 +10,7 @@ ghost use Rattle.std.specs.Prelude.{◌≡◌, ℕ, ◌+◌, ◌<◌, ◌≤◌,
 ghost use Rattle.std.specs.VecDeque.{deque_capacity};
 ghost use Rattle.exec_moves.specs.Callback.{serve as place_of_service};
 ghost use Rattle.exec_task.specs.Phases.{is_idle, runnable_of};
-ghost use Rattle.exec_steps.specs.{Calls.{IsUnpaid, KeepsRoom, awake, records_paid, releasing, sleepers_paid}, Polls.OfSlot, Serving.changed_at, Sound.{SoundAt, IsTold, OwesWake}, Tests.{after_callbacks_of, next_callback_of}, Works.{Goes, Steps}};
+ghost use Rattle.exec_steps.specs.{Calls.{IsUnpaid, KeepsRoom, awake, records_paid, releasing, sleepers_paid}, Polls.OfSlot, Serving.changed_at, Sound.{SoundAt, IsTold, OwesWake}, Tests.{after_callbacks_of, is_anything_told, leave_of, next_callback_of}, Works.{Goes, Steps}};
 
 use crate::parts::record::Record;
 use crate::parts::shared::Shared;
@@ -19,9 +19,10 @@ use crate::parts::worker::Worker;
 use crate::scripted::Scripted;
 use exec_machine::event::Event;
 use exec_machine::state::Waiting;
+use exec_moves::handing::{AfterCallbacks, AfterLeave};
+use exec_moves::idling::Stay;
 use exec_moves::place::{
-    AfterCallbacks, AfterService, InCallbacks, InClosing, InLoads, InService, Place, Round,
-    Service, Stay,
+    AfterService, InCallbacks, InClosing, InLoads, InService, Place, Round, Service,
 };
 
 impl Worker {
@@ -41,13 +42,19 @@ impl Worker {
         }
     }
 
-    /// Takes the batch.
+    /// Takes the batch. A search count that is held is returned before the first item.
     fn take_batch(&mut self, next: AfterCallbacks) -> Event
         ensures event { result ≡ Event.Turn }
-        ensures place { self.new.place ≡ next_callback_of next self.old }
-        ensures goes { Goes self.old self.new }
+        ensures goes { self.new ≡ record self.old {
+          place = (if is_anything_told self.old
+              then leave_of (AfterLeave.CallBack next) self.old else after_callbacks_of next self.old);
+        } }
     {
-        self.place = self.next_callback(next);
+        self.place = if self.has_callbacks() {
+            self.leave(AfterLeave::CallBack { next })
+        } else {
+            self.after_callbacks(next)
+        };
         Event::Turn
     }
 
@@ -69,7 +76,7 @@ impl Worker {
         self.release_next(next, shared)
     }
 
-    /// Wakes the root, for which something ended, and marks it as ready. Nobody else waits for anything yet.
+    /// Wakes the root, for which something ended, and marks it as ready. Any other task waits for wakes of tasks alone.
     fn wake_next<B: Scripted + Drop>(
         &mut self,
         next: AfterCallbacks,

@@ -1,17 +1,21 @@
 //! The end of a task: what it holds is let go. It waits for nothing where it ends, so no sleeper is left of it.
 
-ghost use Rattle.std.specs.Prelude.{◌≡◌, []};
-ghost use Rattle.exec_steps.specs.Ending.{EndsTask, LetsGoAll, MayEndTask, MayLetGoAll};
+ghost use Rattle.std.specs.Prelude.{◌≡◌, ◌<◌, ◌^◌, ◌⊎◌, [], true, IsSome};
+ghost use Rattle.exec_task.specs.TaskSet.{held, removed};
+ghost use Rattle.exec_moves.specs.Parts.{next_pick as place_of_pick};
+ghost use Rattle.exec_steps.specs.{Ending.{EndsTask, LetsGoAll, MayEndTask, MayLetGoAll, ended_place}, View.desk_of};
 
 use crate::parts::record::Record;
 use crate::parts::shared::Shared;
 use crate::parts::task_slot::TaskSlot;
 use crate::parts::worker::Worker;
 use crate::scripted::Scripted;
+use exec_base::task_no::TaskNo;
 use exec_machine::event::Event;
-use exec_moves::place::{InClosing, Place};
+use exec_moves::place::{InClosing, InPoll, Place};
 use exec_task::body::Ended;
 use exec_task::runnable::AfterPoll;
+use exec_task::tasks::Tasks;
 
 impl Worker {
     /// The task is over.
@@ -43,7 +47,7 @@ impl Worker {
         Event::Fault { task, code }
     }
 
-    /// Ends the task, and lets go of what it holds. A worker whose root is over closes.
+    /// Ends the task, and lets go of what it holds.
     fn end_task<B: Scripted + Drop>(&mut self, task: usize, how: Ended, shared: &mut Shared<B>)
         requires may { MayEndTask task self.old shared.old }
         ensures ends { EndsTask task self.old self.new shared.old shared.new }
@@ -54,13 +58,38 @@ impl Worker {
             AfterPoll::Retire(_, _) => {}
             AfterPoll::Done | AfterPoll::Requeue(_) => unreachable!(),
         }
-        self.place = Place::Closing(InClosing::Close);
+        self.place = self.after_end(task);
+    }
+
+    /// A worker whose root is over closes; any other task leaves the task set.
+    fn after_end(&self, task: usize) -> Place
+        ensures { result ≡ ended_place task self.now }
+    {
+        if task == self.root {
+            Place::Closing(InClosing::Close)
+        } else {
+            Place::Poll(task, InPoll::RemoveTask)
+        }
+    }
+
+    /// The task leaves the task set. A drain may have taken it out before.
+    pub(crate) fn remove_task(&mut self, task: usize, set: &mut Tasks<()>) -> Event
+        requires number { task < 2 ^ 32 }
+        requires held { (set.old.closed ≡ true) ⊎ IsSome (held set.old (record { 0 = task })) }
+        ensures event { result ≡ Event.Turn }
+        ensures goes { self.new ≡ record self.old { place = place_of_pick (desk_of self.old) } }
+        ensures set { set.new ≡ removed set.old (record { 0 = task }) }
+    {
+        let _held = set.remove(TaskNo(task as u32));
+        self.place = self.next_pick();
+        Event::Turn
     }
 
     /// Lets go of all requests that a task holds, the oldest first.
     fn drop_all<B: Drop>(&mut self, slot: &mut TaskSlot<B>, requests: &mut Vec<Record>)
         requires may { MayLetGoAll slot.old.held.items requests.old.items self.old }
         ensures lets { LetsGoAll slot.old.held.items requests.old.items requests.new.items self.old self.new }
+        ensures still { slot.old.held.items ≡ [] → requests.new ≡ requests.old }
         ensures none { slot.new.held.items ≡ [] }
         ensures slot { slot.new ≡ record slot.old { held = slot.new.held } }
     {

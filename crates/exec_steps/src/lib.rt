@@ -11,20 +11,28 @@
 #![tactic(auto)]
 
 mod callbacks;
+pub mod callers;
+mod clearing;
 mod closing;
 mod ending;
+mod kick;
 pub mod lines;
 mod loads;
 mod look;
 mod mail;
 pub mod parts;
 mod poll;
+mod pop;
+mod push;
 mod reaping;
 mod registering;
 mod resuming;
 mod ring_wait;
 pub mod scripted;
+mod search;
 mod service;
+mod signal;
+mod spawning;
 mod step;
 mod submitting;
 mod turn;

@@ -13,15 +13,17 @@ use exec_outcomes::outcome::OpResult;
 use std::alloc::AllocError;
 
 impl Worker {
-    ghost use Rattle.std.specs.Prelude.{◌≡◌, List, length, slice_set, true};
+    ghost use Rattle.std.specs.Prelude.{◌≡◌, length, slice_get, true, Some};
+    ghost use Rattle.exec_steps.specs.declared.parts.record.Record.{Record};
     ghost use Rattle.exec_machine.specs.Callers.{after_landing};
     ghost use Rattle.exec_machine.specs.Progress.{Plan};
     ghost use Rattle.exec_steps.specs.Carried.{MayLand};
     ghost use Rattle.exec_steps.specs.Phased.{TurnsChair};
-    ghost use Rattle.exec_steps.specs.Records.{roused};
+    ghost use Rattle.exec_moves.specs.{Plays.last_told, State.{passed, wake_poll_of}, Thing.set_wake_poll};
+    ghost use Rattle.exec_steps.specs.Records.{landed_on};
     ghost use Rattle.exec_steps.specs.Sound.{Sound};
-    ghost use Rattle.exec_steps.specs.View.{Visible, own_of, desk_of, common_of, visible};
-    ghost use Rattle.exec_steps.specs.Works.{Suits};
+    ghost use Rattle.exec_steps.specs.View.{Views, own_of, desk_of, common_of, things_with, visible, with_view};
+    ghost use Rattle.exec_steps.specs.Works.{Beside, Suits};
 
     /// The operation of a request of this worker lands with this result, and rouses it. The caller must know that it may
     /// land so.
@@ -33,6 +35,8 @@ impl Worker {
     ) -> Event
         requires sound { Sound self.old shared.old }
         requires lands { MayLand shared.old.requests.items request given }
+        requires mine { (r : Record) → slice_get shared.old.requests.items request ≡ Some r →
+            r.shown.worker ≡ self.old.index }
         ensures event { result ≡ Event.Land }
         ensures sound { Sound self.new shared.new }
         ensures own { own_of self.new ≡ own_of self.old }
@@ -40,9 +44,17 @@ impl Worker {
         ensures index { self.new.index ≡ self.old.index }
         ensures kept { shared.new ≡ record shared.old { seats = shared.new.seats; requests = shared.new.requests; store = shared.new.store } }
         ensures many { length shared.new.seats.items ≡ length shared.old.seats.items }
-        ensures chair { TurnsChair self.old.index roused shared.old shared.new }
-        ensures common { (p : Plan) (vs : List Visible) → Suits p vs self.old shared.old → common_of B.left B.spot p (slice_set vs self.old.index (visible self.new)) shared.new ≡ after_landing (common_of B.left B.spot p vs shared.old) request given }
+        ensures chair { TurnsChair self.old.index landed_on shared.old shared.new }
+        ensures beside { Beside self.old shared.old self.new shared.new }
+        ensures things { (p : Plan) (vs : Views) → Suits p vs self.old shared.old →
+            things_with (with_view vs self.old.index (visible self.new)) shared.new
+            ≡ set_wake_poll self.old.index (things_with vs shared.old)
+            (passed (wake_poll_of (things_with vs shared.old) self.old.index)) }
+        ensures common { (p : Plan) (vs : Views) → Suits p vs self.old shared.old →
+            common_of B.left B.spot p (with_view vs self.old.index (visible self.new)) shared.new
+            ≡ after_landing (common_of B.left B.spot p vs shared.old) request given }
     {
+        self.take_raises(&mut shared.seats[self.index]);
         let record = &mut shared.requests[request];
         if self
             .home
@@ -66,6 +78,7 @@ impl Worker {
         ensures desk { desk_of self.new ≡ desk_of self.old }
         ensures seen { visible self.new ≡ record (visible self.old) { busy = true } }
         ensures index { self.new.index ≡ self.old.index }
+        ensures beside { Beside self.old shared.now self.new shared.now }
     {
         let _clock = shared.clock;
         self.home.driver.busy();
@@ -73,16 +86,24 @@ impl Worker {
     }
 
     /// The next wake completion of its ring ends its wake poll.
-    pub fn end_poll<B: Drop>(&mut self, shared: &Shared<B>) -> Event
-        requires sound { Sound self.old shared.now }
+    pub fn end_poll<B: Scripted + Drop>(&mut self, shared: &mut Shared<B>) -> Event
+        requires sound { Sound self.old shared.old }
         ensures event { result ≡ Event.Set }
-        ensures sound { Sound self.new shared.now }
+        ensures sound { Sound self.new shared.new }
         ensures own { own_of self.new ≡ own_of self.old }
         ensures desk { desk_of self.new ≡ desk_of self.old }
-        ensures seen { visible self.new ≡ visible self.old }
         ensures index { self.new.index ≡ self.old.index }
+        ensures kept { shared.new ≡ record shared.old { seats = shared.new.seats } }
+        ensures beside { Beside self.old shared.old self.new shared.new }
+        ensures things { (p : Plan) (vs : Views) → Suits p vs self.old shared.old →
+            things_with (with_view vs self.old.index (visible self.new)) shared.new
+            ≡ set_wake_poll self.old.index (things_with vs shared.old)
+            (last_told (wake_poll_of (things_with vs shared.old) self.old.index)) }
+        ensures common { (p : Plan) (vs : Views) → Suits p vs self.old shared.old →
+            common_of B.left B.spot p (with_view vs self.old.index (visible self.new)) shared.new
+            ≡ common_of B.left B.spot p vs shared.old }
     {
-        let _clock = shared.clock;
+        self.take_raises(&mut shared.seats[self.index]);
         self.home.driver.last();
         Event::Set
     }
@@ -95,6 +116,7 @@ impl<B: Drop> Shared<B> {
     ghost use Rattle.exec_steps.specs.Phased.{TurnsChair};
     ghost use Rattle.exec_steps.specs.Records.{reached, roused};
     ghost use Rattle.exec_steps.specs.Sound.{Sound};
+    ghost use Rattle.exec_steps.specs.Whole.{IsWhole, Profile};
 
     /// The clock moves by so many nanoseconds, and rouses those who slept until then. The caller must know that it can
     /// show that moment.
@@ -104,6 +126,7 @@ impl<B: Drop> Shared<B> {
         ensures seats { self.new.seats.items ≡ map (reached (self.old.clock + by)) self.old.seats.items }
         ensures kept { self.new ≡ record self.old { clock = self.old.clock + by; seats = self.new.seats } }
         ensures sound { (w : Party) → Sound w self.old → Sound w self.new }
+        ensures whole { (x : Profile) → IsWhole x self.old → IsWhole x self.new }
     {
         self.clock += by;
         reach_all(&mut self.seats, self.clock);
@@ -117,6 +140,7 @@ impl<B: Drop> Shared<B> {
         ensures chair { TurnsChair worker roused self.old self.new }
         ensures kept { self.new ≡ record self.old { seats = self.new.seats } }
         ensures sound { (w : Party) → Sound w self.old → Sound w self.new }
+        ensures whole { (x : Profile) → IsWhole x self.old → IsWhole x self.new }
     {
         self.seats[worker].rest = Rest::Awake;
         Event::Stir
@@ -124,7 +148,7 @@ impl<B: Drop> Shared<B> {
 
     /// A peer comes to a listener. An `Err` comes only where so many came before that no more can be counted, and then
     /// nothing changes. The caller must know that there is such a listener.
-    #[tactic(auto, using(crate::proofs::Resting::peer_kept))]
+    #[tactic(auto, using(crate::proofs::Resting::peer_kept, crate::proofs::Resting::peer_whole))]
     pub fn bring_peer(&mut self, listener: usize) -> Result<Event, AllocError>
         requires there { listener < length self.old.listeners.items }
         ensures event { IfOk result (λ event. event ≡ Event.Peer) }
@@ -132,6 +156,7 @@ impl<B: Drop> Shared<B> {
         ensures kept { self.new ≡ record self.old { listeners = self.new.listeners } }
         ensures same { OnErr result (self.new ≡ self.old) }
         ensures sound { (w : Party) → Sound w self.old → Sound w self.new }
+        ensures whole { (x : Profile) → IsWhole x self.old → IsWhole x self.new }
     {
         let more = self.listeners[listener].checked_add(1).ok_or(AllocError)?;
         self.listeners[listener] = more;

@@ -7,17 +7,19 @@
 //! Ready is what the worker can do without its ring: a value in its own queue or in the global one, its root, a callback,
 //! a message that it took, a batch of messages. A latch alone is none.
 
-ghost use Rattle.std.specs.Prelude.{◌≡◌, ℕ, ◌<◌, ◌^◌, ◌||◌, false, Option, if◌then◌else◌};
-ghost use Rattle.exec_moves.specs.Load.{load_own_head, load_own_mirror, load_own_word, has_mail, is_ready, has_come};
+ghost use Rattle.std.specs.Prelude.{◌≡◌, ℕ, ◌<◌, ◌^◌, ◌||◌, length, Option, if◌then◌else◌};
+ghost use Rattle.exec_moves.specs.{Load.{first_search as place_of_search, load_own_head, load_own_mirror, load_own_word, has_mail, is_ready, has_come}, State.{queue_of, word_of}};
 ghost use Rattle.exec_driver.specs.Driving.{has_pending};
-ghost use Rattle.exec_steps.specs.{View.{driver_of, own_of, desk_of, things_of}, Tests.{has_put_off, next_turn_of, HasToldDue, IsNextMoment}, Sound.{SoundAt, IsAlone, IsTold}, Works.{Makes, Goes, Steps}};
+ghost use Rattle.exec_machine.specs.declared.config.Configuration.{Configuration};
+ghost use Rattle.exec_steps.specs.{View.{driver_of, own_of, desk_of, things_of}, Tests.{has_put_off, leaves_turn_of, next_turn_of, HasToldDue, IsNextMoment}, Sound.{SoundAt, IsTold}, Works.{Makes, Goes, Steps}};
 
 use crate::callbacks::serve;
 use crate::parts::shared::Shared;
 use crate::parts::worker::Worker;
 use crate::scripted::Scripted;
 use exec_machine::event::Event;
-use exec_moves::place::{AfterService, Found, InLoads, InLook, InService, Place, Round, Service};
+use exec_moves::handing::AfterLeave;
+use exec_moves::place::{AfterService, Found, InLoads, InService, Place, Round, Service};
 use exec_words::word::PureWord;
 
 impl Worker {
@@ -40,8 +42,9 @@ impl Worker {
 
     /// Loads the head of the own run queue.
     fn load_own_head<B: Drop>(&mut self, round: Round, shared: &Shared<B>) -> Event
-        requires alone { IsAlone self.old.index false shared.now.seats.items shared.now.global.values }
-        ensures makes { Makes (load_own_head round (desk_of self.old) (things_of self.old.index shared.now).queue) result self.new }
+        requires there { self.old.index < length shared.now.seats.items }
+        ensures makes { Makes (load_own_head round (desk_of self.old)
+            (queue_of (things_of shared.now) self.old.index)) result self.new }
         ensures goes { Goes self.old self.new }
     {
         let queue = &shared.seats[self.index].queue;
@@ -54,7 +57,8 @@ impl Worker {
 
     /// Loads the length of the global queue.
     fn load_own_mirror<B: Drop>(&mut self, round: Round, found: Found, shared: &Shared<B>) -> Event
-        ensures makes { Makes (load_own_mirror round found (desk_of self.old) (things_of self.old.index shared.now).global) result self.new }
+        ensures makes { Makes (load_own_mirror round found (desk_of self.old)
+            (things_of shared.now).global) result self.new }
         ensures goes { Goes self.old self.new }
     {
         let found = Found {
@@ -66,10 +70,11 @@ impl Worker {
 
     /// Loads the wake word.
     fn load_own_word<B: Drop>(&mut self, round: Round, found: Found, shared: &Shared<B>) -> Event
-        requires alone { IsAlone self.old.index false shared.now.seats.items shared.now.global.values }
+        requires there { self.old.index < length shared.now.seats.items }
         requires told { (live : ℕ) × IsTold self.old.names.ended.items self.old.home.deferred live }
         requires processed { self.old.processed < 2 ^ 29 }
-        ensures makes { Makes (load_own_word (own_of self.old) round found (desk_of self.old) (things_of self.old.index shared.now).word) result self.new }
+        ensures makes { Makes (load_own_word (own_of self.old) round found (desk_of self.old)
+            (word_of (things_of shared.now) self.old.index)) result self.new }
         ensures goes { Goes self.old self.new }
     {
         let found = Found {
@@ -108,7 +113,11 @@ impl Worker {
     pub(crate) fn test_for_work(&mut self, found: Found) -> Event
         requires told { (live : ℕ) × IsTold self.old.names.ended.items self.old.home.deferred live }
         ensures event { result ≡ Event.Turn }
-        ensures goes { self.new ≡ record self.old { place = (if is_ready (own_of self.old) found (desk_of self.old) || has_pending (driver_of self.old) then next_turn_of self.old else Place.ReadClock) } }
+        ensures goes { self.new ≡ record self.old {
+          place = (if is_ready (own_of self.old) found
+              (desk_of self.old) || has_pending (driver_of self.old) then leaves_turn_of self.old
+              else Place.ReadClock);
+        } }
     {
         self.place = if self.is_ready(found) || self.home.driver.has_pending_submissions() {
             self.next_turn()
@@ -119,16 +128,22 @@ impl Worker {
     }
 
     /// Reads the clock. A deadline that is due begins the next turn.
-    pub(crate) fn read_clock(&mut self, clock: u64) -> Event
+    pub(crate) fn read_clock(&mut self, clock: u64, workers: usize) -> Event
         requires told { HasToldDue self.old }
+        requires workers { 0 < workers }
         ensures event { result ≡ Event.Turn }
-        ensures goes { (moment : Option ℕ) × IsNextMoment self.old moment × (self.new ≡ record self.old { place = (if has_come clock moment then next_turn_of self.old else Place.Look InLook.Publish); moments = record self.old.moments { read = clock } }) }
+        ensures goes { (c : Configuration) → c.workers ≡ workers → (moment : Option ℕ) × IsNextMoment self.old moment
+            × (self.new ≡ record self.old {
+              place = (if has_come clock moment then leaves_turn_of self.old
+                  else place_of_search c (desk_of self.old));
+              moments = record self.old.moments { read = clock };
+            }) }
     {
         self.moments.read = clock;
         self.place = if self.is_due(clock) {
             self.next_turn()
         } else {
-            Place::Look(InLook::Publish)
+            self.first_search(workers)
         };
         Event::Turn
     }
@@ -153,8 +168,16 @@ impl Worker {
         (self.put_off.enter && self.has_requests()) || (self.put_off.defer && pending)
     }
 
-    /// The next turn, after what the service of this one has put off, where it has.
+    /// The next turn: after the search that the worker leaves, where it holds a search count, and after what the
+    /// service of this one has put off, where it has.
     pub(crate) fn next_turn(&self) -> Place
+        ensures { result ≡ leaves_turn_of self.now }
+    {
+        self.leave(AfterLeave::Begin)
+    }
+
+    /// The next turn, after what the service of this one has put off, where it has.
+    pub(crate) fn turn_made_up(&self) -> Place
         ensures { result ≡ next_turn_of self.now }
     {
         if self.has_put_off() {

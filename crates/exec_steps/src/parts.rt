@@ -1,7 +1,9 @@
 //! The state of an executor, part by part.
 
 pub mod around;
+pub mod caller;
 pub mod mail;
+pub mod making;
 pub mod names;
 pub mod record;
 pub mod role;

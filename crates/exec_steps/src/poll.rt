@@ -7,14 +7,14 @@
 //! An act that wants memory and gets none changes nothing that can be seen: the body has asked, and is told that it was
 //! refused, so it stands where it stood.
 
-ghost use Rattle.std.specs.Prelude.{◌≡◌, ◌<◌, length, false, IfOk, OnErr, Some, None, IsSome, IsTrue};
+ghost use Rattle.std.specs.Prelude.{◌≡◌, ◌<◌, length, is_some, IfOk, OnErr, Some, None, IsSome, IsTrue, if◌then◌else◌};
 ghost use Rattle.exec_base.specs.declared.error.Error.TheVariants.{NoMemory};
 ghost use Rattle.exec_task.specs.Phases.{is_polled, queued_body, runnable_of, pend_answer};
 ghost use Rattle.exec_task.specs.declared.body.Said.TheVariants as said;
 ghost use Rattle.exec_machine.specs.declared.state.Waiting.TheVariants as waiting;
 ghost use Rattle.exec_machine.specs.Tasks.{begun_waiting};
-ghost use Rattle.exec_moves.specs.Poll.{after_begin};
-ghost use Rattle.exec_steps.specs.{Acting.{PerformsOne, StepsOf}, Awaits.{AwaitsNewest, DropsRequest, HasNewest, OfNewest, newest_of}, Polls.{MadeAct, OfSlot, flag_after, begun_slot, pended_slot, yielded_slot}, Sound.SoundAt, Works.{Same, TurnsSlot}};
+ghost use Rattle.exec_moves.specs.{Parts.next_pick as place_of_pick, Poll.after_begin};
+ghost use Rattle.exec_steps.specs.{Acting.{PerformsOne, StepsOf}, Awaits.{AwaitsNewest, DropsRequest, HasNewest, OfNewest, newest_of}, Polls.{MadeAct, OfSlot, begun_slot_if, pended_slot, yielded_slot}, Pooled.queued_again, Sound.SoundAt, Tests.after_poll_of, View.desk_of, Whole.HasWhole, Works.{Same, TurnsSlot}};
 
 use crate::parts::around::Sighted;
 use crate::parts::shared::Shared;
@@ -23,9 +23,10 @@ use crate::scripted::Scripted;
 use exec_base::error::Error;
 use exec_machine::event::Event;
 use exec_machine::state::Waiting;
-use exec_moves::place::{AfterCallbacks, InCallbacks, InPoll, Place};
+use exec_moves::handing::{AfterCallbacks, AfterPush, InPush};
+use exec_moves::place::{InCallbacks, InPoll, Place};
 use exec_task::body::{Act, Said};
-use exec_task::runnable::AfterPoll;
+use exec_task::runnable::{AfterPoll, Runnable};
 use std::alloc::{AllocError, Global};
 
 impl Worker {
@@ -38,7 +39,8 @@ impl Worker {
         shared: &mut Shared<B>,
     ) -> Result<Event, AllocError>
         requires sound { SoundAt (Place.Poll task at) self.old shared.old }
-        requires performs { PerformsOne B.left B.runs B.holds self.old.root shared.old }
+        requires performs { PerformsOne B.left B.runs B.holds shared.old }
+        requires whole { HasWhole self.old shared.old }
         ensures steps { IfOk result (λ event. StepsOf B.left B.runs B.holds B.spot self.old shared.old event self.new shared.new) }
         ensures same { OnErr result (Same B.left B.spot self.old shared.old self.new shared.new) }
     {
@@ -47,27 +49,31 @@ impl Worker {
             InPoll::Resume => Ok(self.resume(task, shared)),
             InPoll::Act => self.act(alloc, task, shared),
             InPoll::JoinGate { .. } => unreachable!(),
+            InPoll::LoadSpawnHead => Ok(self.load_spawn_head(task, shared)),
             InPoll::Pend => Ok(self.pend(task, shared)),
+            InPoll::RemoveTask => Ok(self.remove_task(task, &mut shared.set)),
         }
     }
 
     /// The poll begins. What waits for nothing acts; any other looks at what it waits for.
     fn begin_poll<B: Scripted + Drop>(&mut self, task: usize, shared: &mut Shared<B>) -> Event
         requires there { task < length shared.old.tasks.items }
-        requires hand { IsSome self.old.hand }
-        requires right { OfSlot task shared.old (λ slot. self.old.hand ≡ Some (runnable_of slot.cell)) }
-        requires queued { OfSlot task shared.old (λ slot. IsSome (queued_body slot.cell.phase)) }
-        ensures event { result ≡ Event.Begin task }
-        ensures place { OfSlot task shared.old (λ slot. self.new.place ≡ Place.Poll task (after_begin (begun_waiting slot.waiting))) }
+        requires hand { OfSlot task shared.old (λ slot. self.old.hand ≡ Some (runnable_of slot.cell)) }
+        ensures event { OfSlot task shared.old (λ slot. result
+            ≡ (if is_some (queued_body slot.cell.phase) then Event.Begin task else Event.Turn)) }
+        ensures place { OfSlot task shared.old (λ slot. self.new.place
+            ≡ (if is_some (queued_body slot.cell.phase) then Place.Poll task (after_begin (begun_waiting slot.waiting))
+            else place_of_pick (desk_of self.old))) }
         ensures worker { self.new ≡ record self.old { place = self.new.place; hand = None } }
-        ensures task { TurnsSlot task shared.old shared.new (begun_slot self.old.index) }
+        ensures task { TurnsSlot task shared.old shared.new (begun_slot_if self.old.index) }
     {
         let Some(runnable) = self.hand.take() else {
             unreachable!()
         };
         let slot = &mut shared.tasks[task];
         if !slot.begin(runnable, self.index) {
-            unreachable!()
+            self.place = self.next_pick();
+            return Event::Turn;
         }
         self.place = Place::Poll(task, first_step(slot.waiting()));
         Event::Begin { task }
@@ -81,7 +87,8 @@ impl Worker {
         shared: &mut Shared<B>,
     ) -> Result<Event, AllocError>
         requires sound { SoundAt (Place.Poll task InPoll.Act) self.old shared.old }
-        requires performs { PerformsOne B.left B.runs B.holds self.old.root shared.old }
+        requires performs { PerformsOne B.left B.runs B.holds shared.old }
+        requires whole { HasWhole self.old shared.old }
         ensures steps { IfOk result (λ event. StepsOf B.left B.runs B.holds B.spot self.old shared.old event self.new shared.new) }
         ensures same { OnErr result (Same B.left B.spot self.old shared.old self.new shared.new) }
     {
@@ -94,7 +101,9 @@ impl Worker {
             Act::Yield => Ok(self.yield_task(task, shared)),
             Act::Done(_) => Ok(self.finish(task, shared)),
             Act::Fault(code) => Ok(self.fail(task, code, shared)),
-            Act::Spawn(_) | Act::Dedicated(_) | Act::Wake(_) => unreachable!(),
+            Act::Spawn(body) => self.spawn(alloc, task, body, shared),
+            Act::Wake(other) => Ok(self.wake_task(task, other, shared)),
+            Act::Dedicated(_) => unreachable!(),
         }
     }
 
@@ -114,6 +123,8 @@ impl Worker {
         let mut around = Sighted {
             moment: self.moments.sampled,
             opens: &shared.opens,
+            tasks: shared.tasks.len(),
+            stopped: shared.stopped,
         };
         shared.tasks[task].step(alloc, &mut around)
     }
@@ -183,24 +194,47 @@ impl Worker {
         Event::Wake { task }
     }
 
-    /// The poll ends. A root that was woken meanwhile has its flag set again.
+    /// The poll ends. A root that was woken meanwhile has its flag set again, and any other task is queued again; one
+    /// that was cleared is over.
     pub(crate) fn pend<B: Scripted + Drop>(&mut self, task: usize, shared: &mut Shared<B>) -> Event
         requires there { task < length shared.old.tasks.items }
         requires polled { OfSlot task shared.old (λ slot. IsTrue (is_polled slot.cell.phase)) }
         requires body { OfSlot task shared.old (λ slot. IsSome slot.body) }
-        requires kept { OfSlot task shared.old (λ slot. slot.cell.cancelled ≡ false) }
+        requires agrees { OfSlot task shared.old (λ slot. slot.cell.cancelled ≡ slot.cleared) }
         ensures event { result ≡ Event.Pend task }
-        ensures flag { OfSlot task shared.old (λ slot. self.new.root_ready ≡ flag_after (pend_answer slot.cell) self.old.root_ready) }
-        ensures worker { self.new ≡ record self.old { place = Place.Callbacks InCallbacks.TakeBatch AfterCallbacks.Look; root_ready = self.new.root_ready } }
+        ensures worker { OfSlot task shared.old (λ slot. self.new
+            ≡ queued_again task (pend_answer slot.cell) (record self.old { place = after_poll_of task self.old })) }
         ensures task { TurnsSlot task shared.old shared.new pended_slot }
     {
-        match shared.tasks[task].pend() {
-            AfterPoll::Done => {}
-            AfterPoll::Requeue(runnable) => self.root_ready = Some(runnable),
-            AfterPoll::Retire(_, _) => unreachable!(),
+        let after = shared.tasks[task].pend();
+        self.place = self.after_poll(task);
+        if let AfterPoll::Requeue(runnable) = after {
+            self.queue_again(task, runnable);
         }
-        self.place = Place::Callbacks(InCallbacks::TakeBatch, AfterCallbacks::Look);
         Event::Pend { task }
+    }
+
+    /// A task that was woken in its poll is to be polled again.
+    fn queue_again(&mut self, task: usize, runnable: Runnable)
+        ensures { self.new ≡ queued_again task (AfterPoll.Requeue runnable) self.old }
+    {
+        if task == self.root {
+            self.root_ready = Some(runnable);
+        } else {
+            self.hand = Some(runnable);
+            self.place = Place::Push(InPush::LoadPushHead, AfterPush::Pick);
+        }
+    }
+
+    /// What follows the poll of a task: the callbacks after that of the root, another pick after that of any other.
+    fn after_poll(&self, task: usize) -> Place
+        ensures { result ≡ after_poll_of task self.now }
+    {
+        if task == self.root {
+            Place::Callbacks(InCallbacks::TakeBatch, AfterCallbacks::Look)
+        } else {
+            self.next_pick()
+        }
     }
 }
 

@@ -5,13 +5,13 @@
 //! reaping. The permit of an open that a request gives up goes to the next that waits for it, and the worker of that one
 //! is signalled, the own one too.
 
-ghost use Rattle.std.specs.Prelude.{◌≡◌, ◌+◌, ◌^◌, ◌<◌, true, false, length, is_some, slice_get, None};
+ghost use Rattle.std.specs.Prelude.{◌≡◌, ◌+◌, ◌^◌, ◌<◌, true, false, length, is_some, None};
 ghost use Rattle.std.specs.VecDeque.{deque_capacity};
 ghost use Rattle.exec_machine.specs.Requests.{joined_if, reaped};
-ghost use Rattle.exec_moves.specs.Serve.{after_permit as place_after_permit};
+ghost use Rattle.exec_moves.specs.{Serve.after_permit as place_after_permit, State.word_of};
 ghost use Rattle.exec_outcomes.specs.Outcomes.{bytes_of};
 ghost use Rattle.exec_request.specs.States.{as_answer};
-ghost use Rattle.exec_steps.specs.{Records.has_one_part, Submitting.after_giving_up, Sound.SoundAt, View.word_at, Works.{TurnsWord, Steps}};
+ghost use Rattle.exec_steps.specs.{Records.has_one_part, Submitting.after_giving_up, Sound.SoundAt, View.things_of, Works.{TurnsWord, Steps}};
 
 use crate::parts::record::Record;
 use crate::parts::shared::Shared;
@@ -35,6 +35,7 @@ impl Worker {
         requires sound { SoundAt (Place.Service (InService.Reap reaping) service) self.old shared.old }
         ensures steps { Steps B.left B.spot self.old shared.old result self.new shared.new }
     {
+        self.take_raises(&mut shared.seats[self.index]);
         self.home.driver.lists_requests();
         let reaped = self
             .home
@@ -114,7 +115,7 @@ impl Worker {
     }
 
     /// Signals the worker that has the permit of an open next: the latch goes into its wake word.
-    pub(crate) fn signal<B: Drop>(
+    pub(crate) fn signal_holder<B: Drop>(
         &mut self,
         service: Service,
         worker: usize,
@@ -124,9 +125,11 @@ impl Worker {
         requires there { worker < length shared.old.seats.items }
         ensures event { result ≡ Event.Serve }
         ensures goes { self.new ≡ record self.old { place = Place.Service (place_after_permit back) service } }
-        ensures word { TurnsWord worker shared.old shared.new (record (word_at (slice_get shared.old.seats.items worker)) { latch = true }) }
+        ensures word { TurnsWord worker shared.old shared.new
+            (record (word_of (things_of shared.old) worker) { latch = true }) }
     {
-        let _found = shared.seats[worker].mailbox.waker.wake();
+        let word = &mut shared.seats[worker].mailbox.waker;
+        let _found = word.wake();
         self.after_permit(service, back);
         Event::Serve
     }

@@ -5,10 +5,10 @@
 //! the last look is found by it. A worker that may not wait, since something is to be staged or the word had a latch or
 //! another batch, serves first.
 
-ghost use Rattle.std.specs.Prelude.{◌≡◌, ◌<◌, ◌^◌, true, false, length};
-ghost use Rattle.exec_moves.specs.Wait.{arm_ring, disarm_ring, after_wait as place_after_wait};
+ghost use Rattle.std.specs.Prelude.{◌≡◌, ◌<◌, ◌^◌, Bool, true, length, if◌then◌else◌};
+ghost use Rattle.exec_moves.specs.{State.word_of, Wait.{arm_ring, disarm_ring, after_wait as place_after_wait}};
 ghost use Rattle.exec_ring.specs.Kernels.{is_quiet};
-ghost use Rattle.exec_steps.specs.{View.{driver_of, desk_of, things_of}, Sound.{SoundAt, IsAlone}, Tests.{ring_wait_of, after_enter_of, HasToldDue, TestsRing}, Serving.{AreKnown, Enters}, Waits.Sleeps, Works.{Makes, Goes, TurnsWord, Steps}};
+ghost use Rattle.exec_steps.specs.{Pooled.OfChair, View.{driver_of, desk_of, things_of}, Sound.SoundAt, Tests.{ring_wait_of, after_enter_of, HasToldDue, TestsRing}, Raises.Enters, Serving.AreKnown, Waits.Sleeps, Works.{Makes, Goes, TurnsWord, Steps}};
 
 use crate::callbacks::serve;
 use crate::parts::shared::Shared;
@@ -16,7 +16,8 @@ use crate::parts::worker::Worker;
 use crate::scripted::Scripted;
 use exec_machine::event::Event;
 use exec_machine::state::Rest;
-use exec_moves::place::{AfterService, AfterWait, InRingWait, Place, Stay};
+use exec_moves::idling::{AfterWait, InRingWait, Stay};
+use exec_moves::place::{AfterService, Place};
 use exec_words::word::WaitTarget;
 
 impl Worker {
@@ -53,6 +54,7 @@ impl Worker {
 
     /// Enters a full submission queue.
     fn enter_full_ring<B: Drop>(&mut self, stay: Stay, shared: &mut Shared<B>) -> Event
+        requires there { self.old.index < length shared.old.seats.items }
         requires known { AreKnown self.old.names.staged.items shared.old.requests.items }
         ensures enters { Enters self.old shared.old result (record self.new { place = self.old.place }) shared.new }
         ensures goes { self.new.place ≡ Place.RingWait InRingWait.TestRing stay }
@@ -78,26 +80,24 @@ impl Worker {
 
     /// Puts the ring bit into the wake word.
     fn arm_ring<B: Drop>(&mut self, stay: Stay, shared: &mut Shared<B>) -> Event
-        requires alone { IsAlone self.old.index false shared.old.seats.items shared.old.global.values }
+        requires there { self.old.index < length shared.old.seats.items }
+        requires unarmed { OfChair self.old.index shared.old (λ chair. chair.mailbox.waker.target ≡ WaitTarget.None) }
         requires processed { self.old.processed < 2 ^ 29 }
-        ensures makes { Makes (arm_ring stay (desk_of self.old) (things_of self.old.index shared.old).word) result self.new }
+        ensures makes { Makes (arm_ring stay (desk_of self.old)
+            (word_of (things_of shared.old) self.old.index)) result self.new }
         ensures goes { Goes self.old self.new }
-        ensures word { TurnsWord self.old.index shared.old shared.new (arm_ring stay (desk_of self.old) (things_of self.old.index shared.old).word).thing }
+        ensures word { TurnsWord self.old.index shared.old shared.new
+            (arm_ring stay (desk_of self.old) (word_of (things_of shared.old) self.old.index)).thing }
     {
-        let found = shared.seats[self.index].mailbox.waker.arm(WaitTarget::Ring);
-        let next = if found.still_idle(self.processed) {
-            InRingWait::EnterRing
-        } else {
-            InRingWait::DisarmRing {
-                next: AfterWait::Serve,
-            }
-        };
-        self.place = Place::RingWait(next, stay);
+        let word = &mut shared.seats[self.index].mailbox.waker;
+        let found = word.arm(WaitTarget::Ring);
+        self.place = Place::RingWait(after_arming(found.still_idle(self.processed)), stay);
         Event::Turn
     }
 
     /// Enters, and where nothing is there goes on to sleep. After an enter that took nothing it doesn't sleep.
     fn enter_ring<B: Drop>(&mut self, stay: Stay, shared: &mut Shared<B>) -> Event
+        requires there { self.old.index < length shared.old.seats.items }
         requires known { AreKnown self.old.names.staged.items shared.old.requests.items }
         ensures enters { Enters self.old shared.old result (record self.new { place = self.old.place }) shared.new }
         ensures goes { self.new.place ≡ after_enter_of result (is_quiet (driver_of self.new).ring) stay }
@@ -127,6 +127,7 @@ impl Worker {
     {
         let next = AfterWait::Begin;
         self.place = Place::RingWait(InRingWait::DisarmRing { next }, stay);
+        self.take_raises(&mut shared.seats[self.index]);
         if self.home.driver.has_completion() {
             return Event::Turn;
         }
@@ -152,14 +153,29 @@ impl Worker {
 
     /// Takes the wait bits out of the wake word.
     fn disarm_ring<B: Drop>(&mut self, stay: Stay, next: AfterWait, shared: &mut Shared<B>) -> Event
-        requires alone { IsAlone self.old.index true shared.old.seats.items shared.old.global.values }
-        ensures makes { Makes (disarm_ring stay next (desk_of self.old) (things_of self.old.index shared.old).word) result self.new }
+        requires there { self.old.index < length shared.old.seats.items }
+        ensures makes { Makes (disarm_ring stay next (desk_of self.old)
+            (word_of (things_of shared.old) self.old.index)) result self.new }
         ensures goes { Goes self.old self.new }
-        ensures word { TurnsWord self.old.index shared.old shared.new (disarm_ring stay next (desk_of self.old) (things_of self.old.index shared.old).word).thing }
+        ensures word { TurnsWord self.old.index shared.old shared.new
+            (disarm_ring stay next (desk_of self.old) (word_of (things_of shared.old) self.old.index)).thing }
     {
         let _found = shared.seats[self.index].mailbox.waker.disarm();
         self.place = after_wait(stay, next);
         Event::Turn
+    }
+}
+
+/// What follows the arming: the enter, where the word was as it was left.
+fn after_arming(idle: bool) -> InRingWait
+    ensures { result ≡ (if idle then InRingWait.EnterRing else InRingWait.DisarmRing AfterWait.Serve) }
+{
+    if idle {
+        InRingWait::EnterRing
+    } else {
+        InRingWait::DisarmRing {
+            next: AfterWait::Serve,
+        }
     }
 }
 

@@ -12,10 +12,10 @@ pub trait Scripted: Body {
     ghost use Rattle.exec_task.specs.declared.body.Said.{Said};
     ghost use Rattle.exec_machine.specs.Progress.{Plan};
     ghost use Rattle.exec_steps.specs.Spots.{Spot};
-    ghost use Rattle.exec_steps.specs.Scripts.{IsAnswered, Plays};
+    ghost use Rattle.exec_steps.specs.Scripts.{IsAnswered, IsNamed, Plays};
 
-    // It runs the script of a task of this plan.
-    ghost runs: { Self.Left → Plan → Type 0 };
+    // It runs the script of a task of this plan: of the root of this worker, or of an ordinary task.
+    ghost runs: { Self.Left → Plan → Option ℕ → Type 0 };
 
     // The requests that it holds once it is told this next, the oldest first.
     ghost holds: { Self.Left → Option Said → List ℕ };
@@ -26,6 +26,9 @@ pub trait Scripted: Body {
     // What it is told changes that only where there was no memory.
     ghost answered: { IsAnswered spot };
 
-    // It does what its script says.
-    ghost plays: { Plays runs holds spot Self.gives };
+    // It does what its script says. A body that it makes begins the script that its word names.
+    ghost plays: { Plays Self.left runs holds spot Self.gives };
+
+    // Where it begins a script, its name is the number of that.
+    ghost named: { IsNamed runs spot Self.name_of };
 }

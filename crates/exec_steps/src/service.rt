@@ -8,9 +8,9 @@
 ghost use Rattle.std.specs.Prelude.{◌≡◌, ◌<◌, [], length, slice_get, slice_set, true, false, Some};
 ghost use Rattle.std.specs.Option.{option_map};
 ghost use Rattle.std.specs.Vec.{vec_capacity};
-ghost use Rattle.exec_moves.specs.Serve.{sample, unlatched, after_passing, after_service};
+ghost use Rattle.exec_moves.specs.{Serve.{sample, unlatched, after_passing, after_service}, State.word_of};
 ghost use Rattle.exec_driver.specs.{Opens.{next_at, passed, with_open}, Punctual.IsPunctual, Steps.advanced_to};
-ghost use Rattle.exec_steps.specs.{Records.number_in, Serving.{AreKnown, Enters, flown_in, with_staging_ended}, declared.parts.sleeping.SleeperRecord.SleeperRecord as Sleeper, Sound.{SoundAt, IsAlone}, View.{driver_of, desk_of, things_of}, Works.{Makes, TurnsWord, Steps}};
+ghost use Rattle.exec_steps.specs.{Records.number_in, Raises.Enters, Serving.{AreKnown, flown_in, with_staging_ended}, declared.parts.sleeping.SleeperRecord.SleeperRecord as Sleeper, Sound.SoundAt, View.{driver_of, desk_of, things_of}, Works.{Makes, TurnsWord, Steps}};
 
 use crate::parts::names::Names;
 use crate::parts::record::Record;
@@ -20,9 +20,8 @@ use crate::parts::worker::{PutOff, Worker};
 use crate::scripted::Scripted;
 use exec_driver::opens::Opens;
 use exec_machine::event::Event;
-use exec_moves::place::{
-    AfterCallbacks, AfterService, InCallbacks, InMail, InService, Place, Reaping, Service,
-};
+use exec_moves::handing::AfterCallbacks;
+use exec_moves::place::{AfterService, InCallbacks, InMail, InService, Place, Reaping, Service};
 use exec_ring::ring::Entered;
 use exec_time::timers::TimerId;
 
@@ -43,7 +42,7 @@ impl Worker {
             InService::PassPermit { file, back } => {
                 self.pass_permit(service, file, back, &mut shared.opens)
             }
-            InService::Signal { worker, back } => self.signal(service, worker, back, shared),
+            InService::Signal { worker, back } => self.signal_holder(service, worker, back, shared),
             InService::AdvanceWheel => self.advance_wheel(service),
             InService::Submit { gate } => self.submit(service, gate, shared),
             InService::EnterLast => self.enter_last(service, shared),
@@ -53,10 +52,12 @@ impl Worker {
 
     /// Samples the clock, and takes out the latch that a granted permit left.
     fn sample<B: Drop>(&mut self, service: Service, shared: &mut Shared<B>) -> Event
-        requires alone { IsAlone self.old.index false shared.old.seats.items shared.old.global.values }
-        ensures makes { Makes (sample service (desk_of self.old) (things_of self.old.index shared.old).word) result self.new }
+        requires there { self.old.index < length shared.old.seats.items }
+        ensures makes { Makes (sample service (desk_of self.old)
+            (word_of (things_of shared.old) self.old.index)) result self.new }
         ensures same { self.new ≡ record self.old { place = self.new.place; moments = record self.old.moments { before = self.old.moments.sampled; sampled = shared.old.clock } } }
-        ensures word { TurnsWord self.old.index shared.old shared.new (unlatched (things_of self.old.index shared.old).word) }
+        ensures word { TurnsWord self.old.index shared.old shared.new
+            (unlatched (word_of (things_of shared.old) self.old.index)) }
     {
         self.moments.before = self.moments.sampled;
         self.moments.sampled = shared.clock;
@@ -116,6 +117,7 @@ impl Worker {
 
     /// The last enter of a service.
     fn enter_last<B: Drop>(&mut self, service: Service, shared: &mut Shared<B>) -> Event
+        requires there { self.old.index < length shared.old.seats.items }
         requires known { AreKnown self.old.names.staged.items shared.old.requests.items }
         ensures enters { Enters self.old shared.old result (record self.new { place = self.old.place }) shared.new }
         ensures goes { self.new.place ≡ Place.Service (InService.Reap Reaping.Last) service }
@@ -132,9 +134,11 @@ impl Worker {
 
     /// The kernel takes all that is staged, or nothing where it is busy.
     pub(crate) fn enter<B: Drop>(&mut self, shared: &mut Shared<B>) -> Event
+        requires there { self.old.index < length shared.old.seats.items }
         requires known { AreKnown self.old.names.staged.items shared.old.requests.items }
         ensures enters { Enters self.old shared.old result self.new shared.new }
     {
+        self.take_raises(&mut shared.seats[self.index]);
         self.home.driver.lands_nothing();
         match self.home.driver.enter() {
             Entered::Busy => Event::Busy,

@@ -1,7 +1,7 @@
 //! One step of a worker: its place says which.
 
 ghost use Rattle.std.specs.Prelude.{IfOk, OnErr};
-ghost use Rattle.exec_steps.specs.{Acting.{PerformsOne, StepsOf}, Phased.IsGoing, Sound.Sound, Works.Same};
+ghost use Rattle.exec_steps.specs.{Acting.{PerformsOne, StepsOf}, Drained.IsLetOn, Phased.IsGoing, Sound.Sound, Whole.HasWhole, Works.Same};
 
 use crate::parts::shared::Shared;
 use crate::parts::worker::Worker;
@@ -19,8 +19,10 @@ impl Worker {
         shared: &mut Shared<B>,
     ) -> Result<Event, AllocError>
         requires sound { Sound self.old shared.old }
-        requires performs { PerformsOne B.left B.runs B.holds self.old.root shared.old }
+        requires whole { HasWhole self.old shared.old }
+        requires performs { PerformsOne B.left B.runs B.holds shared.old }
         requires going { IsGoing self.old.index shared.old.seats.items }
+        requires let_on { IsLetOn self.old.index shared.old.seats.items }
         ensures steps { IfOk result (λ event. StepsOf B.left B.runs B.holds B.spot self.old shared.old event self.new shared.new) }
         ensures same { OnErr result (Same B.left B.spot self.old shared.old self.new shared.new) }
     {
@@ -34,12 +36,21 @@ impl Worker {
             Place::Service(at, service) => Ok(self.service(at, service, shared)),
             Place::Mail(at) => Ok(self.mail(at, shared)),
             Place::TestForWork { found } => Ok(self.test_for_work(found)),
-            Place::ReadClock => Ok(self.read_clock(shared.clock)),
+            Place::ReadClock => Ok(self.read_clock(shared.clock, shared.config.workers)),
+            Place::Search(at) => Ok(self.search(at, shared)),
+            Place::Scan(at) => Ok(self.scan(at, shared)),
             Place::Look(at) => Ok(self.look(at, shared)),
             Place::RingWait(at, stay) => Ok(self.wait_on_ring(at, stay, shared)),
             Place::WordWait(at) => Ok(self.wait_on_word(at, shared)),
             Place::Withdraw(then) => Ok(self.withdraw(then, &mut shared.idle)),
             Place::Closing(at) => Ok(self.close_down(alloc, at, shared)),
+            Place::Pop(at, back) => Ok(self.pop(at, back, shared)),
+            Place::LeaveSearch(back) => Ok(self.leave_search(back, &mut shared.idle)),
+            Place::Push(at, back) => Ok(self.push(at, back, shared)),
+            Place::Global(at, back) => Ok(self.push_global(at, back, shared)),
+            Place::Kick(at, back) => Ok(self.kick(at, back, shared)),
+            Place::ClaimWorker(set, back) => Ok(self.claim_worker(set, back, &mut shared.idle)),
+            Place::Signal(at, worker, back) => Ok(self.signal(at, worker, back, shared)),
         }
     }
 }

@@ -12,7 +12,7 @@ ghost use Rattle.std.specs.VecDeque.{deque_capacity};
 ghost use Rattle.exec_machine.specs.{Deadlines.{outcome_at_expiry, expired, enrolled}, Requests.{joined_if, granted}};
 ghost use Rattle.exec_moves.specs.Submit.{after_grant};
 ghost use Rattle.exec_driver.specs.{Driving.{is_full, may_stage_one}, Lists.{has_first, first_of}, Punctual.IsPunctual};
-ghost use Rattle.exec_steps.specs.{Serving.{AreKnown, Enters, IsOnWheel, first_tick, outcome_of_error, with_staging_ended}, Submitting.{AreNamed, EndsStaging, IsDueIn, IsGatedIn, IsIdle, IsNewIn, StagesCancel, StagesRequest, must_flush, after_flush}, View.{driver_of, desk_of}, Sound.SoundAt, Works.Steps, declared.parts.worker.Worker.Worker};
+ghost use Rattle.exec_steps.specs.{Raises.Enters, Serving.{AreKnown, IsOnWheel, first_tick, outcome_of_error, with_staging_ended}, Submitting.{AreNamed, EndsStaging, IsDueIn, IsGatedIn, IsIdle, IsNewIn, StagesCancel, StagesRequest, must_flush, after_flush}, View.{driver_of, desk_of}, Sound.SoundAt, Works.Steps, declared.parts.worker.Worker.Worker};
 ghost use Rattle.exec_waiters.specs.declared.waiter_id.WaiterId.{WaiterId};
 
 use crate::parts::record::Record;
@@ -274,8 +274,10 @@ impl Worker {
 
     /// Enters a full submission queue. Where the kernel takes nothing, the staging ends.
     fn flush<B: Drop>(&mut self, service: Service, shared: &mut Shared<B>) -> Event
+        requires there { self.old.index < length shared.old.seats.items }
         requires known { AreKnown self.old.names.staged.items shared.old.requests.items }
-        ensures enters { (w : Worker) × Enters self.old shared.old result w shared.new × (self.new ≡ after_flush service (driver_of self.old).ring.busy w) }
+        ensures enters { (w : Worker) × (it : Enters self.old shared.old result w shared.new)
+            × (self.new ≡ after_flush service (driver_of it.mid).ring.busy w) }
     {
         let event = self.enter(shared);
         if let Event::Busy = event {

@@ -4,15 +4,16 @@
 //! another batch of messages and then for a latch. Then the sleeping bit goes in, and a last look follows before the
 //! sleep. Whoever signals after the bit went in rouses the worker.
 
-ghost use Rattle.std.specs.Prelude.{◌≡◌, ◌<◌, ◌≤◌, ◌^◌, true, false, None, Option, ℕ, IfSome};
-ghost use Rattle.exec_moves.specs.Wait.{spin_on_batch, spin_on_latch, take_latch, arm_word, after_sleep, disarmed};
-ghost use Rattle.exec_steps.specs.{View.{driver_of, desk_of, things_of}, Tests.{HasToldDue, IsNextMoment, is_within, word_wait_of, slept_after}, Sound.{SoundAt, IsAlone}, Works.{Makes, Goes, TurnsWord, Steps}};
+ghost use Rattle.std.specs.Prelude.{◌≡◌, ◌<◌, ◌≤◌, ◌^◌, length, true, false, None, Option, ℕ, IfSome, if◌then◌else◌};
+ghost use Rattle.exec_moves.specs.{State.word_of, Wait.{spin_on_batch, spin_on_latch, take_latch, arm_word, after_sleep, disarmed}};
+ghost use Rattle.exec_steps.specs.{Pooled.OfChair, View.{driver_of, desk_of, things_of}, Tests.{HasToldDue, IsNextMoment, is_within, word_wait_of, slept_after}, Sound.SoundAt, Works.{Makes, Goes, TurnsWord, Steps}};
 
 use crate::parts::shared::Shared;
 use crate::parts::worker::Worker;
 use crate::scripted::Scripted;
 use exec_machine::event::Event;
-use exec_moves::place::{AfterWait, InWordWait, Place};
+use exec_moves::idling::{AfterWait, InWordWait};
+use exec_moves::place::Place;
 use exec_words::word::{PureWord, WaitTarget};
 
 impl Worker {
@@ -102,10 +103,12 @@ impl Worker {
 
     /// Takes the latch out of the wake word.
     fn take_latch<B: Drop>(&mut self, shared: &mut Shared<B>) -> Event
-        requires alone { IsAlone self.old.index false shared.old.seats.items shared.old.global.values }
-        ensures makes { Makes (take_latch (desk_of self.old) (things_of self.old.index shared.old).word) result self.new }
+        requires there { self.old.index < length shared.old.seats.items }
+        ensures makes { Makes (take_latch (desk_of self.old)
+            (word_of (things_of shared.old) self.old.index)) result self.new }
         ensures goes { Goes self.old self.new }
-        ensures word { TurnsWord self.old.index shared.old shared.new (take_latch (desk_of self.old) (things_of self.old.index shared.old).word).thing }
+        ensures word { TurnsWord self.old.index shared.old shared.new
+            (take_latch (desk_of self.old) (word_of (things_of shared.old) self.old.index)).thing }
     {
         let _found = shared.seats[self.index].mailbox.waker.consume_signal();
         self.place = Place::Withdraw(AfterWait::Begin);
@@ -114,20 +117,19 @@ impl Worker {
 
     /// Puts the sleeping bit into the wake word.
     fn arm_word<B: Drop>(&mut self, shared: &mut Shared<B>) -> Event
-        requires alone { IsAlone self.old.index false shared.old.seats.items shared.old.global.values }
+        requires there { self.old.index < length shared.old.seats.items }
+        requires unarmed { OfChair self.old.index shared.old (λ chair. chair.mailbox.waker.target ≡ WaitTarget.None) }
         requires processed { self.old.processed < 2 ^ 29 }
-        ensures makes { Makes (arm_word (desk_of self.old) (things_of self.old.index shared.old).word) result self.new }
+        ensures makes { Makes (arm_word (desk_of self.old) (word_of (things_of shared.old) self.old.index)) result
+            self.new }
         ensures same { self.new ≡ record self.old { place = self.new.place; slept = None } }
-        ensures word { TurnsWord self.old.index shared.old shared.new (arm_word (desk_of self.old) (things_of self.old.index shared.old).word).thing }
+        ensures word { TurnsWord self.old.index shared.old shared.new
+            (arm_word (desk_of self.old) (word_of (things_of shared.old) self.old.index)).thing }
     {
         let word = &mut shared.seats[self.index].mailbox.waker;
         let found = word.arm(WaitTarget::Sleeping);
         self.slept = None;
-        self.place = Place::WordWait(if found.still_idle(self.processed) {
-            InWordWait::SleepOnWord
-        } else {
-            InWordWait::DisarmWord
-        });
+        self.place = Place::WordWait(after_arming(found.still_idle(self.processed)));
         Event::Turn
     }
 
@@ -172,16 +174,30 @@ impl Worker {
 
     /// Takes the wait bits out of the wake word.
     fn disarm_word<B: Drop>(&mut self, shared: &mut Shared<B>) -> Event
-        requires alone { IsAlone self.old.index true shared.old.seats.items shared.old.global.values }
+        requires there { self.old.index < length shared.old.seats.items }
         requires asleep { IfSome self.old.slept (λ moment. moment ≤ shared.old.clock) }
         ensures event { result ≡ Event.Turn }
-        ensures desk { desk_of self.new ≡ record (after_sleep shared.old.clock (things_of self.old.index shared.old).word.latch self.old.slept (desk_of self.old)) { place = Place.Withdraw AfterWait.Begin } }
+        ensures desk { desk_of self.new ≡ record (after_sleep shared.old.clock
+            (word_of (things_of shared.old) self.old.index).latch self.old.slept
+            (desk_of self.old)) { place = Place.Withdraw AfterWait.Begin } }
         ensures same { self.new ≡ record self.old { place = self.new.place; spinner = self.new.spinner; slept = None } }
-        ensures word { TurnsWord self.old.index shared.old shared.new (disarmed (things_of self.old.index shared.old).word) }
+        ensures word { TurnsWord self.old.index shared.old shared.new
+            (disarmed (word_of (things_of shared.old) self.old.index)) }
     {
         let found = shared.seats[self.index].mailbox.waker.disarm();
         self.wake_up(found.latch, shared.clock);
         self.place = Place::Withdraw(AfterWait::Begin);
         Event::Turn
+    }
+}
+
+/// What follows the arming: the sleep, where the word was as it was left.
+fn after_arming(idle: bool) -> InWordWait
+    ensures { result ≡ (if idle then InWordWait.SleepOnWord else InWordWait.DisarmWord) }
+{
+    if idle {
+        InWordWait::SleepOnWord
+    } else {
+        InWordWait::DisarmWord
     }
 }

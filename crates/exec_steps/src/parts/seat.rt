@@ -3,15 +3,17 @@
 //! Other workers steal from its run queue, signal its wake word and send to its inbox; callers do the latter two. The
 //! kernel and the clock wake it, and who closes asks whether it has passed the barrier.
 
-ghost use Rattle.std.specs.Prelude.{◌≡◌, map, IfOk};
+ghost use Rattle.std.specs.Prelude.{◌≡◌, map, not, Some, None, IfOk, if◌then◌else◌};
+ghost use Rattle.exec_words.specs.Word.{asks_signal};
 ghost use Rattle.exec_machine.specs.Tests.{is_awake, has_ended, is_open};
-ghost use Rattle.exec_steps.specs.Records.{reached, IsFreshSeat};
+ghost use Rattle.exec_steps.specs.{Pooled.{chair_latched, chair_raised}, Records.{reached, IsFreshSeat}};
 
 use crate::parts::mail::Post;
 use exec_machine::state::{Rest, WorkerPhase};
 use exec_task::runnable::Runnable;
 use exec_words::mailbox::Mailbox;
 use exec_words::queue::PureQueue;
+use exec_words::word::WaitTarget;
 use std::alloc::{AllocError, Global};
 
 /// The seat of a worker.
@@ -29,6 +31,8 @@ pub struct Seat {
     pub queue: PureQueue<Runnable>,
     /// Its wake word, and the messages that it hasn't taken.
     pub mailbox: Post,
+    /// How many wakes were raised for its ring that the ring hasn't got yet.
+    pub raised: u64,
 }
 
 impl Seat {
@@ -43,6 +47,7 @@ impl Seat {
             rest: Rest::Awake,
             queue: PureQueue::at(alloc, 0)?,
             mailbox: Mailbox::new(alloc)?,
+            raised: 0,
         })
     }
 
@@ -65,6 +70,33 @@ impl Seat {
         ensures { result ≡ is_open self.now.phase }
     {
         matches!(self.phase, WorkerPhase::Open)
+    }
+
+    /// Signals the worker: the latch goes into its wake word. Answers whether a wait is to be ended: that of its ring,
+    /// or that of its word.
+    pub fn signal(&mut self) -> Option<WaitTarget>
+        ensures target { result ≡ (if asks_signal self.old.mailbox.waker then Some self.old.mailbox.waker.target
+            else None) }
+        ensures latched { self.new ≡ chair_latched self.old }
+    {
+        let found = self.mailbox.waker.wake();
+        match (found.target, found.latch) {
+            (WaitTarget::None, _) | (_, true) => None,
+            (target, false) => Some(target),
+        }
+    }
+
+    /// Ends the wait of the worker: that of its ring has a wake raised there besides. Answers whether it slept.
+    pub fn raise(&mut self, ring: bool) -> bool
+        ensures slept { result ≡ not (is_awake self.old.rest) }
+        ensures raised { self.new ≡ chair_raised ring self.old }
+    {
+        if ring {
+            self.raised = self.raised.saturating_add(1);
+        }
+        let slept = !self.is_awake();
+        self.rest = Rest::Awake;
+        slept
     }
 
     /// The clock has come to this moment, in nanoseconds.

@@ -48,6 +48,8 @@ pub struct TaskSlot<B> {
 
 impl<B: Drop> TaskSlot<B> {
     ghost use Rattle.exec_steps.specs.View.{phase_seen};
+    ghost use Rattle.exec_steps.specs.Pooled.{cleared_slot};
+    ghost use Rattle.exec_steps.specs.Polls.{pended_slot};
 
     /// The task of this number with this body, to be polled for the first time, and its runnable. Where it is a root,
     /// this worker is its home.
@@ -212,16 +214,30 @@ impl<B: Drop> TaskSlot<B> {
     }
 
     /// Ends a poll that waits. A task that was woken meanwhile is queued again, and its runnable comes back; one that
-    /// was cleared meanwhile is over. The caller must be who polls it.
+    /// was cleared meanwhile is over, and keeps its body, which shows where it stood. The caller must be who polls it.
     pub fn pend(&mut self) -> AfterPoll
         requires polled { IsTrue (is_polled self.old.cell.phase) }
         requires body { IsSome self.old.body }
+        requires agrees { self.old.cell.cancelled ≡ self.old.cleared }
         ensures answer { result ≡ pend_answer self.old.cell }
-        ensures pended { (b : B) → self.old.body ≡ Some b → self.new ≡ record self.old { cell = pended self.old.cell b; body = None } }
+        ensures pended { self.new ≡ pended_slot self.old }
     {
+        if self.cleared {
+            return self.cell.done(Ended::Closed);
+        }
         match self.body.take() {
             Some(body) => self.cell.pend(body),
             None => unreachable!(),
+        }
+    }
+
+    /// Clears it. Where nobody polls it, it is over, and its body stays, which shows where it stood.
+    pub fn clear(&mut self)
+        ensures { self.new ≡ cleared_slot self.old }
+    {
+        self.cleared = true;
+        if let Some(body) = self.cell.clear() {
+            self.body = Some(body);
         }
     }
 

@@ -6,6 +6,7 @@ ghost use Rattle.exec_machine.specs.Deadlines.{earlier as earlier_moment};
 use crate::parts::mail::{Mail, Reply};
 use crate::parts::names::Names;
 use crate::parts::role::Role;
+use crate::parts::seat::Seat;
 use exec_base::spinner::Spinner;
 use exec_driver::home::Home;
 use exec_moves::place::Place;
@@ -56,6 +57,8 @@ pub struct Worker {
     pub place: Place,
     /// Its number.
     pub index: usize,
+    /// How many workers the pool has.
+    pub workers: usize,
     /// Which work it runs.
     pub role: Role,
     /// The number of its root.
@@ -68,8 +71,16 @@ pub struct Worker {
     pub moments: Moments,
     /// The runnable of its root, where that is to be polled: the root flag.
     pub root_ready: Option<Runnable>,
-    /// The runnable of the task that is polled next.
+    /// The runnable in its hand: of the task that is polled next, or of one that is to be queued.
     pub hand: Option<Runnable>,
+    /// The runnables that it has moved out of a queue, in the midst of a steal or of an overflow.
+    pub loot: Reserved<Runnable>,
+    /// So many picks are left in this turn.
+    pub picks: u64,
+    /// Whether it holds a search count.
+    pub searching: bool,
+    /// The number of a generator that says where its next scan begins.
+    pub rng: u32,
     /// So many picks are left to the next global look.
     pub countdown: u64,
     /// What the service of this turn put off.
@@ -86,6 +97,21 @@ pub struct Worker {
 
 impl Worker {
     ghost use Rattle.exec_steps.specs.Tests.{is_anything_told, has_open_requests, HasToldDue, IsNextMoment};
+    ghost use Rattle.exec_steps.specs.{Pooled.with_raises, View.driver_of};
+
+    /// Its ring gets the wakes that were raised for it.
+    pub fn take_raises(&mut self, seat: &mut Seat)
+        ensures driver { driver_of self.new ≡ with_raises seat.old.raised (driver_of self.old) }
+        ensures same { self.new ≡ record self.old { home = record self.old.home { driver = self.new.home.driver } } }
+        ensures seat { seat.new ≡ record seat.old { raised = 0 } }
+    {
+        self.home.driver.lands_nothing();
+        while seat.raised > 0 {
+            seat.raised -= 1;
+            self.home.driver.raise();
+            self.home.driver.lands_nothing();
+        }
+    }
 
     /// Whether something waits for the callbacks.
     pub fn has_callbacks(&self) -> bool

@@ -1,5 +1,5 @@
 use Rattle.std.{proofs.{Common.{◌≡◌, ◌+◌, length, refl, ap, ◌∙◌, arith, map}, lemmas.List.{length-map, with_items_is}}, specs.Vec.with_items}
-use Rattle.exec_steps.{specs.Records.reached, proofs.Resting.clock_kept}
+use Rattle.exec_steps.{specs.Records.reached, proofs.Resting.{clock_kept, clock_whole}}
 use Rattle.exec_steps.proofs.parts.shared.Shared.move_clock.Goals as goal
 
 pub returns-clause-sound : goal.returns-clause-sound
@@ -8,3 +8,10 @@ returns-clause-sound g c = λ w sound.
     let reach : c.reach_all.new.seats ≡ map (reached (c.args.self.now.clock + c.args.by)) seats.items = c.reach_all.ensures ∙ ap (map (reached (c.args.self.now.clock + c.args.by))) c.deref_mut.ensures.value in
     let many : length c.reach_all.new.seats ≡ seats.len = omega (arith, ap length reach, length-map seats.items (reached (c.args.self.now.clock + c.args.by)), seats.ok.0) in
     clock_kept w c.args.self.now (record c.args.self.now { clock = c.args.self.now.clock + c.args.by; seats = with_items c.args.self.now.seats c.reach_all.new.seats }) c.args.by c.requires.shown (with_items_is seats c.reach_all.new.seats many ∙ reach) refl sound
+
+pub returns-clause-whole : goal.returns-clause-whole
+returns-clause-whole g c = λ x whole.
+    let seats = c.args.self.now.seats in
+    let reach : c.reach_all.new.seats ≡ map (reached (c.args.self.now.clock + c.args.by)) seats.items = c.reach_all.ensures ∙ ap (map (reached (c.args.self.now.clock + c.args.by))) c.deref_mut.ensures.value in
+    let many : length c.reach_all.new.seats ≡ seats.len = omega (arith, ap length reach, length-map seats.items (reached (c.args.self.now.clock + c.args.by)), seats.ok.0) in
+    clock_whole x c.args.self.now (record c.args.self.now { clock = c.args.self.now.clock + c.args.by; seats = with_items c.args.self.now.seats c.reach_all.new.seats }) c.args.by (with_items_is seats c.reach_all.new.seats many ∙ reach) refl whole

@@ -1,5 +1,5 @@
 use Rattle.std.proofs.{Common.{refl, ap, ◌∙◌, slice_set}, lemmas.Option.get_or_from_slice_get}
-use Rattle.exec_steps.{specs.Records.roused, proofs.Resting.stir_kept}
+use Rattle.exec_steps.{specs.Records.roused, proofs.Resting.{stir_kept, stir_whole}}
 use Rattle.exec_steps.proofs.parts.shared.Shared.stir.Goals as goal
 
 pub returns-clause-chair : goal.returns-clause-chair
@@ -8,3 +8,6 @@ returns-clause-chair g c = λ chair there.
 
 pub returns-clause-sound : goal.returns-clause-sound
 returns-clause-sound g c = λ w sound. stir_kept w c.args.self.now _ c.args.worker c.requires.there (returns-clause-chair g c) refl sound
+
+pub returns-clause-whole : goal.returns-clause-whole
+returns-clause-whole g c = λ x whole. stir_whole x c.args.self.now _ c.args.worker c.requires.there (returns-clause-chair g c) refl whole

@@ -1,4 +1,4 @@
-use Rattle.std.proofs.Common.{◌≡◌, refl}
+use Rattle.std.proofs.Common.{refl}
 use Rattle.exec_steps.proofs.{Acts.kept_any, Growing.rooms_refused}
 use Rattle.exec_steps.proofs.parts.worker.Worker.admit.Goals as goal
 

@@ -1,6 +1,21 @@
-use Rattle.std.proofs.{Common.{◌≡◌, drop}, lemmas.Option.slice_get_within}
-use Rattle.exec_steps.proofs.{Calling.{first_of, output_gone, released_as}, Paying.awoken}
+use Rattle.std.proofs.{Common.{◌==◌, ap, drop, ◌∙◌}, lemmas.Option.slice_get_within}
+use Rattle.exec_steps.proofs.{Calling.{first_of, output_gone, released_as}, Paying.awoken, Waking.{only_root, owed_root, some_by}}
 use Rattle.exec_steps.proofs.parts.worker.Worker.call_back.Goals as goal
+
+pub wake_next-requires-clause-only : goal.wake_next-requires-clause-only
+wake_next-requires-clause-only g c =
+    let w = c.args.self.now in
+    let s = c.args.shared.now in
+    let ws = w.home.deferred.notes.wakes.items in
+    only_root w.index w.root ws s.tasks.items s.requests.items s.sleepers.items c.requires.sound.tied.owed (some_by ws c.is_empty.result (c.is_empty.ensures ∙ ap (λ n. n == 0) w.home.deferred.notes.wakes.ok.0) c.if-not-is_empty.true)
+
+pub wake_next-requires-clause-owed : goal.wake_next-requires-clause-owed
+wake_next-requires-clause-owed g c =
+    let w = c.args.self.now in
+    let s = c.args.shared.now in
+    let ws = w.home.deferred.notes.wakes.items in
+    let only = only_root w.index w.root ws s.tasks.items s.requests.items s.sleepers.items c.requires.sound.tied.owed (some_by ws c.is_empty.result (c.is_empty.ensures ∙ ap (λ n. n == 0) w.home.deferred.notes.wakes.ok.0) c.if-not-is_empty.true) in
+    owed_root w.index w.root ws s.tasks.items s.requests.items s.sleepers.items only c.requires.sound.tied.owed
 
 pub returns-then-not-is_empty : goal.returns-then-not-is_empty
 returns-then-not-is_empty g c =

@@ -1,6 +1,7 @@
-use Rattle.std.proofs.Common.{◌≡◌, ⊎_elim}
+use Rattle.std.proofs.{Common.{◌≡◌, ⊎_elim, arith, Some, refl, ap, ◌∙◌, slice_get, slice_set}, lemmas.Option.get_or_from_slice_get}
 use Rattle.exec_moves.specs.declared.place.InClosing.{InClosing}
-use Rattle.exec_steps.proofs.{Shutting.{stage_there, shard_empty}, Closes.{closing_began, queue_closed, barrier_opened, pool_stopped, queue_emptied, shard_visited, barrier_left, mailbox_closed, worker_ended}}
+use Rattle.exec_steps.specs.Pooled.{cleared_slot}
+use Rattle.exec_steps.proofs.{Clears.{cleared_there, task_cleared}, Closes.{closing_began, queue_closed, barrier_opened, pool_stopped}, Parting.{barrier_left, mailbox_closed, worker_ended}, Stopping.{has_root_place, root_told}, Visiting.shard_visited}
 use Rattle.exec_steps.proofs.parts.worker.Worker.close_down.Goals as goal
 
 pub returns-in-Close : goal.returns-in-Close
@@ -19,13 +20,9 @@ pub returns-in-Stop : goal.returns-in-Stop
 returns-in-Stop g c =
     record { steps = pool_stopped g.B.Body.left g.B.Scripted.spot c.args.self.now c.stop.new.self c.args.shared.now c.stop.new.shared c.stop.result (rw c.in-Stop.is at c.requires.sound) c.requires.going c.stop.ensures.event c.stop.ensures.worker c.stop.ensures.kept }
 
-pub returns-in-Discard : goal.returns-in-Discard
-returns-in-Discard g c =
-    record { steps = queue_emptied g.B.Body.left g.B.Scripted.spot c.args.self.now c.discard.new.self c.args.shared.now c.discard.new.shared c.discard.result (rw c.in-Discard.is at c.requires.sound) c.requires.going c.discard.ensures.event c.discard.ensures.worker c.discard.ensures.its c.discard.ensures.kept }
-
 pub returns-in-Visit : goal.returns-in-Visit
 returns-in-Visit g c =
-    record { steps = shard_visited g.B.Body.left g.B.Scripted.spot c.in-Visit.drain c.args.self.now c.visit.new.self c.args.shared.now c.visit.new.set c.visit.result (rw c.in-Visit.is at c.requires.sound) c.requires.going c.visit.ensures.event c.visit.ensures.worker c.visit.ensures.its_still c.visit.ensures.kept }
+    record { steps = shard_visited g.B.Body.left g.B.Scripted.spot c.args.self.now c.visit.new.self c.args.shared.now c.visit.new.set c.visit.result c.in-Visit.drain (rw c.in-Visit.is at c.requires.sound) c.requires.going c.visit.ensures.visited c.visit.ensures.event }
 
 pub returns-in-LeaveBarrier : goal.returns-in-LeaveBarrier
 returns-in-LeaveBarrier g c =
@@ -33,27 +30,46 @@ returns-in-LeaveBarrier g c =
 
 pub returns-in-CloseMailbox : goal.returns-in-CloseMailbox
 returns-in-CloseMailbox g c =
-    record { steps = mailbox_closed g.B.Body.left g.B.Scripted.spot c.args.self.now c.close_mailbox.new.self c.args.shared.now c.close_mailbox.new.shared c.close_mailbox.result (rw c.in-CloseMailbox.is at c.requires.sound) c.requires.going c.close_mailbox.ensures.event c.close_mailbox.ensures.worker c.close_mailbox.ensures.chair c.close_mailbox.ensures.kept }
+    record { steps = mailbox_closed g.B.Body.left g.B.Scripted.spot c.args.self.now c.close_mailbox.new.self c.args.shared.now c.close_mailbox.new.shared c.close_mailbox.result (rw c.in-CloseMailbox.is at c.requires.sound) c.requires.going c.requires.let_on c.close_mailbox.ensures.event c.close_mailbox.ensures.worker c.close_mailbox.ensures.batch c.close_mailbox.ensures.chair c.close_mailbox.ensures.kept }
 
 pub returns-in-End : goal.returns-in-End
 returns-in-End g c =
-    record { steps = worker_ended g.B.Body.left g.B.Scripted.spot c.args.self.now c.end.new.self c.args.shared.now c.end.new.shared c.end.result (rw c.in-End.is at c.requires.sound) c.requires.going c.end.ensures.event c.end.ensures.worker c.end.ensures.chair c.end.ensures.kept }
-
-pub discard-requires-clause-closed : goal.discard-requires-clause-closed
-discard-requires-clause-closed g c = (stage_there InClosing.Discard c.args.self.now c.args.shared.now (rw c.in-Discard.is at c.requires.sound)).set
+    record { steps = worker_ended g.B.Body.left g.B.Scripted.spot c.args.self.now c.end.new.self c.args.shared.now c.end.new.shared c.end.result (rw c.in-End.is at c.requires.sound) c.requires.whole c.requires.going c.end.ensures.event c.end.ensures.worker c.end.ensures.chair c.end.ensures.kept }
 
 pub visit-requires-clause-its : goal.visit-requires-clause-its
-visit-requires-clause-its g c = (stage_there (InClosing.Visit c.in-Visit.drain) c.args.self.now c.args.shared.now (rw c.in-Visit.is at c.requires.sound)).prepared.0
+visit-requires-clause-its g c =
+    let sound = rw c.in-Visit.is at c.requires.sound in
+    (sound.phased sound.seated.seat sound.seated.there).prepared.0
 
 pub visit-requires-clause-more : goal.visit-requires-clause-more
-visit-requires-clause-more g c = (stage_there (InClosing.Visit c.in-Visit.drain) c.args.self.now c.args.shared.now (rw c.in-Visit.is at c.requires.sound)).prepared.1
+visit-requires-clause-more g c =
+    let sound = rw c.in-Visit.is at c.requires.sound in
+    (sound.phased sound.seated.seat sound.seated.there).prepared.1
 
-pub visit-requires-clause-empty : goal.visit-requires-clause-empty
-visit-requires-clause-empty g c =
-    let stage = stage_there (InClosing.Visit c.in-Visit.drain) c.args.self.now c.args.shared.now (rw c.in-Visit.is at c.requires.sound) in
-    shard_empty c.args.shared.now.set c.in-Visit.drain.at stage.empty stage.prepared.0.there
+pub returns-in-TellRoot : goal.returns-in-TellRoot
+returns-in-TellRoot g c =
+    record { steps = root_told g.B.Body.left g.B.Scripted.spot c.args.self.now c.tell_root.new.self c.args.shared.now c.tell_root.new.shared c.tell_root.result c.in-TellRoot.worker (rw c.in-TellRoot.is at c.requires.sound) c.requires.whole c.requires.going c.tell_root.ensures.event c.tell_root.ensures.goes c.tell_root.ensures.chair c.tell_root.ensures.kept }
+
+pub tell_root-requires-clause-place : goal.tell_root-requires-clause-place
+tell_root-requires-clause-place g c = λ chair there. has_root_place chair.mailbox (c.requires.whole.whole.pool.mail c.in-TellRoot.worker chair there)
+
+pub returns-in-Clear : goal.returns-in-Clear
+returns-in-Clear g c =
+    let w = c.args.self.now in
+    let s = c.args.shared.now in
+    let t = c.in-Clear.task in
+    record {
+      steps = task_cleared g.B.Body.left g.B.Scripted.spot w c.clear.new.self s _ c.clear.result t c.in-Clear.drain (rw c.in-Clear.is at c.requires.sound) c.requires.whole c.requires.going
+          (record { kept = refl; tasks = λ slot there. ap (slice_set s.tasks.items t) (c.clear.ensures.slot ∙ ap cleared_slot (c.index_mut.ensures.value ∙ get_or_from_slice_get s.tasks.items t slot c.index_mut.result.now there)) })
+          c.clear.ensures.event c.clear.ensures.goes;
+    }
 
 pub unreachable-requires : goal.unreachable-requires
 unreachable-requires g c =
-    ⊎_elim (λ (h : c.args.at ≡ InClosing.Orphan). (stage_there InClosing.Orphan c.args.self.now c.args.shared.now (rw h at c.requires.sound)).prepared)
-    (λ (h : c.args.at ≡ InClosing.CloseSleeper). (stage_there InClosing.CloseSleeper c.args.self.now c.args.shared.now (rw h at c.requires.sound)).prepared) c.in-Orphan.is
+    ⊎_elim (λ (h : c.args.at ≡ InClosing.Orphan). let sound = rw h at c.requires.sound in (sound.phased sound.seated.seat sound.seated.there).prepared)
+    (λ (h : c.args.at ≡ InClosing.CloseSleeper). let sound = rw h at c.requires.sound in (sound.phased sound.seated.seat sound.seated.there).prepared) c.in-Orphan.is
+
+pub index_mut-requires : goal.index_mut-requires
+index_mut-requires g c =
+    let within = cleared_there c.in-Clear.task c.in-Clear.drain c.args.self.now c.args.shared.now (rw c.in-Clear.is at c.requires.sound) c.requires.whole in
+    omega (arith, within, c.args.shared.now.tasks.ok.0)

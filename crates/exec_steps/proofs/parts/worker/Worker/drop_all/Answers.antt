@@ -3,7 +3,7 @@ use Rattle.exec_steps.specs.{declared.parts.task_slot.TaskSlot.TaskSlot, Ending.
 use Rattle.exec_steps.proofs.parts.worker.Worker.drop_all.Goals as goal
 
 pub loop-request-init : goal.loop-request-init
-loop-request-init g c = (refl, c.requires.may, (λ rs w lets. lets))
+loop-request-init g c = (refl, c.requires.may, (λ rs w lets. lets), (λ none. (refl, none)))
 
 pub loop-request-smaller : goal.loop-request-smaller
 loop-request-smaller g c = omega (arith, ap length c.in-Some.ensures.held)
@@ -21,6 +21,7 @@ loop-request-preserved g c =
       c.in-Some.ensures.same ∙ ap (λ (o : TaskSlot g.row.B.Denot). record o { held = c.let_go_oldest.new.self.held }) i.0,
       may.1 now.requests.items now.self c.orphan_request.ensures.lets,
       (λ rs w rest. i.2 rs w (subst (λ ks. LetsGoAll ks c.loop-request.requests.items rs c.loop-request.self w) (sym held) (now.requests.items, now.self, c.orphan_request.ensures.lets, rest))),
+      (λ none. let never = sym held ∙ (i.3 none).1 in absurd (cc)),
     )
 
 pub returns-clause-lets : goal.returns-clause-lets
@@ -32,3 +33,6 @@ returns-clause-lets g c =
 pub returns-clause-slot : goal.returns-clause-slot
 returns-clause-slot g c =
     c.in_default.ensures.same ∙ ap (λ (o : TaskSlot g.row.B.Denot). record o { held = c.let_go_oldest.new.self.held }) c.loop-request.invariant.0
+
+pub returns-clause-still : goal.returns-clause-still
+returns-clause-still g c = λ none. (c.loop-request.invariant.3 none).0

@@ -16,7 +16,8 @@ returns g c =
         there = there;
         v = c.drop_all.new.self;
         lets = c.drop_all.ensures.lets;
-        worker = refl;
+        still = c.drop_all.ensures.still;
+        worker = ap (λ p. record c.drop_all.new.self { place = p }) c.after_end-self.ensures;
         none = ap (λ h. h.items) held ∙ c.drop_all.ensures.none;
         became = done ∙ ap (λ (x : TaskSlot g.row.B.Denot). record x { cell = over x.cell }) c.drop_all.ensures.slot ∙ ap (λ h. record o { held = h; cell = over o.cell }) (sym held);
         tasks = refl;

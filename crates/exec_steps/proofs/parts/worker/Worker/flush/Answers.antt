@@ -5,9 +5,9 @@ use Rattle.exec_steps.proofs.parts.worker.Worker.flush.Goals as goal
 pub returns-in-Busy : goal.returns-in-Busy
 returns-in-Busy g c =
     let enters = c.enter-event.ensures.enters in
-    record { enters = (c.enter-event.new.self, enters, flushed_none c.args.service (driver_of c.args.self.now).ring.busy c.enter-event.result c.enter-event.new.self c.end_staging.new.self enters.event c.in-Busy.is c.end_staging.ensures) }
+    record { enters = (c.enter-event.new.self, enters, flushed_none c.args.service (driver_of enters.mid).ring.busy c.enter-event.result c.enter-event.new.self c.end_staging.new.self enters.enters.event c.in-Busy.is c.end_staging.ensures) }
 
 pub returns-in_default : goal.returns-in_default
 returns-in_default g c =
     let enters = c.enter-event.ensures.enters in
-    record { enters = (c.enter-event.new.self, enters, flushed_all c.args.service (driver_of c.args.self.now).ring.busy c.enter-event.result c.enter-event.new.self enters.event c.in_default.not-Busy) }
+    record { enters = (c.enter-event.new.self, enters, flushed_all c.args.service (driver_of enters.mid).ring.busy c.enter-event.result c.enter-event.new.self enters.enters.event c.in_default.not-Busy) }

@@ -1,5 +1,5 @@
-use Rattle.std.proofs.{Common.{◌≡◌, Some, refl, sym, ap, ◌∙◌, slice_set}, lemmas.Option.slice_get-get_or}
-use Rattle.exec_steps.{specs.Polls.sight_of, proofs.Making.{kept_if, made_if}}
+use Rattle.std.proofs.{Common.{◌≡◌, subst, Some, refl, sym, ap, ◌∙◌, slice_set}, lemmas.Option.slice_get-get_or}
+use Rattle.exec_steps.{specs.Polls.{Acts, sight_of}, proofs.Making.{kept_if, made_if}}
 use Rattle.exec_steps.proofs.parts.worker.Worker.next_act.Goals as goal
 
 pub returns-clause-acts : goal.returns-clause-acts
@@ -11,8 +11,8 @@ returns-clause-acts g c =
       slot = o;
       slot' = c.step.new.self;
       there = there;
-      sight = sight_of c.step.new.around.moment c.step.new.around.opens.now;
-      acts = made;
+      sight = sight_of c.step.new.around.moment c.step.new.around.tasks c.step.new.around.stopped c.step.new.around.opens.now;
+      acts = subst (λ n. Acts g.B.Body.left g.B.Body.gives o c.step.new.self (Some (sight_of c.args.self.now.moments.sampled n s.stopped s.opens)) (Some (sight_of c.step.new.around.moment c.step.new.around.tasks c.step.new.around.stopped c.step.new.around.opens.now)) a) (c.len.ensures ∙ s.tasks.ok.0) made;
       kept = refl;
       tasks = refl;
     }) c.step.ensures.acts

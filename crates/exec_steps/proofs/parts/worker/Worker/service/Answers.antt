@@ -1,10 +1,15 @@
-use Rattle.std.proofs.{Common.{◌≡◌, refl, sym}, lemmas.Bool.false≢true}
-use Rattle.exec_steps.proofs.{Entered.last_entered, Serving.sampled, Advancing.advanced_on}
+use Rattle.std.proofs.{Common.{◌≡◌, refl, sym}, lemmas.{Bool.false≢true, Option.slice_get_within}}
+use Rattle.exec_steps.proofs.{Entered.last_entered, Advancing.advanced_on, Sampling.sampled}
 use Rattle.exec_steps.proofs.parts.worker.Worker.service.Goals as goal
 
 pub returns-in-Sample : goal.returns-in-Sample
 returns-in-Sample g c =
     record { steps = sampled g.B.Body.left g.B.Scripted.spot c.args.service c.args.self.now c.sample.new.self c.args.shared.now c.sample.new.shared c.sample.result (rw c.in-Sample.is at c.requires.sound) c.sample.ensures.makes c.sample.ensures.same c.sample.ensures.word }
+
+pub enter_last-requires : goal.enter_last-requires
+enter_last-requires g c =
+    let sound = c.requires.sound in
+    record { there = slice_get_within c.args.shared.now.seats.items c.args.self.now.index sound.seated.seat sound.seated.there; known = sound.named.submitted.known }
 
 pub returns-in-EnterLast : goal.returns-in-EnterLast
 returns-in-EnterLast g c =
@@ -38,8 +43,8 @@ returns-in-EndService g c = record { steps = c.end_service.ensures.steps }
 pub end_service-requires : goal.end_service-requires
 end_service-requires g c = record { sound = rw c.in-EndService.is at c.requires.sound }
 
-pub signal-requires : goal.signal-requires
-signal-requires g c = absurd (false≢true (sym (rw c.in-Signal.is at c.requires.sound.flown.permits)))
+pub signal_holder-requires : goal.signal_holder-requires
+signal_holder-requires g c = absurd (false≢true (sym (rw c.in-Signal.is at c.requires.sound.flown.permits)))
 
 pub advance_wheel-requires : goal.advance_wheel-requires
 advance_wheel-requires g c =

@@ -1,7 +1,7 @@
 use Rattle.std.proofs.Common.{◌≡◌, ap, sym, ◌∙◌}
 use Rattle.exec_words.specs.Word.{is_idle_at}
-use Rattle.exec_moves.specs.declared.place.{InWordWait.InWordWait, Place.Place}
-use Rattle.exec_steps.{specs.{declared.parts.worker.Worker.Worker, Tests.slept_after}, proofs.{Sleeping.{word_slept, word_unslept}, Waiting.word_read}}
+use Rattle.exec_moves.specs.{declared.idling.{InWordWait.InWordWait}, declared.place.{Place.Place}}
+use Rattle.exec_steps.{specs.{declared.parts.worker.Worker.Worker, Tests.slept_after}, proofs.{Slumber.{word_slept, word_unslept}, Waiting.word_read}}
 use Rattle.exec_steps.proofs.parts.worker.Worker.sleep_on_word.Goals as goal
 
 pub returns-then-not-still_idle : goal.returns-then-not-still_idle

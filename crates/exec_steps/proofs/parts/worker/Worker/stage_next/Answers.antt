@@ -1,9 +1,11 @@
-use Rattle.std.proofs.Common.{◌≡◌, true, false, refl, sym, ◌∙◌, rules, inl, inr}
+use Rattle.std.proofs.{Common.{◌≡◌, true, false, refl, sym, ◌∙◌, rules, inl, inr}, lemmas.Option.slice_get_within}
 use Rattle.exec_steps.{specs.{Submitting.must_flush, View.driver_of}, proofs.{Ceasing.{flush_entered, staging_ended}, Staging.{cancel_stages, cancels_named, first_may, first_there, has_places, has_room, none_there, queued_named}, Started.request_stages}}
 use Rattle.exec_steps.proofs.parts.worker.Worker.stage_next.Goals as goal
 
 pub flush-requires : goal.flush-requires
-flush-requires g c = record { known = c.requires.idle.sound.named.submitted.known }
+flush-requires g c =
+    let sound = c.requires.idle.sound in
+    record { known = sound.named.submitted.known; there = slice_get_within c.args.shared.now.seats.items c.args.self.now.index sound.seated.seat sound.seated.there }
 
 pub returns-then-must_flush : goal.returns-then-must_flush
 returns-then-must_flush g c =

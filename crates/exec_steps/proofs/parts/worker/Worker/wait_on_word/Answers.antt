@@ -1,4 +1,6 @@
-use Rattle.std.proofs.Common.{◌≡◌}
+use Rattle.std.proofs.Common.{◌≡◌, refl, subst}
+use Rattle.exec_words.specs.declared.word.WaitTarget.{WaitTarget}
+use Rattle.exec_steps.specs.declared.parts.seat.Seat.{Seat as Chair}
 use Rattle.exec_steps.proofs.Waiting.{batch_sought, latch_sought, latch_taken, word_armed, word_disarmed}
 use Rattle.exec_steps.proofs.parts.worker.Worker.wait_on_word.Goals as goal
 
@@ -27,3 +29,8 @@ returns-in-SpinOnBatch g c =
 pub returns-in-SpinOnLatch : goal.returns-in-SpinOnLatch
 returns-in-SpinOnLatch g c =
     record { steps = latch_sought g.B.Body.left g.B.Scripted.spot c.in-SpinOnLatch.left c.args.self.now c.spin_on_latch.new.self c.args.shared.now c.spin_on_latch.result c.index-in-SpinOnLatch.result.now (rw c.in-SpinOnLatch.is at c.requires.sound) c.spin_on_latch.ensures.makes c.spin_on_latch.ensures.same c.index-in-SpinOnLatch.ensures }
+
+pub arm_word-requires-clause-unarmed : goal.arm_word-requires-clause-unarmed
+arm_word-requires-clause-unarmed g c =
+    let sound = rw c.in-ArmWord.is at c.requires.sound in
+    λ chair there. let is : sound.seated.seat ≡ chair = cc (sound.seated.there, there) in subst (λ (x : Chair). x.mailbox.waker.target ≡ WaitTarget.None) is (sound.seated.unarmed refl)

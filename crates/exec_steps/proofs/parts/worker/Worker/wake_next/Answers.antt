@@ -1,4 +1,4 @@
-use Rattle.std.proofs.{Common.{◌≡◌, Some, sym, ap, subst, ◌∙◌}, lemmas.Option.slice_get-get_or}
+use Rattle.std.proofs.{Common.{Some, sym, ap, subst, ◌∙◌}, lemmas.Option.slice_get-get_or}
 use Rattle.exec_steps.{specs.Calls.IsUnpaid, proofs.Waking.owed_unpaid}
 use Rattle.exec_steps.proofs.parts.worker.Worker.wake_next.Goals as goal
 

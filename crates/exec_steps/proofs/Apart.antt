@@ -1,0 +1,355 @@
+-- A STEP OF ANOTHER PARTY keeps what is sound of a worker: it leaves what the worker alone touches, and of what is shared
+-- what it relies on.
+use Rattle.std.proofs.{Common.{◌≡◌, ℕ, ◌-◌, ◌<◌, ◌≤◌, Bool, true, false, List, [], ◌∷◌, length, drop, Option, Some, None, sym, ap, subst, ◌∙◌, arith, inl, inr, slice_get, if◌then◌else◌, refl, ◌+◌, ◌⊎◌}, lemmas.{Bool.{false≢true, Decides.nat_tests}, List.length-drop, Option.slice_get_within}}
+use Rattle.exec_base.specs.declared.{slab.Id.Id, task_no.TaskNo.TaskNo}
+use Rattle.exec_waiters.specs.{States.{pending_count, waiter_at}, declared.waiter.Waiter.Waiter}
+use Rattle.exec_words.specs.{Head.is_spent, Queue.{Queue, claimed, released, room_of, tail_of}, declared.head.Head.Head}
+use Rattle.exec_task.specs.{Phases.is_polled, TaskSet.shard_at, declared.{runnable.Runnable.Runnable, drain.Drain.Drain}}
+use Rattle.exec_task.specs.TaskSet.{Set}
+use Rattle.exec_machine.specs.{declared.config.Configuration.Configuration, Tests.{has_ended, is_open}}
+use Rattle.exec_moves.specs.{Search.from_of, Seen.polls_at, declared.{handing.{AfterPop.AfterPop, AfterSend.AfterSend, AfterSignal.AfterSignal, InGlobal.InGlobal, InKick.InKick, InPop.InPop, InPush.InPush}, idling.{InLook.InLook, InScan.InScan}, place.{InClosing.InClosing, InMail.InMail, InPick.InPick, InPoll.InPoll, Place.Place}}}
+use Rattle.exec_steps.{specs.{declared.parts.{mail.Reply.Reply, record.Record.Record, seat.Seat.Seat as Chair, shared.Shared.Shared, task_slot.TaskSlot.TaskSlot, worker.Worker.Worker}, Calling.HoldsForAll, Carried.Carried, Due.IsDue, Phased.{HasPassed, IsPhased, IsPrepared, closes_at, closing_in, has_stopped, root_over, stage_of}, Places.{begins_at, is_armed_at, step_of_poll}, Records.number_in, Sound.{Aims, AreOwed, HasGuest, HasQueue, HasRunnable, IsGuest, IsHeld, IsSeated, MayClaim, SoundAt, root_in_hand, served_in}, Spares.{IsMailbox, Spares, SparesChair, Thins}, View.driver_of}, proofs.{Facts.by_number, Spared.{KeepsMine, asleep_apart, flown_apart, holds_apart, live_of, named_apart, over_apart, owes_apart, record_back, there_within, timed_apart}}}
+
+-- THE OWN RUN QUEUE, of which a thief takes values, or gives places free
+
+pub held_kept : (q q' : Queue Runnable) → Thins q q' → q'.held ≡ q.held
+held_kept q q' t =
+    elim t [
+      | inl same ↦ ap (λ x. x.held) same
+      | inr (inl c) ↦ ap (λ x. x.held) c.4
+      | inr (inr r) ↦ ap (λ x. x.held) r.1
+    ]
+
+pub tail_kept : (q q' : Queue Runnable) → Thins q q' → tail_of q' ≡ tail_of q
+tail_kept q q' t =
+    elim t [
+      | inl same ↦ ap tail_of same
+      | inr (inl c) ↦ ap tail_of c.4 ∙ omega (arith, length-drop c.0 q.values, c.2)
+      | inr (inr r) ↦ ap tail_of r.1
+    ]
+
+more_room : (b : Bool) (x y : ℕ) → x ≤ y → (if b then 0 else x) ≤ (if b then 0 else y)
+more_room true x y h = omega arith
+more_room false x y h = h
+
+room_claimed : (q : Queue Runnable) (n : ℕ) → n < length q.values → q.gap ≡ 0 → room_of q ≤ room_of (claimed q n)
+room_claimed q n few unclaimed =
+    let tail : tail_of (claimed q n) ≡ tail_of q = omega (arith, length-drop n q.values, few) in
+    rw tail (more_room (is_spent (tail_of q)) _ _ (omega (arith, few, unclaimed)))
+
+room_released : (q : Queue Runnable) → room_of q ≤ room_of (released q)
+room_released q = more_room (is_spent (tail_of q)) _ _ (omega arith)
+
+pub room_grows : (q q' : Queue Runnable) → Thins q q' → room_of q ≤ room_of q'
+room_grows q q' t =
+    elim t [
+      | inl same ↦ subst (λ x. room_of q ≤ room_of x) (sym same) (omega arith)
+      | inr (inl c) ↦ subst (λ x. room_of q ≤ room_of x) (sym c.4) (room_claimed q c.0 c.2 c.3)
+      | inr (inr r) ↦ subst (λ x. room_of q ≤ room_of x) (sym r.1) (room_released q)
+    ]
+
+-- a lone value stays, and an empty queue stays empty
+lone_stays : (q q' : Queue Runnable) → Thins q q' → (length q.values ≡ 1) × (q.gap ≡ 0) → (length q'.values ≡ 1) × (q'.gap ≡ 0)
+lone_stays q q' t lone =
+    elim t [
+      | inl same ↦ subst (λ x. (length x.values ≡ 1) × (x.gap ≡ 0)) (sym same) lone
+      | inr (inl c) ↦ absurd (omega (arith, c.1, lone.0))
+      | inr (inr r) ↦ absurd (omega (arith, r.0, lone.1))
+    ]
+
+empty_stays : (q q' : Queue Runnable) → Thins q q' → q.values ≡ [] → q'.values ≡ []
+empty_stays q q' t none =
+    elim t [
+      | inl same ↦ ap (λ x. x.values) same ∙ none
+      | inr (inl c) ↦ absurd (omega (arith, c.1, ap length none))
+      | inr (inr r) ↦ ap (λ x. x.values) r.1 ∙ none
+    ]
+
+pub queue_apart : (p : Place) (q q' : Queue Runnable) → Thins q q' → HasQueue p q → HasQueue p q'
+queue_apart (Place.Pick (InPick.TakeShare first room held)) q q' t h = (held_kept q q' t ∙ h.0, omega (arith, h.1, room_grows q q' t))
+queue_apart (Place.Pop (InPop.ExchangePop head) b) q q' t h = (held_kept q q' t ∙ h.0, omega (arith, h.1, tail_kept q q' t))
+queue_apart (Place.Pop InPop.StorePop b) q q' t h =
+    let lone = lone_stays q q' t (h.1, h.2) in
+    (held_kept q q' t ∙ h.0, lone.0, lone.1)
+queue_apart (Place.Push (InPush.StoreValue n) b) q q' t h = (held_kept q q' t ∙ h.0, omega (arith, h.1, room_grows q q' t))
+queue_apart (Place.Push (InPush.FlowOver head) b) q q' t h =
+    let tail : tail_of q' ≡ tail_of q = tail_kept q q' t in
+    (held_kept q q' t ∙ h.0, h.1 ∙ sym tail, ap is_spent tail ∙ h.2, h.3)
+queue_apart (Place.Push InPush.StoreOldest b) q q' t h = empty_stays q q' t h
+queue_apart (Place.Scan InScan.LoadScanHead) q q' t h = held_kept q q' t ∙ h
+queue_apart (Place.Scan x) q q' t h = (held_kept q q' t ∙ h.0, omega (arith, h.1, room_grows q q' t))
+queue_apart _ q q' t h = held_kept q q' t ∙ h
+
+-- OTHER RUN QUEUES, whose tails only grow
+
+claim_apart : (i from : ℕ) (h : Head) (tail : ℕ) (seats seats' : List Chair) → length seats' ≡ length seats
+    → ((k : ℕ) (chair chair' : Chair) → slice_get seats k ≡ Some chair → slice_get seats' k ≡ Some chair' → tail_of chair.queue ≤ tail_of chair'.queue)
+    → MayClaim i from h tail seats → MayClaim i from h tail seats'
+claim_apart i from h tail seats seats' many tails may =
+    record {
+      other = may.other;
+      unclaimed = may.unclaimed;
+      some = may.some;
+      most = may.most;
+      behind = λ chair' there'.
+          let within : from < length seats' = slice_get_within seats' from chair' there' in
+          let inside : from < length seats = omega (arith, many, within) in
+          let old : (chair : Chair) × (slice_get seats from ≡ Some chair) = there_within seats from inside in
+          omega (arith, may.behind old.0 old.1, tails from old.0 chair' old.1 there');
+    }
+
+pub aims_apart : (p : Place) (c : Configuration) (i : ℕ) (seats seats' : List Chair) → length seats' ≡ length seats
+    → ((k : ℕ) (chair chair' : Chair) → slice_get seats k ≡ Some chair → slice_get seats' k ≡ Some chair' → tail_of chair.queue ≤ tail_of chair'.queue)
+    → Aims p c i seats → Aims p c i seats'
+aims_apart (Place.Scan (InScan.ClaimHalf x h tail)) c i seats seats' many tails aims = (claim_apart i (from_of c x) h tail seats seats' many tails aims.0, aims.1)
+aims_apart (Place.Scan (InScan.LoadTheirHead x)) c i seats seats' many tails aims = aims
+aims_apart (Place.Scan (InScan.LoadTheirTail x h)) c i seats seats' many tails aims = aims
+aims_apart (Place.Look (InLook.LookAtHead j)) c i seats seats' many tails aims = aims
+aims_apart (Place.Look (InLook.LookAtTail j h)) c i seats seats' many tails aims = aims
+aims_apart (Place.Kick (InKick.ExchangeKickCount set) b) c i seats seats' many tails aims = aims
+aims_apart (Place.Global (InGlobal.AddGlobalCount set) b) c i seats seats' many tails aims = aims
+aims_apart (Place.Mail (InMail.Apply applied taken)) c i seats seats' many tails aims = aims
+aims_apart (Place.Closing InClosing.CloseQueue) c i seats seats' many tails aims = aims
+aims_apart (Place.Closing InClosing.OpenBarrier) c i seats seats' many tails aims = aims
+aims_apart (Place.Closing InClosing.Stop) c i seats seats' many tails aims = aims
+aims_apart (Place.Closing (InClosing.TellRoot j)) c i seats seats' many tails aims = aims
+aims_apart _ c i seats seats' many tails aims = aims
+
+-- WHERE A CLOSING IS
+
+-- it drains the set, or has
+abbrev is_drain : Option InClosing → Bool
+is_drain (Some (InClosing.Visit drain)) = true
+is_drain (Some (InClosing.Clear t drain)) = true
+is_drain (Some InClosing.LeaveBarrier) = true
+is_drain _ = false
+
+closes_drain : (p : Place) → is_drain (closing_in p) ≡ true → closes_at p ≡ true
+closes_drain (Place.Closing InClosing.Close) h = absurd (false≢true h)
+closes_drain (Place.Closing x) h = refl
+closes_drain (Place.Pop x AfterPop.Discard) h = refl
+closes_drain (Place.Signal x j (AfterSignal.Send (AfterSend.Tell n))) h = refl
+closes_drain _ h = absurd (false≢true h)
+
+drain_says : (x : Option InClosing) (closes : Bool) → closes ≡ true → is_drain x ≡ true → (root_over closes x ≡ true) × (has_stopped closes x ≡ true)
+drain_says (Some (InClosing.Visit drain)) closes is h = (is, is)
+drain_says (Some (InClosing.Clear t drain)) closes is h = (is, is)
+drain_says (Some InClosing.LeaveBarrier) closes is h = (is, is)
+drain_says _ closes is h = absurd (false≢true h)
+
+passed_apart : (d : Drain) (set set' : Set (Unit {0})) → length set'.shards ≡ length set.shards → ((k : ℕ) → shard_at set k ≡ [] → shard_at set' k ≡ []) → HasPassed d set → HasPassed d set'
+passed_apart d set set' many emptied passed = λ k few side all.
+    emptied k (passed k (subst (λ n. k < n) many few) side (subst (λ n. d.at + d.left ≤ k + n) many all))
+
+prepared_apart : (x : Option InClosing) (unreleased : ℕ) (set set' : Set (Unit {0})) → length set'.shards ≡ length set.shards → (is_drain x ≡ true → (k : ℕ) → shard_at set k ≡ [] → shard_at set' k ≡ []) → IsPrepared x unreleased set → IsPrepared x unreleased set'
+prepared_apart (Some (InClosing.Visit drain)) unreleased set set' many emptied h = (
+  record { there = subst (λ n. drain.at < n) (sym many) h.0.there; few = subst (λ n. drain.left ≤ n) (sym many) h.0.few },
+  h.1,
+  passed_apart drain set set' many (emptied refl) h.2,
+)
+prepared_apart (Some (InClosing.Clear t drain)) unreleased set set' many emptied h = (
+  record { there = subst (λ n. drain.at < n) (sym many) h.0.there; few = subst (λ n. drain.left ≤ n) (sym many) h.0.few },
+  passed_apart drain set set' many (emptied refl) h.1,
+)
+prepared_apart (Some InClosing.LeaveBarrier) unreleased set set' many emptied h = λ k. emptied refl k (h k)
+prepared_apart _ unreleased set set' many emptied h = h
+
+module _ {B : Type 0} where
+  pub holds_for_all : (p : Place) (w : Worker) (s : Shared B) → SoundAt p w s → HoldsForAll s
+  holds_for_all p w s sound =
+      record {
+        homes = sound.homes;
+        resting = sound.resting;
+        owning = sound.flown.owning;
+        closed = (sound.phased sound.seated.seat sound.seated.there).closed;
+      }
+
+  -- THE TASK THAT IS POLLED
+
+  guest_apart : (polls : Option ℕ) (x : InPoll) (i root : ℕ) (s s' : Shared B) → Spares i s s' → HasGuest polls x i root s.tasks.items → HasGuest polls x i root s'.tasks.items
+  guest_apart None x i root s s' spares h = tt
+  guest_apart (Some t) x i root s s' spares h = λ other.
+      let was = h other in
+      let guest = was.2 in
+      let now = spares.polled t was.0 was.1 guest.polled guest.poller in
+      let slot = was.0 in
+      let sp = now.2 in
+      let still : IsGuest x i (record slot { cell = now.0.cell; cleared = now.0.cleared; fresh = now.0.fresh }) = record {
+        ordinary = guest.ordinary;
+        polled = sp.polled;
+        body = guest.body;
+        poller = guest.poller;
+        cancelled = sp.cancelled guest.cancelled;
+        held = guest.held;
+        waits = guest.waits;
+        told = guest.told;
+        untold = guest.untold;
+        there = guest.there;
+      } in
+      (now.0, now.1, subst (IsGuest x i) (sym sp.kept) still)
+
+  -- ALL
+
+  module _ (p : Place) (w : Worker) (s s' : Shared B) (sound : SoundAt p w s) (spares : Spares w.index s s') where
+    mine : KeepsMine w.index s.requests.items s'.requests.items s.sleepers.items s'.sleepers.items
+    mine = record { records = spares.records; records_only = spares.records_only; sleepers = spares.sleepers; sleepers_only = spares.sleepers_only }
+
+    -- the root's slot
+    root_there : slice_get s'.tasks.items w.root ≡ Some sound.runnable.root
+    root_there =
+        subst (λ t. slice_get s'.tasks.items t ≡ Some sound.runnable.root) (sym sound.at_home)
+        (spares.root sound.runnable.root (subst (λ t. slice_get s.tasks.items t ≡ Some sound.runnable.root) sound.at_home sound.runnable.there) sound.runnable.home)
+
+    root_back : (slot : TaskSlot B) → slice_get s'.tasks.items w.root ≡ Some slot → slice_get s.tasks.items w.root ≡ Some slot
+    root_back slot there = sound.runnable.there ∙ sym root_there ∙ there
+
+    -- the own chair, then and now
+    record Own : Type 0 where
+      was : Chair
+      is : Chair
+      there : slice_get s.seats.items w.index ≡ Some was
+      here : slice_get s'.seats.items w.index ≡ Some is
+      spared : SparesChair was is
+
+    own : Own
+    own =
+        let now = spares.chair sound.seated.seat sound.seated.there in
+        record { was = sound.seated.seat; is = now.0; there = sound.seated.there; here = now.1; spared = now.2 }
+
+    -- what holds of the chair now
+    of_chair : (P : Chair → Type 0) → P own.is → (chair : Chair) → slice_get s'.seats.items w.index ≡ Some chair → P chair
+    of_chair P h chair there =
+        let is : own.is ≡ chair = cc (own.here, there) in
+        subst P is h
+
+    seated_apart : IsSeated w.index (is_armed_at p) s'.config.workers s'.seats.items
+    seated_apart =
+        let was : sound.seated.seat ≡ own.was = cc (sound.seated.there, own.there) in
+        record {
+          many = spares.many ∙ sound.seated.many ∙ sym (ap (λ c. c.workers) spares.config);
+          seat = own.is;
+          there = own.here;
+          unarmed = λ h. own.spared.target ∙ ap (λ c. c.mailbox.waker.target) (sym was) ∙ sound.seated.unarmed h;
+          mail = own.spared.mail (subst (λ c. IsMailbox c.mailbox) was sound.seated.mail);
+        }
+
+    runnable_apart : HasRunnable w.index w.root w.root_ready (root_in_hand (begins_at p) w.root w.hand) s'.tasks.items
+    runnable_apart =
+        let r = sound.runnable in
+        record { root = r.root; there = root_there; home = r.home; number = r.number; once = r.once; one = r.one }
+
+    held_apart : (r : Runnable) → IsHeld (begins_at p) w.root s.tasks.items r → IsHeld (begins_at p) w.root s'.tasks.items r
+    held_apart r held =
+        elim held [
+          | inl begins ↦ inl begins
+          | inr genuine ↦ inr (spares.genuine r genuine)
+        ]
+
+    -- the set is closed where it is drained
+    set_shut : is_drain (closing_in p) ≡ true → s.set.closed ≡ true
+    set_shut drains =
+        let was = sound.phased own.was own.there in
+        let closes = closes_drain p drains in
+        let facts = drain_says (closing_in p) (closes_at p) closes drains in
+        was.closed (by_number w.index 0 (λ other. was.by_other (omega (arith, other)) facts.0) (λ same. (was.by_zero same).0 ∙ facts.1))
+
+    phased_apart : HoldsForAll s' → IsPhased w.index (closes_at p) (closing_in p) w.home.closing w.root w.names.unreleased (stage_of own.is s') s'.tasks.items
+    phased_apart all =
+        let was = sound.phased own.was own.there in
+        let chair = own.spared in
+        record {
+          told = was.told;
+          opened = ap is_open chair.phase ∙ was.opened;
+          ended = λ h. was.ended (sym (ap has_ended chair.phase) ∙ h);
+          root = λ slot there. was.root slot (root_back slot there);
+          pool = chair.pool ∙ was.pool;
+          left = chair.left ∙ was.left;
+          shut = chair.closed ∙ was.shut;
+          by_zero = λ zero_is.
+              let still = spares.by_zero zero_is in
+              let old = was.by_zero zero_is in
+              (still.0 ∙ old.0, still.1 ∙ old.1);
+          by_other = λ other over. spares.stopped (was.by_other other over);
+          closed = all.closed;
+          prepared = prepared_apart (closing_in p) w.names.unreleased s.set s'.set spares.shards (λ drains. spares.emptied (set_shut drains)) was.prepared;
+        }
+
+    owed_apart : (wakes : List TaskNo) → AreOwed w.index w.root wakes s.tasks.items s.requests.items s.sleepers.items → AreOwed w.index w.root wakes s'.tasks.items s'.requests.items s'.sleepers.items
+    owed_apart [] owed = tt
+    owed_apart (n ∷ []) owed =
+        (owed.0, λ slot there. owes_apart w.index s.requests.items s'.requests.items s.sleepers.items s'.sleepers.items mine w.root slot.waiting (owed.1 slot (root_back slot there)))
+    owed_apart (n ∷ (m ∷ ns)) owed = absurd owed
+
+    due_apart : IsDue (served_in p) w.index w.moments s.config w.names (driver_of w) w.home.timers s'.requests.items s'.sleepers.items
+    due_apart =
+        let due = sound.due in
+        record {
+          punctual = due.punctual;
+          told = due.told;
+          wheel = due.wheel;
+          timed = timed_apart w.index s.requests.items s'.requests.items s.sleepers.items s'.sleepers.items mine w.names (driver_of w) w.home.timers sound.named due.timed;
+          asleep = asleep_apart w.index s.requests.items s'.requests.items s.sleepers.items s'.sleepers.items mine w.names (driver_of w) w.home.timers sound.named due.asleep;
+          order = due.order;
+        }
+
+    carried_apart : Carried w s'
+    carried_apart =
+        let c = sound.carried in
+        record {
+          slots = c.slots;
+          whole = c.whole;
+          target = λ id it r live there. c.target id it r live (request_back id it r live there);
+          carried = λ id it r live there. c.carried id it r live (request_back id it r live there);
+          nobody = c.nobody;
+          room = λ socket. spares.room socket (c.room socket);
+        }
+      where
+        request_back : (id : Id) (it : Waiter Reply Reply) (r : Record) → waiter_at (driver_of w).requests id ≡ Some it → slice_get s'.requests.items (number_in w.names.requests.items id) ≡ Some r → slice_get s.requests.items (number_in w.names.requests.items id) ≡ Some r
+        request_back id it r live there =
+            record_back w.index s.requests.items s'.requests.items s.sleepers.items s'.sleepers.items mine w.names (driver_of w) w.home.timers sound.named id r (live_of (driver_of w).requests id it live) there
+
+    -- What is sound of a worker stays so.
+    pub apart : HoldsForAll s' → SoundAt p w s'
+    apart all =
+        record {
+          here = sound.here;
+          config = rw spares.config sound.config;
+          gates = rw spares.opens sound.gates;
+          index = rw spares.config sound.index;
+          workers = rw spares.config sound.workers;
+          at_home = sound.at_home;
+          role = sound.role;
+          homes = all.homes;
+          shards = rw spares.config (spares.shards ∙ sound.shards);
+          time = rw spares.clock sound.time;
+          told = sound.told;
+          named = named_apart w.index s.requests.items s'.requests.items s.sleepers.items s'.sleepers.items mine w.names (driver_of w) w.home.timers sound.named;
+          runnable = runnable_apart;
+          seated = seated_apart;
+          queue = of_chair (λ chair. HasQueue p chair.queue) (queue_apart p own.was.queue own.is.queue own.spared.queue (sound.queue own.was own.there));
+          sized = rw spares.config sound.sized;
+          processed = sound.processed;
+          hand = sound.hand;
+          loot = sound.loot;
+          genuine = λ r has. held_apart r (sound.genuine r has);
+          stolen = λ r has. spares.genuine r (sound.stolen r has);
+          searching = sound.searching;
+          aims = rw spares.config (aims_apart p s.config w.index s.seats.items s'.seats.items spares.many spares.tails sound.aims);
+          guest = guest_apart (polls_at p) (step_of_poll p) w.index w.root s s' spares sound.guest;
+          resting = all.resting;
+          left = sound.left;
+          over = over_apart w.index s.requests.items s'.requests.items s.sleepers.items s'.sleepers.items mine w.names.ended.items w.names.unreleased (pending_count (driver_of w).requests) sound.over;
+          batch = sound.batch;
+          batch_place = sound.batch_place;
+          quiet = sound.quiet;
+          due = rw spares.config due_apart;
+          flown = flown_apart w.index s.requests.items s'.requests.items s.sleepers.items s'.sleepers.items mine w.names (driver_of w) w.home.timers sound.named (served_in p) all.owning sound.flown;
+          carried = carried_apart;
+          rooted = record {
+            root = λ slot there.
+                holds_apart w.index s.requests.items s'.requests.items s.sleepers.items s'.sleepers.items mine w.names (driver_of w) w.home.timers sound.named _ w.root slot.held.items slot.waiting _
+                (sound.rooted.root slot (root_back slot there));
+          };
+          phased = of_chair (λ chair. IsPhased w.index (closes_at p) (closing_in p) w.home.closing w.root w.names.unreleased (stage_of chair s') s'.tasks.items) (phased_apart all);
+          tied = record { stands = λ slot there. sound.tied.stands slot (root_back slot there); owed = owed_apart w.home.deferred.notes.wakes.items sound.tied.owed };
+        }

@@ -1,0 +1,63 @@
+-- A worker whose ring has changed, with the same requests in it: what holds again.
+use Rattle.std.{proofs.Common.{◌≡◌, ℕ, ◌+◌, ◌≤◌, List, length, refl, sym, ap, subst, ◌∙◌}, specs.Vec.vec_capacity}
+use Rattle.exec_ring.specs.{Rings.RingState, declared.completion.Submission.Submission}
+use Rattle.exec_waiters.specs.States.{pending_count}
+use Rattle.exec_driver.specs.Driving.{Driving}
+use Rattle.exec_machine.specs.Ranges.{ring_size}
+use Rattle.exec_moves.specs.declared.place.Place.{Place}
+use Rattle.exec_steps.{specs.{declared.parts.{mail.Reply.Reply, shared.Shared.Shared, worker.Worker.Worker}, Carried.{IsCarried, those_of}, Due.IsDue, Flown.{AreLanded, HasFlown, IsPolled, operations}, Places.polled_in, Rooted.IsRooted, Serving.{AreTagged, cancels_in}, Sound.{tellers, SoundAt, IsTold, IsNamed, IsSubmitted, AreOver, served_in}, View.driver_of}, proofs.{Conveying.carried_ring, Flown.landed_as, Going.{all_still, rooted_on}}}
+
+-- another ring of the same size with the same requests in it; and its driver knows whether the wake poll is under way
+pub record SameIn (d : Driving Reply Reply) (r : RingState) : Type 0 where
+  pub size : r.size ≡ d.ring.size
+  pub staged : r.staged ≡ d.ring.staged
+  pub flying : r.flying ≡ d.ring.flying
+  pub landed : operations r ≡ operations d.ring
+  pub polled : IsPolled r d.armed
+
+module _ {B : Type 0} where
+  pub sound_ring : (q : Place) (w w' : Worker) (s : Shared B) (r : RingState) → SoundAt q w s → SameIn (driver_of w) r → driver_of w' ≡ record (driver_of w) { ring = r }
+      → w' ≡ record w { home = record w.home { driver = w'.home.driver } } → SoundAt q w' s
+  sound_ring q w w' s r sound like driver same =
+      let d = driver_of w in
+      let d' : Driving Reply Reply = record d { ring = r } in
+      let rs = s.requests.items in
+      let ss = s.sleepers.items in
+      let named = sound.named in
+      let sub = named.submitted in
+      let submitted : IsSubmitted w.index w.names.staged.items w.names.untold.items r rs =
+      record { tagged = subst AreTagged (sym like.staged) sub.tagged; cancels = ap cancels_in like.staged ∙ sub.cancels; known = sub.known; own = sub.own; all = sub.all } in
+      let named' : IsNamed w.index w.names d' w.home.timers rs ss =
+      record { requests = named.requests; timers = named.timers; alike = named.alike; over = named.over; submitted = submitted; slots = named.slots; beds = named.beds } in
+      let due = sound.due in
+      let due' : IsDue (served_in q) w.index w.moments s.config w.names d' w.home.timers rs ss =
+      record { punctual = record { ahead = due.punctual.ahead }; told = due.told; wheel = due.wheel; timed = due.timed; asleep = due.asleep; order = due.order } in
+      let flown = sound.flown in
+      let flown' : HasFlown (served_in q) w.index w.names d' rs =
+      record {
+        ending = flown.ending;
+        staging = subst (λ n. n ≤ vec_capacity w.names.staged) (sym like.size) flown.staging;
+        telling = subst (λ n. n ≤ vec_capacity w.names.untold) (sym like.size) flown.telling;
+        entries = subst (λ (es : List Submission). length w.names.staged.items + length w.names.untold.items ≤ length es) (sym like.staged) flown.entries;
+        permits = flown.permits;
+        plain = flown.plain;
+        landed = subst (λ cs. AreLanded w.names d' rs cs) (sym like.landed) (landed_as w.names d d' rs (operations d.ring) refl flown.landed);
+        enrolling = flown.enrolling;
+        polled = like.polled;
+        owning = flown.owning;
+        uncancelled = flown.uncancelled;
+      } in
+      let rooted' : IsRooted (polled_in w.root q) w.index w.root w.names d' w.home.timers s.tasks.items rs ss =
+      rooted_on rs rs (all_still rs) (polled_in w.root q) w.index w.root w.names w.names d d' w.home.timers s.tasks.items ss sound.rooted refl refl refl (λ id h. h) (λ id told h. h) in
+      let w1 : Worker = record w { home = record w.home { driver = w'.home.driver } } in
+      let again : SoundAt q w1 s =
+      let told = subst (λ (x : Driving Reply Reply). IsTold w.names.ended.items w.home.deferred (tellers x.requests w.home.timers)) (sym driver) sound.told in
+      let named = subst (λ x. IsNamed w.index w.names x w.home.timers rs ss) (sym driver) named' in
+      let sized = subst (λ (x : Driving Reply Reply). x.ring.size ≡ ring_size s.config) (sym driver) (like.size ∙ sound.sized) in
+      let over = subst (λ (x : Driving Reply Reply). AreOver w.index w.names.ended.items w.names.unreleased (pending_count x.requests) rs) (sym driver) sound.over in
+      let due = subst (λ x. IsDue (served_in q) w.index w.moments s.config w.names x w.home.timers rs ss) (sym driver) due' in
+      let flown = subst (λ x. HasFlown (served_in q) w.index w.names x rs) (sym driver) flown' in
+      let carried = subst (λ (x : Driving Reply Reply). IsCarried w.names.requests.items x.requests x.ring rs s.store) (sym driver) (carried_ring w.names.requests.items d.requests d.ring rs s.store sound.carried d'.ring (λ v small. ap (those_of v) like.flying) (λ v small. ap (those_of v) like.staged)) in
+      let rooted = subst (λ x. IsRooted (polled_in w.root q) w.index w.root w.names x w.home.timers s.tasks.items rs ss) (sym driver) rooted' in
+      assumption (told, named, sized, over, due, flown, carried, rooted, sound) in
+      subst (λ x. SoundAt q x s) (sym same) again

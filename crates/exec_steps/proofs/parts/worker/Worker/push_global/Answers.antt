@@ -1,0 +1,30 @@
+use Rattle.std.proofs.Common.{◌≡◌, arith}
+use Rattle.exec_steps.proofs.{Appending.{all_fit, appended}, Counting.count_fits, Reserving.{global_count_added, global_count_returned, global_set_loaded, global_some}}
+use Rattle.exec_steps.proofs.parts.worker.Worker.push_global.Goals as goal
+
+pub returns-in-LoadGlobalSet : goal.returns-in-LoadGlobalSet
+returns-in-LoadGlobalSet g c =
+    record { steps = global_set_loaded g.B.Body.left g.B.Scripted.spot c.args.self.now c.load_global_set.new.self c.args.shared.now c.load_global_set.result c.args.back (rw c.in-LoadGlobalSet.is at c.requires.sound) c.load_global_set.ensures.makes c.load_global_set.ensures.goes }
+
+pub add_global_count-requires : goal.add_global_count-requires
+add_global_count-requires g c = record { few = count_fits c.args.self.now c.args.shared.now c.requires.whole (omega (arith, c.requires.sound.seated.many, c.requires.sound.config.few)) }
+
+pub returns-in-AddGlobalCount : goal.returns-in-AddGlobalCount
+returns-in-AddGlobalCount g c =
+    record { steps = global_count_added g.B.Body.left g.B.Scripted.spot c.args.self.now c.add_global_count.new.self c.args.shared.now c.add_global_count.result c.in-AddGlobalCount.set c.args.back c.add_global_count.new.idle (rw c.in-AddGlobalCount.is at c.requires.sound) c.add_global_count.ensures.makes c.add_global_count.ensures.goes c.add_global_count.ensures.idle }
+
+pub return_global_count-requires : goal.return_global_count-requires
+return_global_count-requires g c = record { holds = global_some c.args.back c.args.self.now c.args.shared.now (rw c.in-ReturnGlobalCount.is at c.requires.sound) c.requires.whole }
+
+pub returns-in-ReturnGlobalCount : goal.returns-in-ReturnGlobalCount
+returns-in-ReturnGlobalCount g c =
+    record { steps = global_count_returned g.B.Body.left g.B.Scripted.spot c.args.self.now c.return_global_count.new.self c.args.shared.now c.return_global_count.result c.args.back c.return_global_count.new.idle (rw c.in-ReturnGlobalCount.is at c.requires.sound) (global_some c.args.back c.args.self.now c.args.shared.now (rw c.in-ReturnGlobalCount.is at c.requires.sound) c.requires.whole) c.return_global_count.ensures.makes c.return_global_count.ensures.goes c.return_global_count.ensures.idle }
+
+pub append-requires : goal.append-requires
+append-requires g c =
+    let sound = rw c.in-Append.is at c.requires.sound in
+    record { places = all_fit c.args.back c.args.self.now c.args.shared.now sound c.requires.whole; room = omega (arith, sound.loot.places, sound.loot.few) }
+
+pub returns-in-Append : goal.returns-in-Append
+returns-in-Append g c =
+    record { steps = appended g.B.Body.left g.B.Scripted.spot c.args.back c.args.self.now c.append.new.self c.args.shared.now c.append.new.shared c.append.result (rw c.in-Append.is at c.requires.sound) c.requires.whole c.append.ensures.event c.append.ensures.goes c.append.ensures.global }
