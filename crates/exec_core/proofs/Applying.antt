@@ -1,42 +1,51 @@
--- Steps of the clock, the kernel and peers, and of workers: how the whole takes them.
-use Rattle.std.proofs.Common.{◌<◌, ◌≡◌, ℕ, zero, suc, ◌+◌, ◌&&◌, Bool, true, false, not, List, [], ◌∷◌, length, map, Option, Some, None, refl, sym, ap, subst, ◌∙◌, arith}
-use Rattle.std.proofs.lemmas.Bool.{false≢true, eq-eqb}
-use Rattle.std.proofs.lemmas.List.{map-set, length-set}
-use Rattle.std.proofs.lemmas.Option.{slice_get-map, slice_get_within, get_or_from_slice_get}
-use Rattle.std.specs.Prelude.{slice_get, slice_set, slice_index_or, option_map, nat_le, if◌then◌else◌}
+-- Steps of the clock, the kernel and peers: how the whole takes them.
+use Rattle.std.proofs.{Common.{◌<◌, ◌≡◌, ℕ, zero, suc, ◌+◌, ◌&&◌, ◌||◌, Bool, true, false, not, List, [], ◌∷◌, length, map, Option, Some, None, refl, sym, ap, subst, ◌∙◌, arith, slice_get, slice_set, option_map}, lemmas.{Bool.{false≢true, and_parts}, List.{map-set}, Option.{slice_get-map, slice_get_within, get_or_from_slice_get}}}
+use Rattle.std.specs.Prelude.{slice_index_or, nat_le, if◌then◌else◌}
 use Rattle.exec_outcomes.specs.declared.outcome.OpResult.{OpResult}
 use Rattle.exec_task.specs.declared.body.Said.{Said}
 use Rattle.exec_machine.specs.declared.event.Event.TheVariants as event
-use Rattle.exec_machine.specs.{declared.{state.Rest.Rest, step.Action.Action}, Choice.Choice.Plain, Deadlines.roused_at, Progress.Plan, Tests.{is_awake, has_ended}, World.{no_seat, no_request}}
+use Rattle.exec_machine.specs.{declared.{event.{Event.Event, StepResult.TheVariants.Did}, state.{Rest.Rest, Request.Request}, step.Action.Action}, Callers.{after_landing, common_by}, Choice.Choice.Plain, Deadlines.roused_at, Progress.Plan, Tests.{is_awake, has_ended}, World.{Common, no_seat, no_request, request_of}}
 use Rattle.exec_machine.specs.declared.state.Rest.TheVariants as rest
 use Rattle.exec_machine.specs.declared.step.Action.TheVariants as action
-use Rattle.exec_moves.specs.State.{Things}
-use Rattle.exec_steps.specs.{Phased.TurnsChair, Records.{rest_at, reached, roused}, Sound.Sound, Spots.Spot, View.{Visible, visible, own_of, desk_of, common_of, seats_seen, seat_seen, queue_at, queue_seen, things_of, word_at}, declared.parts.{record.Record.Record, seat.Seat.Seat as Chair, shared.Shared.Shared, worker.Worker.Worker}}
-use Rattle.exec_core.proofs.{Enabling.enabled_as, Lifting.{suc_same, same_thing, first_alone, stands_with, unchanged, suits_it}}
-use Rattle.exec_core.specs.{Lift.{may_land_in, Stands, Keeps, RootsPerform, world, Takes, Sees, Lands, is_of_first_cut, may_take, may_work_in, has_begun, sleeps, all_left_of}, declared.executor.Core.Core}
-
--- LISTS
-
-pub one_alone : {A : Type 0} (xs : List A) (i : ℕ) (x : A) → length xs ≡ 1 → slice_get xs i ≡ Some x → (xs ≡ x ∷ []) × (i ≡ 0)
-one_alone [] i x one there = absurd (cc)
-one_alone (y ∷ []) zero x one there =
-    let same : y ≡ x = cc in
-    (ap (λ z. z ∷ []) same, refl)
-one_alone (y ∷ []) (suc i) x one there = absurd (cc)
-one_alone (y ∷ (z ∷ xs)) i x one there = absurd (omega (arith, one))
-
-middle : (a b c : Bool) → ((a && not b) && c) ≡ true → b ≡ false
-middle true true c h = absurd (false≢true h)
-middle true false c h = refl
-middle false b c h = absurd (false≢true h)
+use Rattle.exec_moves.specs.{Plays.{Played, Playing, desk_of as desk_at, last_told}, State.{Desk, WakePoll, wake_poll_of, passed}, Thing.set_wake_poll}
+use Rattle.exec_steps.specs.{declared.parts.{caller.Caller.Caller, record.Record.Record, seat.Seat.Seat as Chair, shared.Shared.Shared, worker.Worker.Worker}, Calling.{call_of, desk_of_caller}, Phased.{TurnsChair}, Drained.{HaveLeft, IsLetOn}, Records.{rest_at, reached, roused}, Spots.Spot, View.{Views, Visible, visible, with_view, own_of, desk_of, common_of, seats_seen, seat_seen, polls_seen, queue_at, inbox_at, tasks_of, things_with, word_at}}
+use Rattle.exec_steps.proofs.{Spared.there_within}
+use Rattle.exec_core.proofs.{Enabling.enabled_as, Lifting.{set_found, unchanged, suits_it, desk_there, views_with, playing_by, world_by}}
+use Rattle.exec_core.specs.{Lift.{may_land_in, Stands, world, playing, views, Takes, Sees, Rings, EndsPoll, Lands, may_take, may_work_in, has_begun, sleeps, all_left_of}, declared.executor.Core.Core}
 
 -- WHAT MAY BE TAKEN IS THERE
+
+going_by : (a b c : Bool) → ((a && not b) && c) ≡ true → b ≡ false
+going_by true true c h = absurd (false≢true h)
+going_by true false c h = refl
+going_by false b c h = absurd (false≢true h)
 
 pub going_there : (seats : List Chair) (o : Option Chair) → may_work_in seats o ≡ true → (chair : Chair) → o ≡ Some chair → has_ended chair.phase ≡ false
 going_there seats None h chair is = absurd (cc)
 going_there seats (Some c) h chair is =
     let same : c ≡ chair = cc in
-    subst (λ x. has_ended x.phase ≡ false) same (middle (is_awake c.rest) (has_ended c.phase) (not (c.pool && c.left && not (all_left_of seats))) h)
+    subst (λ x. has_ended x.phase ≡ false) same (going_by (is_awake c.rest) (has_ended c.phase) (not (c.pool && c.left && not (all_left_of seats))) h)
+
+-- who has passed the barrier may work only once all have
+left_by : (a pool left all : Bool) → (a && not (pool && left && not all)) ≡ true → pool ≡ true → left ≡ true → all ≡ true
+left_by a pool left true h is passed = refl
+left_by true true true false h is passed = absurd (false≢true h)
+left_by true false left false h is passed = absurd (false≢true is)
+left_by true true false false h is passed = absurd (false≢true passed)
+left_by false pool left false h is passed = absurd (false≢true h)
+
+all_left : (seats : List Chair) → all_left_of seats ≡ true → HaveLeft seats
+all_left [] all j chair there = absurd (cc)
+all_left (seat ∷ seats) all zero chair there =
+    let same : seat ≡ chair = cc in
+    subst (λ (x : Chair). (x.left || not x.pool) ≡ true) same (and_parts (seat.left || not seat.pool) (all_left_of seats) all).0
+all_left (seat ∷ seats) all (suc j) chair there = all_left seats (and_parts (seat.left || not seat.pool) (all_left_of seats) all).1 j chair there
+
+let_on_by : (seats : List Chair) (o : Option Chair) → may_work_in seats o ≡ true → (chair : Chair) → o ≡ Some chair → chair.pool ≡ true → chair.left ≡ true → HaveLeft seats
+let_on_by seats None h chair is pool passed = absurd (cc)
+let_on_by seats (Some c) h chair is pool passed =
+    let same : c ≡ chair = cc in
+    all_left seats (left_by (is_awake c.rest && not (has_ended c.phase)) c.pool c.left (all_left_of seats) h (ap (λ (x : Chair). x.pool) same ∙ pool) (ap (λ (x : Chair). x.left) same ∙ passed))
 
 pub begun_there : (o : Option Chair) → has_begun o ≡ true → (chair : Chair) × (o ≡ Some chair)
 begun_there None h = absurd (false≢true h)
@@ -53,6 +62,22 @@ landing_there (Some it) n h = (it, refl)
 pub working_there : (seats : List Chair) (o : Option Chair) → may_work_in seats o ≡ true → (chair : Chair) × (o ≡ Some chair)
 working_there seats None h = absurd (false≢true h)
 working_there seats (Some chair) h = (chair, refl)
+
+module _ {B : Type 0} where
+  -- a worker for each chair
+  pub worker_there : (c : Core B) (i : ℕ) (chair : Chair) → Stands c → slice_get c.shared.seats.items i ≡ Some chair → (w : Worker) × (slice_get c.workers.items i ≡ Some w)
+  worker_there c i chair stands there =
+      let within : i < length c.workers.items = (let inside = slice_get_within c.shared.seats.items i chair there in omega (arith, inside, stands.together.seats)) in
+      there_within c.workers.items i within
+
+  -- each request is one of a worker that is there
+  pub owner_there : (c : Core B) (r : ℕ) (it : Record) → Stands c → slice_get c.shared.requests.items r ≡ Some it → (w : Worker) × (slice_get c.workers.items it.shown.worker ≡ Some w)
+  owner_there c r it stands there = there_within c.workers.items it.shown.worker (stands.owned r it there)
+
+  pub let_on_there : (c : Core B) (i : ℕ) (w : Worker) → Stands c → slice_get c.workers.items i ≡ Some w → may_take c (action.Work i) ≡ true → IsLetOn w.index c.shared.seats.items
+  let_on_there c i w stands was may chair there passed =
+      let it = stands.together.sound i w was in
+      let_on_by c.shared.seats.items (slice_get c.shared.seats.items i) may chair (ap (slice_get c.shared.seats.items) (sym it.0) ∙ there) (it.1.phased chair there).pool passed
 
 -- WHAT IS SEEN OF THE SEATS
 
@@ -91,184 +116,204 @@ seat_there (x ∷ vs) (seat ∷ seats) zero v chair seen there =
     rw (one, two) refl
 seat_there (x ∷ vs) (seat ∷ seats) (suc i) v chair seen there = seat_there vs seats i v chair seen there
 
--- a worker for each chair
-pub worker_there : {A X : Type 0} (xs : List A) (ys : List X) (i : ℕ) (y : X) → length xs ≡ length ys → slice_get ys i ≡ Some y → (x : A) × (slice_get xs i ≡ Some x)
-worker_there [] [] i y same there = absurd (cc)
-worker_there [] (y' ∷ ys) i y same there = absurd (omega (arith, same))
-worker_there (x ∷ xs) [] i y same there = absurd (cc)
-worker_there (x ∷ xs) (y' ∷ ys) zero y same there = (x, refl)
-worker_there (x ∷ xs) (y' ∷ ys) (suc i) y same there = worker_there xs ys i y (suc_same (length xs) (length ys) same) there
+-- WHAT PARTIES SHARE, where only the rests of seats change, or a ring is busy
+
+reached_kept : {X : Type 0} (f : Chair → X) (clock : ℕ) (seats : List Chair) → ((chair : Chair) → f (reached clock chair) ≡ f chair) → map f (map (reached clock) seats) ≡ map f seats
+reached_kept f clock [] same = refl
+reached_kept f clock (seat ∷ seats) same = rw (same seat, reached_kept f clock seats same) refl
+
+polls_reached : (clock : ℕ) (vs : List Visible) (seats : List Chair) → polls_seen vs (map (reached clock) seats) ≡ polls_seen vs seats
+polls_reached clock [] seats = refl
+polls_reached clock (v ∷ vs) [] = refl
+polls_reached clock (v ∷ vs) (seat ∷ seats) = rw (polls_reached clock vs seats) refl
+
+polls_roused : (vs : List Visible) (seats : List Chair) (i : ℕ) (chair : Chair) → slice_get seats i ≡ Some chair → polls_seen vs (slice_set seats i (roused chair)) ≡ polls_seen vs seats
+polls_roused [] seats i chair there = refl
+polls_roused (v ∷ vs) [] i chair there = absurd (cc)
+polls_roused (v ∷ vs) (seat ∷ seats) zero chair there =
+    let same : chair ≡ seat = cc in
+    rw same refl
+polls_roused (v ∷ vs) (seat ∷ seats) (suc i) chair there = rw (polls_roused vs seats i chair there) refl
+
+polls_busy : (vs : List Visible) (seats : List Chair) (i : ℕ) (v : Visible) → slice_get vs i ≡ Some v → polls_seen (slice_set vs i (record v { busy = true })) seats ≡ polls_seen vs seats
+polls_busy [] seats i v there = absurd (cc)
+polls_busy (x ∷ vs) [] zero v there = refl
+polls_busy (x ∷ vs) [] (suc i) v there = refl
+polls_busy (x ∷ vs) (seat ∷ seats) zero v there =
+    let same : v ≡ x = cc in
+    rw same refl
+polls_busy (x ∷ vs) (seat ∷ seats) (suc i) v there = rw (polls_busy vs seats i v there) refl
 
 module _ {B : Type 0} where
-  -- All requests are those of the one worker.
-  pub owner_there : (c : Core B) (r : ℕ) (it : Record) → Stands c → slice_get c.shared.requests.items r ≡ Some it → (w : Worker) × (slice_get c.workers.items it.shown.worker ≡ Some w) × (w.index ≡ it.shown.worker)
-  owner_there c r it stands there =
-      by_worker c.workers.items stands.some (λ w found. stands.sound 0 w found)
-    where
-      by_worker : (ws : List Worker) → 0 < length ws → ((w : Worker) → slice_get ws 0 ≡ Some w → (w.index ≡ 0) × Sound w c.shared) → (w : Worker) × (slice_get ws it.shown.worker ≡ Some w) × (w.index ≡ it.shown.worker)
-      by_worker [] some sound = absurd (omega (arith, some))
-      by_worker (w ∷ ws) some sound =
-          let at = sound w refl in
-          let mine : it.shown.worker ≡ 0 = at.1.flown.ours r it there ∙ at.0 in
-          (w, ap (slice_get (w ∷ ws)) mine, at.0 ∙ sym mine)
-
-  -- what stands after a step of no worker that keeps what is sound
-  pub stands_by : (c d : Core B) → Stands c → d.workers ≡ c.workers → length d.shared.seats.items ≡ length c.shared.seats.items → ((w : Worker) → Sound w c.shared → Sound w d.shared) → Stands d
-  stands_by c d stands workers many sound =
+  things_kept : (vs : Views) (s s' : Shared B) → s'.global ≡ s.global → s'.idle ≡ s.idle → s'.barrier_open ≡ s.barrier_open → s'.set ≡ s.set
+      → map queue_at s'.seats.items ≡ map queue_at s.seats.items → map word_at s'.seats.items ≡ map word_at s.seats.items → map inbox_at s'.seats.items ≡ map inbox_at s.seats.items
+      → polls_seen vs.workers s'.seats.items ≡ polls_seen vs.workers s.seats.items → things_with vs s' ≡ things_with vs s
+  things_kept vs s s' global idle barrier set queues words inboxes polls = λ i.
       record {
-        some = omega (arith, stands.some, ap (λ xs. length xs.items) workers);
-        seats = ap (λ xs. length xs.items) workers ∙ stands.seats ∙ sym many;
-        sound = λ i w found.
-            let it = stands.sound i w (subst (λ xs. slice_get xs.items i ≡ Some w) workers found) in
-            (it.0, sound w it.1);
-        roots = λ i w found. stands.roots i w (subst (λ xs. slice_get xs.items i ≡ Some w) workers found);
+        queues = queues i;
+        words = words i;
+        inboxes = inboxes i;
+        wake_polls = polls i;
+        global = tasks_of (global i).values;
+        idle = idle i;
+        barrier = barrier i;
+        shards = map (map (λ e. e.0)) (set i).shards;
       }
 
--- WHAT WORKER 0 SHARES, where only the rests of seats change
-
--- what a worker has of its seat
-abbrev IsSame : Option Chair → Option Chair → Type 0
-IsSame a b = (queue_at a ≡ queue_at b) × (word_at a ≡ word_at b)
-
-seat_kept : (x : Things) (a b : Option Chair) → IsSame a b → record x { queue = queue_at a; word = word_at a } ≡ record x { queue = queue_at b; word = word_at b }
-seat_kept x a b same = rw (same.0, same.1) refl
-
-reached_same : (clock : ℕ) (o : Option Chair) → IsSame (option_map (reached clock) o) o
-reached_same clock None = (refl, refl)
-reached_same clock (Some chair) = (refl, refl)
-
-roused_same : (seats : List Chair) (i k : ℕ) (chair : Chair) → slice_get seats i ≡ Some chair → IsSame (slice_get (slice_set seats i (roused chair)) k) (slice_get seats k)
-roused_same [] i k chair there = absurd (cc)
-roused_same (seat ∷ seats) zero zero chair there =
-    let same : chair ≡ seat = cc in
-    (ap (λ x. queue_seen x.queue) same, ap (λ x. x.mailbox.waker) same)
-roused_same (seat ∷ seats) zero (suc k) chair there = (refl, refl)
-roused_same (seat ∷ seats) (suc i) zero chair there = (refl, refl)
-roused_same (seat ∷ seats) (suc i) (suc k) chair there = roused_same seats i k chair there
+  views_kept : (c d : Core B) → d.workers ≡ c.workers → d.callers ≡ c.callers → views d ≡ views c
+  views_kept c d workers callers = λ i. record { workers = map visible (workers i).items; calls = map (λ (x : Caller). call_of x.place) (callers i).items }
 
 module _ {B L : Type 0} (left : B → L) (spot : L → Option Said → Spot) where
-  pub clock_moved : (p : Plan) (c d : Core B) (by : ℕ) → Stands c → may_take c.shared (action.Clock by) ≡ true → d.workers ≡ c.workers
+  -- a step of no party: the whole is as before, but for what all share, and what the machine has of that
+  by_nobody : (p : Plan) (c d : Core B) (a : Action) (e : Event) → d.workers ≡ c.workers → d.callers ≡ c.callers
+      → common_of left spot p (views c) d.shared ≡ common_by (common_of left spot p (views c) c.shared) a e Plain → things_with (views c) d.shared ≡ things_with (views c) c.shared
+      → playing left spot p d ≡ record (playing left spot p c) { world = record (world left spot p c) { common = common_by (common_of left spot p (views c) c.shared) a e Plain } }
+  by_nobody p c d a e workers callers common things =
+      let seen = views_kept c d workers callers in
+      playing_by _ _ _ _ _ _ _ _
+      (world_by _ _ _ _ (ap (λ ws. map own_of ws.items) workers) (ap (λ vs. common_of left spot p vs d.shared) seen ∙ common))
+      (ap (λ ws. map desk_of ws.items) workers) (ap (λ cs. map desk_of_caller cs.items) callers)
+      (ap (λ vs. things_with vs d.shared) seen ∙ things)
+
+  played_as : (a : Action) (e : Event) (x y : Playing) → x ≡ y → (let it : Played = record { told = (record { action = a; said = Did e }, Plain); next = y } in it) ≡ record { told = (record { action = a; said = Did e }, Plain); next = x }
+  played_as a e x y same = ap (λ n. (let it : Played = record { told = (record { action = a; said = Did e }, Plain); next = n } in it)) (sym same)
+
+  pub clock_moved : (p : Plan) (c d : Core B) (by : ℕ) → Stands c → may_take c (action.Clock by) ≡ true → d.workers ≡ c.workers → d.callers ≡ c.callers
       → d.shared.seats.items ≡ map (reached (c.shared.clock + by)) c.shared.seats.items → d.shared ≡ record c.shared { clock = c.shared.clock + by; seats = d.shared.seats }
       → Takes left spot p c (action.Clock by) event.Clock d
-  clock_moved p c d by stands may workers seats kept =
-      let vs = map visible c.workers.items in
-      let common : common_of left spot p vs d.shared ≡ record (common_of left spot p vs c.shared) { clock = c.shared.clock + by; seats = map (roused_at (c.shared.clock + by)) (seats_seen vs c.shared.seats.items) } =
-      ap (λ s. common_of left spot p vs s) kept ∙ ap (λ xs. record (common_of left spot p vs c.shared) { clock = c.shared.clock + by; seats = xs }) (ap (seats_seen vs) seats ∙ all_roused (c.shared.clock + by) vs c.shared.seats.items) in
+  clock_moved p c d by stands may workers callers seats kept =
+      let vs = views c in
+      let now : ℕ = c.shared.clock + by in
+      let common : common_of left spot p vs d.shared ≡ record (common_of left spot p vs c.shared) { clock = now; seats = map (roused_at now) (seats_seen vs.workers c.shared.seats.items) } =
+      ap (λ s. common_of left spot p vs s) kept ∙ ap (λ xs. record (common_of left spot p vs c.shared) { clock = now; seats = xs }) (ap (seats_seen vs.workers) seats ∙ all_roused now vs.workers c.shared.seats.items) in
+      let things = things_kept vs c.shared d.shared (ap (λ s. s.global) kept) (ap (λ s. s.idle) kept) (ap (λ s. s.barrier_open) kept) (ap (λ s. s.set) kept)
+      (ap (map queue_at) seats ∙ reached_kept queue_at now c.shared.seats.items (λ chair. refl)) (ap (map word_at) seats ∙ reached_kept word_at now c.shared.seats.items (λ chair. refl))
+      (ap (map inbox_at) seats ∙ reached_kept inbox_at now c.shared.seats.items (λ chair. refl)) (ap (polls_seen vs.workers) seats ∙ polls_reached now vs.workers c.shared.seats.items) in
       record {
         choice = Plain;
-        follows = (sym (enabled_as left spot p c (action.Clock by) stands refl) ∙ may, (refl, tt));
-        becomes = rw (workers, common) refl;
-        moves = record {
-          event_told = refl;
-          desks = rw workers refl;
-          things =
-              let found : slice_get d.shared.seats.items 0 ≡ option_map (reached (c.shared.clock + by)) (slice_get c.shared.seats.items 0) = ap (λ xs. slice_get xs 0) seats ∙ slice_get-map (reached (c.shared.clock + by)) c.shared.seats.items 0 in
-              ap (things_of 0) kept ∙ seat_kept (things_of 0 c.shared) (slice_get d.shared.seats.items 0) (slice_get c.shared.seats.items 0) (rw found (reached_same (c.shared.clock + by) (slice_get c.shared.seats.items 0)));
-        };
+        follows = (sym (enabled_as left spot p c (action.Clock by) stands) ∙ may, (refl, tt));
+        becomes = ap (λ (y : Playing). y.world) (by_nobody p c d (action.Clock by) event.Clock workers callers common things);
+        callers = λ h. callers;
+        goes = played_as (action.Clock by) event.Clock (playing left spot p d) _ (by_nobody p c d (action.Clock by) event.Clock workers callers common things);
       }
 
-  pub stirred : (p : Plan) (c d : Core B) (i : ℕ) → Stands c → may_take c.shared (action.Stir i) ≡ true → d.workers ≡ c.workers
+  pub stirred : (p : Plan) (c d : Core B) (i : ℕ) → Stands c → may_take c (action.Stir i) ≡ true → d.workers ≡ c.workers → d.callers ≡ c.callers
       → TurnsChair i roused c.shared d.shared → d.shared ≡ record c.shared { seats = d.shared.seats }
       → Takes left spot p c (action.Stir i) event.Stir d
-  stirred p c d i stands may workers turns kept =
-      let vs = map visible c.workers.items in
+  stirred p c d i stands may workers callers turns kept =
+      let vs = views c in
       let chair = asleep_there (slice_get c.shared.seats.items i) may in
-      let w = worker_there c.workers.items c.shared.seats.items i chair.0 stands.seats chair.1 in
-      let seen : slice_get vs i ≡ Some (visible w.0) = slice_get-map visible c.workers.items i ∙ ap (option_map visible) w.1 in
-      let here : slice_index_or (seats_seen vs c.shared.seats.items) i no_seat ≡ seat_seen (visible w.0) chair.0 = seat_there vs c.shared.seats.items i (visible w.0) chair.0 seen chair.1 in
-      let seats : seats_seen vs d.shared.seats.items ≡ slice_set (seats_seen vs c.shared.seats.items) i (record (slice_index_or (seats_seen vs c.shared.seats.items) i no_seat) { rest = rest.Awake }) =
-      ap (seats_seen vs) (turns chair.0 chair.1) ∙ chair_set vs c.shared.seats.items i (visible w.0) (roused chair.0) seen ∙ ap (λ x. slice_set (seats_seen vs c.shared.seats.items) i (record x { rest = rest.Awake })) (sym here) in
-      let common : common_of left spot p vs d.shared ≡ record (common_of left spot p vs c.shared) { seats = slice_set (seats_seen vs c.shared.seats.items) i (record (slice_index_or (seats_seen vs c.shared.seats.items) i no_seat) { rest = rest.Awake }) } =
-      ap (λ s. common_of left spot p vs s) kept ∙ ap (λ xs. record (common_of left spot p vs c.shared) { seats = xs }) seats in
+      let w = worker_there c i chair.0 stands chair.1 in
+      let seen : slice_get vs.workers i ≡ Some (visible w.0) = slice_get-map visible c.workers.items i ∙ ap (option_map visible) w.1 in
+      let here : slice_index_or (seats_seen vs.workers c.shared.seats.items) i no_seat ≡ seat_seen (visible w.0) chair.0 = seat_there vs.workers c.shared.seats.items i (visible w.0) chair.0 seen chair.1 in
+      let seats : d.shared.seats.items ≡ slice_set c.shared.seats.items i (roused chair.0) = turns chair.0 chair.1 in
+      let seats_then : seats_seen vs.workers d.shared.seats.items ≡ slice_set (seats_seen vs.workers c.shared.seats.items) i (record (slice_index_or (seats_seen vs.workers c.shared.seats.items) i no_seat) { rest = rest.Awake }) =
+      ap (seats_seen vs.workers) seats ∙ chair_set vs.workers c.shared.seats.items i (visible w.0) (roused chair.0) seen ∙ ap (λ x. slice_set (seats_seen vs.workers c.shared.seats.items) i (record x { rest = rest.Awake })) (sym here) in
+      let common : common_of left spot p vs d.shared ≡ record (common_of left spot p vs c.shared) { seats = slice_set (seats_seen vs.workers c.shared.seats.items) i (record (slice_index_or (seats_seen vs.workers c.shared.seats.items) i no_seat) { rest = rest.Awake }) } =
+      ap (λ s. common_of left spot p vs s) kept ∙ ap (λ xs. record (common_of left spot p vs c.shared) { seats = xs }) seats_then in
+      let things = things_kept vs c.shared d.shared (ap (λ s. s.global) kept) (ap (λ s. s.idle) kept) (ap (λ s. s.barrier_open) kept) (ap (λ s. s.set) kept)
+      (unchanged queue_at c.shared.seats.items d.shared.seats.items i chair.0 (roused chair.0) chair.1 seats refl) (unchanged word_at c.shared.seats.items d.shared.seats.items i chair.0 (roused chair.0) chair.1 seats refl)
+      (unchanged inbox_at c.shared.seats.items d.shared.seats.items i chair.0 (roused chair.0) chair.1 seats refl) (ap (polls_seen vs.workers) seats ∙ polls_roused vs.workers c.shared.seats.items i chair.0 chair.1) in
       record {
         choice = Plain;
-        follows = (sym (enabled_as left spot p c (action.Stir i) stands refl) ∙ may, (refl, tt));
-        becomes = rw (workers, common) refl;
-        moves = record {
-          event_told = refl;
-          desks = rw workers refl;
-          things = ap (things_of 0) kept ∙ seat_kept (things_of 0 c.shared) (slice_get d.shared.seats.items 0) (slice_get c.shared.seats.items 0) (rw (turns chair.0 chair.1) (roused_same c.shared.seats.items i 0 chair.0 chair.1));
-        };
+        follows = (sym (enabled_as left spot p c (action.Stir i) stands) ∙ may, (refl, tt));
+        becomes = ap (λ (y : Playing). y.world) (by_nobody p c d (action.Stir i) event.Stir workers callers common things);
+        callers = λ h. callers;
+        goes = played_as (action.Stir i) event.Stir (playing left spot p d) _ (by_nobody p c d (action.Stir i) event.Stir workers callers common things);
       }
 
-  pub peer_came : (p : Plan) (c d : Core B) (l : ℕ) → Stands c → may_take c.shared (action.Peer l) ≡ true → d.workers ≡ c.workers
+  pub peer_came : (p : Plan) (c d : Core B) (l : ℕ) → Stands c → may_take c (action.Peer l) ≡ true → d.workers ≡ c.workers → d.callers ≡ c.callers
       → d.shared.listeners.items ≡ slice_set c.shared.listeners.items l (slice_index_or c.shared.listeners.items l 0 + 1) → d.shared ≡ record c.shared { listeners = d.shared.listeners }
       → Takes left spot p c (action.Peer l) event.Peer d
-  peer_came p c d l stands may workers more kept =
-      let vs = map visible c.workers.items in
+  peer_came p c d l stands may workers callers more kept =
+      let vs = views c in
       let common : common_of left spot p vs d.shared ≡ record (common_of left spot p vs c.shared) { listeners = slice_set c.shared.listeners.items l (slice_index_or c.shared.listeners.items l 0 + 1) } =
       ap (λ s. common_of left spot p vs s) kept ∙ ap (λ xs. record (common_of left spot p vs c.shared) { listeners = xs }) more in
       record {
         choice = Plain;
-        follows = (sym (enabled_as left spot p c (action.Peer l) stands refl) ∙ may, (refl, tt));
-        becomes = rw (workers, common) refl;
-        moves = record { event_told = refl; desks = rw workers refl; things = ap (things_of 0) kept };
+        follows = (sym (enabled_as left spot p c (action.Peer l) stands) ∙ may, (refl, tt));
+        becomes = ap (λ (y : Playing). y.world) (by_nobody p c d (action.Peer l) event.Peer workers callers common (ap (things_with vs) kept));
+        callers = λ h. callers;
+        goes = played_as (action.Peer l) event.Peer (playing left spot p d) _ (by_nobody p c d (action.Peer l) event.Peer workers callers common (ap (things_with vs) kept));
       }
 
   -- of a worker another thing is visible
-  pub set_busy : (p : Plan) (c d : Core B) (i : ℕ) → Stands c → may_take c.shared (action.SetBusy i) ≡ true → Sees i (λ seen. record seen { busy = true }) c d
+  pub set_busy : (p : Plan) (c d : Core B) (i : ℕ) → Stands c → may_take c (action.SetBusy i) ≡ true → Sees i (λ seen. record seen { busy = true }) c d
       → Takes left spot p c (action.SetBusy i) event.Set d
   set_busy p c d i stands may sees =
-      let vs = map visible c.workers.items in
+      let vs = views c in
       let chair = begun_there (slice_get c.shared.seats.items i) may in
-      let seen : slice_get vs i ≡ Some (visible sees.before) = slice_get-map visible c.workers.items i ∙ ap (option_map visible) sees.was in
-      let here : slice_index_or (seats_seen vs c.shared.seats.items) i no_seat ≡ seat_seen (visible sees.before) chair.0 = seat_there vs c.shared.seats.items i (visible sees.before) chair.0 seen chair.1 in
+      let shared : d.shared ≡ c.shared = ap (λ (x : Core B). x.shared) sees.now in
+      let callers : d.callers ≡ c.callers = ap (λ (x : Core B). x.callers) sees.now in
+      let seen : slice_get vs.workers i ≡ Some (visible sees.before) = slice_get-map visible c.workers.items i ∙ ap (option_map visible) sees.was in
+      let here : slice_index_or (seats_seen vs.workers c.shared.seats.items) i no_seat ≡ seat_seen (visible sees.before) chair.0 = seat_there vs.workers c.shared.seats.items i (visible sees.before) chair.0 seen chair.1 in
       let busy : Visible = record (visible sees.before) { busy = true } in
-      let visibles : map visible d.workers.items ≡ slice_set vs i busy = ap (map visible) sees.workers ∙ map-set visible c.workers.items i sees.after ∙ ap (slice_set vs i) sees.seen in
-      let seats : seats_seen (map visible d.workers.items) c.shared.seats.items ≡ slice_set (seats_seen vs c.shared.seats.items) i (record (slice_index_or (seats_seen vs c.shared.seats.items) i no_seat) { busy = true }) =
-      ap (λ us. seats_seen us c.shared.seats.items) visibles ∙ visible_set vs c.shared.seats.items i busy chair.0 chair.1 ∙ ap (λ x. slice_set (seats_seen vs c.shared.seats.items) i (record x { busy = true })) (sym here) in
-      let common : common_of left spot p (map visible d.workers.items) d.shared ≡ record (common_of left spot p vs c.shared) { seats = slice_set (seats_seen vs c.shared.seats.items) i (record (slice_index_or (seats_seen vs c.shared.seats.items) i no_seat) { busy = true }) } =
-      ap (λ s. common_of left spot p (map visible d.workers.items) s) sees.shared ∙ ap (λ xs. record (common_of left spot p vs c.shared) { seats = xs }) seats in
+      let views_are : views d ≡ with_view vs i busy = views_with c d i sees.after sees.workers callers ∙ ap (with_view vs i) sees.seen in
+      let seats : seats_seen (slice_set vs.workers i busy) c.shared.seats.items ≡ slice_set (seats_seen vs.workers c.shared.seats.items) i (record (slice_index_or (seats_seen vs.workers c.shared.seats.items) i no_seat) { busy = true }) =
+      visible_set vs.workers c.shared.seats.items i busy chair.0 chair.1 ∙ ap (λ x. slice_set (seats_seen vs.workers c.shared.seats.items) i (record x { busy = true })) (sym here) in
+      let common : common_of left spot p (with_view vs i busy) c.shared ≡ common_by (common_of left spot p vs c.shared) (action.SetBusy i) event.Set Plain = ap (λ xs. record (common_of left spot p vs c.shared) { seats = xs }) seats in
+      let things : things_with (with_view vs i busy) c.shared ≡ things_with vs c.shared = ap (λ xs. record (things_with vs c.shared) { wake_polls = xs }) (polls_busy vs.workers c.shared.seats.items i (visible sees.before) seen) in
+      let then_is : playing left spot p d ≡ record (playing left spot p c) { world = record (world left spot p c) { common = common_by (common_of left spot p vs c.shared) (action.SetBusy i) event.Set Plain } } =
+      (playing_by _ _ _ _ _ _ _ _
+      (world_by _ _ _ _ (unchanged own_of c.workers.items d.workers.items i sees.before sees.after sees.was sees.workers sees.own) (ap (common_of left spot p (views d)) shared ∙ ap (λ v. common_of left spot p v c.shared) views_are ∙ common))
+      (unchanged desk_of c.workers.items d.workers.items i sees.before sees.after sees.was sees.workers sees.desk) (ap (λ cs. map desk_of_caller cs.items) callers)
+      (ap (things_with (views d)) shared ∙ ap (λ v. things_with v c.shared) views_are ∙ things)) in
       record {
         choice = Plain;
-        follows = (sym (enabled_as left spot p c (action.SetBusy i) stands refl) ∙ may, (refl, tt));
-        becomes = rw (common, unchanged own_of c.workers.items d.workers.items i sees.before sees.after sees.was sees.workers sees.own) refl;
-        moves = record { event_told = refl; desks = unchanged desk_of c.workers.items d.workers.items i sees.before sees.after sees.was sees.workers sees.desk; things = ap (things_of 0) sees.shared };
+        follows = (sym (enabled_as left spot p c (action.SetBusy i) stands) ∙ may, (refl, tt));
+        becomes = ap (λ (y : Playing). y.world) then_is;
+        callers = λ h. callers;
+        goes = played_as (action.SetBusy i) event.Set (playing left spot p d) _ then_is;
       }
 
-  pub poll_ended : (p : Plan) (c d : Core B) (i : ℕ) → Stands c → may_take c.shared (action.EndPoll i) ≡ true → Sees i (λ seen. seen) c d
+  -- A RING takes its wakes, and more
+
+  rung : (i : ℕ) (poll : WakePoll → WakePoll) (desk : Desk → Desk) (all : Common → Common) (p : Plan) (c d : Core B) → Stands c → c.shared.config ≡ p.config → Rings left spot i poll desk all c d
+      → playing left spot p d ≡ (let x : Playing = playing left spot p c in record x { world = record x.world { common = all x.world.common }; desks = slice_set x.desks i (desk (desk_at p.config x i)); things = set_wake_poll i x.things (poll (wake_poll_of x.things i)) })
+  rung i poll desk all p c d stands config rings =
+      let vs = views c in
+      let x = playing left spot p c in
+      let at : rings.before.index ≡ i = (stands.together.sound i rings.before rings.was).0 in
+      let suits = suits_it left spot p c i rings.before stands rings.was config in
+      let seen : views d ≡ with_view vs rings.before.index (visible rings.after) = views_with c d i rings.after rings.workers rings.callers ∙ ap (λ k. with_view vs k (visible rings.after)) (sym at) in
+      playing_by _ _ _ _ _ _ _ _
+      (world_by _ _ _ _ (unchanged own_of c.workers.items d.workers.items i rings.before rings.after rings.was rings.workers rings.own) (ap (λ v. common_of left spot p v d.shared) seen ∙ rings.common p vs suits))
+      (ap (map desk_of) rings.workers ∙ map-set desk_of c.workers.items i rings.after ∙ ap (slice_set x.desks i) (rings.desk_is ∙ ap desk (sym (desk_there left spot p c i rings.before rings.was))))
+      (ap (λ cs. map desk_of_caller cs.items) rings.callers)
+      (ap (λ v. things_with v d.shared) seen ∙ rings.things p vs suits ∙ ap (λ k. set_wake_poll k x.things (poll (wake_poll_of x.things k))) at)
+
+  pub poll_ended : (p : Plan) (c d : Core B) (i : ℕ) → c.shared.config ≡ p.config → Stands c → may_take c (action.EndPoll i) ≡ true → EndsPoll left spot i c d
       → Takes left spot p c (action.EndPoll i) event.Set d
-  poll_ended p c d i stands may sees =
+  poll_ended p c d i config stands may ends =
+      let x = playing left spot p c in
+      let same : slice_set x.desks i (desk_at p.config x i) ≡ x.desks =
+      ap (slice_set x.desks i) (desk_there left spot p c i ends.before ends.was) ∙ set_found x.desks i (desk_of ends.before) (slice_get-map desk_of c.workers.items i ∙ ap (option_map desk_of) ends.was) in
       record {
         choice = Plain;
-        follows = (sym (enabled_as left spot p c (action.EndPoll i) stands refl) ∙ may, (refl, tt));
-        becomes = rw (sees.shared, unchanged own_of c.workers.items d.workers.items i sees.before sees.after sees.was sees.workers sees.own, unchanged visible c.workers.items d.workers.items i sees.before sees.after sees.was sees.workers sees.seen) refl;
-        moves = record { event_told = refl; desks = unchanged desk_of c.workers.items d.workers.items i sees.before sees.after sees.was sees.workers sees.desk; things = ap (things_of 0) sees.shared };
+        follows = (sym (enabled_as left spot p c (action.EndPoll i) stands) ∙ may, (refl, tt));
+        becomes = ap (λ (y : Playing). y.world) (rung i last_told (λ k. k) (λ s. s) p c d stands config ends);
+        callers = λ h. ends.callers;
+        goes = played_as (action.EndPoll i) event.Set (playing left spot p d) _
+            (rung i last_told (λ k. k) (λ s. s) p c d stands config ends ∙ ap (λ xs. record x { desks = xs; things = set_wake_poll i x.things (last_told (wake_poll_of x.things i)) }) same);
       }
 
-  pub landed : (p : Plan) (c d : Core B) (r : ℕ) (n : OpResult) → c.shared.config ≡ p.config → Stands c → may_take c.shared (action.Land r n) ≡ true → Lands left spot r n c d
+  pub landed : (p : Plan) (c d : Core B) (r : ℕ) (n : OpResult) → c.shared.config ≡ p.config → Stands c → may_take c (action.Land r n) ≡ true → Lands left spot r n c d
       → Takes left spot p c (action.Land r n) event.Land d
   landed p c d r n config stands may lands =
-      let ws = c.workers.items in
+      let x = playing left spot p c in
       let k = lands.it.shown.worker in
-      let at = stands.sound k lands.before lands.was in
-      let one = one_alone ws k lands.before (stands.seats ∙ at.1.alone.only) lands.was in
-      let now : d.workers.items ≡ lands.after ∷ [] = lands.workers ∙ ap (λ xs. slice_set xs k lands.after) one.0 ∙ ap (λ j. slice_set (lands.before ∷ []) j lands.after) one.1 in
-      let here : slice_get ws lands.before.index ≡ Some lands.before = ap (slice_get ws) at.0 ∙ lands.was in
-      let visibles : map visible d.workers.items ≡ slice_set (map visible ws) lands.before.index (visible lands.after) =
-      ap (map visible) lands.workers ∙ map-set visible ws k lands.after ∙ ap (λ j. slice_set (map visible ws) j (visible lands.after)) (sym at.0) in
-      let seat = worker_there c.shared.seats.items ws lands.before.index lands.before (sym stands.seats) here in
+      let it : request_of x.world.common r ≡ lands.it.shown =
+      get_or_from_slice_get (map (λ (z : Record). z.shown) c.shared.requests.items) r lands.it.shown no_request (slice_get-map (λ (z : Record). z.shown) c.shared.requests.items r ∙ ap (option_map (λ (z : Record). z.shown)) lands.there) in
+      let after_it : ℕ → Playing = λ i. record x {
+        world = record x.world { common = after_landing x.world.common r n };
+        desks = slice_set x.desks i (record (desk_at p.config x i) { others = 0 });
+        things = set_wake_poll i x.things (passed (wake_poll_of x.things i));
+      } in
       record {
         choice = Plain;
-        follows = (sym (enabled_as left spot p c (action.Land r n) stands refl) ∙ may, (refl, tt));
-        becomes =
-            rw (unchanged own_of ws d.workers.items k lands.before lands.after lands.was lands.workers lands.own, visibles)
-            (ap (λ x. record (world left spot p c) { common = x }) (lands.common p (map visible ws) (suits_it left spot p c lands.before stands here config)));
-        moves = record {
-          event_told = refl;
-          desks = rw (now, one.0, lands.desk) refl;
-          things = ap (things_of 0) lands.kept ∙ seat_kept (things_of 0 c.shared) (slice_get d.shared.seats.items 0) (slice_get c.shared.seats.items 0) (rw (lands.chair seat.0 seat.1) (roused_same c.shared.seats.items lands.before.index 0 seat.0 seat.1));
-        };
+        follows = (sym (enabled_as left spot p c (action.Land r n) stands) ∙ may, (refl, tt));
+        becomes = ap (λ (y : Playing). y.world) (rung k passed (λ desk. record desk { others = 0 }) (λ s. after_landing s r n) p c d stands config lands.rings);
+        callers = λ h. lands.rings.callers;
+        goes = played_as (action.Land r n) event.Land (playing left spot p d) _
+            (rung k passed (λ desk. record desk { others = 0 }) (λ s. after_landing s r n) p c d stands config lands.rings ∙ ap after_it (ap (λ (z : Request). z.worker) (sym it)));
       }
-
-  -- what stands after a step of the clock or of a peer
-  pub seats_stand : (c d : Core B) → Stands c → c.spent ≡ false → d.workers ≡ c.workers → d.spent ≡ c.spent → length d.shared.seats.items ≡ length c.shared.seats.items → ((w : Worker) → Sound w c.shared → Sound w d.shared) → Stands d × (d.spent ≡ false)
-  seats_stand c d stands unspent workers spent many sound = (stands_by c d stands workers many sound, spent ∙ unspent)
-
-  pub sees_stand : (c d : Core B) (i : ℕ) (change : Visible → Visible) → Stands c → c.spent ≡ false → Sees i change c d → Stands d × (d.spent ≡ false)
-  sees_stand c d i change stands unspent sees =
-      (stands_with c d i sees.before sees.after stands sees.was sees.workers (ap (λ x. length x.seats.items) sees.shared) sees.index (ap (λ o. o.root) sees.own) sees.sound, sees.spent ∙ unspent)
-
-  pub lands_stand : (c d : Core B) (r : ℕ) (n : OpResult) → Stands c → c.spent ≡ false → Lands left spot r n c d → Stands d × (d.spent ≡ false)
-  lands_stand c d r n stands unspent lands =
-      (stands_with c d lands.it.shown.worker lands.before lands.after stands lands.was lands.workers lands.many lands.index (ap (λ o. o.root) lands.own) lands.sound, lands.spent ∙ unspent)

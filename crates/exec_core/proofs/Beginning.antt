@@ -1,25 +1,22 @@
--- The first state: all that a worker rests on holds, and it is the one with which the machine begins.
-use Rattle.std.proofs.Common.{◌++◌, ◌≡◌, ℕ, zero, suc, ◌==◌, true, false, List, [], ◌∷◌, length, map, replicate, Option, Some, None, refl, sym, ap, subst, ◌∙◌, arith}
-use Rattle.std.proofs.lemmas.Bool.{false≢true, and_parts}
-use Rattle.std.proofs.lemmas.Bool.Decides.{nat_tests}
-use Rattle.std.proofs.Math.Nat.{zero-div}
-use Rattle.std.proofs.lemmas.List.{append-nil}
-use Rattle.std.specs.Prelude.{slice_get, IsSome, IsSomeAnd}
+-- The first state: all that a worker rests on holds.
+use Rattle.std.proofs.{Common.{◌≡◌, ℕ, zero, suc, ◌<◌, ◌==◌, true, false, List, [], ◌∷◌, Contains, length, map, replicate, Option, Some, None, refl, sym, ap, subst, ◌∙◌, arith, if◌then◌else◌, inl, slice_get}, lemmas.{Bool.{false≢true, and_parts, Decides.nat_tests}, List.append-nil, Option.slice_get_within}, Math.Nat.zero-div}
+use Rattle.std.specs.Prelude.{IsSome, IsSomeAnd, nat_lt}
 use Rattle.exec_base.specs.{Slab.{Slab, value_at}, declared.{slab.Id.Id, spinner.SpinnerConfig.SpinnerConfig}}
-use Rattle.exec_task.specs.{Phases.runnable_of, declared.{body.Said.{Said, TheVariants.Start}, runnable.Runnable.Runnable, task.Phase.TheVariants.Queued}}
+use Rattle.exec_task.specs.{Phases.runnable_of, declared.{runnable.Runnable.Runnable}}
 use Rattle.exec_driver.specs.{Driving.Driving, Lists.no_lists, Opens.fresh_open, Steps.IsFresh}
-use Rattle.exec_ring.specs.{Rings.fresh as fresh_ring, declared.store.Store.Store}
+use Rattle.exec_ring.specs.{Rings.fresh as fresh_ring}
 use Rattle.exec_time.specs.{Wheel.fresh, Layouts.slots_of}
 use Rattle.exec_waiters.specs.{States.waiter_at, Told.{is_untold, Tells, nothing_told}, declared.deferred.Deferred.Deferred}
-use Rattle.exec_machine.specs.{declared.{config.Configuration.Configuration, state.Waiting.TheVariants.Nothing}, Progress.{Plan, begin}, Tests.{is_open, has_ended}, Ranges.{ring_size, horizon, wheel_slots}, Tasks.{new_own, new_seat}, World.no_open}
-use Rattle.exec_steps.specs.{declared.parts.{mail.Reply.Reply, record.Record.Record, seat.Seat.Seat as Chair, shared.Shared.Shared, sleeping.SleeperRecord.SleeperRecord, task_slot.TaskSlot.TaskSlot, worker.Worker.Worker}, Phased.{IsPhased, is_complete}, Firsts.{IsFresh as IsFreshShared, shared_of}, Records.{HasNoNames, IsFreshSeat}, Rooted.Holds, Sound.{Sound, AreFree, IsNamed, IsConfig, Stands as IsRoot}, Spots.Spot, View.{visible, own_of, driver_of, common_of, open_seen, seats_seen}}
-use Rattle.exec_core.proofs.{Lifting.same_thing, Powers.{InRange, slots_of_wheel}}
-use Rattle.exec_core.specs.{Firsts.{IsFirst, Begins, worker_of}, Lift.{Stands, world, IsPlanOf}, declared.executor.Core.Core}
-use Rattle.exec_steps.proofs.Orders.{begins_ordered}
+use Rattle.exec_machine.specs.{declared.config.Configuration.Configuration, Tests.{is_open, has_ended}, Ranges.{ring_size, horizon, wheel_slots}, World.no_open}
+use Rattle.exec_moves.specs.declared.handing.CallPlace.TheVariants as call
+use Rattle.exec_steps.specs.{declared.parts.{caller.Caller.Caller, mail.Reply.Reply, record.Record.Record, seat.Seat.Seat as Chair, shared.Shared.Shared, sleeping.SleeperRecord.SleeperRecord, task_slot.TaskSlot.TaskSlot, worker.Worker.Worker}, Drained.IsMailbox, Phased.{is_complete}, Records.{HasNoNames, IsFreshSeat}, Rooted.Holds, Sound.{AreHome, Sound, AreFree, IsNamed, IsConfig, Stands as IsSitting}, View.{driver_of, open_seen}}
+use Rattle.exec_steps.proofs.{Facts.same_thing, Orders.begins_ordered, Spared.there_within}
+use Rattle.exec_core.proofs.Powers.{InRange, shards_of, slots_of_wheel}
+use Rattle.exec_core.specs.Firsts.{Begins, IsFirst, root_of, shared_with, worker_of}
 
 -- NOTHING IS THERE
 
-none_there : {A : Type 0} (xs : List A) (k : ℕ) (x : A) → xs ≡ [] → slice_get xs k ≡ Some x → ⊥
+pub none_there : {A : Type 0} (xs : List A) (k : ℕ) (x : A) → xs ≡ [] → slice_get xs k ≡ Some x → ⊥
 none_there [] k x none there = absurd (cc)
 none_there (y ∷ ys) k x none there = absurd (cc)
 
@@ -30,7 +27,7 @@ none_some : {A : Type 0} (o : Option A) → o ≡ None → IsSome o → ⊥
 none_some None is h = false≢true h
 none_some (Some x) is h = absurd (cc)
 
-not_both : {A : Type 0} (o : Option A) (x : A) → o ≡ None → o ≡ Some x → ⊥
+pub not_both : {A : Type 0} (o : Option A) (x : A) → o ≡ None → o ≡ Some x → ⊥
 not_both None x none some = absurd (cc)
 not_both (Some y) x none some = absurd (cc)
 
@@ -50,12 +47,6 @@ all_empty : {A : Type 0} (n k : ℕ) (xs : List A) → slice_get (replicate n []
 all_empty zero k xs there = absurd (cc)
 all_empty (suc n) zero xs there = cc
 all_empty (suc n) (suc k) xs there = all_empty n k xs there
-
-pub alone_there : {A : Type 0} (xs : List A) (x : A) (i : ℕ) (y : A) → xs ≡ x ∷ [] → slice_get xs i ≡ Some y → (y ≡ x) × (i ≡ 0)
-alone_there [] x i y alone there = absurd (cc)
-alone_there (z ∷ []) x zero y alone there = (cc, refl)
-alone_there (z ∷ []) x (suc i) y alone there = absurd (cc)
-alone_there (z ∷ (u ∷ zs)) x i y alone there = absurd (cc)
 
 by_some : (o : Option ℕ) (P : ℕ → Type 0) (k : ℕ) → o ≡ Some k → IsSomeAnd o P → P k
 by_some None P k is h = absurd (cc)
@@ -100,15 +91,16 @@ left_quiet left h =
       results = by_length left.results.items e.1;
     }
 
-config_sound : (c : Configuration) → InRange c → c.workers ≡ 1 → IsConfig c
-config_sound c r one =
+pub config_sound : (c : Configuration) → InRange c → IsConfig c
+config_sound c r =
     record {
       interval = omega (arith, r.interval);
       some_tick = omega (arith, r.tick.0);
       tick = omega (arith, r.tick.1);
       rw = omega (arith, r.rw.1);
       connect = omega (arith, r.connect.1);
-      one_worker = one;
+      workers = omega (arith, r.some_workers);
+      few = r.workers;
     }
 
 -- Nothing is told by more room.
@@ -132,104 +124,79 @@ named_none i c w records sleepers d n asleep no_records no_sleepers =
         known = rw n.staged tt;
         own = λ k r listed there. absurd (none_there records k r no_records there);
         all = λ k r there mine staged. absurd (none_there records k r no_records there);
-        unraised = rw d.ring refl;
       };
       slots = rw (d.slots, n.requests) (omega arith);
       beds = rw (asleep, n.timers) (omega arith);
     }
 
+-- a caller without a call
+abbrev pub free_caller : Caller
+free_caller = record { place = call.Nothing; hand = None }
+
+-- a mailbox without mail
+pub fresh_mailbox : (chair : Chair) → IsFreshSeat true chair → IsMailbox chair.mailbox
+fresh_mailbox chair fresh =
+    record {
+      mail = inl (ap (λ x. x.messages) fresh.inbox);
+      empty = λ h. ap (λ x. x.messages) fresh.inbox;
+      place = rw fresh.inbox (omega arith);
+    }
+
+pub no_runnable : (r : Runnable) → Contains [] r → ⊥
+no_runnable r has = absurd (omega (arith, has.1))
+
+pub empty_shards : (A : Type 0) (n : ℕ) → length (replicate n (let none : List A = [] in none)) ≡ n
+empty_shards A zero = refl
+empty_shards A (suc n) = ap suc (empty_shards A n)
+
 module _ {B : Type 0} where
-  -- the root of the first state, as it is
-  abbrev pub root_of : B → TaskSlot B → TaskSlot B
-  root_of body root =
+  -- the roots of the first state are those of the workers, and no other task is there
+  pub homes_begun : (c : Configuration) (roots : List B) (s : Shared B) (rs : List Runnable) → InRange c → length roots ≡ c.workers → IsFirst c roots s rs → AreHome c.workers s.tasks.items
+  homes_begun c roots s rs range many first =
+      let tasks : length s.tasks.items ≡ c.workers = first.rooted.tasks_many ∙ many in
       record {
-        cell = record { number = record { 0 = 0 }; owner = 1; phase = Queued body; cancelled = false };
-        body = None;
-        told = Some Start;
-        held = root.held;
-        waiting = Nothing;
-        fresh = false;
-        cleared = false;
-        home = Some 0;
-        poller = 0;
+        roots = omega (arith, tasks);
+        few = omega (arith, tasks, range.workers);
+        home = λ t slot there.
+            let within : t < c.workers = subst (λ n. t < n) tasks (slice_get_within s.tasks.items t slot there) in
+            let it = first.rooted.root t slot there in
+            ap (λ x. x.home) it.2.is ∙ ap (λ b. if b then Some t else None) (sym (less_is t c.workers within));
+        number = λ t slot there. ap (λ x. x.cell.number) (first.rooted.root t slot there).2.is;
       }
+    where
+      less_is : (a b : ℕ) → a < b → nat_lt a b ≡ true
+      less_is a b h = grind (arith, nat_tests)
 
-  pub root_is : (c : Configuration) (body : B) (s : Shared B) (r : Runnable) → (first : IsFirst c body s r) → first.root ≡ root_of body first.root
-  root_is c body s r first = first.slot ∙ ap (λ x. record (root_of body first.root) { cell = x }) first.cell
-
-  -- The seat and the root are put where nothing was.
-  pub first_made : (c : Configuration) (body : B) (s u : Shared B) (seat : Chair) (root : TaskSlot B) (r : Runnable) (owner : ℕ) → IsFreshShared c s → owner ≡ s.set.id → u.seats.items ≡ s.seats.items ++ seat ∷ [] → u.tasks.items ≡ s.tasks.items ++ root ∷ [] → IsFreshSeat true seat
-      → root.cell ≡ record { number = record { 0 = 0 }; owner = owner; phase = Queued body; cancelled = false }
-      → root ≡ record { cell = root.cell; body = None; told = Some Start; held = root.held; waiting = Nothing; fresh = false; cleared = false; home = Some 0; poller = 0 } → root.held.items ≡ [] → r ≡ runnable_of root.cell
-      → IsFirst c body (record s { seats = u.seats; tasks = u.tasks }) r
-  first_made c body s u seat root r owner new own seats tasks seat_fresh cell slot held runnable =
-      record {
-        parts = ap (λ (x : Shared B). record x { seats = u.seats; tasks = u.tasks }) new.parts;
-        shards = new.shards;
-        seat = seat;
-        seats = seats ∙ ap (λ xs. xs ++ seat ∷ []) new.seats;
-        fresh = seat_fresh;
-        root = root;
-        tasks = tasks ∙ ap (λ xs. xs ++ root ∷ []) new.tasks;
-        cell = cell ∙ ap (λ n. record { number = record { 0 = 0 }; owner = n; phase = Queued body; cancelled = false }) (own ∙ ap (λ (x : Shared B). x.set.id) new.parts);
-        slot = slot;
-        held = held;
-        runnable = runnable;
-        requests = new.requests;
-        sleepers = new.sleepers;
-        listeners = new.listeners;
-      }
-
-  -- the bytes of sockets and files are another's
-  pub with_store : (c : Configuration) (body : B) (s : Shared B) (r : Runnable) (x : Store) → IsFirst c body s r → IsFirst c body (record s { store = x }) r
-  with_store c body s r x first =
-      record {
-        parts = ap (λ (t : Shared B). record t { store = x }) first.parts;
-        shards = first.shards;
-        seat = first.seat;
-        seats = first.seats;
-        fresh = first.fresh;
-        root = first.root;
-        tasks = first.tasks;
-        cell = first.cell;
-        slot = first.slot;
-        held = first.held;
-        runnable = first.runnable;
-        requests = first.requests;
-        sleepers = first.sleepers;
-        listeners = first.listeners;
-      }
-
-  -- what holds of the root holds of each slot that is found in its place
-  pub by_root : (P : TaskSlot B → Type 0) (xs : List (TaskSlot B)) (root root' : TaskSlot B) → xs ≡ root ∷ [] → root ≡ root' → P root' → (slot : TaskSlot B) → slice_get xs 0 ≡ Some slot → P slot
-  by_root P [] root root' alone is holds slot there = absurd (cc)
-  by_root P (x ∷ xs) root root' alone is holds slot there =
-      let same : root' ≡ slot = cc in
-      subst P same holds
-
-  only_root : (xs : List (TaskSlot B)) (root : TaskSlot B) (k : ℕ) (slot : TaskSlot B) → xs ≡ root ∷ [] → slice_get xs k ≡ Some slot → k ≡ 0
-  only_root [] root k slot alone there = absurd (cc)
-  only_root (x ∷ xs) root zero slot alone there = refl
-  only_root (x ∷ (y ∷ xs)) root (suc k) slot alone there = absurd (cc)
-  only_root (x ∷ []) root (suc k) slot alone there = absurd (cc)
-
-  first_sound : (c : Configuration) (spin : SpinnerConfig) (body : B) (w : Worker) (s : Shared B) (r : Runnable) → InRange c → c.workers ≡ 1 → IsFirst c body s r → Begins c spin r w → Sound w s
-  first_sound c spin body w s r range one first begins =
+  pub first_sound : (c : Configuration) (spin : SpinnerConfig) (i : ℕ) (roots : List B) (w : Worker) (s : Shared B) (r : Runnable) (rs : List Runnable) → InRange c → length roots ≡ c.workers → IsFirst c roots s rs → slice_get rs i ≡ Some r → Begins c spin i r w → Sound w s
+  first_sound c spin i roots w s r rs range many first mine begins =
       let d = driver_empty c (driver_of w) range begins.driver in
       let n = begins.names in
       let left = left_quiet w.home.deferred begins.untold in
       let asleep = begins.asleep.0 in
-      let root = root_of body first.root in
-      let is = root_is c body s r first in
-      let none : (k : ℕ) (x : Record) → slice_get s.requests.items k ≡ Some x → ⊥ = λ k x there. none_there s.requests.items k x first.requests there in
-      let no_sleeper : (k : ℕ) (x : SleeperRecord) → slice_get s.sleepers.items k ≡ Some x → ⊥ = λ k x there. none_there s.sleepers.items k x first.sleepers there in
-      let at_first : Sound (worker_of c spin r w)
-      (shared_of c s) =
+      let bare = first.bare in
+      let queued = first.rooted.queued i r mine in
+      let root = first.rooted.root i queued.0 queued.1 in
+      let slot : TaskSlot B = root_of i root.0 queued.0 in
+      let there : slice_get s.tasks.items i ≡ Some slot = queued.1 ∙ ap (λ x. Some x) root.2.is in
+      let at_root : (P : TaskSlot B → Type 0) → P slot → (x : TaskSlot B) → slice_get s.tasks.items i ≡ Some x → P x = λ P holds x found. subst P (same_thing slot x (sym there ∙ found)) holds in
+      let seats : length s.seats.items ≡ c.workers = first.rooted.seats_many ∙ many in
+      let within : i < c.workers = (let inside = slice_get_within rs i r mine in omega (arith, inside, first.rooted.runnables_many, many)) in
+      let chair = there_within s.seats.items i (omega (arith, within, seats)) in
+      let fresh : (x : Chair) → slice_get s.seats.items i ≡ Some x → IsFreshSeat true x = first.rooted.fresh i in
+      let tasks : length s.tasks.items ≡ c.workers = first.rooted.tasks_many ∙ many in
+      let none : (k : ℕ) (x : Record) → slice_get s.requests.items k ≡ Some x → ⊥ = λ k x found. none_there s.requests.items k x bare.requests found in
+      let no_sleeper : (k : ℕ) (x : SleeperRecord) → slice_get s.sleepers.items k ≡ Some x → ⊥ = λ k x found. none_there s.sleepers.items k x bare.sleepers found in
+      let at_first : Sound (worker_of c spin i r w) (shared_with c s) =
       record {
         here = refl;
-        config = config_sound c range one;
+        config = config_sound c range;
         gates = opens_free c.files;
-        index = refl;
+        index = within;
+        workers = refl;
+        at_home = refl;
+        role = refl;
+        homes = homes_begun c roots s rs range many first;
+        shards = empty_shards _ (length s.set.shards) ∙ shards_of c (length s.set.shards) range bare.shards;
         time = record { begun = omega arith; ordered = omega arith; not_after = omega arith; read = omega arith; asleep = tt; bounded = omega arith };
         told = record {
           resources = ap length n.ended ∙ sym (ap length left.resources);
@@ -237,46 +204,51 @@ module _ {B : Type 0} where
           results = left.results;
           room = rw (d.slots, asleep) begins.room;
         };
-        named = named_none 0 c w s.requests.items s.sleepers.items d n asleep first.requests first.sleepers;
+        named = named_none i c w s.requests.items s.sleepers.items d n asleep bare.requests bare.sleepers;
         runnable = record {
-          root = root;
-          there = rw (first.tasks, ← is) refl;
+          root = slot;
+          there = there;
           home = refl;
           number = refl;
-          once = (first.runnable ∙ ap (λ x. runnable_of x) first.cell, (body, refl));
+          once = (queued.2 ∙ ap (λ x. runnable_of x.cell) root.2.is, (root.0, refl));
           one = λ h. refl;
         };
-        alone = record {
-          only = rw first.seats refl;
-          seat = first.seat;
-          there = rw first.seats refl;
-          run_queue = ap (λ q. q.values) first.fresh.queue;
-          whole = ap (λ q. q.held) first.fresh.queue;
-          inbox = ap (λ x. x.messages) first.fresh.inbox;
-          unarmed = λ h. ap (λ x. x.target) first.fresh.waker;
-          elsewhere = refl;
+        seated = record {
+          many = seats;
+          seat = chair.0;
+          there = chair.1;
+          unarmed = λ h. ap (λ x. x.target) (fresh chair.0 chair.1).waker;
+          mail = fresh_mailbox chair.0 (fresh chair.0 chair.1);
         };
-        share = λ chair there. tt;
+        queue = λ x found. ap (λ q. q.held) (fresh x found).queue;
         sized = ap (λ x. x.size) d.ring;
         processed = omega arith;
         hand = refl;
+        loot = record { places = omega arith; few = omega arith; none = λ h. refl };
+        genuine = λ x has. absurd (no_runnable x has);
+        stolen = λ x has. absurd (no_runnable x has);
+        searching = tt;
+        aims = tt;
+        guest = tt;
+        resting = λ t x found past polled. absurd (let inside = slice_get_within s.tasks.items t x found in omega (arith, inside, past, tasks));
         left = tt;
         over = record {
-          over = λ k x there. absurd (none_there w.names.ended.items k x n.ended there);
-          once = λ k l x there also. absurd (none_there w.names.ended.items k x n.ended there);
+          over = λ k x found. absurd (none_there w.names.ended.items k x n.ended found);
+          once = λ k l x found also. absurd (none_there w.names.ended.items k x n.ended found);
           counted = rw (n.ended, n.unreleased, d.slots) refl;
         };
         batch = refl;
+        batch_place = omega arith;
         quiet = λ h. left.wakes;
         due = record {
           punctual = begins.punctual;
           told = λ h. ap (λ x. x.due) d.lists;
           wheel = record { start = ap (λ x. x.start) d.wheel; tick = ap (λ x. x.tick) d.wheel; horizon = ap (λ x. x.horizon) d.wheel; slots = ap (λ x. x.slots) d.wheel; current = ap (λ x. x.current) d.wheel ∙ sym (zero-div c.tick) };
-          timed = λ k x there mine. absurd (none k x there);
+          timed = λ k x found own. absurd (none k x found);
           asleep = record {
-            alike = λ id z x value there. absurd (no_sleeper _ x there);
-            there = λ k x there h. absurd (no_sleeper k x there);
-            named = λ k x there h. absurd (no_sleeper k x there);
+            alike = λ id z x value found. absurd (no_sleeper _ x found);
+            there = λ k x found h. absurd (no_sleeper k x found);
+            named = λ k x found h. absurd (no_sleeper k x found);
           };
           order = begins_ordered (horizon c) c.tick 0 (wheel_slots c) d.slots d.wheel (ap (λ l. l.enrolments) d.lists) (ap (λ l. l.due) d.lists);
         };
@@ -286,71 +258,54 @@ module _ {B : Type 0} where
           telling = rw d.ring n.untold_room;
           entries = rw (n.staged, n.untold) (omega arith);
           permits = refl;
-          plain = λ k x there mine. absurd (none k x there);
+          plain = λ k x found own. absurd (none k x found);
           landed = rw d.ring tt;
-          ours = λ k x there. absurd (none k x there);
-          acks = rw d.ring tt;
-          owning = λ k x there. absurd (none k x there);
+          polled = rw (d.ring, d.armed) refl;
+          owning = λ k x found. absurd (none k x found);
           enrolling = λ id it live takes told. absurd (not_both (waiter_at (driver_of w).requests id.0) it (rw d.slots refl) live);
-          uncancelled = λ id x among there. absurd (none _ x there);
+          uncancelled = λ id x among found own. absurd (none _ x found);
         };
         carried = record {
           slots = λ id it live. absurd (not_both (waiter_at (driver_of w).requests id) it (rw d.slots refl) live);
           whole = λ id it live. absurd (not_both (waiter_at (driver_of w).requests id) it (rw d.slots refl) live);
-          target = λ id it x live there. absurd (none _ x there);
-          carried = λ id it x live there. absurd (none _ x there);
+          target = λ id it x live found. absurd (none _ x found);
+          carried = λ id it x live found. absurd (none _ x found);
           nobody = λ user_data small free. rw d.ring (refl, refl);
-          room = λ socket. rw first.requests (omega arith);
+          room = λ socket. rw bare.requests (omega arith);
         };
         rooted = record {
-          root = by_root (λ slot. Holds false 0 0 slot.held.items slot.waiting (is_complete slot.cell.phase) w.names (driver_of w) w.home.timers s.requests.items s.sleepers.items) s.tasks.items first.root root first.tasks is
+          root = at_root (λ x. Holds false i i x.held.items x.waiting (is_complete x.cell.phase) w.names (driver_of w) w.home.timers s.requests.items s.sleepers.items)
               (record {
-                counted = n.held ∙ sym (ap length first.held);
-                held = λ j k there. absurd (none_there first.root.held.items j k first.held there);
-                once = λ j l k there also. absurd (none_there first.root.held.items j k first.held there);
-                all = λ k x there mine observed. absurd (none k x there);
-                awaited = λ k x u there mine pending observed waiter. absurd (none k x there);
-                kept = λ id told x ready there. absurd (none _ x there);
+                counted = n.held ∙ sym (ap length root.2.held);
+                held = λ j k found. absurd (none_there queued.0.held.items j k root.2.held found);
+                once = λ j l k found also. absurd (none_there queued.0.held.items j k root.2.held found);
+                all = λ k x found own observed. absurd (none k x found);
+                awaited = λ k x u found own pending observed waiter. absurd (none k x found);
+                kept = λ id told x ready found. absurd (none _ x found);
                 waits = tt;
                 sleeping = λ id it live. absurd (none_some (value_at w.home.timers id) (none_live w.home.timers id asleep) (rw live refl));
-                asleep = λ k z there mine unfired kept. absurd (no_sleeper k z there);
+                asleep = λ k z found own unfired kept. absurd (no_sleeper k z found);
                 over = λ h. absurd (false≢true h);
               });
         };
-        phased = λ chair there.
-            subst (λ x. IsPhased false None w.home.closing 0 w.names.unreleased (record { phase = x.phase; pool = x.pool; left = x.left; shut = x.mailbox.inbox.closed; stopped = false; set = record { shards = replicate (length s.set.shards) []; closed = false; id = 1 } }) s.tasks.items)
-            (same_thing first.seat chair (sym (rw first.seats refl) ∙ there))
-            (record {
+        phased = λ x found.
+            record {
               told = begins.opened;
-              opened = ap is_open first.fresh.phase;
-              ended = λ h. absurd (false≢true (sym (ap has_ended first.fresh.phase) ∙ h));
-              root = by_root (λ slot. is_complete slot.cell.phase ≡ false) s.tasks.items first.root root first.tasks is refl;
-              lone = λ k slot found. only_root s.tasks.items first.root k slot first.tasks found;
-              pool = first.fresh.pool_is;
-              stopped = refl;
-              left = first.fresh.left;
-              shut = ap (λ x. x.closed) first.fresh.inbox;
-              set = refl;
-              empty = λ k shard found. all_empty (length s.set.shards) k shard found;
+              opened = ap is_open (fresh x found).phase;
+              ended = λ h. absurd (false≢true (sym (ap has_ended (fresh x found).phase) ∙ h));
+              root = at_root (λ y. is_complete y.cell.phase ≡ false) refl;
+              pool = (fresh x found).pool_is;
+              left = (fresh x found).left;
+              shut = ap (λ y. y.closed) (fresh x found).inbox;
+              by_zero = λ h. (refl, refl);
+              by_other = λ h over. absurd (false≢true over);
+              closed = λ h. absurd (false≢true h);
               prepared = tt;
-            });
+            };
         tied = record {
-          stands = by_root (λ slot. IsRoot None 0 slot) s.tasks.items first.root root first.tasks is
+          stands = at_root (λ y. IsSitting None i y)
               (record { polled = refl; body = λ h. absurd (false≢true h); poller = λ h. absurd (false≢true h); kept = refl; uncleared = refl; told = λ h. refl; untold = λ h. absurd (false≢true (sym h)); waits = tt });
           owed = rw left.wakes tt;
         };
       } in
-      subst (λ v. Sound v s) (sym begins.parts) (subst (λ t. Sound (worker_of c spin r w) t) (sym first.parts) at_first)
-
-  pub first_stands : (c : Configuration) (spin : SpinnerConfig) (body : B) (core : Core B) (w : Worker) (r : Runnable) → InRange c → c.workers ≡ 1 → IsFirst c body core.shared r → Begins c spin r w → core.workers.items ≡ w ∷ [] → Stands core
-  first_stands c spin body core w r range one first begins workers =
-      record {
-        some = rw workers (omega arith);
-        seats = rw (workers, first.seats) refl;
-        sound = λ i v found.
-            let it = alone_there core.workers.items w i v workers found in
-            rw (it.0, it.1) (ap (λ x. x.index) begins.parts, first_sound c spin body w core.shared r range one first begins);
-        roots = λ i v found.
-            let it = alone_there core.workers.items w i v workers found in
-            rw (it.0, it.1) (ap (λ x. x.root) begins.parts);
-      }
+      subst (λ v. Sound v s) (sym begins.parts) (subst (λ t. Sound (worker_of c spin i r w) t) (sym bare.parts) at_first)

@@ -1,16 +1,18 @@
 -- The executor finds by its seats and records what the machine finds: which steps may be taken.
-use Rattle.std.proofs.Common.{◌≡◌, ℕ, zero, suc, ◌&&◌, ◌||◌, Bool, true, false, not, List, [], ◌∷◌, length, map, Option, Some, None, refl, sym, ap, ◌∙◌, arith}
-use Rattle.std.proofs.lemmas.Bool.{false≢true}
+use Rattle.std.proofs.Common.{◌≡◌, ℕ, zero, suc, ◌&&◌, ◌||◌, nat_lt, Bool, not, List, [], ◌∷◌, length, map, Option, Some, None, refl, sym, ap, ◌∙◌, arith}
 use Rattle.std.proofs.lemmas.List.{length-map}
 use Rattle.std.specs.List.{list_all}
 use Rattle.std.specs.Prelude.{slice_get, slice_index_or}
 use Rattle.exec_task.specs.declared.body.Said.{Said}
 use Rattle.exec_outcomes.specs.Lawful.{window_of, is_lawful}
-use Rattle.exec_machine.specs.{declared.step.Action.Action, Callers.{is_enabled, may_work}, Progress.Plan, Requests.{asked_of, cursor_of}, Tests.{is_awake, has_ended, is_flying}, World.{Seat, no_seat, no_request}}
+use Rattle.exec_machine.specs.{declared.{step.Action.Action}, Callers.{is_enabled, is_half_done, may_work}, Progress.Plan, Requests.{asked_of, cursor_of}, Tests.{is_awake, has_ended, is_flying}, World.{Seat, no_seat, no_request}}
 use Rattle.exec_machine.specs.declared.step.Action.TheVariants as action
-use Rattle.exec_steps.specs.{Spots.Spot, View.{Visible, visible, seat_seen, seats_seen}, declared.parts.seat.Seat.Seat as Chair}
+use Rattle.exec_machine.specs.declared.state.Call.TheVariants as half
+use Rattle.exec_moves.specs.declared.handing.CallPlace.{CallPlace}
+use Rattle.exec_moves.specs.declared.handing.CallPlace.TheVariants as call
+use Rattle.exec_steps.specs.{Calling.{call_of, is_free}, Spots.Spot, View.{Visible, visible, seat_seen, seats_seen, task_seen}, declared.parts.{caller.Caller.Caller, seat.Seat.Seat as Chair}}
 use Rattle.exec_core.proofs.Lifting.{suc_same}
-use Rattle.exec_core.specs.{Lift.{Stands, world, is_of_first_cut, may_take, may_work_in, may_land_in, has_begun, sleeps, all_left_of}, declared.executor.Core.Core}
+use Rattle.exec_core.specs.{Lift.{Stands, world, may_take, may_call_in, may_go_on_in, may_work_in, may_land_in, has_begun, sleeps, all_left_of}, declared.executor.Core.Core}
 
 never : (n : ℕ) → zero ≡ suc n → ⊥
 never n h = omega arith
@@ -35,23 +37,38 @@ by_map v [] i d f g none some = none
 by_map v (x ∷ xs) zero d f g none some = some x
 by_map v (x ∷ xs) (suc i) d f g none some = by_map v xs i d f g none some
 
+-- a caller is free where its call isn't half done
+free_as : (p : CallPlace) → is_free p ≡ not (is_half_done (call_of p))
+free_as call.Nothing = refl
+free_as _ = refl
+
+calling_as : (p : CallPlace) → not (is_free p) ≡ is_half_done (call_of p)
+calling_as call.Nothing = refl
+calling_as _ = refl
+
+may_call_as : (cs : List Caller) (j : ℕ) → may_call_in (slice_get cs j) ≡ not (is_half_done (slice_index_or (map (λ (x : Caller). call_of x.place) cs) j half.HalfDone))
+may_call_as cs j = by_map (λ (x : Caller). call_of x.place) cs j half.HalfDone may_call_in (λ x. not (is_half_done x)) refl (λ x. free_as x.place)
+
 module _ {B L : Type 0} (left : B → L) (spot : L → Option Said → Spot) where
-  pub enabled_as : (p : Plan) (c : Core B) (a : Action) → Stands c → is_of_first_cut a ≡ true → may_take c.shared a ≡ is_enabled (world left spot p c).common a
-  enabled_as p c (action.Work i) stands known =
+  pub enabled_as : (p : Plan) (c : Core B) (a : Action) → Stands c → may_take c a ≡ is_enabled (world left spot p c).common a
+  enabled_as p c (action.Work i) stands =
       let vs = map visible c.workers.items in
-      let same : length vs ≡ length c.shared.seats.items = length-map c.workers.items visible ∙ stands.seats in
+      let same : length vs ≡ length c.shared.seats.items = length-map c.workers.items visible ∙ stands.together.seats in
       by_chair vs c.shared.seats.items i (may_work_in c.shared.seats.items) (may_work (world left spot p c).common) same refl
       (λ v chair. ap (λ b. is_awake chair.rest && not (has_ended chair.phase) && not (chair.pool && chair.left && not b)) (all_seen vs c.shared.seats.items same))
-  enabled_as p c (action.Clock d) stands known = refl
-  enabled_as p c (action.Land r n) stands known =
+  enabled_as p c (action.Clock d) stands = refl
+  enabled_as p c (action.Land r n) stands =
       by_map (λ x. x.shown) c.shared.requests.items r no_request (λ x. may_land_in x n) (λ it. is_flying it.phase && is_lawful (window_of (asked_of it.operation) (cursor_of it.operation)) n) refl (λ x. refl)
-  enabled_as p c (action.SetBusy i) stands known =
-      by_chair (map visible c.workers.items) c.shared.seats.items i has_begun (λ seat. not (has_ended seat.phase)) (length-map c.workers.items visible ∙ stands.seats) refl (λ v chair. refl)
-  enabled_as p c (action.EndPoll i) stands known =
-      by_chair (map visible c.workers.items) c.shared.seats.items i has_begun (λ seat. not (has_ended seat.phase)) (length-map c.workers.items visible ∙ stands.seats) refl (λ v chair. refl)
-  enabled_as p c (action.Stir i) stands known =
-      by_chair (map visible c.workers.items) c.shared.seats.items i sleeps (λ seat. not (is_awake seat.rest)) (length-map c.workers.items visible ∙ stands.seats) refl (λ v chair. refl)
-  enabled_as p c (action.Peer l) stands known = refl
-  enabled_as p c (action.Spawn j k) stands known = absurd (false≢true known)
-  enabled_as p c (action.Wake j t) stands known = absurd (false≢true known)
-  enabled_as p c (action.GoOn j) stands known = absurd (false≢true known)
+  enabled_as p c (action.SetBusy i) stands =
+      by_chair (map visible c.workers.items) c.shared.seats.items i has_begun (λ seat. not (has_ended seat.phase)) (length-map c.workers.items visible ∙ stands.together.seats) refl (λ v chair. refl)
+  enabled_as p c (action.EndPoll i) stands =
+      by_chair (map visible c.workers.items) c.shared.seats.items i has_begun (λ seat. not (has_ended seat.phase)) (length-map c.workers.items visible ∙ stands.together.seats) refl (λ v chair. refl)
+  enabled_as p c (action.Stir i) stands =
+      by_chair (map visible c.workers.items) c.shared.seats.items i sleeps (λ seat. not (is_awake seat.rest)) (length-map c.workers.items visible ∙ stands.together.seats) refl (λ v chair. refl)
+  enabled_as p c (action.Peer l) stands = refl
+  enabled_as p c (action.Spawn j k) stands = may_call_as c.callers.items j
+  enabled_as p c (action.Wake j t) stands =
+      ap (λ b. b && nat_lt t (length c.shared.tasks.items)) (may_call_as c.callers.items j)
+      ∙ ap (λ n. not (is_half_done (slice_index_or (map (λ (x : Caller). call_of x.place) c.callers.items) j half.HalfDone)) && nat_lt t n) (sym (length-map c.shared.tasks.items (task_seen left spot)))
+  enabled_as p c (action.GoOn j) stands =
+      by_map (λ (x : Caller). call_of x.place) c.callers.items j half.Nothing may_go_on_in is_half_done refl (λ x. calling_as x.place)

@@ -4,8 +4,14 @@ pub mod Applying
 pub mod Powers
 pub mod Beginning
 pub mod Started
-pub mod Stood
 pub mod Playing
 pub mod Taking
-mod Standing
-mod Rooting
+pub mod CoreCalls
+pub mod Paying
+pub mod CoreSpawns
+pub mod Balanced
+pub mod CoreFirsts
+pub mod CoreAlone
+pub mod CoreStood
+pub mod CoreRoot
+pub mod QueuedOnce

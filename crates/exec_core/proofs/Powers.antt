@@ -9,6 +9,8 @@ use Rattle.std.proofs.lemmas.Bool.Decides.{nat_tests}
 use Rattle.exec_time.specs.Layouts.{sizes, slots_needed, is_out_of_range, slots_of}
 use Rattle.std.proofs.lemmas.Bool.{cases_Bool, cases_lt, and_parts, leb-true, le-leb}
 use Rattle.exec_machine.specs.{declared.config.Configuration.Configuration, Ranges.{doubled_up_to, ticks_needed, horizon, wheel_slots}}
+use Rattle.exec_task.specs.TaskSet.{IsShardCount}
+use Rattle.exec_moves.specs.Pop.{power_from, shard_count}
 use Rattle.exec_core.specs.Ranges.{is_in_range, longest_timeout}
 
 -- a power of two that is n or more, and of which the half is less, is the first such
@@ -58,6 +60,7 @@ power_is most n r power above half below =
 -- A CONFIGURATION IN ITS RANGES
 
 pub record InRange (c : Configuration) : Type 0 where
+  pub some_workers : 1 ≤ c.workers
   pub workers : c.workers ≤ 64
   pub interval : 1 ≤ c.interval
   pub ring : c.ring ≤ 32768
@@ -88,6 +91,7 @@ in_range c h =
     let p3 = and_parts _ _ p4.0 in
     let p2 = and_parts _ _ p3.0 in
     record {
+      some_workers = leb-true 1 c.workers p2.0;
       workers = leb-true c.workers 64 p2.1;
       interval = leb-true 1 c.interval p3.1;
       ring = leb-true c.ring 32768 p6.1;
@@ -150,3 +154,15 @@ slots_of_wheel c r =
     ap (λ (b : Bool). if b || is_out_of_range c.tick then None else find (λ size. nat_le (slots_needed (horizon c) c.tick) size) sizes) (in_time (horizon c) far.0 far.1)
     ∙ ap (λ (b : Bool). if false || b then None else find (λ size. nat_le (slots_needed (horizon c) c.tick) size) sizes) (in_time c.tick r.tick.0 r.tick.1)
     ∙ ap (λ n. find (λ size. nat_le n size) (doublings 20 1)) needed ∙ found_by_doubling 20 1 (ticks_needed c) r.layout
+
+-- THE SHARDS of a task set
+
+from_doubled : (more p n : ℕ) → doubled_up_to more p n ≡ power_from more p n
+from_doubled zero p n = refl
+from_doubled (suc more) p n =
+    let twice : p + p ≡ p * 2 = omega arith in
+    ap (λ x. if nat_le n p then p else x) (ap (λ q. doubled_up_to more q n) twice ∙ from_doubled more (p * 2) n)
+
+pub shards_of : (c : Configuration) (count : ℕ) → InRange c → IsShardCount c.workers count → count ≡ shard_count c
+shards_of c count r it =
+    it.four_each ∙ ap (λ p. p * 4) (power_is 6 c.workers it.power it.is_power it.enough (omega (arith, it.least)) (omega (arith, r.workers)) ∙ from_doubled 6 1 c.workers)

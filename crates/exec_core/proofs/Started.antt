@@ -1,84 +1,258 @@
 -- The executor begins as the machine does, and shows the first state of the moves.
-use Rattle.std.proofs.Common.{◌<◌, ◌≤◌, ◌≡◌, ℕ, zero, suc, false, true, List, [], ◌∷◌, length, map, replicate, Option, Some, None, refl, sym, ap, subst, ◌∙◌, arith}
-use Rattle.std.specs.Prelude.{slice_get}
+use Rattle.std.proofs.{Common.{◌≡◌, ℕ, zero, suc, ◌+◌, false, true, List, [], ◌∷◌, ◌++◌, All, length, map, replicate, Option, Some, refl, sym, ap, subst, ◌∙◌, arith, slice_get, slice_index_or}, lemmas.List.length-map}
 use Rattle.exec_base.specs.declared.spinner.SpinnerConfig.{SpinnerConfig}
-use Rattle.exec_task.specs.{TaskSet.IsShardCount, declared.{body.Said.{Said, TheVariants.Start}, runnable.Runnable.Runnable}}
-use Rattle.exec_machine.specs.{declared.config.Configuration.Configuration, Progress.{Plan, begin}, Tasks.{new_own, new_seat}}
-use Rattle.exec_moves.specs.Plays.{first_desk, first_things, first_playing}
-use Rattle.exec_steps.specs.{declared.parts.{shared.Shared.Shared, task_slot.TaskSlot.TaskSlot, worker.Worker.Worker}, Acting.Performs, Firsts.shared_of, Hearing.CanHear, Polls.OfSlot, Spots.Spot, View.{visible, own_of, desk_of, driver_of, common_of, seats_seen, things_of}}
-use Rattle.exec_core.proofs.{Beginning.{opens_begun, driver_empty, left_quiet, root_of, root_is, by_root, alone_there}, Powers.InRange}
-use Rattle.exec_core.specs.{Firsts.{IsFirst, Begins, worker_of}, Lift.{RootsPerform, IsReady, IsPlanOf, IsShown, Stands, world}, declared.executor.Core.Core}
+use Rattle.exec_task.specs.declared.{body.Said.{Said, TheVariants.Start}, runnable.Runnable.Runnable}
+use Rattle.exec_driver.specs.Opens.{fresh_open}
+use Rattle.exec_machine.specs.{declared.{config.{Configuration.Configuration, ScriptWord.ScriptWord}, state.Call.TheVariants.Nothing as NoCall}, Progress.{Plan}, Run.{first_common, first_owns, first_tasks, first_world}, Tasks.{new_own, new_seat, new_task}, World.{Own, Task, no_open, no_seat}}
+use Rattle.exec_credit.specs.Minded.{MindedIn, is_played}
+use Rattle.exec_moves.specs.{Plays.{first_desk, first_desks, first_things, first_playing}, Pop.shard_count, State.{Desk, no_queue, no_wake_poll, no_word}}
+use Rattle.exec_steps.specs.{declared.parts.{caller.Caller.Caller, seat.Seat.Seat as Chair, shared.Shared.Shared, task_slot.TaskSlot.TaskSlot, worker.Worker.Worker}, Acting.{Performs, PerformsAll}, Calling.{call_of, desk_of_caller}, Records.IsFreshSeat, Spots.Spot, View.{Visible, visible, own_of, desk_of, driver_of, common_of, inbox_at, open_seen, polls_seen, queue_at, queue_seen, message_of, seat_seen, seats_seen, task_seen, things_with, word_at}}
+use Rattle.exec_steps.proofs.Facts.{same_thing}
+use Rattle.exec_core.proofs.{Balanced.first_stands, Beginning.{driver_empty, free_caller, left_quiet, opens_begun}, Lifting.playing_by, Powers.{InRange, shards_of}}
+use Rattle.exec_core.specs.{Firsts.{AllBegin, Begins, IsFirst, IsRoot}, Lift.{IsMinded, IsReady, IsPlanOf, Shows, code_of_root, playing, views}, declared.executor.Core.Core}
 
--- THE MACHINE BEGINS SO
+-- LISTS, from what is in each place
 
-own_begun : (c : Configuration) (spin : SpinnerConfig) (r : Runnable) (w : Worker) → InRange c → Begins c spin r w → own_of w ≡ new_own 0 0
-own_begun c spin r w range begins =
+cons_by : {A : Type 0} (x y : A) (xs ys : List A) → x ≡ y → xs ≡ ys → x ∷ xs ≡ y ∷ ys
+cons_by x y xs ys first rest = λ i. first i ∷ rest i
+
+same_each : {A X : Type 0} (f : A → X) (y : X) (xs : List A) → ((i : ℕ) (x : A) → slice_get xs i ≡ Some x → f x ≡ y) → map f xs ≡ replicate (length xs) y
+same_each f y [] each = refl
+same_each f y (x ∷ xs) each = cons_by _ _ _ _ (each 0 x refl) (same_each f y xs (λ i z there. each (suc i) z there))
+
+owns_from : {A : Type 0} (f : A → Own) (xs : List A) (i : ℕ) → ((k : ℕ) (x : A) → slice_get xs k ≡ Some x → (n : ℕ) → n ≡ i + k → f x ≡ new_own 0 n) → map f xs ≡ first_owns (length xs) i
+owns_from f [] i each = refl
+owns_from f (x ∷ xs) i each = cons_by _ _ _ _ (each 0 x refl i (omega arith)) (owns_from f xs (suc i) (λ k y there n is. each (suc k) y there n (omega (arith, is))))
+
+desks_from : {A : Type 0} (c : Configuration) (f : A → Desk) (xs : List A) (i : ℕ) → ((k : ℕ) (x : A) → slice_get xs k ≡ Some x → (n : ℕ) → n ≡ i + k → f x ≡ first_desk c n) → map f xs ≡ first_desks c (length xs) i
+desks_from c f [] i each = refl
+desks_from c f (x ∷ xs) i each = cons_by _ _ _ _ (each 0 x refl i (omega arith)) (desks_from c f xs (suc i) (λ k y there n is. each (suc k) y there n (omega (arith, is))))
+
+root_task : ℕ → Task
+root_task i = new_task (code_of_root i) (Some i)
+
+tasks_first : (more i : ℕ) → first_tasks (suc more) i ≡ root_task i ∷ first_tasks more (suc i)
+unfolding root_task
+tasks_first more zero = refl
+tasks_first more (suc i) = refl
+
+tasks_from : {A : Type 0} (f : A → Task) (xs : List A) (i : ℕ) → ((k : ℕ) (x : A) → slice_get xs k ≡ Some x → (n : ℕ) → n ≡ i + k → f x ≡ root_task n) → map f xs ≡ first_tasks (length xs) i
+tasks_from f [] i each = refl
+tasks_from f (x ∷ xs) i each =
+    cons_by _ _ _ _ (each 0 x refl i (omega arith)) (tasks_from f xs (suc i) (λ k y there n is. each (suc k) y there n (omega (arith, is)))) ∙ sym (tasks_first (length xs) i)
+
+-- WHAT IS SEEN of workers that begin
+
+abbrev fresh_visible : Visible
+fresh_visible = record { busy = false; landed = []; wakes = no_wake_poll; taken = [] }
+
+visible_begun : (c : Configuration) (spin : SpinnerConfig) (i : ℕ) (r : Runnable) (w : Worker) → InRange c → Begins c spin i r w → visible w ≡ fresh_visible
+visible_begun c spin i r w range begins =
+    let d = driver_empty c (driver_of w) range begins.driver in
+    ap visible begins.parts ∙ rw d.ring refl
+
+own_begun : (c : Configuration) (spin : SpinnerConfig) (i : ℕ) (r : Runnable) (w : Worker) → InRange c → Begins c spin i r w → own_of w ≡ new_own 0 i
+own_begun c spin i r w range begins =
     let d = driver_empty c (driver_of w) range begins.driver in
     let n = begins.names in
     ap own_of begins.parts ∙ rw (d.lists, d.slots, n.untold, n.ended, n.unreleased) refl
 
-module _ {B L : Type 0} (left : B → L) (runs : L → Plan → Type 0) (holds : L → Option Said → List ℕ) (spot : L → Option Said → Spot) where
-  first_world : (c : Configuration) (spin : SpinnerConfig) (body : B) (core : Core B) (w : Worker) (r : Runnable) (p : Plan) → InRange c → c.workers ≡ 1 → IsFirst c body core.shared r → Begins c spin r w → core.workers.items ≡ w ∷ []
-      → IsPlanOf left runs holds spot p c body → world left spot p core ≡ begin p
-  first_world c spin body core w r p range one first begins workers plan =
-      let s = core.shared in
-      let d = driver_empty c (driver_of w) range begins.driver in
-      let root = root_of body first.root in
-      let tasks : s.tasks.items ≡ root ∷ [] = first.tasks ∙ ap (λ x. x ∷ []) (root_is c body s r first) in
-      let seen : visible w ≡ record { busy = false; landed = [] } = rw d.ring refl in
-      let seats : seats_seen (visible w ∷ []) s.seats.items ≡ new_seat true ∷ [] =
-      rw (seen, first.seats, first.fresh.phase, first.fresh.pool_is, first.fresh.left, first.fresh.rest, first.fresh.inbox) refl in
-      let own : map own_of core.workers.items ≡ new_own 0 0 ∷ [] = ap (map own_of) workers ∙ ap (λ x. x ∷ []) (own_begun c spin r w range begins) in
-      let common : common_of left spot p (visible w ∷ []) s ≡ (begin p).common =
-      ap (common_of left spot p (visible w ∷ [])) first.parts
-      ∙ rw (seats, tasks, first.requests, first.sleepers, first.listeners, opens_begun c.files, first.held, plan.begins, plan.config, one) refl in
-      ap (λ xs. record { workers = xs; common = common_of left spot p (map visible core.workers.items) s }) own
-      ∙ ap (λ xs. record { workers = new_own 0 0 ∷ []; common = common_of left spot p (map visible xs) s }) workers
-      ∙ ap (λ x. record { workers = new_own 0 0 ∷ []; common = x }) common
-      ∙ rw (plan.config, one) refl
+desk_begun : (c : Configuration) (spin : SpinnerConfig) (i : ℕ) (r : Runnable) (w : Worker) → InRange c → Begins c spin i r w → spin ≡ record { budget_us = c.spin.budget; max_budget_us = c.spin.most; quick_wake_us = c.spin.quick } → desk_of w ≡ first_desk c i
+desk_begun c spin i r w range begins told =
+    let d = driver_empty c (driver_of w) range begins.driver in
+    let quiet = left_quiet w.home.deferred begins.untold in
+    ap desk_of begins.parts ∙ rw (quiet.wakes, quiet.outputs, d.ring, d.armed, told) refl
 
-  -- WHAT STANDS BESIDE IT
+seat_begun : (chair : Chair) → IsFreshSeat true chair → seat_seen fresh_visible chair ≡ new_seat true
+seat_begun chair fresh = rw (fresh.phase, fresh.pool_is, fresh.left, fresh.rest, fresh.inbox) refl
 
-  four_shards : (n : ℕ) → IsShardCount 1 n → n ≡ 4
-  four_shards n it = let below : it.power < 2 = omega (arith, it.least) in omega (arith, it.four_each, it.enough, below)
+seats_from : (vs : List Visible) (seats : List Chair) → length vs ≡ length seats → ((i : ℕ) (v : Visible) → slice_get vs i ≡ Some v → v ≡ fresh_visible) → ((i : ℕ) (chair : Chair) → slice_get seats i ≡ Some chair → IsFreshSeat true chair)
+    → seats_seen vs seats ≡ replicate (length seats) (new_seat true)
+seats_from [] [] many each fresh = refl
+seats_from [] (chair ∷ chairs) many each fresh = absurd (omega (arith, many))
+seats_from (v ∷ vs) [] many each fresh = absurd (omega (arith, many))
+seats_from (v ∷ vs) (chair ∷ chairs) many each fresh =
+    cons_by _ _ _ _ (ap (λ x. seat_seen x chair) (each 0 v refl) ∙ seat_begun chair (fresh 0 chair refl))
+    (seats_from vs chairs (omega (arith, many)) (λ i x there. each (suc i) x there) (λ i x there. fresh (suc i) x there))
 
-  desk_begun : (c : Configuration) (spin : SpinnerConfig) (r : Runnable) (w : Worker) → InRange c → Begins c spin r w → spin ≡ record { budget_us = c.spin.budget; max_budget_us = c.spin.most; quick_wake_us = c.spin.quick } → desk_of w ≡ first_desk c
-  desk_begun c spin r w range begins told =
-      let d = driver_empty c (driver_of w) range begins.driver in
-      let quiet = left_quiet w.home.deferred begins.untold in
-      ap desk_of begins.parts ∙ rw (quiet.wakes, quiet.outputs, d.ring, d.armed, told) refl
+polls_from : (vs : List Visible) (seats : List Chair) → length vs ≡ length seats → ((i : ℕ) (v : Visible) → slice_get vs i ≡ Some v → v ≡ fresh_visible) → ((i : ℕ) (chair : Chair) → slice_get seats i ≡ Some chair → IsFreshSeat true chair)
+    → polls_seen vs seats ≡ replicate (length seats) no_wake_poll
+polls_from [] [] many each fresh = refl
+polls_from [] (chair ∷ chairs) many each fresh = absurd (omega (arith, many))
+polls_from (v ∷ vs) [] many each fresh = absurd (omega (arith, many))
+polls_from (v ∷ vs) (chair ∷ chairs) many each fresh =
+    cons_by _ _ _ _ (rw ((fresh 0 chair refl).raised, each 0 v refl) refl)
+    (polls_from vs chairs (omega (arith, many)) (λ i x there. each (suc i) x there) (λ i x there. fresh (suc i) x there))
 
-  things_begun : (c : Configuration) (body : B) (s : Shared B) (r : Runnable) → c.workers ≡ 1 → IsFirst c body s r → things_of 0 s ≡ first_things
-  things_begun c body s r one first =
-      ap (things_of 0) first.parts ∙ rw (first.seats, first.fresh.queue, first.fresh.waker, four_shards (length s.set.shards) (subst (λ n. IsShardCount n (length s.set.shards)) one first.shards)) refl
+-- what is seen in each place is fresh
+views_fresh : (c : Configuration) (spin : SpinnerConfig) (ws : List Worker) → InRange c → ((i : ℕ) (w : Worker) → slice_get ws i ≡ Some w → (j : ℕ) × (r : Runnable) × Begins c spin j r w) → (i : ℕ) (v : Visible) → slice_get (map visible ws) i ≡ Some v → v ≡ fresh_visible
+views_fresh c spin [] range each i v there = absurd (cc)
+views_fresh c spin (w ∷ ws) range each zero v there =
+    let it = each 0 w refl in
+    sym (same_thing (visible w) v there) ∙ visible_begun c spin it.0 it.1 w range it.2
+views_fresh c spin (w ∷ ws) range each (suc i) v there = views_fresh c spin ws range (λ k x at. each (suc k) x at) i v there
 
-  performs_begun : (c : Configuration) (spin : SpinnerConfig) (body : B) (core : Core B) (w : Worker) (r : Runnable) (p : Plan) → IsFirst c body core.shared r → Begins c spin r w → core.workers.items ≡ w ∷ [] → IsPlanOf left runs holds spot p c body → RootsPerform left runs holds p core
-  performs_begun c spin body core w r p first begins workers plan i v found =
-      let it = alone_there core.workers.items w i v workers found in
-      let is : v.root ≡ 0 = ap (λ x. x.root) it.0 ∙ ap (λ x. x.root) begins.parts in
-      let root = root_of body first.root in
-      let at_root : Performs left runs holds p root = record {
-        runs_it = λ b answer same told. let one : body ≡ b = cc in subst (λ x. runs (left x) p) one plan.runs_it;
-        holding = λ b answer same told. let one : body ≡ b = cc in rw told (subst (λ x. holds (left x) (Some Start) ≡ []) one plan.holds_nothing ∙ sym first.held);
-      } in
-      subst (λ k. OfSlot k core.shared (Performs left runs holds p)) (sym is) (by_root (Performs left runs holds p) core.shared.tasks.items first.root root first.tasks (root_is c body core.shared r first) at_root)
+shards_seen : {A X : Type 0} (f : A → X) (n : ℕ) → map (map f) (replicate n []) ≡ replicate n []
+shards_seen f zero = refl
+shards_seen f (suc n) = ap (λ xs. [] ∷ xs) (shards_seen f n)
+
+-- one more caller without a call
+pub one_more_free : (n : ℕ) → replicate n free_caller ++ free_caller ∷ [] ≡ replicate (n + 1) free_caller
+one_more_free n = (let same : suc n ≡ n + 1 = omega arith in by n ∙ ap (λ k. replicate k free_caller) same)
+  where
+    by : (k : ℕ) → replicate k free_caller ++ free_caller ∷ [] ≡ replicate (suc k) free_caller
+    by zero = refl
+    by (suc k) = ap (λ xs. free_caller ∷ xs) (by k)
+
+pub free_many : (n : ℕ) → length (replicate n free_caller) ≡ n
+free_many zero = refl
+free_many (suc n) = ap suc (free_many n)
+
+-- one worker alone is paid for at first
+pub first_minded : (p : Plan) → p.config.workers ≡ 1 → p.scripts ≡ [] → All (λ (w : ScriptWord). is_played w ≡ true) p.root → MindedIn p.config (first_playing p) → IsMinded p (first_playing p)
+first_minded p lone scripts played minded =
+    record {
+      lone = lone;
+      scripts = scripts;
+      played = played;
+      calls = refl;
+      tasks = ap (λ n. length (first_tasks n 0)) lone;
+      inbox = ap (λ n. (slice_index_or (replicate n (new_seat true)) 0 no_seat).inbox) lone;
+      minded = minded;
+    }
+
+module _ {B L : Type 0} (left : B → L) (runs : L → Plan → Option ℕ → Type 0) (holds : L → Option Said → List ℕ) (spot : L → Option Said → Spot) where
+  -- a root's slot is the machine's
+  task_begun : (p : Plan) (c : Configuration) (roots : List B) (i : ℕ) (body : B) (slot : TaskSlot B) → IsPlanOf left runs holds spot p c roots → slice_get roots i ≡ Some body → IsRoot i body slot → task_seen left spot slot ≡ root_task i
+  unfolding root_task
+  task_begun p c roots i body slot plan there root =
+      ap (task_seen left spot) root.is ∙ rw ((plan.each i body there).begins, root.held) refl
+
+  performs_begun : (p : Plan) (c : Configuration) (roots : List B) (s : Shared B) (rs : List Runnable) → IsPlanOf left runs holds spot p c roots → IsFirst c roots s rs → PerformsAll left runs holds p s
+  performs_begun p c roots s rs plan first t slot there =
+      let it = first.rooted.root t slot there in
+      let begins = plan.each t it.0 it.1 in
+      subst (Performs left runs holds p) (sym it.2.is)
+      (record {
+        runs_it = λ b answer same told. subst (λ x. runs (left x) p (Some t)) (same_thing it.0 b same) begins.runs_it;
+        holding = λ b answer same told. rw told (subst (λ x. holds (left x) (Some Start) ≡ []) (same_thing it.0 b same) begins.holds_nothing ∙ sym it.2.held);
+      })
 
   -- THE WHOLE
 
-  pub first_shown : (c : Configuration) (spin : SpinnerConfig) (body : B) (core : Core B) (w : Worker) (r : Runnable) (p : Plan) → InRange c → c.workers ≡ 1 → IsFirst c body core.shared r → Begins c spin r w → core.workers.items ≡ w ∷ []
-      → spin ≡ record { budget_us = c.spin.budget; max_budget_us = c.spin.most; quick_wake_us = c.spin.quick } → IsPlanOf left runs holds spot p c body → IsShown left runs holds spot p core (first_playing p)
-  first_shown c spin body core w r p range one first begins workers told plan =
-      record {
-        config = ap (λ s. s.config) first.parts ∙ sym plan.config;
-        scripts = plan.scripts;
-        played = plan.played;
-        performs = performs_begun c spin body core w r p first begins workers plan;
-        world_is = first_world c spin body core w r p range one first begins workers plan;
-        desk = ap (map desk_of) workers ∙ ap (λ x. x ∷ []) (desk_begun c spin r w range begins told ∙ ap first_desk (sym plan.config));
-        things = things_begun c body core.shared r one first;
-      }
+  module _ (c : Configuration) (spin : SpinnerConfig) (roots : List B) (core : Core B) (rs : List Runnable) (p : Plan) (range : InRange c) (first : IsFirst c roots core.shared rs) (begin_all : AllBegin c spin rs core.workers.items)
+      (callers : core.callers.items ≡ replicate 16 free_caller) (told : spin ≡ record { budget_us = c.spin.budget; max_budget_us = c.spin.most; quick_wake_us = c.spin.quick }) (plan : IsPlanOf left runs holds spot p c roots) where
+    s : Shared B
+    s = core.shared
 
-  pub first_ready : (c : Configuration) (spin : SpinnerConfig) (body : B) (core : Core B) (w : Worker) (r : Runnable) → IsFirst c body core.shared r → Begins c spin r w → core.workers.items ≡ w ∷ [] → Stands core → core.spent ≡ false → (p : Plan) × IsPlanOf left runs holds spot p c body
-      → IsReady left runs holds core
-  first_ready c spin body core w r first begins workers stands unspent some =
-      record { stands = stands; unspent = unspent; plan = some.0; config = ap (λ s. s.config) first.parts ∙ sym some.1.config; performs = performs_begun c spin body core w r some.0 first begins workers some.1 }
+    workers_many : length core.workers.items ≡ c.workers
+    workers_many = begin_all.many ∙ first.rooted.runnables_many ∙ plan.many
+
+    seats_many : length core.shared.seats.items ≡ c.workers
+    seats_many = first.rooted.seats_many ∙ plan.many
+
+    tasks_many : length core.shared.tasks.items ≡ c.workers
+    tasks_many = first.rooted.tasks_many ∙ plan.many
+
+    vs : List Visible
+    vs = map visible core.workers.items
+
+    as_many : length (map visible core.workers.items) ≡ length core.shared.seats.items
+    as_many = length-map core.workers.items visible ∙ workers_many ∙ sym seats_many
+
+    fresh_views : (i : ℕ) (v : Visible) → slice_get (map visible core.workers.items) i ≡ Some v → v ≡ fresh_visible
+    fresh_views = views_fresh c spin core.workers.items range (λ i w there. let it = begin_all.each i w there in (i, it.0, it.2))
+
+    owns : map own_of core.workers.items ≡ first_owns c.workers 0
+    owns = owns_from own_of core.workers.items 0 (λ k w there n is. let it = begin_all.each k w there in own_begun c spin k it.0 w range it.2 ∙ ap (new_own 0) (omega (arith, is))) ∙ ap (λ n. first_owns n 0) workers_many
+
+    desks : map desk_of core.workers.items ≡ first_desks c c.workers 0
+    desks = desks_from c desk_of core.workers.items 0 (λ k w there n is. let it = begin_all.each k w there in desk_begun c spin k it.0 w range it.2 told ∙ ap (first_desk c) (omega (arith, is))) ∙ ap (λ n. first_desks c n 0) workers_many
+
+    tasks : map (task_seen left spot) core.shared.tasks.items ≡ first_tasks c.workers 0
+    tasks = tasks_from (task_seen left spot) core.shared.tasks.items 0
+        (λ k slot there n is. let it = first.rooted.root k slot there in task_begun p c roots k it.0 slot plan it.1 it.2 ∙ ap root_task (omega (arith, is)))
+        ∙ ap (λ n. first_tasks n 0) tasks_many
+
+    seats : seats_seen (map visible core.workers.items) core.shared.seats.items ≡ replicate c.workers (new_seat true)
+    seats = seats_from (map visible core.workers.items) core.shared.seats.items as_many fresh_views first.rooted.fresh ∙ ap (λ n. replicate n (new_seat true)) seats_many
+
+    opens : map (open_seen core.shared.requests.items) (replicate c.files fresh_open) ≡ replicate c.files no_open
+    opens = ap (λ xs. map (open_seen xs) (replicate c.files fresh_open)) first.bare.requests ∙ opens_begun c.files
+
+    calls : map (λ (x : Caller). call_of x.place) core.callers.items ≡ replicate 16 NoCall
+    calls = ap (map (λ (x : Caller). call_of x.place)) callers
+
+    common_begun : common_of left spot p (views core) core.shared ≡ first_common c p.scripts p.root
+    common_begun =
+        ap (common_of left spot p (views core)) first.bare.parts
+        ∙ (λ i. record {
+          clock = 0;
+          seats = seats i;
+          scripts = p.scripts;
+          root = p.root;
+          tasks = tasks i;
+          requests = map (λ r. r.shown) (first.bare.requests i);
+          sleepers = map (λ z. z.shown) (first.bare.sleepers i);
+          opens = opens i;
+          listeners = first.bare.listeners i;
+          next_socket = c.sockets;
+          callers = calls i;
+          set_closed = false;
+          queue_closed = false;
+          stopped = false;
+        })
+
+    things_begun : things_with (views core) core.shared ≡ first_things c
+    things_begun =
+        ap (things_with (views core)) first.bare.parts
+        ∙ (λ i. record {
+          queues = queues i;
+          words = words i;
+          inboxes = inboxes i;
+          wake_polls = polls i;
+          global = [];
+          idle = record { published = replicate 64 false; count = 0 };
+          barrier = false;
+          shards = shards i;
+        })
+      where
+        queues : map queue_at core.shared.seats.items ≡ replicate c.workers no_queue
+        queues = same_each queue_at no_queue core.shared.seats.items (λ i chair there. ap queue_seen (first.rooted.fresh i chair there).queue) ∙ ap (λ n. replicate n no_queue) seats_many
+
+        words : map word_at core.shared.seats.items ≡ replicate c.workers no_word
+        words = same_each word_at no_word core.shared.seats.items (λ i chair there. (first.rooted.fresh i chair there).waker) ∙ ap (λ n. replicate n no_word) seats_many
+
+        inboxes : map inbox_at core.shared.seats.items ≡ replicate c.workers []
+        inboxes = same_each inbox_at [] core.shared.seats.items (λ i chair there. ap (λ x. map message_of x.messages) (first.rooted.fresh i chair there).inbox) ∙ ap (λ n. replicate n []) seats_many
+
+        polls : polls_seen (map visible core.workers.items) core.shared.seats.items ≡ replicate c.workers no_wake_poll
+        polls = polls_from (map visible core.workers.items) core.shared.seats.items as_many fresh_views first.rooted.fresh ∙ ap (λ n. replicate n no_wake_poll) seats_many
+
+        shards : map (map (λ (e : ℕ × Unit {0}). e.0)) (replicate (length core.shared.set.shards) []) ≡ replicate (shard_count c) []
+        shards = shards_seen (λ (e : ℕ × Unit {0}). e.0) (length core.shared.set.shards) ∙ ap (λ n. replicate n []) (shards_of c (length core.shared.set.shards) range first.bare.shards)
+
+    playing_begun : playing left spot p core ≡ first_playing p
+    playing_begun =
+        playing_by _ _ _ _ _ _ _ _
+        ((λ i. record { workers = owns i; common = common_begun i }) ∙ ap (λ k. first_world k p.scripts p.root) (sym plan.config))
+        (desks ∙ ap (λ k. first_desks k k.workers 0) (sym plan.config))
+        (ap (map desk_of_caller) callers)
+        (things_begun ∙ ap first_things (sym plan.config))
+
+    pub first_shown : Shows left runs holds spot p core (first_playing p)
+    first_shown =
+        record {
+          config = ap (λ (z : Shared B). z.config) first.bare.parts ∙ sym plan.config;
+          performs = performs_begun p c roots core.shared rs plan first;
+          is = playing_begun;
+        }
+
+    pub first_ready : core.spent ≡ false → IsReady left runs holds p core
+    first_ready unspent =
+        record {
+          stands = first_stands c spin roots core rs range plan.many first begin_all callers;
+          unspent = unspent;
+          config = ap (λ (z : Shared B). z.config) first.bare.parts ∙ sym plan.config;
+          performs = performs_begun p c roots core.shared rs plan first;
+        }

@@ -1,19 +1,17 @@
 -- A step that may want memory, by what came of it; and what a step that may be taken finds.
-use Rattle.std.proofs.Common.{◌≡◌, ℕ, ◌+◌, ◌^◌, ◌<◌, ◌≤◌, Bool, true, false, List, length, get_or, Result, Ok, Err, Option, None, Some, refl, sym, ap, subst, ◌∙◌, arith}
-use Rattle.std.proofs.lemmas.Bool.{false≢true, and_parts}
-use Rattle.std.proofs.lemmas.Bool.Decides.{nat_tests}
-use Rattle.std.proofs.lemmas.List.{length-set}
-use Rattle.std.proofs.lemmas.Option.{slice_get_within, slice_get_past, slice_get-get_or}
-use Rattle.std.specs.Prelude.{slice_get, slice_set, slice_index_or, nat_lt, is_err, IfOk, OnOk, OnErr}
+use Rattle.std.proofs.{Common.{◌≡◌, ℕ, ◌+◌, ◌^◌, ◌<◌, ◌≤◌, Bool, true, false, not, List, length, get_or, Result, Ok, Err, Option, None, Some, refl, sym, ap, subst, ◌∙◌, arith, slice_get, slice_set}, lemmas.{Bool.{false≢true, and_parts, Decides.nat_tests}, List.length-set, Option.{slice_get_within, slice_get_past, slice_get-get_or}}}
+use Rattle.std.specs.Prelude.{slice_index_or, nat_lt, is_err, IfOk, OnOk, OnErr}
 use Rattle.exec_outcomes.specs.{declared.outcome.{Kind.TheVariants.Direct, OpResult.OpResult}, Lawful.{is_lawful, window_of}}
 use Rattle.exec_task.specs.declared.body.Said.{Said}
-use Rattle.exec_machine.specs.{declared.{event.Event.Event, state.RequestPhase.RequestPhase}, Progress.Plan, Requests.{asked_of, cursor_of}, Tests.is_flying}
+use Rattle.exec_machine.specs.{declared.{event.Event.Event, state.RequestPhase.RequestPhase, step.Action.Action}, Progress.Plan, Requests.{asked_of, cursor_of}, Tests.is_flying, World.Common}
+use Rattle.exec_moves.specs.State.{Desk, WakePoll}
 use Rattle.exec_machine.specs.declared.event.Event.TheVariants as event
 use Rattle.exec_machine.specs.declared.step.Action.TheVariants as action
 use Rattle.exec_machine.specs.declared.state.RequestPhase.TheVariants as phase
-use Rattle.exec_steps.specs.{Carried.MayLand, Flown.{IsUpTo, longest}, Phased.{IsGoing, TurnsChair}, Records.roused, Sound.Sound, Spots.Spot, Acting.StepsOf, Works.Same, declared.parts.{record.Record.Record, shared.Shared.Shared, worker.Worker.Worker}}
-use Rattle.exec_core.proofs.{Applying.{peer_came, stands_by, owner_there, going_there, begun_there, asleep_there, landing_there, working_there, worker_there}, Enabling.enabled_as, Lifting.{lifted, stands_again, as_before, keeps_on, keeps_all}}
-use Rattle.exec_core.specs.{Lift.{Stands, Keeps, RootsPerform, Takes, WorkerSteps, WorkerStays, IsAsBefore, may_take, may_land_in, has_begun}, declared.executor.Core.Core}
+use Rattle.exec_steps.specs.{declared.parts.{caller.Caller.Caller, record.Record.Record, shared.Shared.Shared, worker.Worker.Worker}, Acting.{PerformsAll, StepsOf}, Calling.{HasCallWhole, HaveMailboxes, is_free}, Carried.MayLand, Flown.{IsUpTo, longest}, Phased.{IsGoing, TurnsChair}, Records.roused, Sound.Sound, Spots.Spot, Whole.{HasWhole, IsWhole, Profile}, Works.Same}
+use Rattle.exec_steps.proofs.{Spared.there_within, Together.{has_call_whole, has_whole, have_mailboxes}}
+use Rattle.exec_core.proofs.{Applying.{asleep_there, begun_there, going_there, landing_there, owner_there, peer_came, worker_there, working_there}, CoreCalls.{call_stands, spawn_called}, Enabling.enabled_as, Lifting.{as_before, lifted, stands_again, stands_by, stands_worked}}
+use Rattle.exec_core.specs.{Lift.{Calls, IsAsBefore, Keeps, Rings, Sees, Stands, Takes, WorkerStays, WorkerSteps, has_begun, may_call_in, may_go_on_in, may_land_in, may_take}, declared.executor.Core.Core}
 
 pub less_there : (a b : ℕ) → nat_lt a b ≡ true → a < b
 less_there a b h = grind (arith, nat_tests)
@@ -32,6 +30,10 @@ pub on_err : {T E : Type 0} (r : Result T E) (P : Type 0) → P → OnErr r P
 on_err (Ok x) P holds = tt
 on_err (Err x) P holds = holds
 
+pub on_ok : {T E : Type 0} (r : Result T E) (P : Type 0) → P → OnOk r P
+on_ok (Ok x) P holds = holds
+on_ok (Err x) P holds = tt
+
 pub spent_by : {T E : Type 0} (r : Result T E) (b : Bool) → b ≡ is_err r → OnErr r (b ≡ true)
 spent_by (Ok x) b is = tt
 spent_by (Err x) b is = is
@@ -44,101 +46,177 @@ flies_by phase.Flying h = refl
 flies_by (phase.Landed n) h = absurd (false≢true h)
 flies_by (phase.Resolved outcome) h = absurd (false≢true h)
 
-module _ {B L E : Type 0} (left : B → L) (runs : L → Plan → Type 0) (holds : L → Option Said → List ℕ) (spot : L → Option Said → Spot) where
-  pub worked : (i : ℕ) (c d : Core B) (result : Result Event E) → Stands c → may_take c.shared (action.Work i) ≡ true → IfOk result (λ e. WorkerSteps left runs holds spot i c e d)
-      → IfOk result (λ e. (p : Plan) → c.shared.config ≡ p.config → RootsPerform left runs holds p c → Takes left spot p c (action.Work i) e d)
-  worked i c d (Ok e) stands may steps = λ p config performs. lifted left runs holds spot i p c d e stands steps config performs (sym (enabled_as left spot p c (action.Work i) stands refl) ∙ may)
+-- the worker, or the caller, that was read off the list
+pub read_there : {X : Type 0} (xs : List X) (i : ℕ) (x : X) → i < length xs → x ≡ get_or xs i x → slice_get xs i ≡ Some x
+read_there xs i x within is = slice_get-get_or xs i x within ∙ ap (λ y. Some y) (sym is)
+
+free_within : (cs : List Caller) (j : ℕ) → may_call_in (slice_get cs j) ≡ true → j < length cs
+free_within cs j may = by (slice_get cs j) refl may
+  where
+    by : (o : Option Caller) → slice_get cs j ≡ o → may_call_in o ≡ true → j < length cs
+    by None is h = absurd (false≢true h)
+    by (Some x) is h = slice_get_within cs j x is
+
+not_free : (b : Bool) → not b ≡ true → b ≡ false
+not_free true h = absurd (false≢true h)
+not_free false h = refl
+
+module _ {B L : Type 0} (left : B → L) (runs : L → Plan → Option ℕ → Type 0) (holds : L → Option Said → List ℕ) (spot : L → Option Said → Spot) where
+  -- where no task changes
+  pub keeps_tasks : (name : L → ℕ) (a : Action) (o : Option B) (c d : Core B) → d.shared.config ≡ c.shared.config → d.shared.tasks ≡ c.shared.tasks → Keeps left runs holds spot name a o c d
+  keeps_tasks name a o c d config tasks =
+      record { config = config; performs = λ p is carries fits t slot there. fits t slot (ap (λ ts. slice_get ts.items t) (sym tasks) ∙ there) }
+
+module _ {B L E : Type 0} (left : B → L) (runs : L → Plan → Option ℕ → Type 0) (holds : L → Option Said → List ℕ) (spot : L → Option Said → Spot) where
+  pub worked : (i : ℕ) (c d : Core B) (result : Result Event E) → Stands c → may_take c (action.Work i) ≡ true → IfOk result (λ e. WorkerSteps left runs holds spot i c e d)
+      → IfOk result (λ e. (p : Plan) → c.shared.config ≡ p.config → PerformsAll left runs holds p c.shared → Takes left spot p c (action.Work i) e d)
+  worked i c d (Ok e) stands may steps = λ p config performs. lifted left runs holds spot i p c d e stands steps config performs (sym (enabled_as left spot p c (action.Work i) stands) ∙ may)
   worked i c d (Err x) stands may steps = tt
 
   pub worked_stands : (i : ℕ) (c d : Core B) (result : Result Event E) → Stands c → c.spent ≡ false → IfOk result (λ e. WorkerSteps left runs holds spot i c e d) → OnOk result (Stands d × (d.spent ≡ false))
   worked_stands i c d (Ok e) stands unspent steps = (stands_again left runs holds spot i c d e stands steps, steps.spent ∙ unspent)
   worked_stands i c d (Err x) stands unspent steps = tt
 
-  pub worked_keeps : (i : ℕ) (c d : Core B) (result : Result Event E) → Stands c → IfOk result (λ e. WorkerSteps left runs holds spot i c e d) → OnOk result (Keeps left runs holds c d)
-  worked_keeps i c d (Ok e) stands steps = keeps_on left runs holds spot i c d e stands steps
-  worked_keeps i c d (Err x) stands steps = tt
-
-  pub work_steps : (i : ℕ) (c d : Core B) (w w' : Worker) (result : Result Event E) → slice_get c.workers.items i ≡ Some w → d.workers.items ≡ slice_set c.workers.items i w' → d.spent ≡ is_err result → c.spent ≡ false
+  pub work_steps : (i : ℕ) (c d : Core B) (w w' : Worker) (result : Result Event E) → slice_get c.workers.items i ≡ Some w → d.workers.items ≡ slice_set c.workers.items i w' → d.callers ≡ c.callers → d.spent ≡ is_err result → c.spent ≡ false
       → IfOk result (λ e. StepsOf left runs holds spot w c.shared e w' d.shared) → IfOk result (λ e. WorkerSteps left runs holds spot i c e d)
-  work_steps i c d w w' (Ok e) was workers spent unspent steps = record { before = w; after = w'; was = was; workers = workers; spent = spent ∙ sym unspent; steps = steps }
-  work_steps i c d w w' (Err x) was workers spent unspent steps = tt
+  work_steps i c d w w' (Ok e) was workers callers spent unspent steps = record { before = w; after = w'; was = was; workers = workers; callers = callers; spent = spent ∙ sym unspent; steps = steps }
+  work_steps i c d w w' (Err x) was workers callers spent unspent steps = tt
 
-  pub peer_applied : (l : ℕ) (c d : Core B) (result : Result Event E) → Stands c → may_take c.shared (action.Peer l) ≡ true → d.workers ≡ c.workers → IfOk result (λ e. e ≡ event.Peer)
+  pub peer_applied : (l : ℕ) (c d : Core B) (result : Result Event E) → Stands c → may_take c (action.Peer l) ≡ true → d.workers ≡ c.workers → d.callers ≡ c.callers → IfOk result (λ e. e ≡ event.Peer)
       → OnOk result (d.shared.listeners.items ≡ slice_set c.shared.listeners.items l (slice_index_or c.shared.listeners.items l 0 + 1)) → d.shared ≡ record c.shared { listeners = d.shared.listeners }
-      → IfOk result (λ e. (p : Plan) → c.shared.config ≡ p.config → RootsPerform left runs holds p c → Takes left spot p c (action.Peer l) e d)
-  peer_applied l c d (Ok e) stands may workers is more kept = λ p config performs. rw is (peer_came left spot p c d l stands may workers more kept)
-  peer_applied l c d (Err x) stands may workers is more kept = tt
+      → IfOk result (λ e. (p : Plan) → c.shared.config ≡ p.config → PerformsAll left runs holds p c.shared → Takes left spot p c (action.Peer l) e d)
+  peer_applied l c d (Ok e) stands may workers callers is more kept = λ p config performs. rw is (peer_came left spot p c d l stands may workers callers more kept)
+  peer_applied l c d (Err x) stands may workers callers is more kept = tt
 
-  pub peer_keeps : (c d : Core B) (result : Result Event E) → d.workers ≡ c.workers → d.shared ≡ record c.shared { listeners = d.shared.listeners } → OnOk result (Keeps left runs holds c d)
-  peer_keeps c d (Ok e) workers kept = keeps_all left runs holds c d workers (ap (λ x. x.config) kept) (ap (λ x. x.tasks) kept)
-  peer_keeps c d (Err x) workers kept = tt
+  module _ (name : L → ℕ) where
+    pub worked_keeps : (i : ℕ) (o : Option B) (c d : Core B) (result : Result Event E) → IfOk result (λ e. WorkerSteps left runs holds spot i c e d) → OnOk result (Keeps left runs holds spot name (action.Work i) o c d)
+    worked_keeps i o c d (Ok e) steps = record { config = steps.steps.2.config; performs = λ p is carries fits. steps.steps.2.performs p fits }
+    worked_keeps i o c d (Err x) steps = tt
+
+    pub peer_keeps : (l : ℕ) (o : Option B) (c d : Core B) (result : Result Event E) → d.shared ≡ record c.shared { listeners = d.shared.listeners } → OnOk result (Keeps left runs holds spot name (action.Peer l) o c d)
+    peer_keeps l o c d (Ok e) kept = keeps_tasks left runs holds spot name (action.Peer l) o c d (ap (λ x. x.config) kept) (ap (λ x. x.tasks) kept)
+    peer_keeps l o c d (Err x) kept = tt
 
 module _ {B L E : Type 0} (left : B → L) (spot : L → Option Said → Spot) where
   pub worked_same : (i : ℕ) (c d : Core B) (result : Result Event E) → OnErr result (WorkerStays left spot i c d) → OnErr result (IsAsBefore left spot c d)
   worked_same i c d (Ok e) stays = tt
   worked_same i c d (Err x) stays = as_before left spot i c d stays
 
-  pub peer_same : (c d : Core B) (result : Result Event E) → d.workers ≡ c.workers → OnErr result (d.shared ≡ c.shared) → OnErr result (IsAsBefore left spot c d)
-  peer_same c d (Ok e) workers same = tt
-  peer_same c d (Err x) workers same = record { world_same = λ p. rw (workers, same) refl; desks = rw workers refl }
+  pub peer_same : (c d : Core B) (result : Result Event E) → d.workers ≡ c.workers → d.callers ≡ c.callers → OnErr result (d.shared ≡ c.shared) → OnErr result (IsAsBefore left spot c d)
+  peer_same c d (Ok e) workers callers same = tt
+  peer_same c d (Err x) workers callers same = λ p. rw (workers, callers, same) refl
 
-  pub peer_stands : (c d : Core B) (result : Result Event E) → Stands c → d.workers ≡ c.workers → OnOk result (d.spent ≡ false) → d.shared ≡ record c.shared { listeners = d.shared.listeners } → ((w : Worker) → Sound w c.shared → Sound w d.shared)
-      → OnOk result (Stands d × (d.spent ≡ false))
-  peer_stands c d (Ok e) stands workers unspent kept sound = (stands_by c d stands workers (ap (λ x. length x.seats.items) kept) sound, unspent)
-  peer_stands c d (Err x) stands workers unspent kept sound = tt
+  pub peer_stands : (c d : Core B) (result : Result Event E) → Stands c → d.workers ≡ c.workers → d.callers ≡ c.callers → OnOk result (d.spent ≡ false) → d.shared ≡ record c.shared { listeners = d.shared.listeners } → ((w : Worker) → Sound w c.shared → Sound w d.shared)
+      → ((x : Profile) → IsWhole x c.shared → IsWhole x d.shared) → OnOk result (Stands d × (d.spent ≡ false))
+  peer_stands c d (Ok e) stands workers callers unspent kept sound whole =
+      (stands_by c d stands workers callers (ap (λ x. length x.seats.items) kept) (ap (λ x. x.config) kept) (ap (λ x. x.tasks) kept) (ap (λ x. x.requests) kept) (ap (λ x. x.set) kept) sound whole, unspent)
+  peer_stands c d (Err x) stands workers callers unspent kept sound whole = tt
 
-  pub work_stays : (i : ℕ) (c d : Core B) (w w' : Worker) (result : Result Event E) → slice_get c.workers.items i ≡ Some w → d.workers.items ≡ slice_set c.workers.items i w'
+  pub work_stays : (i : ℕ) (c d : Core B) (w w' : Worker) (result : Result Event E) → slice_get c.workers.items i ≡ Some w → d.workers.items ≡ slice_set c.workers.items i w' → d.callers ≡ c.callers
       → OnErr result (Same left spot w c.shared w' d.shared) → OnErr result (WorkerStays left spot i c d)
-  work_stays i c d w w' (Ok e) was workers same = tt
-  work_stays i c d w w' (Err x) was workers same = record { before = w; after = w'; was = was; workers = workers; same = same }
+  work_stays i c d w w' (Ok e) was workers callers same = tt
+  work_stays i c d w w' (Err x) was workers callers same = record { before = w; after = w'; was = was; workers = workers; callers = callers; same = same }
 
 module _ {B : Type 0} where
-  -- the worker that was read off the list
-  pub read_there : (c : Core B) (i : ℕ) (w : Worker) → i < length c.workers.items → w ≡ get_or c.workers.items i w → slice_get c.workers.items i ≡ Some w
-  read_there c i w within is = slice_get-get_or c.workers.items i w within ∙ ap (λ x. Some x) (sym is)
-
-  pub work_within : (c : Core B) (i : ℕ) → Stands c → may_take c.shared (action.Work i) ≡ true → i < length c.workers.items
+  pub work_within : (c : Core B) (i : ℕ) → Stands c → may_take c (action.Work i) ≡ true → i < length c.workers.items
   work_within c i stands may =
       let chair = working_there c.shared.seats.items (slice_get c.shared.seats.items i) may in
-      let w = worker_there c.workers.items c.shared.seats.items i chair.0 stands.seats chair.1 in
+      let w = worker_there c i chair.0 stands chair.1 in
       slice_get_within c.workers.items i w.0 w.1
 
   pub begun_within : (c : Core B) (i : ℕ) → Stands c → has_begun (slice_get c.shared.seats.items i) ≡ true → i < length c.workers.items
   begun_within c i stands may =
       let chair = begun_there (slice_get c.shared.seats.items i) may in
-      let w = worker_there c.workers.items c.shared.seats.items i chair.0 stands.seats chair.1 in
+      let w = worker_there c i chair.0 stands chair.1 in
       slice_get_within c.workers.items i w.0 w.1
 
-  pub goes_there : (c : Core B) (i : ℕ) (w : Worker) → Stands c → may_take c.shared (action.Work i) ≡ true → slice_get c.workers.items i ≡ Some w → IsGoing w.index c.shared.seats.items
+  pub goes_there : (c : Core B) (i : ℕ) (w : Worker) → Stands c → may_take c (action.Work i) ≡ true → slice_get c.workers.items i ≡ Some w → IsGoing w.index c.shared.seats.items
   goes_there c i w stands may there chair found =
-      going_there c.shared.seats.items (slice_get c.shared.seats.items i) may chair (ap (slice_get c.shared.seats.items) (sym (stands.sound i w there).0) ∙ found)
+      going_there c.shared.seats.items (slice_get c.shared.seats.items i) may chair (ap (slice_get c.shared.seats.items) (sym (stands.together.sound i w there).0) ∙ found)
 
-  pub stirs_within : (s : Shared B) (i : ℕ) → may_take s (action.Stir i) ≡ true → i < length s.seats.items
-  stirs_within s i may =
-      let chair = asleep_there (slice_get s.seats.items i) may in
-      slice_get_within s.seats.items i chair.0 chair.1
+  pub whole_there : (c : Core B) (i : ℕ) (w : Worker) → Stands c → slice_get c.workers.items i ≡ Some w → HasWhole w c.shared
+  whole_there c i w stands there = has_whole c.workers.items c.callers.items c.shared stands.together i w there
 
-  pub chair_many : (s t : Shared B) (i : ℕ) → may_take s (action.Stir i) ≡ true → TurnsChair i roused s t → length t.seats.items ≡ length s.seats.items
-  chair_many s t i may turns =
-      let chair = asleep_there (slice_get s.seats.items i) may in
-      ap (λ xs. length xs) (turns chair.0 chair.1) ∙ length-set s.seats.items i (roused chair.0)
+  pub stirs_within : (c : Core B) (i : ℕ) → may_take c (action.Stir i) ≡ true → i < length c.shared.seats.items
+  stirs_within c i may =
+      let chair = asleep_there (slice_get c.shared.seats.items i) may in
+      slice_get_within c.shared.seats.items i chair.0 chair.1
 
-  pub lands_within : (s : Shared B) (r : ℕ) (n : OpResult) → may_take s (action.Land r n) ≡ true → r < length s.requests.items
-  lands_within s r n may =
-      let it = landing_there (slice_get s.requests.items r) n may in
-      slice_get_within s.requests.items r it.0 it.1
+  pub chair_many : (c : Core B) (t : Shared B) (i : ℕ) → may_take c (action.Stir i) ≡ true → TurnsChair i roused c.shared t → length t.seats.items ≡ length c.shared.seats.items
+  chair_many c t i may turns =
+      let chair = asleep_there (slice_get c.shared.seats.items i) may in
+      ap (λ xs. length xs) (turns chair.0 chair.1) ∙ length-set c.shared.seats.items i (roused chair.0)
+
+  pub lands_within : (c : Core B) (r : ℕ) (n : OpResult) → may_take c (action.Land r n) ≡ true → r < length c.shared.requests.items
+  lands_within c r n may =
+      let it = landing_there (slice_get c.shared.requests.items r) n may in
+      slice_get_within c.shared.requests.items r it.0 it.1
 
   -- No request has two parts.
   pub not_direct : (c : Core B) (r : ℕ) (it : Record) → Stands c → slice_get c.shared.requests.items r ≡ Some it → it.shown.operation.kind ≡ Direct → it.shown.operation.skip + it.shown.operation.length + 4095 < 2 ^ 64
   not_direct c r it stands there direct =
       let owner = owner_there c r it stands there in
-      let plain = (stands.sound it.shown.worker owner.0 owner.1).1.flown.plain r it there (sym owner.2) in
+      let at = stands.together.sound it.shown.worker owner.0 owner.1 in
+      let plain = at.1.flown.plain r it there (sym at.0) in
       absurd (subst (λ k. IsUpTo (longest k) it.shown.operation.length) direct plain.bounded)
 
-  pub landing_may : (s : Shared B) (r : ℕ) (n : OpResult) (it : Record) → may_take s (action.Land r n) ≡ true → slice_get s.requests.items r ≡ Some it → MayLand s.requests.items r n
-  landing_may s r n it may there =
+  pub landing_may : (c : Core B) (r : ℕ) (n : OpResult) (it : Record) → may_take c (action.Land r n) ≡ true → slice_get c.shared.requests.items r ≡ Some it → MayLand c.shared.requests.items r n
+  landing_may c r n it may there =
       let both = and_parts (is_flying it.shown.phase) (is_lawful (window_of (asked_of it.shown.operation) (cursor_of it.shown.operation)) n) (subst (λ o. may_land_in o n ≡ true) there may) in
       record { it = it; there = there; flies = flies_by it.shown.phase both.0; lawful = both.1 }
 
-  pub land_read : (s : Shared B) (r : ℕ) (n : OpResult) (it : Record) → may_take s (action.Land r n) ≡ true → it ≡ get_or s.requests.items r it → slice_get s.requests.items r ≡ Some it
-  land_read s r n it may is = slice_get-get_or s.requests.items r it (lands_within s r n may) ∙ ap (λ x. Some x) (sym is)
+  pub land_read : (c : Core B) (r : ℕ) (n : OpResult) (it : Record) → may_take c (action.Land r n) ≡ true → it ≡ get_or c.shared.requests.items r it → slice_get c.shared.requests.items r ≡ Some it
+  land_read c r n it may is = slice_get-get_or c.shared.requests.items r it (lands_within c r n may) ∙ ap (λ x. Some x) (sym is)
+
+  -- CALLERS
+
+  pub calling_within : (c : Core B) (j : ℕ) → may_go_on_in (slice_get c.callers.items j) ≡ true → j < length c.callers.items
+  calling_within c j may = by (slice_get c.callers.items j) refl may
+    where
+      by : (o : Option Caller) → slice_get c.callers.items j ≡ o → may_go_on_in o ≡ true → j < length c.callers.items
+      by None is h = absurd (false≢true h)
+      by (Some x) is h = slice_get_within c.callers.items j x is
+
+  pub call_within : (c : Core B) (j : ℕ) → may_call_in (slice_get c.callers.items j) ≡ true → j < length c.callers.items
+  call_within c j may = free_within c.callers.items j may
+
+  pub free_there : (c : Core B) (j : ℕ) (x : Caller) → may_call_in (slice_get c.callers.items j) ≡ true → slice_get c.callers.items j ≡ Some x → is_free x.place ≡ true
+  free_there c j x may there = subst (λ o. may_call_in o ≡ true) there may
+
+  pub calling_there : (c : Core B) (j : ℕ) (x : Caller) → may_go_on_in (slice_get c.callers.items j) ≡ true → slice_get c.callers.items j ≡ Some x → is_free x.place ≡ false
+  calling_there c j x may there = not_free (is_free x.place) (subst (λ o. may_go_on_in o ≡ true) there may)
+
+  pub call_whole : (c : Core B) (j : ℕ) (x : Caller) → Stands c → slice_get c.callers.items j ≡ Some x → HasCallWhole x c.shared
+  call_whole c j x stands there =
+      let w = there_within c.workers.items 0 stands.some in
+      has_call_whole c.workers.items c.callers.items c.shared stands.together 0 w.0 w.1 j x there
+
+  pub mailboxes : (c : Core B) → Stands c → HaveMailboxes c.shared
+  mailboxes c stands = have_mailboxes c.workers.items c.callers.items c.shared stands.together
+
+  -- WHAT STANDS after a step of no party, or of a ring
+
+  pub seats_stand : (c d : Core B) → Stands c → c.spent ≡ false → d.workers ≡ c.workers → d.callers ≡ c.callers → d.spent ≡ c.spent → length d.shared.seats.items ≡ length c.shared.seats.items
+      → d.shared.config ≡ c.shared.config → d.shared.tasks ≡ c.shared.tasks → d.shared.requests ≡ c.shared.requests → d.shared.set ≡ c.shared.set
+      → ((w : Worker) → Sound w c.shared → Sound w d.shared) → ((x : Profile) → IsWhole x c.shared → IsWhole x d.shared) → Stands d × (d.spent ≡ false)
+  seats_stand c d stands unspent workers callers spent many config tasks requests set sound whole = (stands_by c d stands workers callers many config tasks requests set sound whole, spent ∙ unspent)
+
+  pub sees_stand : (c d : Core B) (i : ℕ) (sees : Sees i (λ seen. record seen { busy = true }) c d) → Stands c → c.spent ≡ false → Stands d × (d.spent ≡ false)
+  sees_stand c d i sees stands unspent =
+      (stands_worked c d i sees.before sees.after stands sees.was sees.workers (ap (λ (x : Core B). x.callers) sees.now) sees.index sees.sound sees.beside, ap (λ (x : Core B). x.spent) sees.now ∙ unspent)
+
+module _ {B L : Type 0} (left : B → L) (spot : L → Option Said → Spot) where
+  pub rings_stand : (i : ℕ) (poll : WakePoll → WakePoll) (desk : Desk → Desk) (all : Common → Common) (c d : Core B) → Stands c → c.spent ≡ false → Rings left spot i poll desk all c d → Stands d × (d.spent ≡ false)
+  rings_stand i poll desk all c d stands unspent rings =
+      (stands_worked c d i rings.before rings.after stands rings.was rings.workers rings.callers rings.index rings.sound rings.beside, rings.spent ∙ unspent)
+
+module _ {B L E : Type 0} (left : B → L) (spot : L → Option Said → Spot) where
+  pub spawn_stands : (j k : ℕ) (c d : Core B) (result : Result Event E) → Stands c → c.spent ≡ false → IfOk result (λ e. Calls left spot (action.Spawn j k) j c e d) → OnOk result (Stands d × (d.spent ≡ false))
+  spawn_stands j k c d (Ok e) stands unspent calls = call_stands left spot (action.Spawn j k) j c d e stands unspent calls
+  spawn_stands j k c d (Err x) stands unspent calls = tt
+
+module _ {B L E : Type 0} (left : B → L) (runs : L → Plan → Option ℕ → Type 0) (holds : L → Option Said → List ℕ) (spot : L → Option Said → Spot) where
+  pub spawn_takes : (j k : ℕ) (c d : Core B) (result : Result Event E) → Stands c → IfOk result (λ e. Calls left spot (action.Spawn j k) j c e d)
+      → IfOk result (λ e. (p : Plan) → c.shared.config ≡ p.config → PerformsAll left runs holds p c.shared → Takes left spot p c (action.Spawn j k) e d)
+  spawn_takes j k c d (Ok e) stands calls = λ p config performs. spawn_called left spot j k p c d e stands config calls
+  spawn_takes j k c d (Err x) stands calls = tt

@@ -2,3 +2,4 @@ pub mod Configs
 pub mod Ranges
 pub mod Firsts
 pub mod Lift
+pub mod Once

@@ -2,60 +2,73 @@
 //!
 //! A step that gets no memory leaves all that can be seen as it was, but the executor is spent by it: no step may follow.
 
-ghost use Rattle.std.specs.Prelude.{◌≡◌, ◌+◌, ◌<◌, true, false, length, slice_get, slice_set, slice_index_or, IfOk, OnOk, OnErr};
+ghost use Rattle.std.specs.Prelude.{◌≡◌, ◌+◌, ◌<◌, [], true, false, length, slice_get, slice_set, slice_index_or, All, IfOk, OnOk, OnErr};
 ghost use Rattle.exec_machine.specs.{Callers.is_enabled, Progress.Plan};
+ghost use Rattle.exec_credit.specs.Minded.{is_played};
 ghost use Rattle.exec_moves.specs.Plays.{Playing, first_playing};
-ghost use Rattle.exec_steps.specs.{Sound.Sound, declared.parts.worker.Worker.Worker as Party};
-ghost use Rattle.exec_core.specs.{Configs.configuration_of as configuration_told, Lift.{world, Stands, IsReady, Shows, Applies, Keeps, RootsPerform, Takes, IsPlanOf, IsAsBefore, WorkerSteps, WorkerStays, Sees, Lands, is_of_first_cut, may_take, may_work_in, may_land_in, has_begun}, Ranges.is_in_range};
+ghost use Rattle.exec_steps.specs.{Acting.PerformsAll, Sound.Sound, Whole.{IsWhole, Profile}, declared.parts.worker.Worker.Worker as Party};
+ghost use Rattle.exec_core.specs.{Configs.configuration_of as configuration_told, Lift.{world, Stands, IsReady, Shows, Applies, Calls, Carries, Keeps, Takes, IsMinded, IsPlanOf, IsAsBefore, WorkerSteps, WorkerStays, Sees, EndsPoll, Lands, may_take, may_work_in, may_land_in, may_call_in, may_go_on_in, has_begun}, Ranges.is_in_range};
 
 use crate::config::Config;
-use crate::setting_up::{configuration_of, first_shared, first_worker};
+use crate::setting_up::{configuration_of, first_shared, first_workers};
 use exec_base::limits::LAST_MOMENT;
 use exec_credit::minded::{a_step_is_minded, minded_is_fair};
 use exec_machine::event::{Event, Line, StepResult};
 use exec_machine::step::Action;
 use exec_outcomes::outcome::OpResult;
+use exec_steps::parts::caller::Caller;
 use exec_steps::parts::shared::Shared;
 use exec_steps::parts::worker::Worker;
 use exec_steps::scripted::Scripted;
 use std::alloc::{AllocError, Global};
+
+/// How many outside callers there are.
+const CALLERS: usize = 16;
 
 /// One executor: its workers, and what they share.
 #[derive(Drop)]
 pub struct Core<B> {
     workers: Vec<Worker>,
     shared: Shared<B>,
+    // The outside callers, by number.
+    callers: Vec<Caller>,
     // Whether a step got no memory.
     spent: bool,
 }
 
 impl<B: Scripted + Drop> Core<B> {
-    /// An executor of one worker, whose root runs this body, with so many open files and sockets, where so many looks of a
+    /// An executor whose workers' roots run these bodies, with so many open files and sockets, where so many looks of a
     /// spinning worker take a microsecond. An `Err` comes only for want of memory. The caller must have a configuration
-    /// of one worker whose parts are in their ranges, and a plan that the body begins.
+    /// whose parts are in their ranges, as many bodies as workers, and a plan that the bodies begin.
     pub fn new(
         alloc: Global,
         config: &Config,
         iters_per_us: u64,
         files: usize,
         sockets: usize,
-        root: B,
+        roots: Vec<B>,
     ) -> Result<Self, AllocError>
         requires config { is_in_range (configuration_told config.now iters_per_us files sockets) ≡ true }
-        requires one_worker { config.now.worker_threads ≡ 1 }
-        requires plan { (p : Plan) × IsPlanOf B.left B.runs B.holds B.spot p (configuration_told config.now iters_per_us files sockets) root }
-        ensures begins { IfOk result (λ core. (p : Plan) → IsPlanOf B.left B.runs B.holds B.spot p (configuration_told config.now iters_per_us files sockets) root → Shows B.left B.runs B.holds B.spot p core (first_playing p)) }
-        ensures ready { IfOk result (λ core. IsReady B.left B.runs B.holds core) }
+        requires plan { (p : Plan) × IsPlanOf B.left B.runs B.holds B.spot p (configuration_told config.now iters_per_us files sockets) roots.items }
+        ensures begins { IfOk result (λ core. (p : Plan) → IsPlanOf B.left B.runs B.holds B.spot p (configuration_told config.now iters_per_us files sockets) roots.items →
+            Shows B.left B.runs B.holds B.spot p core (first_playing p)) }
+        ensures ready { IfOk result (λ core. (p : Plan) → IsPlanOf B.left B.runs B.holds B.spot p (configuration_told config.now iters_per_us files sockets) roots.items →
+            IsReady B.left B.runs B.holds p core) }
+        ensures minded { OnOk result ((p : Plan) → IsPlanOf B.left B.runs B.holds B.spot p (configuration_told config.now iters_per_us files sockets) roots.items →
+            p.config.workers ≡ 1 → p.scripts ≡ [] → All (λ word. is_played word ≡ true) p.root → IsMinded p (first_playing p)) }
     {
         a_step_is_minded();
         let configuration = configuration_of(config, iters_per_us, files, sockets);
-        let (mut shared, runnable) = first_shared(alloc, configuration, root)?;
-        let worker = first_worker(alloc, config, &configuration, runnable, &mut shared.store)?;
-        let mut workers = Vec::with_capacity(alloc, 1)?;
-        workers.push_reserved(worker);
+        let (mut shared, runnables) = first_shared(alloc, configuration, roots)?;
+        let workers = first_workers(alloc, config, &configuration, runnables, &mut shared.store)?;
+        let mut callers = Vec::with_capacity(alloc, CALLERS)?;
+        for _ in 0..CALLERS {
+            callers.push_reserved(Caller::new());
+        }
         Ok(Core {
             workers,
             shared,
+            callers,
             spent: false,
         })
     }
@@ -67,11 +80,10 @@ impl<B: Scripted + Drop> Core<B> {
         self.spent
     }
 
-    /// Whether the step may be taken. There are no outside callers yet.
+    /// Whether the step may be taken.
     #[tactic(auto, using(crate::proofs::Enabling::enabled_as))]
     pub fn enabled(&self, action: Action) -> bool
         requires stands { Stands self.now }
-        requires known { is_of_first_cut action ≡ true }
         ensures enabled { (p : Plan) → result ≡ is_enabled (world B.left B.spot p self.now).common action }
     {
         self.may_take(action)
@@ -80,7 +92,7 @@ impl<B: Scripted + Drop> Core<B> {
     /// The same, by what is shared.
     fn may_take(&self, action: Action) -> bool
         requires stands { Stands self.now }
-        ensures { result ≡ may_take self.now.shared action }
+        ensures { result ≡ may_take self.now action }
     {
         match action {
             Action::Work { worker } => self.may_work(worker),
@@ -95,7 +107,9 @@ impl<B: Scripted + Drop> Core<B> {
             },
             Action::SetBusy { worker } | Action::EndPoll { worker } => self.has_not_ended(worker),
             Action::Peer { listener } => listener < self.shared.listeners.len(),
-            Action::Spawn { .. } | Action::Wake { .. } | Action::GoOn { .. } => false,
+            Action::Spawn { caller, .. } => self.is_free(caller),
+            Action::Wake { caller, task } => self.is_free(caller) && task < self.shared.tasks.len(),
+            Action::GoOn { caller } => self.is_calling(caller),
         }
     }
 
@@ -107,6 +121,26 @@ impl<B: Scripted + Drop> Core<B> {
             Some(seat) => seat.is_awake()
                 && !seat.has_ended()
                 && !(seat.pool && seat.left && !self.shared.all_left()),
+            None => false,
+        }
+    }
+
+    /// Whether there is such a caller, and it has no call half done.
+    fn is_free(&self, caller: usize) -> bool
+        ensures { result ≡ may_call_in (slice_get self.now.callers.items caller) }
+    {
+        match self.callers.get(caller) {
+            Some(caller) => caller.is_free(),
+            None => false,
+        }
+    }
+
+    /// Whether there is such a caller, and it has a call half done.
+    fn is_calling(&self, caller: usize) -> bool
+        ensures { result ≡ may_go_on_in (slice_get self.now.callers.items caller) }
+    {
+        match self.callers.get(caller) {
+            Some(caller) => !caller.is_free(),
             None => false,
         }
     }
@@ -132,14 +166,20 @@ impl<B: Scripted + Drop> Core<B> {
         }
     }
 
-    /// Takes the step if it may be taken, and answers its line. Only a step that may be taken can want memory. After an
-    /// `Err` the executor stands as before the step, and is spent. The caller must know that it isn't spent, and that its root
-    /// performs a plan.
-    pub fn apply(&mut self, alloc: Global, action: Action) -> Result<Line, AllocError>
-        requires ready { IsReady B.left B.runs B.holds self.old }
-        requires known { is_of_first_cut action ≡ true }
-        ensures applies { IfOk result (λ line. (p : Plan) (x : Playing) → Shows B.left B.runs B.holds B.spot p self.old x → Applies B.left B.runs B.holds B.spot p x action line self.new) }
-        ensures ready { OnOk result (IsReady B.left B.runs B.holds self.new) }
+    /// Takes the step if it may be taken, and answers its line. A caller's spawn carries the body of the task. Only a step
+    /// that may be taken can want memory. After an `Err` the executor stands as before the step, and is spent. The caller
+    /// must know that it isn't spent, and that its bodies perform a plan, in which the body that is carried begins the script
+    /// of that number.
+    pub fn apply(
+        &mut self,
+        alloc: Global,
+        action: Action,
+        body: Option<B>,
+    ) -> Result<Line, AllocError>
+        requires ready { (p : Plan) × IsReady B.left B.runs B.holds p self.old × Carries B.left B.runs B.holds B.spot B.name_of p action body }
+        ensures applies { IfOk result (λ line. (p : Plan) (x : Playing) → Shows B.left B.runs B.holds B.spot p self.old x → Carries B.left B.runs B.holds B.spot B.name_of p action body →
+            Applies B.left B.runs B.holds B.spot p x action line self.new) }
+        ensures ready { OnOk result ((p : Plan) → IsReady B.left B.runs B.holds p self.old → Carries B.left B.runs B.holds B.spot B.name_of p action body → IsReady B.left B.runs B.holds p self.new) }
         ensures wants { OnErr result ((p : Plan) → is_enabled (world B.left B.spot p self.old).common action ≡ true) }
         ensures same { OnErr result (IsAsBefore B.left B.spot self.old self.new) }
         ensures spent { OnErr result (self.new.spent ≡ true) }
@@ -153,7 +193,7 @@ impl<B: Scripted + Drop> Core<B> {
                 said: StepResult::Refused,
             });
         }
-        let event = self.take(alloc, action)?;
+        let event = self.take(alloc, action, body)?;
         Ok(Line {
             action,
             said: StepResult::Did(event),
@@ -161,12 +201,11 @@ impl<B: Scripted + Drop> Core<B> {
     }
 
     /// Takes a step that may be taken. Without memory for it the executor is spent.
-    fn take(&mut self, alloc: Global, action: Action) -> Result<Event, AllocError>
-        requires ready { IsReady B.left B.runs B.holds self.old }
-        requires known { is_of_first_cut action ≡ true }
-        requires enabled { may_take self.old.shared action ≡ true }
-        ensures takes { IfOk result (λ event. (p : Plan) → self.old.shared.config ≡ p.config → RootsPerform B.left B.runs B.holds p self.old → Takes B.left B.spot p self.old action event self.new) }
-        ensures keeps { OnOk result (Keeps B.left B.runs B.holds self.old self.new) }
+    fn take(&mut self, alloc: Global, action: Action, body: Option<B>) -> Result<Event, AllocError>
+        requires ready { (p : Plan) × IsReady B.left B.runs B.holds p self.old × Carries B.left B.runs B.holds B.spot B.name_of p action body }
+        requires enabled { may_take self.old action ≡ true }
+        ensures takes { IfOk result (λ event. (p : Plan) → self.old.shared.config ≡ p.config → PerformsAll B.left B.runs B.holds p self.old.shared → Takes B.left B.spot p self.old action event self.new) }
+        ensures keeps { OnOk result (Keeps B.left B.runs B.holds B.spot B.name_of action body self.old self.new) }
         ensures stands { OnOk result (Stands self.new × (self.new.spent ≡ false)) }
         ensures same { OnErr result (IsAsBefore B.left B.spot self.old self.new) }
         ensures spent { OnErr result (self.new.spent ≡ true) }
@@ -179,14 +218,55 @@ impl<B: Scripted + Drop> Core<B> {
             Action::SetBusy { worker } => Ok(self.set_busy(worker)),
             Action::EndPoll { worker } => Ok(self.end_poll(worker)),
             Action::Peer { listener } => self.bring_peer(listener),
-            Action::Spawn { .. } | Action::Wake { .. } | Action::GoOn { .. } => unreachable!(),
+            Action::Spawn { caller, script } => self.spawn(alloc, caller, script, body),
+            Action::Wake { caller, task } => Ok(self.wake(caller, task)),
+            Action::GoOn { caller } => Ok(self.go_on(caller)),
         }
+    }
+
+    /// A caller begins to spawn a task of this body. Without memory for it the executor is spent.
+    fn spawn(
+        &mut self,
+        alloc: Global,
+        caller: usize,
+        script: usize,
+        body: Option<B>,
+    ) -> Result<Event, AllocError>
+        requires ready { (p : Plan) × IsReady B.left B.runs B.holds p self.old × Carries B.left B.runs B.holds B.spot B.name_of p (Action.Spawn caller script) body }
+        requires enabled { may_take self.old (Action.Spawn caller script) ≡ true }
+        ensures calls { IfOk result (λ event. Calls B.left B.spot (Action.Spawn caller script) caller self.old event self.new) }
+        ensures keeps { OnOk result (Keeps B.left B.runs B.holds B.spot B.name_of (Action.Spawn caller script) body self.old self.new) }
+        ensures same { OnErr result (IsAsBefore B.left B.spot self.old self.new) }
+        ensures spent { OnErr result (self.new.spent ≡ true) }
+    {
+        let Some(body) = body else { unreachable!() };
+        let spawned = self.callers[caller].spawn(alloc, body, &mut self.shared);
+        self.spent = spawned.is_err();
+        spawned
+    }
+
+    /// A caller begins to wake a task.
+    fn wake(&mut self, caller: usize, task: usize) -> Event
+        requires stands { Stands self.old }
+        requires enabled { may_take self.old (Action.Wake caller task) ≡ true }
+        ensures calls { Calls B.left B.spot (Action.Wake caller task) caller self.old result self.new }
+    {
+        self.callers[caller].wake(task, &mut self.shared)
+    }
+
+    /// A caller goes on with its call.
+    fn go_on(&mut self, caller: usize) -> Event
+        requires stands { Stands self.old }
+        requires enabled { may_take self.old (Action.GoOn caller) ≡ true }
+        ensures calls { Calls B.left B.spot (Action.GoOn caller) caller self.old result self.new }
+    {
+        self.callers[caller].go_on(&mut self.shared)
     }
 
     /// A step of this worker, which may take one. Without memory for it the executor is spent.
     fn work(&mut self, alloc: Global, worker: usize) -> Result<Event, AllocError>
-        requires ready { IsReady B.left B.runs B.holds self.old }
-        requires enabled { may_take self.old.shared (Action.Work worker) ≡ true }
+        requires ready { (p : Plan) × IsReady B.left B.runs B.holds p self.old }
+        requires enabled { may_take self.old (Action.Work worker) ≡ true }
         ensures steps { IfOk result (λ event. WorkerSteps B.left B.runs B.holds B.spot worker self.old event self.new) }
         ensures stays { OnErr result (WorkerStays B.left B.spot worker self.old self.new) }
         ensures spent { OnErr result (self.new.spent ≡ true) }
@@ -199,7 +279,7 @@ impl<B: Scripted + Drop> Core<B> {
     /// The operation of a request, which the kernel has, lands with this result.
     fn land(&mut self, request: usize, given: OpResult) -> Event
         requires stands { Stands self.old }
-        requires enabled { may_take self.old.shared (Action.Land request given) ≡ true }
+        requires enabled { may_take self.old (Action.Land request given) ≡ true }
         ensures event { result ≡ Event.Land }
         ensures lands { Lands B.left B.spot request given self.old self.new }
     {
@@ -210,7 +290,7 @@ impl<B: Scripted + Drop> Core<B> {
     /// The next enter of the ring of this worker takes nothing.
     fn set_busy(&mut self, worker: usize) -> Event
         requires stands { Stands self.old }
-        requires enabled { may_take self.old.shared (Action.SetBusy worker) ≡ true }
+        requires enabled { may_take self.old (Action.SetBusy worker) ≡ true }
         ensures event { result ≡ Event.Set }
         ensures sees { Sees worker (λ seen. record seen { busy = true }) self.old self.new }
     {
@@ -220,11 +300,11 @@ impl<B: Scripted + Drop> Core<B> {
     /// The next wake completion of the ring of this worker ends its wake poll.
     fn end_poll(&mut self, worker: usize) -> Event
         requires stands { Stands self.old }
-        requires enabled { may_take self.old.shared (Action.EndPoll worker) ≡ true }
+        requires enabled { may_take self.old (Action.EndPoll worker) ≡ true }
         ensures event { result ≡ Event.Set }
-        ensures sees { Sees worker (λ seen. seen) self.old self.new }
+        ensures ends { EndsPoll B.left B.spot worker self.old self.new }
     {
-        self.workers[worker].end_poll(&self.shared)
+        self.workers[worker].end_poll(&mut self.shared)
     }
 
     /// A peer comes to this listener. Where it can't be counted the executor is spent.
@@ -233,11 +313,13 @@ impl<B: Scripted + Drop> Core<B> {
         ensures event { IfOk result (λ event. event ≡ Event.Peer) }
         ensures one_more { OnOk result (self.new.shared.listeners.items ≡ slice_set self.old.shared.listeners.items listener (slice_index_or self.old.shared.listeners.items listener 0 + 1)) }
         ensures workers { self.new.workers ≡ self.old.workers }
+        ensures callers { self.new.callers ≡ self.old.callers }
         ensures listeners { self.new.shared ≡ record self.old.shared { listeners = self.new.shared.listeners } }
         ensures same { OnErr result (self.new.shared ≡ self.old.shared) }
         ensures spent { OnErr result (self.new.spent ≡ true) }
         ensures unspent { OnOk result (self.new.spent ≡ false) }
         ensures sound { (w : Party) → Sound w self.old.shared → Sound w self.new.shared }
+        ensures whole { (x : Profile) → IsWhole x self.old.shared → IsWhole x self.new.shared }
     {
         let came = self.shared.bring_peer(listener);
         self.spent = came.is_err();

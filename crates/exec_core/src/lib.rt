@@ -7,6 +7,7 @@
 
 pub mod config;
 pub mod executor;
+pub mod laws;
 pub mod local;
 mod setting_up;
 

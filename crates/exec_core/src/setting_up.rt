@@ -1,9 +1,9 @@
 //! The workers of a new executor, and what they share.
 
-ghost use Rattle.std.specs.Prelude.{◌≡◌, ◌<◌, ◌≤◌, true, IfOk, IfSome, IsSome};
+ghost use Rattle.std.specs.Prelude.{◌≡◌, ◌<◌, ◌≤◌, true, length, IfOk, IfSome, IsSome};
 ghost use Rattle.exec_driver.specs.{Driving.seen, Punctual.IsPunctual, Steps.IsFresh as IsFreshDriver};
 ghost use Rattle.exec_machine.specs.Ranges.{horizon, ring_size as size_of_ring};
-ghost use Rattle.exec_core.specs.{Configs.configuration_of as configuration_told, Firsts.{IsFirst, Begins}, Ranges.is_in_range};
+ghost use Rattle.exec_core.specs.{Configs.configuration_of as configuration_told, Firsts.{AddsRoot, AllBegin, Begins, IsFirst}, Ranges.is_in_range};
 
 use crate::config::Config;
 use exec_base::spinner::Spinner;
@@ -23,6 +23,7 @@ use exec_steps::parts::task_slot::TaskSlot;
 use exec_steps::parts::worker::{Moments, PutOff, Worker};
 use exec_steps::scripted::Scripted;
 use exec_task::runnable::Runnable;
+use exec_words::HALF;
 use exec_words::reserved::Reserved;
 use std::alloc::{AllocError, Global};
 
@@ -58,35 +59,88 @@ pub(crate) fn configuration_of(
     }
 }
 
-/// What the workers share at first: the root of worker zero is queued, with its runnable. `Err` only for want of memory.
-/// The caller must have a configuration of one worker.
+/// What the workers share at first: the root of each is queued, with its runnable; these are their bodies. `Err` only for
+/// want of memory. The caller must have some workers and at most 64, and as many bodies.
 pub(crate) fn first_shared<B: Scripted + Drop>(
     alloc: Global,
     configuration: Configuration,
-    root: B,
-) -> Result<(Shared<B>, Runnable), AllocError>
-    requires one_worker { configuration.workers ≡ 1 }
-    ensures first { IfOk result (λ made. IsFirst configuration root made.0 made.1) }
+    roots: Vec<B>,
+) -> Result<(Shared<B>, Vec<Runnable>), AllocError>
+    requires some { 0 < configuration.workers }
+    requires few { configuration.workers ≤ 64 }
+    requires many { length roots.items ≡ configuration.workers }
+    ensures first { IfOk result (λ made. IsFirst configuration roots.items made.0 made.1.items) }
 {
     let mut shared = Shared::new(alloc, configuration)?;
-    shared.seats.push(Seat::new(alloc, true)?)?;
-    let (slot, runnable) = TaskSlot::new(alloc, TaskNo(0), shared.set.id(), Some(0), root);
-    shared.tasks.push(slot)?;
-    Ok((shared, runnable))
+    shared.global.reserve(alloc, roots.len())?;
+    let mut runnables = Vec::with_capacity(alloc, roots.len())?;
+    for root in roots {
+        let runnable = add_root(alloc, &mut shared, root)?;
+        runnables.push(runnable)?;
+    }
+    Ok((shared, runnables))
 }
 
-/// The first worker of the pool, whose root is to be polled with this runnable. `Err` only for want of memory. The caller
-/// must have a configuration in its ranges, and spins that are told in it.
-pub(crate) fn first_worker(
+/// Adds the seat of one more worker, and its root with this body, and answers the root's runnable. `Err` only for want of
+/// memory. The caller must have fewer than 64 tasks, which are those of the first task set.
+fn add_root<B: Scripted + Drop>(
+    alloc: Global,
+    shared: &mut Shared<B>,
+    root: B,
+) -> Result<Runnable, AllocError>
+    requires few { length shared.old.tasks.items < 64 }
+    requires first { shared.old.set.id ≡ 1 }
+    ensures adds { IfOk result (AddsRoot root shared.old shared.new) }
+{
+    let number = shared.tasks.len();
+    shared.seats.push(Seat::new(alloc, true)?)?;
+    let (slot, runnable) = TaskSlot::new(
+        alloc,
+        TaskNo(number as u32),
+        shared.set.id(),
+        Some(number),
+        root,
+    );
+    shared.tasks.push(slot)?;
+    Ok(runnable)
+}
+
+/// The workers of the pool, whose roots are to be polled with these runnables. `Err` only for want of memory. The caller
+/// must have a configuration in its ranges, spins that are told in it, and at most 64 runnables.
+pub(crate) fn first_workers(
     alloc: Global,
     config: &Config,
     configuration: &Configuration,
+    runnables: Vec<Runnable>,
+    store: &mut Store,
+) -> Result<Vec<Worker>, AllocError>
+    requires in_range { is_in_range configuration.now ≡ true }
+    requires spins { config.now.idle_spinner.budget_us ≤ config.now.idle_spinner.max_budget_us }
+    requires few { length runnables.items ≤ 64 }
+    ensures begin { IfOk result (λ ws. AllBegin configuration.now config.now.idle_spinner runnables.items ws.items) }
+{
+    let mut workers = Vec::with_capacity(alloc, runnables.len())?;
+    for runnable in runnables {
+        let index = workers.len();
+        workers.push(first_worker(alloc, config, configuration, index, runnable, store)?)?;
+    }
+    Ok(workers)
+}
+
+/// The worker of the pool of this number, whose root is to be polled with this runnable. `Err` only for want of memory. The
+/// caller must have a configuration in its ranges, spins that are told in it, and a number below 64.
+fn first_worker(
+    alloc: Global,
+    config: &Config,
+    configuration: &Configuration,
+    index: usize,
     runnable: Runnable,
     store: &mut Store,
 ) -> Result<Worker, AllocError>
     requires in_range { is_in_range configuration.now ≡ true }
     requires spins { config.now.idle_spinner.budget_us ≤ config.now.idle_spinner.max_budget_us }
-    ensures begins { IfOk result (λ w. Begins configuration.now config.now.idle_spinner runnable w) }
+    requires few { index < 64 }
+    ensures begins { IfOk result (λ w. Begins configuration.now config.now.idle_spinner index runnable w) }
 {
     let size = ring_size(configuration);
     let driver = first_driver(alloc, configuration, size, store)?;
@@ -94,20 +148,25 @@ pub(crate) fn first_worker(
     home.deferred.reserve(alloc, 1)?;
     Ok(Worker {
         place: Place::BeginTurn,
-        index: 0,
-        role: Role::Pool(0),
-        root: 0,
+        index,
+        workers: configuration.workers,
+        role: Role::Pool(index as u32),
+        root: index,
         home,
         names: Names::new(alloc, size)?,
         moments: Moments::new(0),
         root_ready: Some(runnable),
         hand: None,
+        loot: Reserved::with_places(alloc, HALF + 1)?,
+        picks: 0,
+        searching: false,
+        rng: index as u32 + 1,
         countdown: configuration.interval,
         put_off: PutOff {
             defer: false,
             enter: false,
         },
-        batch: Reserved::new(alloc),
+        batch: Reserved::with_places(alloc, 1)?,
         processed: 0,
         spinner: Spinner::new(config.idle_spinner(), configuration.spin.iterations),
         slept: None,

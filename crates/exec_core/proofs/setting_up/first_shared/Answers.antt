@@ -1,10 +1,47 @@
-use Rattle.exec_core.proofs.Beginning.{first_made}
+use Rattle.std.proofs.{Common.{[], ◌∷◌, length, sym, ap, subst, ◌∙◌, append_assoc, append-nil, arith}}
+use Rattle.std.specs.Vec.Iter.{into_iter_items}
+use Rattle.exec_core.specs.Firsts.{HasRoots}
+use Rattle.exec_core.proofs.CoreFirsts.{bare_first, bare_with, nothing_left, roots_more, roots_none, within_yielded}
 use Rattle.exec_core.proofs.setting_up.first_shared.Goals as goal
+
+pub loop-root-init : goal.loop-root-init
+loop-root-init g c =
+    let fresh = c.in_ok-shared.ensures.fresh in
+    let gives = c.into_iter-root-iterator.ensures.into_iter_gives in
+    record {
+      split = gives.0;
+      len = gives.1 ∙ c.args.roots.ok.0 ∙ ap length (sym gives.0);
+      bare = bare_first c.args.configuration (length c.args.roots.items) c.in_ok-shared.shared c.reserve.new.self c.len.result fresh c.in_ok-reserve.ensures.places (c.len.ensures ∙ c.args.roots.ok.0);
+      rooted = rw (fresh.seats, fresh.tasks, c.in_ok-runnables.ensures.items) roots_none;
+    }
+
+pub add_root-requires-clause-few : goal.add_root-requires-clause-few
+add_root-requires-clause-few g c =
+    let at = c.loop-root in
+    let steps = c.in-Some.ensures.steps.0 in
+    let within = within_yielded at.yielded c.in-Some.root (into_iter_items c.next.new.self) (into_iter_items at.root-iterator) c.args.roots.items at.invariant.split steps in
+    omega (arith, within, at.invariant.rooted.tasks_many, c.requires.many, c.requires.few)
+
+pub add_root-requires-clause-first : goal.add_root-requires-clause-first
+add_root-requires-clause-first g c = ap (λ x. x.set.id) c.loop-root.invariant.bare.parts
+
+pub loop-root-preserved : goal.loop-root-preserved
+loop-root-preserved g c =
+    let at = c.loop-root in
+    let x = c.in-Some.root in
+    let steps = c.in-Some.ensures.steps in
+    let adds = c.in_ok-runnable.ensures.adds in
+    record {
+      split = append_assoc at.yielded (x ∷ []) _ ∙ rw (← steps.0) at.invariant.split;
+      len = (let gone = steps.1 in let short = ap length steps.0 in omega (arith, gone, short, at.invariant.len));
+      bare = bare_with c.args.configuration (length c.args.roots.items) at.shared c.add_root.new.shared at.invariant.bare adds.kept;
+      rooted = rw (adds.seats, adds.tasks, c.in_ok-push.ensures.items) (roots_more at.yielded at.shared.seats.items at.shared.tasks.items at.runnables.items x adds.chair adds.slot c.in_ok-runnable.runnable at.invariant.rooted adds.fresh adds.root adds.runnable);
+    }
 
 pub returns : goal.returns
 returns g c =
-    record {
-      first =
-          first_made c.args.configuration c.args.root c.in_ok-shared.shared (record c.in_ok-shared.shared { seats = c.push.new.self; tasks = c.push-2.new.self }) c.in_ok-new.field-0 c.new-slot.result.0 c.new-slot.result.1 c.id.result
-          c.in_ok-shared.ensures.fresh c.id.ensures c.in_ok-push.ensures.items c.in_ok-push-2.ensures.items c.in_ok-new.ensures.seat c.new-slot.ensures.cell c.new-slot.ensures.slot c.new-slot.ensures.held c.new-slot.ensures.runnable;
-    }
+    let at = c.loop-root in
+    let none = c.in-None.ensures.steps in
+    let empty = nothing_left (into_iter_items at.root-iterator) (sym at.invariant.len ∙ none.0) in
+    let all = sym (append-nil at.yielded) ∙ rw empty at at.invariant.split in
+    record { first = record { bare = at.invariant.bare; rooted = subst (λ xs. HasRoots xs at.shared.seats.items at.shared.tasks.items at.runnables.items) all at.invariant.rooted } }

@@ -10,7 +10,7 @@ returns c =
     let k = c.args.configuration.now in
     record {
       begins = record {
-        parts = rw (c.new-2.ensures, c.new-3.ensures, c.new-4.ensures, c.idle_spinner.ensures) refl;
+        parts = rw (c.in_ok-with_places.ensures, c.in_ok-with_places-2.ensures, c.new-2.ensures, c.new-3.ensures, c.idle_spinner.ensures) refl;
         names = subst (λ n. HasNoNames n c.in_ok-new.field-0) c.ring_size-size.ensures c.in_ok-new.ensures.names;
         opened = c.new-home.ensures.open;
         driver = subst (λ d. IsFresh (seen d) (ring_size k) (horizon k) k.tick 0) (sym c.new-home.ensures.driver) (subst (λ n. IsFresh (seen c.in_ok-driver.driver) n (horizon k) k.tick 0) c.ring_size-size.ensures c.in_ok-driver.ensures.fresh);

@@ -1,53 +1,65 @@
-use Rattle.std.proofs.Common.{refl, arith}
-use Rattle.std.proofs.lemmas.Option.{slice_get_within}
+use Rattle.std.proofs.{Common.{refl, sym, ap, ◌∙◌, arith}, lemmas.Option.slice_get_within}
+use Rattle.exec_steps.proofs.Facts.{same_thing}
 use Rattle.exec_core.proofs.{Applying.owner_there, Taking.{lands_within, land_read, landing_may, read_there}}
 use Rattle.exec_core.proofs.executor.Core.land.Goals as goal
 
 pub index-requires : goal.index-requires
 index-requires g c =
-    let within = lands_within c.args.self.now.shared c.args.request c.args.given c.requires.enabled in
+    let within = lands_within c.args.self.now c.args.request c.args.given c.requires.enabled in
     omega (arith, c.args.self.now.shared.requests.ok.0, within)
 
 pub index_mut-requires : goal.index_mut-requires
 index_mut-requires g c =
-    let there = land_read c.args.self.now.shared c.args.request c.args.given c.index.result.now c.requires.enabled c.index.ensures in
+    let there = land_read c.args.self.now c.args.request c.args.given c.index.result.now c.requires.enabled c.index.ensures in
     let owner = owner_there c.args.self.now c.args.request c.index.result.now c.requires.stands there in
     let within = slice_get_within c.args.self.now.workers.items c.index.result.now.shown.worker owner.0 owner.1 in
     omega (arith, c.args.self.now.workers.ok.0, within)
 
 pub land-requires-clause-lands : goal.land-requires-clause-lands
 land-requires-clause-lands g c =
-    let there = land_read c.args.self.now.shared c.args.request c.args.given c.index.result.now c.requires.enabled c.index.ensures in
-    landing_may c.args.self.now.shared c.args.request c.args.given c.index.result.now c.requires.enabled there
+    let there = land_read c.args.self.now c.args.request c.args.given c.index.result.now c.requires.enabled c.index.ensures in
+    landing_may c.args.self.now c.args.request c.args.given c.index.result.now c.requires.enabled there
 
 pub land-requires-clause-sound : goal.land-requires-clause-sound
 land-requires-clause-sound g c =
-    let there = land_read c.args.self.now.shared c.args.request c.args.given c.index.result.now c.requires.enabled c.index.ensures in
+    let there = land_read c.args.self.now c.args.request c.args.given c.index.result.now c.requires.enabled c.index.ensures in
     let owner = owner_there c.args.self.now c.args.request c.index.result.now c.requires.stands there in
     let within = slice_get_within c.args.self.now.workers.items c.index.result.now.shown.worker owner.0 owner.1 in
-    let was = read_there c.args.self.now c.index.result.now.shown.worker c.index_mut.result.now within c.index_mut.ensures.value in
-    (c.requires.stands.sound c.index.result.now.shown.worker c.index_mut.result.now was).1
+    let was = read_there c.args.self.now.workers.items c.index.result.now.shown.worker c.index_mut.result.now within c.index_mut.ensures.value in
+    (c.requires.stands.together.sound c.index.result.now.shown.worker c.index_mut.result.now was).1
+
+pub land-requires-clause-mine : goal.land-requires-clause-mine
+land-requires-clause-mine g c = λ r found.
+    let there = land_read c.args.self.now c.args.request c.args.given c.index.result.now c.requires.enabled c.index.ensures in
+    let owner = owner_there c.args.self.now c.args.request c.index.result.now c.requires.stands there in
+    let within = slice_get_within c.args.self.now.workers.items c.index.result.now.shown.worker owner.0 owner.1 in
+    let was = read_there c.args.self.now.workers.items c.index.result.now.shown.worker c.index_mut.result.now within c.index_mut.ensures.value in
+    ap (λ x. x.shown.worker) (same_thing r c.index.result.now (sym found ∙ there)) ∙ sym (c.requires.stands.together.sound c.index.result.now.shown.worker c.index_mut.result.now was).0
 
 pub returns-clause-lands : goal.returns-clause-lands
 returns-clause-lands g c =
-    let there = land_read c.args.self.now.shared c.args.request c.args.given c.index.result.now c.requires.enabled c.index.ensures in
+    let there = land_read c.args.self.now c.args.request c.args.given c.index.result.now c.requires.enabled c.index.ensures in
     let owner = owner_there c.args.self.now c.args.request c.index.result.now c.requires.stands there in
     let within = slice_get_within c.args.self.now.workers.items c.index.result.now.shown.worker owner.0 owner.1 in
-    let was = read_there c.args.self.now c.index.result.now.shown.worker c.index_mut.result.now within c.index_mut.ensures.value in
+    let was = read_there c.args.self.now.workers.items c.index.result.now.shown.worker c.index_mut.result.now within c.index_mut.ensures.value in
     record {
       it = c.index.result.now;
       there = there;
-      before = c.index_mut.result.now;
-      after = c.land.new.self;
-      was = was;
-      workers = refl;
-      spent = refl;
-      own = c.land.ensures.own;
-      desk = c.land.ensures.desk;
-      index = c.land.ensures.index;
-      many = c.land.ensures.many;
-      kept = c.land.ensures.kept;
-      chair = c.land.ensures.chair;
-      common = c.land.ensures.common;
-      sound = c.land.ensures.sound;
+      rings = record {
+        before = c.index_mut.result.now;
+        after = c.land.new.self;
+        was = was;
+        workers = refl;
+        callers = refl;
+        spent = refl;
+        own = c.land.ensures.own;
+        desk_is = c.land.ensures.desk;
+        index = c.land.ensures.index;
+        config = ap (λ x. x.config) c.land.ensures.kept;
+        tasks = ap (λ x. x.tasks) c.land.ensures.kept;
+        sound = c.land.ensures.sound;
+        beside = c.land.ensures.beside;
+        things = c.land.ensures.things;
+        common = c.land.ensures.common;
+      };
     }

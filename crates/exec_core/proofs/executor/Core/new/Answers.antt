@@ -1,27 +1,50 @@
-use Rattle.std.proofs.Common.{◌++◌, ◌≤◌, false, [], ◌∷◌, ap, refl, sym, subst, ◌∙◌}
-use Rattle.exec_core.proofs.{Beginning.{with_store, first_stands}, Powers.in_range, Started.{first_shown, first_ready}}
-use Rattle.exec_core.specs.{Configs.configuration_of, Firsts.{IsFirst, Begins}}
+use Rattle.std.proofs.Common.{◌≡◌, ◌≤◌, ◌++◌, ◌∷◌, [], replicate, length, false, refl, sym, ap, subst, ◌∙◌, arith}
+use Rattle.exec_core.specs.{Configs.configuration_of, Firsts.{AllBegin, IsFirst}}
+use Rattle.exec_core.proofs.{Beginning.free_caller, CoreFirsts.with_store, Powers.in_range, Started.{first_minded, first_ready, first_shown, free_many, one_more_free}}
 use Rattle.exec_core.proofs.executor.Core.new.Goals as goal
+
+pub first_workers-requires-clause-spins : goal.first_workers-requires-clause-spins
+first_workers-requires-clause-spins g c = (in_range (configuration_of c.args.config.now c.args.iters_per_us c.args.files c.args.sockets) c.requires.config).spins
+
+pub first_workers-requires-clause-few : goal.first_workers-requires-clause-few
+first_workers-requires-clause-few g c =
+    let range = in_range (configuration_of c.args.config.now c.args.iters_per_us c.args.files c.args.sockets) c.requires.config in
+    omega (arith, range.workers, c.requires.plan.1.many, c.in_ok-shared.ensures.first.rooted.runnables_many)
+
+pub loop-init : goal.loop-init
+loop-init g c = record { callers = c.in_ok-callers.ensures.items; room = (let room = c.in_ok-callers.ensures.capacity in omega (arith, room)) }
+
+pub push_reserved-requires : goal.push_reserved-requires
+push_reserved-requires g c = omega (arith, c.loop-test.true, c.loop.invariant.room, c.loop.callers.ok.0, ap length c.loop.invariant.callers, free_many c.loop.counter)
+
+pub loop-preserved : goal.loop-preserved
+loop-preserved g c =
+    record {
+      callers = c.push_reserved.ensures.items ∙ ap (λ xs. xs ++ c.new.result ∷ []) c.loop.invariant.callers ∙ ap (λ x. replicate c.loop.counter free_caller ++ x ∷ []) c.new.ensures ∙ one_more_free c.loop.counter;
+      room = (let same = c.push_reserved.ensures.capacity in omega (arith, same, c.loop.invariant.room));
+    }
 
 pub returns-clause-begins : goal.returns-clause-begins
 returns-clause-begins g c = λ p plan.
     let k = configuration_of c.args.config.now c.args.iters_per_us c.args.files c.args.sockets in
     let is = c.configuration_of-configuration.ensures in
-    let first = with_store k c.args.root c.in_ok-shared.shared c.in_ok-shared.runnable c.first_worker.new.store (subst (λ x. IsFirst x c.args.root c.in_ok-shared.shared c.in_ok-shared.runnable) is c.in_ok-shared.ensures.first) in
-    let begins = subst (λ x. Begins x c.args.config.now.idle_spinner c.in_ok-shared.runnable c.in_ok-worker.worker) is c.in_ok-worker.ensures.begins in
-    let workers = c.push_reserved.ensures.items ∙ ap (λ xs. xs ++ c.in_ok-worker.worker ∷ []) c.in_ok-workers.ensures.items in
-    record {
-      shown = first_shown g.B.Body.left g.B.Scripted.runs g.B.Scripted.holds g.B.Scripted.spot k c.args.config.now.idle_spinner c.args.root (record { workers = c.push_reserved.new.self; shared = record c.in_ok-shared.shared { store = c.first_worker.new.store }; spent = false }) c.in_ok-worker.worker c.in_ok-shared.runnable p
-          (in_range k c.requires.config) c.requires.one_worker first begins workers refl plan;
-      minded = c.a_step_is_minded.ensures.first p (ap (λ x. x.workers) plan.config ∙ c.requires.one_worker) (subst (λ x. x.spin.budget ≤ x.spin.most) (sym plan.config) (in_range k c.requires.config).spins);
-    }
+    let first = with_store k c.args.roots.items c.in_ok-shared.shared c.in_ok-shared.runnables.items c.first_workers.new.store (subst (λ x. IsFirst x c.args.roots.items c.in_ok-shared.shared c.in_ok-shared.runnables.items) is c.in_ok-shared.ensures.first) in
+    let begin = subst (λ x. AllBegin x c.args.config.now.idle_spinner c.in_ok-shared.runnables.items c.in_ok-workers.workers.items) is c.in_ok-workers.ensures.begin in
+    let sixteen : c.loop.counter ≡ 16 = omega (arith, c.loop.auto.counter-end, c.loop-test.false) in
+    first_shown g.B.Body.left g.B.Scripted.runs g.B.Scripted.holds g.B.Scripted.spot k c.args.config.now.idle_spinner c.args.roots.items (record { workers = c.in_ok-workers.workers; shared = record c.in_ok-shared.shared { store = c.first_workers.new.store }; callers = c.loop.callers; spent = false }) c.in_ok-shared.runnables.items p
+    (in_range k c.requires.config) first begin (c.loop.invariant.callers ∙ ap (λ n. replicate n free_caller) sixteen) refl plan
 
 pub returns-clause-ready : goal.returns-clause-ready
-returns-clause-ready g c =
+returns-clause-ready g c = λ p plan.
     let k = configuration_of c.args.config.now c.args.iters_per_us c.args.files c.args.sockets in
     let is = c.configuration_of-configuration.ensures in
-    let first = with_store k c.args.root c.in_ok-shared.shared c.in_ok-shared.runnable c.first_worker.new.store (subst (λ x. IsFirst x c.args.root c.in_ok-shared.shared c.in_ok-shared.runnable) is c.in_ok-shared.ensures.first) in
-    let begins = subst (λ x. Begins x c.args.config.now.idle_spinner c.in_ok-shared.runnable c.in_ok-worker.worker) is c.in_ok-worker.ensures.begins in
-    let workers = c.push_reserved.ensures.items ∙ ap (λ xs. xs ++ c.in_ok-worker.worker ∷ []) c.in_ok-workers.ensures.items in
-    first_ready g.B.Body.left g.B.Scripted.runs g.B.Scripted.holds g.B.Scripted.spot k c.args.config.now.idle_spinner c.args.root (record { workers = c.push_reserved.new.self; shared = record c.in_ok-shared.shared { store = c.first_worker.new.store }; spent = false }) c.in_ok-worker.worker c.in_ok-shared.runnable first begins workers
-    (first_stands k c.args.config.now.idle_spinner c.args.root (record { workers = c.push_reserved.new.self; shared = record c.in_ok-shared.shared { store = c.first_worker.new.store }; spent = false }) c.in_ok-worker.worker c.in_ok-shared.runnable (in_range k c.requires.config) c.requires.one_worker first begins workers) refl c.requires.plan
+    let first = with_store k c.args.roots.items c.in_ok-shared.shared c.in_ok-shared.runnables.items c.first_workers.new.store (subst (λ x. IsFirst x c.args.roots.items c.in_ok-shared.shared c.in_ok-shared.runnables.items) is c.in_ok-shared.ensures.first) in
+    let begin = subst (λ x. AllBegin x c.args.config.now.idle_spinner c.in_ok-shared.runnables.items c.in_ok-workers.workers.items) is c.in_ok-workers.ensures.begin in
+    let sixteen : c.loop.counter ≡ 16 = omega (arith, c.loop.auto.counter-end, c.loop-test.false) in
+    first_ready g.B.Body.left g.B.Scripted.runs g.B.Scripted.holds g.B.Scripted.spot k c.args.config.now.idle_spinner c.args.roots.items (record { workers = c.in_ok-workers.workers; shared = record c.in_ok-shared.shared { store = c.first_workers.new.store }; callers = c.loop.callers; spent = false }) c.in_ok-shared.runnables.items p
+    (in_range k c.requires.config) first begin (c.loop.invariant.callers ∙ ap (λ n. replicate n free_caller) sixteen) refl plan refl
+
+pub returns-clause-minded : goal.returns-clause-minded
+returns-clause-minded g c = λ p plan lone scripts played.
+    let range = in_range (configuration_of c.args.config.now c.args.iters_per_us c.args.files c.args.sockets) c.requires.config in
+    first_minded p lone scripts played (c.a_step_is_minded.ensures.first p lone (subst (λ x. x.spin.budget ≤ x.spin.most) (sym plan.config) range.spins))

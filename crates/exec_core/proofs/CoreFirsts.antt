@@ -1,0 +1,165 @@
+-- The seats, the roots and the workers of a new executor, one after another.
+use Rattle.std.proofs.Common.{◌≡◌, ℕ, zero, suc, ◌+◌, ◌<◌, true, false, List, [], ◌∷◌, ◌++◌, length, Some, None, refl, sym, ap, subst, ◌∙◌, arith, inl, inr, ◌⊎◌, slice_get}
+use Rattle.std.proofs.lemmas.List.{length-append}
+use Rattle.std.specs.Prelude.{max}
+use Rattle.exec_base.specs.declared.spinner.SpinnerConfig.{SpinnerConfig}
+use Rattle.exec_task.specs.{Phases.runnable_of, declared.{body.Said.TheVariants.Start, runnable.Runnable.Runnable, task.Phase.TheVariants.Queued}}
+use Rattle.exec_machine.specs.declared.{config.Configuration.Configuration, state.Waiting.TheVariants.Nothing}
+use Rattle.exec_words.specs.Global.{Global}
+use Rattle.exec_ring.specs.declared.store.Store.{Store}
+use Rattle.exec_steps.specs.{declared.parts.{seat.Seat.Seat as Chair, shared.Shared.Shared, task_slot.TaskSlot.TaskSlot, worker.Worker.Worker}, Firsts.{IsFresh as IsFreshShared}, Records.IsFreshSeat}
+use Rattle.exec_steps.proofs.Facts.{same_thing}
+use Rattle.exec_core.specs.Firsts.{AllBegin, Begins, HasRoots, IsBare, IsFirst, IsRoot, root_of, shared_with}
+
+-- ONE MORE at the end of a list
+
+pub on_front : {A : Type 0} (xs zs : List A) (i : ℕ) (x : A) → slice_get xs i ≡ Some x → slice_get (xs ++ zs) i ≡ Some x
+on_front [] zs i x there = absurd (cc)
+on_front (y ∷ xs) zs zero x there = there
+on_front (y ∷ xs) zs (suc i) x there = on_front xs zs i x there
+
+pub on_end : {A : Type 0} (xs : List A) (x : A) → slice_get (xs ++ x ∷ []) (length xs) ≡ Some x
+on_end [] x = refl
+on_end (y ∷ xs) x = on_end xs x
+
+pub before_or_end : {A : Type 0} (xs : List A) (z : A) (i : ℕ) (x : A) → slice_get (xs ++ z ∷ []) i ≡ Some x → (slice_get xs i ≡ Some x) ⊎ ((i ≡ length xs) × (z ≡ x))
+before_or_end [] z zero x there = inr (refl, same_thing z x there)
+before_or_end [] z (suc i) x there = absurd (cc)
+before_or_end (y ∷ xs) z zero x there = inl there
+before_or_end (y ∷ xs) z (suc i) x there =
+    elim (before_or_end xs z i x there) [
+      | inl found ↦ inl found
+      | inr last ↦ inr (ap suc last.0, last.1)
+    ]
+
+one_more : {A C : Type 0} (xs : List A) (ys : List C) (x : A) (y : C) → length xs ≡ length ys → length (xs ++ x ∷ []) ≡ length (ys ++ y ∷ [])
+one_more xs ys x y same = length-append xs (x ∷ []) ∙ ap (λ n. n + 1) same ∙ sym (length-append ys (y ∷ []))
+
+-- A LOOP over a list by value
+
+pub nothing_left : {X : Type 0} (xs : List X) → length xs ≡ 0 → xs ≡ []
+nothing_left [] h = refl
+nothing_left (x ∷ xs) h = absurd (omega (arith, h))
+
+pub within_yielded : {X : Type 0} (yielded : List X) (x : X) (rest left all : List X) → yielded ++ left ≡ all → left ≡ x ∷ rest → length yielded < length all
+within_yielded yielded x rest left all split steps =
+    let parts : length (yielded ++ left) ≡ length yielded + length left = length-append yielded left in
+    omega (arith, parts, ap length split, ap length steps)
+
+-- WORKERS
+
+pub begin_none : (c : Configuration) (spin : SpinnerConfig) → AllBegin c spin [] []
+begin_none c spin = record { many = refl; each = λ i w there. absurd (cc) }
+
+pub begin_more : (c : Configuration) (spin : SpinnerConfig) (rs : List Runnable) (ws : List Worker) (r : Runnable) (w : Worker) → AllBegin c spin rs ws → Begins c spin (length ws) r w → AllBegin c spin (rs ++ r ∷ []) (ws ++ w ∷ [])
+begin_more c spin rs ws r w all begins =
+    record {
+      many = one_more ws rs w r all.many;
+      each = λ i v there.
+          elim (before_or_end ws w i v there) [
+            | inl found ↦ let it = all.each i v found in (it.0, on_front rs (r ∷ []) i it.0 it.1, it.2)
+            | inr last ↦ (
+              r,
+              ap (slice_get (rs ++ r ∷ [])) (last.0 ∙ all.many) ∙ on_end rs r,
+              subst (λ k. Begins c spin k r v) (sym last.0) (subst (Begins c spin (length ws) r) last.1 begins),
+            )
+          ];
+    }
+
+module _ {B : Type 0} where
+  -- SEATS AND ROOTS
+
+  pub roots_none : HasRoots {B = B} [] [] [] []
+  roots_none =
+      record {
+        seats_many = refl;
+        tasks_many = refl;
+        runnables_many = refl;
+        fresh = λ i chair there. absurd (cc);
+        root = λ i slot there. absurd (cc);
+        queued = λ i r there. absurd (cc);
+      }
+
+  pub roots_more : (roots : List B) (seats : List Chair) (tasks : List (TaskSlot B)) (rs : List Runnable) (body : B) (chair : Chair) (slot : TaskSlot B) (r : Runnable) → HasRoots roots seats tasks rs
+      → IsFreshSeat true chair → IsRoot (length tasks) body slot → r ≡ runnable_of slot.cell → HasRoots (roots ++ body ∷ []) (seats ++ chair ∷ []) (tasks ++ slot ∷ []) (rs ++ r ∷ [])
+  roots_more roots seats tasks rs body chair slot r has fresh root queued =
+      record {
+        seats_many = one_more seats roots chair body has.seats_many;
+        tasks_many = one_more tasks roots slot body has.tasks_many;
+        runnables_many = one_more rs roots r body has.runnables_many;
+        fresh = λ i x there.
+            elim (before_or_end seats chair i x there) [
+              | inl found ↦ has.fresh i x found
+              | inr last ↦ subst (IsFreshSeat true) last.1 fresh
+            ];
+        root = λ i x there.
+            elim (before_or_end tasks slot i x there) [
+              | inl found ↦ let it = has.root i x found in (it.0, on_front roots (body ∷ []) i it.0 it.1, it.2)
+              | inr last ↦ (
+                body,
+                ap (slice_get (roots ++ body ∷ [])) (last.0 ∙ has.tasks_many) ∙ on_end roots body,
+                subst (λ k. IsRoot k body x) (sym last.0) (subst (IsRoot (length tasks) body) last.1 root),
+              )
+            ];
+        queued = λ i x there.
+            elim (before_or_end rs r i x there) [
+              | inl found ↦ let it = has.queued i x found in (it.0, on_front tasks (slot ∷ []) i it.0 it.1, it.2)
+              | inr last ↦ (
+                slot,
+                ap (slice_get (tasks ++ slot ∷ [])) (last.0 ∙ has.runnables_many ∙ sym has.tasks_many) ∙ on_end tasks slot,
+                sym last.1 ∙ queued,
+              )
+            ];
+      }
+
+  pub root_is : (i n owner : ℕ) (body : B) (slot : TaskSlot B) → n ≡ i → owner ≡ 1 → slot.cell ≡ record { number = record { 0 = n }; owner = owner; phase = Queued body; cancelled = false }
+      → slot ≡ record { cell = slot.cell; body = None; told = Some Start; held = slot.held; waiting = Nothing; fresh = false; cleared = false; home = Some n; poller = 0 } → slot.held.items ≡ [] → IsRoot i body slot
+  root_is i n owner body slot same mine cell is held =
+      let its : slot.cell ≡ (root_of i body slot).cell = cell ∙ (λ k. record { number = record { 0 = same k }; owner = mine k; phase = Queued body; cancelled = false }) in
+      record {
+        is = is ∙ (λ k. record { cell = its k; body = None; told = Some Start; held = slot.held; waiting = Nothing; fresh = false; cleared = false; home = Some (same k); poller = 0 });
+        held = held;
+      }
+
+  -- WHAT IS SHARED beside them
+
+  pub bare_first : (c : Configuration) (n : ℕ) (s : Shared B) (g : Global Runnable) (k : ℕ) → IsFreshShared c s → g ≡ record s.global { places = max s.global.places k } → k ≡ n → IsBare c n (record s { global = g })
+  bare_first c n s g k fresh places many =
+      let values : g.values ≡ [] = ap (λ x. x.values) places ∙ ap (λ (x : Shared B). x.global.values) fresh.parts in
+      let opened : g.closed ≡ false = ap (λ x. x.closed) places ∙ ap (λ (x : Shared B). x.global.closed) fresh.parts in
+      record {
+        parts = ap (λ (x : Shared B). record x { global = g }) fresh.parts ∙ (λ i. record (shared_with c s) { global = record { values = values i; places = g.places; closed = opened i } });
+        shards = fresh.shards;
+        places = (let some = ap (λ x. x.places) places in omega (arith, some, many));
+        requests = fresh.requests;
+        sleepers = fresh.sleepers;
+        listeners = fresh.listeners;
+      }
+
+  -- seats and tasks are put in
+  pub bare_with : (c : Configuration) (n : ℕ) (s u : Shared B) → IsBare c n s → u ≡ record s { seats = u.seats; tasks = u.tasks } → IsBare c n u
+  bare_with c n s u bare same =
+      subst (IsBare c n) (sym same)
+      (record {
+        parts = ap (λ (x : Shared B). record x { seats = u.seats; tasks = u.tasks }) bare.parts;
+        shards = bare.shards;
+        places = bare.places;
+        requests = bare.requests;
+        sleepers = bare.sleepers;
+        listeners = bare.listeners;
+      })
+
+  -- the bytes of sockets and files are another's
+  pub with_store : (c : Configuration) (roots : List B) (s : Shared B) (rs : List Runnable) (x : Store) → IsFirst c roots s rs → IsFirst c roots (record s { store = x }) rs
+  with_store c roots s rs x first =
+      record {
+        bare = record {
+          parts = ap (λ (t : Shared B). record t { store = x }) first.bare.parts;
+          shards = first.bare.shards;
+          places = first.bare.places;
+          requests = first.bare.requests;
+          sleepers = first.bare.sleepers;
+          listeners = first.bare.listeners;
+        };
+        rooted = first.rooted;
+      }

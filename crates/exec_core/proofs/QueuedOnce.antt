@@ -1,0 +1,123 @@
+-- In each state of an executor a task is queued once, by the balances of all parties.
+use Rattle.std.proofs.Common.{◌≡◌, ℕ, ◌+◌, ◌≤◌, ◌==◌, ◌&&◌, ◌||◌, Bool, true, false, not, List, [], ◌∷◌, ◌++◌, cond, map, sum_by, option_map, option_to_list, slice_get, Option, Some, None, refl, sym, ap, subst, ◌∙◌, arith}
+use Rattle.std.specs.Prelude.{if◌then◌else◌}
+use Rattle.std.proofs.lemmas.{Bool.true≢false, List.Sums.sum_by-cons, Option.slice_get-map}
+use Rattle.exec_task.specs.{Phases.is_polled, declared.{body.Said.Said, runnable.Runnable.Runnable, task.Phase.Phase}}
+use Rattle.exec_machine.specs.{Progress.Plan, World.Task}
+use Rattle.exec_moves.specs.{Call.CallDesk, Plays.Playing, Poll.{after_pend, is_noted, pend, requeued_if}, Seen.polls_at, State.Desk}
+use Rattle.exec_words.specs.Queue.{Queue}
+use Rattle.exec_steps.specs.{declared.parts.{caller.Caller.Caller, seat.Seat.Seat as Chair, task_slot.TaskSlot.TaskSlot, worker.Worker.Worker}, Calling.desk_of_caller, Places.{is_number, one_if}, Spots.Spot, Together.all_have, View.{desk_of, phase_seen, queue_at, task_seen}, Whole.{HasOne, IsQueuedOnce, queued, runnables_in, stock}}
+use Rattle.exec_core.specs.{declared.executor.Core.Core, Lift.{Stands, Shows, playing}, Once.{IsOnce, QueuesOnce, polls_of, runnables_of, times}}
+
+-- COUNTS of what was mapped
+
+counted : (t : ℕ) (rs : List Runnable) → times t (map (λ r. r.task.0) rs) ≡ runnables_in t rs
+counted t [] = refl
+counted t (r ∷ rs) =
+    sum_by-cons (λ u. cond (u == t) 1 0) r.task.0 (map (λ q. q.task.0) rs)
+    ∙ ap (λ n. cond (r.task.0 == t) 1 0 + n) (counted t rs)
+    ∙ sym (sum_by-cons (λ q. cond (q.task.0 == t) 1 0) r rs)
+
+mapped_after : (xs ys : List Runnable) → map (λ r. r.task.0) xs ++ map (λ r. r.task.0) ys ≡ map (λ (r : Runnable). r.task.0) (xs ++ ys)
+mapped_after [] ys = refl
+mapped_after (x ∷ xs) ys = ap (λ zs. x.task.0 ∷ zs) (mapped_after xs ys)
+
+in_hand : (o : Option Runnable) → option_to_list (option_map (λ r. r.task.0) o) ≡ map (λ (r : Runnable). r.task.0) (option_to_list o)
+in_hand None = refl
+in_hand (Some r) = refl
+
+in_hands : (t : ℕ) (o : Option Runnable) (loot : List Runnable) → times t (option_to_list (option_map (λ r. r.task.0) o) ++ map (λ r. r.task.0) loot) ≡ runnables_in t (option_to_list o ++ loot)
+in_hands t o loot =
+    ap (λ xs. times t (xs ++ map (λ (r : Runnable). r.task.0) loot)) (in_hand o) ∙ ap (times t) (mapped_after (option_to_list o) loot) ∙ counted t (option_to_list o ++ loot)
+
+callers_have_so : (t : ℕ) (cs : List Caller) → (all_have [] cs).runnables t ≡ sum_by (λ (d : CallDesk). times t (option_to_list d.hand)) (map desk_of_caller cs)
+callers_have_so t [] = refl
+callers_have_so t (c ∷ cs) =
+    let one = ap (times t) (in_hand c.hand) ∙ counted t (option_to_list c.hand) in
+    let rest = callers_have_so t cs in
+    let all = sum_by-cons (λ (d : CallDesk). times t (option_to_list d.hand)) (desk_of_caller c) (map desk_of_caller cs) in
+    omega (arith, one, rest, all)
+
+all_have_so : (t : ℕ) (ws : List Worker) (cs : List Caller) → (all_have ws cs).runnables t
+    ≡ sum_by (λ (d : Desk). times t (option_to_list d.hand ++ d.loot)) (map desk_of ws) + sum_by (λ (d : CallDesk). times t (option_to_list d.hand)) (map desk_of_caller cs)
+all_have_so t [] cs = callers_have_so t cs ∙ omega arith
+all_have_so t (w ∷ ws) cs =
+    let one = in_hands t w.hand w.loot.values in
+    let rest = all_have_so t ws cs in
+    let all = sum_by-cons (λ (d : Desk). times t (option_to_list d.hand ++ d.loot)) (desk_of w) (map desk_of ws) in
+    omega (arith, one, rest, all)
+
+callers_poll_none : (t : ℕ) (cs : List Caller) → (all_have [] cs).polls t ≡ 0
+callers_poll_none t [] = refl
+callers_poll_none t (c ∷ cs) = callers_poll_none t cs
+
+all_poll_so : (t : ℕ) (ws : List Worker) (cs : List Caller) → (all_have ws cs).polls t ≡ sum_by (λ (d : Desk). one_if (is_number (polls_at d.place) t)) (map desk_of ws)
+all_poll_so t [] cs = callers_poll_none t cs
+all_poll_so t (w ∷ ws) cs =
+    let rest = all_poll_so t ws cs in
+    let all = sum_by-cons (λ (d : Desk). one_if (is_number (polls_at d.place) t)) (desk_of w) (map desk_of ws) in
+    omega (arith, rest, all)
+
+queues_so : (t : ℕ) (seats : List Chair) → sum_by (λ (q : Queue ℕ). times t (q.values ++ q.held)) (map queue_at seats) ≡ sum_by (λ chair. runnables_in t (queued chair)) seats
+queues_so t [] = refl
+queues_so t (chair ∷ seats) =
+    let one = ap (times t) (mapped_after chair.queue.values chair.queue.held) ∙ counted t (queued chair) in
+    let rest = queues_so t seats in
+    let all = sum_by-cons (λ (q : Queue ℕ). times t (q.values ++ q.held)) (queue_at chair) (map queue_at seats) in
+    let these = sum_by-cons (λ (x : Chair). runnables_in t (queued x)) chair seats in
+    omega (arith, one, rest, all, these)
+
+-- OF ONE TASK
+
+once_queued : (gone : Bool) (n : ℕ) → IsQueuedOnce gone n → (n ≤ 1) × (gone ≡ false → n ≡ 1)
+once_queued true n h = (h, λ never. absurd (true≢false never))
+once_queued false n h = (omega (arith, h), λ same. h)
+
+module _ {B : Type 0} where
+  -- what its cell says
+  once_by : (gone : Bool) (p : Phase B) (i n m : ℕ) → HasOne gone p n → m ≡ one_if (is_polled p) → IsOnce gone (phase_seen p i) n m
+  once_by gone (Phase.Idle b) i n m has polled = (has, polled)
+  once_by gone (Phase.Queued b) i n m has polled = let one = once_queued gone n has in (one.0, one.1, polled)
+  once_by gone Phase.Running i n m has polled = (has, polled)
+  once_by gone Phase.Notified i n m has polled = (has, polled)
+  once_by gone Phase.Complete i n m has polled = (has, polled)
+
+-- A TASK OF THE MACHINE is that of a slot
+slot_of : {A C : Type 0} (f : A → C) (xs : List A) (t : ℕ) (y : C) → slice_get (map f xs) t ≡ Some y → (x : A) × (slice_get xs t ≡ Some x) × (f x ≡ y)
+slot_of {A} {C} f xs t y there = by_option (slice_get xs t) refl (sym (slice_get-map f xs t) ∙ there)
+  where
+    by_option : (o : Option A) → slice_get xs t ≡ o → option_map f o ≡ Some y → (x : A) × (slice_get xs t ≡ Some x) × (f x ≡ y)
+    by_option (Some x) is same = (x, is, cc)
+    by_option None is same = absurd (cc)
+
+module _ {B L : Type 0} (left : B → L) (runs : L → Plan → Option ℕ → Type 0) (holds : L → Option Said → List ℕ) (spot : L → Option Said → Spot) where
+  pub queues_once : (p : Plan) (c : Core B) (x : Playing) → Stands c → Shows left runs holds spot p c x → QueuesOnce x
+  queues_once p c x stands shows = subst QueuesOnce shows.is once
+    where
+      once : QueuesOnce (playing left spot p c)
+      once t it there ordinary =
+          let s = c.shared in
+          let ws = c.workers.items in
+          let cs = c.callers.items in
+          let whole = stands.together.whole in
+          let found = slot_of (task_seen left spot) s.tasks.items t it there in
+          let slot : TaskSlot B = found.0 in
+          let home : slot.home ≡ None = ap (λ (u : Task). u.home) found.2 ∙ ordinary in
+          let many : runnables_of t (playing left spot p c) ≡ (all_have ws cs).runnables t + stock t s =
+          let hands = all_have_so t ws cs in
+          let queues = queues_so t s.seats.items in
+          let global = counted t s.global.values in
+          omega (arith, hands, queues, global) in
+          let polls : polls_of t (playing left spot p c) ≡ (all_have ws cs).polls t = sym (all_poll_so t ws cs) in
+          subst (λ (u : Task). IsOnce (s.set.closed || s.global.closed) u.phase (runnables_of t (playing left spot p c)) (polls_of t (playing left spot p c))) found.2
+          (subst (λ n. IsOnce (s.set.closed || s.global.closed) (phase_seen slot.cell.phase slot.poller) n (polls_of t (playing left spot p c))) (sym many)
+          (once_by (s.set.closed || s.global.closed) slot.cell.phase slot.poller ((all_have ws cs).runnables t + stock t s) (polls_of t (playing left spot p c)) (whole.runnables t slot found.1 home) (polls ∙ whole.polls t slot found.1 home)))
+
+-- A POLL THAT ENDS PENDING
+
+requeued : (b : Bool) (t : ℕ) (d : Desk) → d.hand ≡ None → (requeued_if b t d).hand ≡ (if b then Some t else None)
+requeued true t d empty = refl
+requeued false t d empty = empty
+
+pub again : (t : ℕ) (d : Desk) (it : Task) → it.home ≡ None → d.hand ≡ None → (pend t d it).desk.hand ≡ (if is_noted it.phase && not it.cleared then Some t else None)
+again t d it ordinary empty = ap (λ home. (after_pend t d it home).hand) ordinary ∙ requeued (is_noted it.phase && not it.cleared) t d empty

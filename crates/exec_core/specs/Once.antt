@@ -1,0 +1,37 @@
+-- NO TASK IS QUEUED TWICE, AND ONE THAT IS TO BE POLLED IS QUEUED: how many runnables each task has, and how many polls, in a state of an
+-- executor of several workers.
+use Rattle.std.specs.Prelude.{◌≡◌, ℕ, ◌+◌, ◌≤◌, ◌==◌, ◌||◌, Bool, false, List, ◌++◌, count_by, sum_by, slice_get, Some, None, option_to_list}
+use Rattle.exec_machine.specs.{declared.state.TaskPhase.TaskPhase, World.Task}
+use Rattle.exec_machine.specs.declared.state.TaskPhase.TheVariants as phase
+use Rattle.exec_moves.specs.{Plays.Playing, Seen.polls_at}
+use Rattle.exec_steps.specs.Places.{is_number, one_if}
+
+-- how often task t is among these
+abbrev pub times : ℕ → List ℕ → ℕ
+times t ts = count_by (λ u. u == t) ts
+
+-- how many runnables of task t there are: in the hands of workers and callers, on the way from one queue to another, in the
+-- run queues, and in the global queue
+abbrev pub runnables_of : ℕ → Playing → ℕ
+runnables_of t x =
+    sum_by (λ d. times t (option_to_list d.hand ++ d.loot)) x.desks + sum_by (λ d. times t (option_to_list d.hand)) x.callers
+    + (sum_by (λ q. times t (q.values ++ q.held)) x.things.queues + times t x.things.global)
+
+-- how many workers poll it
+abbrev pub polls_of : ℕ → Playing → ℕ
+polls_of t x = sum_by (λ d. one_if (is_number (polls_at d.place) t)) x.desks
+
+-- A task that is to be polled has one runnable, unless a closed set or queue let it go; one that is polled has none, and one
+-- worker polls it; one that waits has neither. One that is over may have left a runnable, which is let go.
+abbrev pub IsOnce : Bool → TaskPhase → ℕ → ℕ → Type 0
+IsOnce gone phase.Idle runnables polls = (runnables ≡ 0) × (polls ≡ 0)
+IsOnce gone phase.Queued runnables polls = (runnables ≤ 1) × (gone ≡ false → runnables ≡ 1) × (polls ≡ 0)
+IsOnce gone (phase.Running i) runnables polls = (runnables ≡ 0) × (polls ≡ 1)
+IsOnce gone (phase.Noted i) runnables polls = (runnables ≡ 0) × (polls ≡ 1)
+IsOnce gone phase.Done runnables polls = (runnables ≤ 1) × (polls ≡ 0)
+
+-- So it is with each ordinary task.
+abbrev pub QueuesOnce : Playing → Type 0
+QueuesOnce x =
+    (t : ℕ) (it : Task) → slice_get x.world.common.tasks t ≡ Some it → it.home ≡ None
+    → IsOnce (x.world.common.set_closed || x.world.common.queue_closed) it.phase (runnables_of t x) (polls_of t x)
