@@ -1,12 +1,10 @@
--- A run begins well: there is less credit than the bound, and the worker is awake.
-use Rattle.std.proofs.Common.{◌≡◌, ℕ, zero, suc, ◌<◌, ◌&&◌, Bool, true, false, nat_le, [], replicate, None, refl, sym, subst, arith}
+-- A run of one worker begins well: there is less credit than the bound, and the worker is awake.
+use Rattle.std.proofs.Common.{◌≡◌, ℕ, zero, suc, ◌<◌, ◌&&◌, Bool, true, false, nat_le, [], replicate, refl, sym, subst, arith}
 use Rattle.std.specs.List.{list_any}
 use Rattle.std.proofs.lemmas.Bool.{true≢false}
 use Rattle.exec_machine.specs.{World.{World, no_open, seat_of}, Tasks.new_seat, Run.{first_owns, first_tasks, first_common}, Progress.{Plan, quiet_bound, IsRightlyAsleep, sleeps_for_nothing}}
-use Rattle.exec_moves.specs.{Submit.waits_at, Credit.count_numbered, Plays.{Playing, first_desk, first_things, first_playing, credit_of}}
+use Rattle.exec_moves.specs.{Call.no_call, Submit.waits_at, Credit.count_numbered, Plays.{Playing, first_desks, first_things, first_playing, credit_of}}
 use Rattle.exec_core.specs.Lift.{IsFair}
-use Rattle.exec_run.specs.Ranges.{first_out_of_range}
-use Rattle.exec_run.proofs.InRange.{one_worker}
 
 -- the first state, of so many workers
 abbrev world_of : Plan → ℕ → World
@@ -14,7 +12,7 @@ world_of p n =
     record { workers = first_owns n 0; common = record (first_common p.config p.scripts p.root) { seats = replicate n (new_seat true); tasks = first_tasks n 0 } }
 
 abbrev playing_of : Plan → ℕ → Playing
-playing_of p n = record { world = world_of p n; desk = first_desk p.config; things = first_things }
+playing_of p n = record { world = world_of p n; desks = first_desks p.config n 0; callers = replicate 16 no_call; things = first_things p.config }
 
 not_there : (b : Bool) → (b && false) ≡ false
 not_there true = refl
@@ -35,6 +33,5 @@ awake_seat p (suc i) = refl
 asleep : (p : Plan) → IsRightlyAsleep p.config (world_of p 1)
 asleep p = record { asleep = λ all. absurd (true≢false (sym all)); closing = awake_seat p }
 
-pub first_fair : (p : Plan) → first_out_of_range p.config ≡ None → IsFair p.config (first_playing p)
-first_fair p none =
-    subst (λ (n : ℕ). IsFair p.config (playing_of p n)) (sym (one_worker p.config none)) (record { bounded = bounded p; asleep = asleep p })
+pub first_fair : (p : Plan) → p.config.workers ≡ 1 → IsFair p.config (first_playing p)
+first_fair p lone = subst (λ (n : ℕ). IsFair p.config (playing_of p n)) (sym lone) (record { bounded = bounded p; asleep = asleep p })

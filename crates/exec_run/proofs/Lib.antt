@@ -6,5 +6,8 @@ pub mod ReadLemmas
 pub mod Completeness
 pub mod InRange
 pub mod Words
+pub mod Plans
+pub mod Counted
+pub mod Carried
 pub mod Acts
 pub mod First

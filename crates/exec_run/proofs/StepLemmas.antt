@@ -3,21 +3,22 @@ use Rattle.std.proofs.Common.{◌≡◌, ℕ, suc, Bool, true, false, cond, ◌+
 use Rattle.std.proofs.lemmas.List.{take-append-drop, take_more}
 use Rattle.exec_task.specs.declared.body.Said.{Said}
 use Rattle.exec_outcomes.specs.declared.outcome.OpResult.{OpResult, TheVariants.{Count, Errno}}
-use Rattle.exec_machine.specs.{declared.{config.Configuration.Configuration, event.{Event.Event, StepResult.TheVariants.{Refused, Did}, Line.Line}, step.{Step.Step, Action.Action}}, Same.same_result, Run.{Follows, same_action, is_refused, after_work, after_step, after_steps}, Progress.{Plan, is_quiet_step}, Examples.{Told, lines_of}}
+use Rattle.exec_machine.specs.{declared.{config.Configuration.Configuration, event.{Event.Event, StepResult.TheVariants.{Refused, Did}, Line.Line}, step.{Step.Step, Action.Action}}, Same.same_result, Run.{Follows, same_action, is_refused, after_work, after_step, after_steps}, Progress.Plan, Examples.{Told, lines_of}}
 use Rattle.exec_machine.specs.declared.step.Step.TheVariants as step
 use Rattle.exec_machine.specs.declared.step.Action.TheVariants as action
-use Rattle.exec_moves.specs.{Plays.{Playing, by_step, credit_of}, Departures.played}
+use Rattle.exec_credit.specs.Minded.{begins_call}
+use Rattle.exec_moves.specs.{Plays.{Playing, by_step}, Departures.played}
 use Rattle.exec_steps.specs.Spots.{Spot}
-use Rattle.exec_core.specs.{declared.executor.Core.Core, Lift.{IsFair, Shows, Applies, is_of_first_cut}}
-use Rattle.exec_text.specs.Grammar.{StepFits}
-use Rattle.exec_run.specs.{Log.{Gave, GaveFront, AreTaken, IsBegun, told_text}, Steps.{told_of_line, IsStep, Goes, TakesLine, BreaksLine, Works, Leads, Breaks}}
+use Rattle.exec_core.{specs.{declared.executor.Core.Core, Lift.{IsMinded, IsReady, Pays, Shows, Applies, Carries}, Once.QueuesOnce}, proofs.QueuedOnce.queues_once}
+use Rattle.exec_text.specs.Grammar.{StepFits, StepNames}
+use Rattle.exec_run.specs.{Log.{Gave, GaveFront, AreTaken, IsBegun, told_text}, Steps.{told_of_line, IsStep, Goes, StandsAt, TakesLine, BreaksLine, Works, Leads, Breaks}}
 use Rattle.exec_run.proofs.Told.{whole_front, no_front, gave_untold, lines_more, gave_more, front_more}
 
 -- RUNS
 
-pub goes_on : (c : Configuration) (x : Playing) (told more : List Told) → Goes c x told → Goes c (played c x told) more → Goes c x (told ++ more)
-goes_on c x [] more first second = second
-goes_on c x (it ∷ told) more first second = (first.0, goes_on c (by_step c x it.0.action).next told more first.1 second)
+pub goes_on : (p : Plan) (x : Playing) (told more : List Told) → Goes p x told → Goes p (played p.config x told) more → Goes p x (told ++ more)
+goes_on p x [] more first second = second
+goes_on p x (it ∷ told) more first second = (first.0, goes_on p (by_step p.config x it.0.action).next told more first.1 second)
 
 played_on : (c : Configuration) (x : Playing) (told more : List Told) → played c x (told ++ more) ≡ played c (played c x told) more
 played_on c x [] more = refl
@@ -80,23 +81,21 @@ same_as_itself (Errno e) = eq-eqb e e refl
 
 -- a step that fits asks for one action of its kind, which has one line
 one_line : (a : Action) → StepFits (step.One a) → same_action a a ≡ true
+one_line (action.Spawn j k) fits = rw (eq-eqb j j refl, eq-eqb k k refl) refl
+one_line (action.Wake j t) fits = rw (eq-eqb j j refl, eq-eqb t t refl) refl
+one_line (action.GoOn j) fits = eq-eqb j j refl
 one_line (action.Clock d) fits = eq-eqb d d refl
 one_line (action.Land r n) fits = rw (eq-eqb r r refl, same_as_itself n) refl
+one_line (action.SetBusy i) fits = eq-eqb i i refl
+one_line (action.EndPoll i) fits = eq-eqb i i refl
 one_line (action.Stir i) fits = eq-eqb i i refl
 one_line _ fits = absurd fits
 
 one_done : (a : Action) → StepFits (step.One a) → (it : Told) → it.0.action ≡ a → (ls : List Line) → after_step (step.One a) (it.0 ∷ ls) ≡ Some ls
 one_done a fits it is ls = rw (is, one_line a fits) refl
 
-pub fits_cut : (s : Step) (a : Action) → s ≡ step.One a → StepFits s → is_of_first_cut a ≡ true
-fits_cut s (action.Clock d) is fits = refl
-fits_cut s (action.Land r n) is fits = refl
-fits_cut s (action.Stir i) is fits = refl
-fits_cut s (action.SetBusy i) is fits = refl
-fits_cut s (action.EndPoll i) is fits = refl
-fits_cut s (action.Peer l) is fits = refl
-fits_cut s (action.Work i) is fits = refl
-fits_cut s a is fits = absurd (subst StepFits is fits)
+pub named_in : (p : Plan) (s : Step) (a : Action) → s ≡ step.One a → StepNames (length p.scripts) s → StepNames (length p.scripts) (step.One a)
+named_in p s a is names = subst (StepNames (length p.scripts)) is names
 
 more_begun : (some line more : List Step) → (some ≡ []) ⊎ IsBegun some line → (some ≡ []) ⊎ IsBegun some (line ++ more)
 more_begun some line more (inl none) = inl none
@@ -132,15 +131,15 @@ split_at_step steps i d within =
     ∙ take-append-drop (i + 1) steps
 
 -- nothing was taken, and nothing given
-broke_before : (quiet : Bool) (c : Configuration) (x : Playing) (steps : List Step) (old new : Option (List ℕ)) → new ≡ old → Breaks quiet c x steps old new
-broke_before quiet c x steps old new same =
-    subst (λ (given : Option (List ℕ)). Breaks quiet c x steps old given) (sym same)
+broke_before : (quiet : Bool) (p : Plan) (x : Playing) (steps : List Step) (old new : Option (List ℕ)) → new ≡ old → Breaks quiet p x steps old new
+broke_before quiet p x steps old new same =
+    subst (λ (given : Option (List ℕ)). Breaks quiet p x steps old given) (sym same)
     (record { taken = []; are_taken = none_taken steps; told = []; has_lines = refl; goes = tt; gave = no_front old (told_text quiet []) })
 
-pub one_broke : (quiet : Bool) (c : Configuration) (x : Playing) (s : Step) (a : Action) (old new : Option (List ℕ)) → s ≡ step.One a → StepFits s → (new ≡ old) ⊎ BreaksLine quiet c x a old new → Breaks quiet c x (s ∷ []) old new
-one_broke quiet c x s a old new is fits (inl same) = broke_before quiet c x (s ∷ []) old new same
-one_broke quiet c x s a old new is fits (inr breaks) =
-    subst (λ (y : Step). Breaks quiet c x (y ∷ []) old new) (sym is)
+pub one_broke : (quiet : Bool) (p : Plan) (x : Playing) (s : Step) (a : Action) (old new : Option (List ℕ)) → s ≡ step.One a → StepFits s → (new ≡ old) ⊎ BreaksLine quiet p x a old new → Breaks quiet p x (s ∷ []) old new
+one_broke quiet p x s a old new is fits (inl same) = broke_before quiet p x (s ∷ []) old new same
+one_broke quiet p x s a old new is fits (inr breaks) =
+    subst (λ (y : Step). Breaks quiet p x (y ∷ []) old new) (sym is)
     (record {
       taken = step.One a ∷ [];
       are_taken = all_taken (step.One a ∷ []);
@@ -152,98 +151,104 @@ one_broke quiet c x s a old new is fits (inr breaks) =
 
 -- A LINE, AND THE STEPS SO FAR, of an executor that showed this
 
-module _ {B L : Type 0} (left : B → L) (runs : L → Plan → Type 0) (holds : L → Option Said → List ℕ) (spot : L → Option Said → Spot) where
+module _ {B L : Type 0} (left : B → L) (runs : L → Plan → Option ℕ → Type 0) (holds : L → Option Said → List ℕ) (spot : L → Option Said → Spot) (known : Plan → Type 0) where
   -- what a step tells is as it should be
   step_is : (p : Plan) (x : Playing) (a : Action) (l : Line) (d : Core B) → Applies left runs holds spot p x a l d → a ≡ (by_step p.config x a).told.0.action
   step_is p x a l d it = sym it.step_told ∙ ap (λ (m : Line). m.action) it.tells
 
-  is_step : (p : Plan) (x : Playing) (a : Action) (l : Line) (d : Core B) → Applies left runs holds spot p x a l d → IsStep p.config x (by_step p.config x a).told
-  is_step p x a l d it =
+  is_step : (p : Plan) (x : Playing) (a : Action) (l : Line) (d : Core B) → Applies left runs holds spot p x a l d → IsReady left runs holds p d → IsStep p x (by_step p.config x a).told
+  is_step p x a l d it ready =
       let c = p.config in
       let t = (by_step c x a).told in
       let of = step_is p x a l d it in
       record {
         tells = ap (λ (b : Action). (by_step c x b).told) of;
         follows = subst (λ (b : Action). Follows c x.world b t.0.said t.1) of (subst (λ (m : Line). Follows c x.world a m.said t.1) it.tells it.follows);
-        falls = subst (λ (b : Action). is_quiet_step x.world t.0.said ≡ true → credit_of c (by_step c x b).next < credit_of c x) of
-            (subst (λ (m : Line). is_quiet_step x.world m.said ≡ true → credit_of c (by_step c x a).next < credit_of c x) it.tells it.falls);
-        fair = subst (λ (b : Action). IsFair c (by_step c x b).next) of it.fair;
+        once = subst (λ (b : Action). QueuesOnce (by_step c x b).next) of (queues_once left runs holds spot p d (by_step c x a).next ready.stands it.shows);
+        pays = subst (λ (b : Action). begins_call b ≡ false → IsMinded p x → Pays p x b t.0) of
+            (subst (λ (m : Line). begins_call a ≡ false → IsMinded p x → Pays p x a m) it.tells it.pays);
       }
 
-  pub line_taken : (quiet : Bool) (c d : Core B) (a : Action) (l : Line) (old new : Option (List ℕ))
-      → ((p : Plan) (x : Playing) → Shows left runs holds spot p c x → Applies left runs holds spot p x a l d)
-      → Gave old new (told_of_line quiet l) → (p : Plan) (x : Playing) → Shows left runs holds spot p c x → TakesLine left runs holds spot quiet p x a l d old new
-  line_taken quiet c d a l old new applies gave p x shows =
-      let it = applies p x shows in
+  -- what the core ensures of a step that it took, and what stands before it
+  pub record IsTaken (name : L → ℕ) (c d : Core B) (a : Action) (body : Option B) (l : Line) : Type 0 where
+    pub applies : (p : Plan) (x : Playing) → Shows left runs holds spot p c x → Carries left runs holds spot name p a body → Applies left runs holds spot p x a l d
+    pub ready : (p : Plan) → IsReady left runs holds p c → Carries left runs holds spot name p a body → IsReady left runs holds p d
+    pub carries : (p : Plan) → known p → StepNames (length p.scripts) (step.One a) → Carries left runs holds spot name p a body
+
+  pub line_taken : (name : L → ℕ) (quiet : Bool) (c d : Core B) (a : Action) (body : Option B) (l : Line) (old new : Option (List ℕ)) → IsTaken name c d a body l
+      → Gave old new (told_of_line quiet l) → (p : Plan) (x : Playing) → StandsAt left runs holds spot known p c x → StepNames (length p.scripts) (step.One a) → TakesLine left runs holds spot known quiet p x a l d old new
+  line_taken name quiet c d a body l old new taken gave p x stands names =
+      let carries = taken.carries p stands.knows names in
+      let it = taken.applies p x stands.shows carries in
       let of = step_is p x a l d it in
       record {
         it = (by_step p.config x a).told;
         line = sym it.tells;
         action = sym of;
-        step = is_step p x a l d it;
-        shows = subst (λ (b : Action). Shows left runs holds spot p d (by_step p.config x b).next) of it.shows;
+        step = is_step p x a l d it (taken.ready p stands.ready carries);
+        stands = subst (λ (b : Action). StandsAt left runs holds spot known p d (by_step p.config x b).next) of (record { ready = taken.ready p stands.ready carries; shows = it.shows; knows = stands.knows });
         gave = subst (λ (m : Line). Gave old new (told_of_line quiet m)) it.tells gave;
       }
 
-  pub line_broken : (quiet : Bool) (c d : Core B) (a : Action) (l : Line) (old new : Option (List ℕ))
-      → ((p : Plan) (x : Playing) → Shows left runs holds spot p c x → Applies left runs holds spot p x a l d)
-      → GaveFront old new (told_of_line quiet l) → (p : Plan) (x : Playing) → Shows left runs holds spot p c x → BreaksLine quiet p.config x a old new
-  line_broken quiet c d a l old new applies gave p x shows =
-      let it = applies p x shows in
+  pub line_broken : (name : L → ℕ) (quiet : Bool) (c d : Core B) (a : Action) (body : Option B) (l : Line) (old new : Option (List ℕ)) → IsTaken name c d a body l
+      → GaveFront old new (told_of_line quiet l) → (p : Plan) (x : Playing) → StandsAt left runs holds spot known p c x → StepNames (length p.scripts) (step.One a) → BreaksLine quiet p x a old new
+  line_broken name quiet c d a body l old new taken gave p x stands names =
+      let carries = taken.carries p stands.knows names in
+      let it = taken.applies p x stands.shows carries in
       record {
         it = (by_step p.config x a).told;
         action = sym (step_is p x a l d it);
-        step = is_step p x a l d it;
+        step = is_step p x a l d it (taken.ready p stands.ready carries);
         gave = subst (λ (m : Line). GaveFront old new (told_of_line quiet m)) it.tells gave;
       }
 
-  pub works_none : (quiet : Bool) (p : Plan) (x : Playing) (i : ℕ) (d : Core B) (old : Option (List ℕ)) → Shows left runs holds spot p d x → Works left runs holds spot quiet p x i 0 d old old
-  works_none quiet p x i d old shows =
+  pub works_none : (quiet : Bool) (p : Plan) (x : Playing) (i : ℕ) (d : Core B) (old : Option (List ℕ)) → StandsAt left runs holds spot known p d x → Works left runs holds spot known quiet p x i 0 d old old
+  works_none quiet p x i d old stands =
       record {
         told = [];
         accepted = λ n ls. ap (λ k. after_work i k ls) (zero-add n);
         goes = tt;
-        shows = shows;
+        stands = stands;
         gave = gave_untold quiet old;
       }
 
   -- one more line, whatever it says
-  shows_more : (quiet : Bool) (p : Plan) (x : Playing) (told : List Told) (a : Action) (l : Line) (d : Core B) (old new : Option (List ℕ)) (takes : TakesLine left runs holds spot quiet p (played p.config x told) a l d old new) → Shows left runs holds spot p d (played p.config x (told ++ takes.it ∷ []))
-  shows_more quiet p x told a l d old new takes =
-      subst (λ (y : Playing). Shows left runs holds spot p d y) (sym (played_on p.config x told (takes.it ∷ []))) takes.shows
+  stands_more : (quiet : Bool) (p : Plan) (x : Playing) (told : List Told) (a : Action) (l : Line) (d : Core B) (old new : Option (List ℕ)) (takes : TakesLine left runs holds spot known quiet p (played p.config x told) a l d old new) → StandsAt left runs holds spot known p d (played p.config x (told ++ takes.it ∷ []))
+  stands_more quiet p x told a l d old new takes =
+      subst (λ (y : Playing). StandsAt left runs holds spot known p d y) (sym (played_on p.config x told (takes.it ∷ []))) takes.stands
 
-  pub works_more : (quiet : Bool) (p : Plan) (x : Playing) (i m : ℕ) (l : Line) (e : Event) (c d : Core B) (old mid new : Option (List ℕ)) → Works left runs holds spot quiet p x i m c old mid
-      → ((y : Playing) → Shows left runs holds spot p c y → TakesLine left runs holds spot quiet p y (action.Work i) l d mid new) → l.said ≡ Did e → Works left runs holds spot quiet p x i (m + 1) d old new
+  pub works_more : (quiet : Bool) (p : Plan) (x : Playing) (i m : ℕ) (l : Line) (e : Event) (c d : Core B) (old mid new : Option (List ℕ)) → Works left runs holds spot known quiet p x i m c old mid
+      → ((y : Playing) → StandsAt left runs holds spot known p c y → TakesLine left runs holds spot known quiet p y (action.Work i) l d mid new) → l.said ≡ Did e → Works left runs holds spot known quiet p x i (m + 1) d old new
   works_more quiet p x i m l e c d old mid new works takes_line did =
-      let takes = takes_line (played p.config x works.told) works.shows in
+      let takes = takes_line (played p.config x works.told) works.stands in
       record {
         told = works.told ++ takes.it ∷ [];
         accepted = λ n ls.
             let next : m + 1 + n ≡ m + suc n = omega arith in
             ap (λ k. after_work i k (lines_of (works.told ++ takes.it ∷ []) ++ ls)) next
             ∙ behind i m (suc n) works.told ls takes.it works.accepted ∙ accepted_line i n takes.it.0 e ls takes.action (ap (λ (k : Line). k.said) takes.line ∙ did);
-        goes = goes_on p.config x works.told (takes.it ∷ []) works.goes (takes.step, tt);
-        shows = shows_more quiet p x works.told (action.Work i) l d mid new takes;
+        goes = goes_on p x works.told (takes.it ∷ []) works.goes (takes.step, tt);
+        stands = stands_more quiet p x works.told (action.Work i) l d mid new takes;
         gave = gave_more quiet works.told (takes.it ∷ []) old mid new works.gave takes.gave;
       }
 
-  works_lead : (quiet : Bool) (p : Plan) (x : Playing) (i n : ℕ) (d : Core B) (old new : Option (List ℕ)) → Works left runs holds spot quiet p x i n d old new → Leads left runs holds spot quiet p x (step.Work i n ∷ []) d old new
+  works_lead : (quiet : Bool) (p : Plan) (x : Playing) (i n : ℕ) (d : Core B) (old new : Option (List ℕ)) → Works left runs holds spot known quiet p x i n d old new → Leads left runs holds spot known quiet p x (step.Work i n ∷ []) d old new
   works_lead quiet p x i n d old new works =
       record {
         told = works.told;
         has_lines = step_done (step.Work i n) (lines_of works.told) (λ ls. ap (λ k. after_work i k (lines_of works.told ++ ls)) (sym (add-zero n)) ∙ works.accepted 0 ls);
         goes = works.goes;
-        shows = works.shows;
+        stands = works.stands;
         gave = works.gave;
       }
 
-  pub works_all : (quiet : Bool) (p : Plan) (x : Playing) (i m n : ℕ) (d : Core B) (old new : Option (List ℕ)) → m ≡ n → Works left runs holds spot quiet p x i m d old new → Leads left runs holds spot quiet p x (step.Work i n ∷ []) d old new
-  works_all quiet p x i m n d old new all works = subst (λ (k : ℕ). Leads left runs holds spot quiet p x (step.Work i k ∷ []) d old new) all (works_lead quiet p x i m d old new works)
+  pub works_all : (quiet : Bool) (p : Plan) (x : Playing) (i m n : ℕ) (d : Core B) (old new : Option (List ℕ)) → m ≡ n → Works left runs holds spot known quiet p x i m d old new → Leads left runs holds spot known quiet p x (step.Work i n ∷ []) d old new
+  works_all quiet p x i m n d old new all works = subst (λ (k : ℕ). Leads left runs holds spot known quiet p x (step.Work i k ∷ []) d old new) all (works_lead quiet p x i m d old new works)
 
-  pub works_refused : (quiet : Bool) (p : Plan) (x : Playing) (i m n : ℕ) (l : Line) (c d : Core B) (old mid new : Option (List ℕ)) → Works left runs holds spot quiet p x i m c old mid
-      → ((y : Playing) → Shows left runs holds spot p c y → TakesLine left runs holds spot quiet p y (action.Work i) l d mid new) → l.said ≡ Refused → m < n → Leads left runs holds spot quiet p x (step.Work i n ∷ []) d old new
+  pub works_refused : (quiet : Bool) (p : Plan) (x : Playing) (i m n : ℕ) (l : Line) (c d : Core B) (old mid new : Option (List ℕ)) → Works left runs holds spot known quiet p x i m c old mid
+      → ((y : Playing) → StandsAt left runs holds spot known p c y → TakesLine left runs holds spot known quiet p y (action.Work i) l d mid new) → l.said ≡ Refused → m < n → Leads left runs holds spot known quiet p x (step.Work i n ∷ []) d old new
   works_refused quiet p x i m n l c d old mid new works takes_line refused more =
-      let takes = takes_line (played p.config x works.told) works.shows in
+      let takes = takes_line (played p.config x works.told) works.stands in
       record {
         told = works.told ++ takes.it ∷ [];
         has_lines = step_done (step.Work i n) (lines_of (works.told ++ takes.it ∷ [])) (λ ls.
@@ -251,13 +256,13 @@ module _ {B L : Type 0} (left : B → L) (runs : L → Plan → Type 0) (holds :
             ap (λ k. after_work i k (lines_of (works.told ++ takes.it ∷ []) ++ ls)) split
             ∙ behind i m (suc (n - (m + 1))) works.told ls takes.it works.accepted
             ∙ refused_line i (n - (m + 1)) takes.it.0 ls takes.action (ap (λ (k : Line). k.said) takes.line ∙ refused));
-        goes = goes_on p.config x works.told (takes.it ∷ []) works.goes (takes.step, tt);
-        shows = shows_more quiet p x works.told (action.Work i) l d mid new takes;
+        goes = goes_on p x works.told (takes.it ∷ []) works.goes (takes.step, tt);
+        stands = stands_more quiet p x works.told (action.Work i) l d mid new takes;
         gave = gave_more quiet works.told (takes.it ∷ []) old mid new works.gave takes.gave;
       }
 
   -- where all lines of what was taken were given
-  pub broke_between : (quiet : Bool) (p : Plan) (x : Playing) (taken steps : List Step) (d : Core B) (old new : Option (List ℕ)) → AreTaken taken steps → Leads left runs holds spot quiet p x taken d old new → Breaks quiet p.config x steps old new
+  pub broke_between : (quiet : Bool) (p : Plan) (x : Playing) (taken steps : List Step) (d : Core B) (old new : Option (List ℕ)) → AreTaken taken steps → Leads left runs holds spot known quiet p x taken d old new → Breaks quiet p x steps old new
   broke_between quiet p x taken steps d old new are_taken leads =
       record {
         taken = taken;
@@ -269,10 +274,10 @@ module _ {B L : Type 0} (left : B → L) (runs : L → Plan → Type 0) (holds :
       }
 
   -- where the next line was not taken, or not given as a whole
-  pub works_stopped : (quiet : Bool) (p : Plan) (x : Playing) (i m n : ℕ) (c : Core B) (old mid new : Option (List ℕ)) (works : Works left runs holds spot quiet p x i m c old mid) → m < n
-      → (new ≡ mid) ⊎ BreaksLine quiet p.config (played p.config x works.told) (action.Work i) mid new → Breaks quiet p.config x (step.Work i n ∷ []) old new
+  pub works_stopped : (quiet : Bool) (p : Plan) (x : Playing) (i m n : ℕ) (c : Core B) (old mid new : Option (List ℕ)) (works : Works left runs holds spot known quiet p x i m c old mid) → m < n
+      → (new ≡ mid) ⊎ BreaksLine quiet p (played p.config x works.told) (action.Work i) mid new → Breaks quiet p x (step.Work i n ∷ []) old new
   works_stopped quiet p x i m n c old mid new works more (inl same) =
-      subst (λ (given : Option (List ℕ)). Breaks quiet p.config x (step.Work i n ∷ []) old given) (sym same)
+      subst (λ (given : Option (List ℕ)). Breaks quiet p x (step.Work i n ∷ []) old given) (sym same)
       (broke_between quiet p x (step.Work i m ∷ []) (step.Work i n ∷ []) c old mid (part_taken i m n (omega arith)) (works_lead quiet p x i m c old mid works))
   works_stopped quiet p x i m n c old mid new works more (inr breaks) =
       let told = works.told ++ breaks.it ∷ [] in
@@ -282,29 +287,29 @@ module _ {B L : Type 0} (left : B → L) (runs : L → Plan → Type 0) (holds :
         told = told;
         has_lines = ap (option_and_then (after_steps []))
             (ap (after_work i (m + 1)) (sym (append-nil (lines_of told))) ∙ behind i m 1 works.told [] breaks.it works.accepted ∙ last_line i breaks.it.0 [] breaks.action);
-        goes = goes_on p.config x works.told (breaks.it ∷ []) works.goes (breaks.step, tt);
+        goes = goes_on p x works.told (breaks.it ∷ []) works.goes (breaks.step, tt);
         gave = front_more quiet works.told (breaks.it ∷ []) old mid new works.gave breaks.gave;
       }
 
   -- STEPS OF ONE LINE
 
-  pub one_leads : (quiet : Bool) (p : Plan) (x : Playing) (s : Step) (a : Action) (l : Line) (d : Core B) (old new : Option (List ℕ)) → s ≡ step.One a → StepFits s → TakesLine left runs holds spot quiet p x a l d old new → Leads left runs holds spot quiet p x (s ∷ []) d old new
+  pub one_leads : (quiet : Bool) (p : Plan) (x : Playing) (s : Step) (a : Action) (l : Line) (d : Core B) (old new : Option (List ℕ)) → s ≡ step.One a → StepFits s → TakesLine left runs holds spot known quiet p x a l d old new → Leads left runs holds spot known quiet p x (s ∷ []) d old new
   one_leads quiet p x s a l d old new is fits takes =
-      subst (λ (y : Step). Leads left runs holds spot quiet p x (y ∷ []) d old new) (sym is)
+      subst (λ (y : Step). Leads left runs holds spot known quiet p x (y ∷ []) d old new) (sym is)
       (record {
         told = takes.it ∷ [];
         has_lines = step_done (step.One a) (takes.it.0 ∷ []) (one_done a (subst StepFits is fits) takes.it takes.action);
         goes = (takes.step, tt);
-        shows = takes.shows;
+        stands = takes.stands;
         gave = takes.gave;
       })
 
   -- ALL STEPS
 
-  pub leads_none : (quiet : Bool) (p : Plan) (x : Playing) (d : Core B) (old : Option (List ℕ)) → Shows left runs holds spot p d x → Leads left runs holds spot quiet p x [] d old old
-  leads_none quiet p x d old shows = record { told = []; has_lines = λ ss ls. refl; goes = tt; shows = shows; gave = gave_untold quiet old }
+  pub leads_none : (quiet : Bool) (p : Plan) (x : Playing) (d : Core B) (old : Option (List ℕ)) → StandsAt left runs holds spot known p d x → Leads left runs holds spot known quiet p x [] d old old
+  leads_none quiet p x d old stands = record { told = []; has_lines = λ ss ls. refl; goes = tt; stands = stands; gave = gave_untold quiet old }
 
-  leads_on : (quiet : Bool) (p : Plan) (x : Playing) (ss ts : List Step) (c d : Core B) (old mid new : Option (List ℕ)) (first : Leads left runs holds spot quiet p x ss c old mid) → Leads left runs holds spot quiet p (played p.config x first.told) ts d mid new → Leads left runs holds spot quiet p x (ss ++ ts) d old new
+  leads_on : (quiet : Bool) (p : Plan) (x : Playing) (ss ts : List Step) (c d : Core B) (old mid new : Option (List ℕ)) (first : Leads left runs holds spot known quiet p x ss c old mid) → Leads left runs holds spot known quiet p (played p.config x first.told) ts d mid new → Leads left runs holds spot known quiet p x (ss ++ ts) d old new
   leads_on quiet p x ss ts c d old mid new first second =
       record {
         told = first.told ++ second.told;
@@ -312,30 +317,30 @@ module _ {B L : Type 0} (left : B → L) (runs : L → Plan → Type 0) (holds :
             ap (λ (xs : List Step). after_steps xs (lines_of (first.told ++ second.told) ++ ls)) (append_assoc ss ts rs)
             ∙ ap (after_steps (ss ++ (ts ++ rs))) (behind_more first.told second.told ls)
             ∙ first.has_lines (ts ++ rs) (lines_of second.told ++ ls) ∙ second.has_lines rs ls;
-        goes = goes_on p.config x first.told second.told first.goes second.goes;
-        shows = subst (λ (y : Playing). Shows left runs holds spot p d y) (sym (played_on p.config x first.told second.told)) second.shows;
+        goes = goes_on p x first.told second.told first.goes second.goes;
+        stands = subst (λ (y : Playing). StandsAt left runs holds spot known p d y) (sym (played_on p.config x first.told second.told)) second.stands;
         gave = gave_more quiet first.told second.told old mid new first.gave second.gave;
       }
 
-  broke_on : (quiet : Bool) (p : Plan) (x : Playing) (front ss more : List Step) (c : Core B) (old mid new : Option (List ℕ)) (leads : Leads left runs holds spot quiet p x front c old mid) → Breaks quiet p.config (played p.config x leads.told) ss mid new → Breaks quiet p.config x (front ++ (ss ++ more)) old new
+  broke_on : (quiet : Bool) (p : Plan) (x : Playing) (front ss more : List Step) (c : Core B) (old mid new : Option (List ℕ)) (leads : Leads left runs holds spot known quiet p x front c old mid) → Breaks quiet p (played p.config x leads.told) ss mid new → Breaks quiet p x (front ++ (ss ++ more)) old new
   broke_on quiet p x front ss more c old mid new leads breaks =
       record {
         taken = front ++ breaks.taken;
         are_taken = taken_on breaks.taken ss front more breaks.are_taken;
         told = leads.told ++ breaks.told;
         has_lines = ap (after_steps (front ++ breaks.taken)) (lines_more leads.told breaks.told) ∙ leads.has_lines breaks.taken (lines_of breaks.told) ∙ breaks.has_lines;
-        goes = goes_on p.config x leads.told breaks.told leads.goes breaks.goes;
+        goes = goes_on p x leads.told breaks.told leads.goes breaks.goes;
         gave = front_more quiet leads.told breaks.told old mid new leads.gave breaks.gave;
       }
 
-  pub leads_to_next : (quiet : Bool) (p : Plan) (x : Playing) (steps : List Step) (i : ℕ) (s : Step) (c d : Core B) (old mid new : Option (List ℕ)) → i < length steps → Leads left runs holds spot quiet p x (take i steps) c old mid
-      → ((y : Playing) → Shows left runs holds spot p c y → Leads left runs holds spot quiet p y (get_or steps i s ∷ []) d mid new) → Leads left runs holds spot quiet p x (take (i + 1) steps) d old new
+  pub leads_to_next : (quiet : Bool) (p : Plan) (x : Playing) (steps : List Step) (i : ℕ) (s : Step) (c d : Core B) (old mid new : Option (List ℕ)) → i < length steps → Leads left runs holds spot known quiet p x (take i steps) c old mid
+      → ((y : Playing) → StandsAt left runs holds spot known p c y → Leads left runs holds spot known quiet p y (get_or steps i s ∷ []) d mid new) → Leads left runs holds spot known quiet p x (take (i + 1) steps) d old new
   leads_to_next quiet p x steps i s c d old mid new within first second =
-      subst (λ (xs : List Step). Leads left runs holds spot quiet p x xs d old new) (sym (take_more steps i s within))
-      (leads_on quiet p x (take i steps) (get_or steps i s ∷ []) c d old mid new first (second (played p.config x first.told) first.shows))
+      subst (λ (xs : List Step). Leads left runs holds spot known quiet p x xs d old new) (sym (take_more steps i s within))
+      (leads_on quiet p x (take i steps) (get_or steps i s ∷ []) c d old mid new first (second (played p.config x first.told) first.stands))
 
-  pub broke_at : (quiet : Bool) (p : Plan) (x : Playing) (steps : List Step) (i : ℕ) (s : Step) (c : Core B) (old mid new : Option (List ℕ)) → i < length steps → Leads left runs holds spot quiet p x (take i steps) c old mid
-      → ((y : Playing) → Shows left runs holds spot p c y → Breaks quiet p.config y (get_or steps i s ∷ []) mid new) → Breaks quiet p.config x steps old new
+  pub broke_at : (quiet : Bool) (p : Plan) (x : Playing) (steps : List Step) (i : ℕ) (s : Step) (c : Core B) (old mid new : Option (List ℕ)) → i < length steps → Leads left runs holds spot known quiet p x (take i steps) c old mid
+      → ((y : Playing) → StandsAt left runs holds spot known p c y → Breaks quiet p y (get_or steps i s ∷ []) mid new) → Breaks quiet p x steps old new
   broke_at quiet p x steps i s c old mid new within leads breaks =
-      subst (λ (xs : List Step). Breaks quiet p.config x xs old new) (split_at_step steps i s within)
-      (broke_on quiet p x (take i steps) (get_or steps i s ∷ []) (drop (i + 1) steps) c old mid new leads (breaks (played p.config x leads.told) leads.shows))
+      subst (λ (xs : List Step). Breaks quiet p x xs old new) (split_at_step steps i s within)
+      (broke_on quiet p x (take i steps) (get_or steps i s ∷ []) (drop (i + 1) steps) c old mid new leads (breaks (played p.config x leads.told) leads.stands))

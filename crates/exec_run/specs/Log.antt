@@ -1,11 +1,13 @@
 -- What a run wrote: the whole log, or a front of it.
-use Rattle.std.specs.Prelude.{◌≡◌, ℕ, Bool, ◌≤◌, ◌⊎◌, List, [], ◌∷◌, ◌++◌, Option, None, sum_by}
+use Rattle.std.specs.Prelude.{◌≡◌, ℕ, Bool, true, false, ◌≤◌, ◌⊎◌, List, [], ◌∷◌, ◌++◌, All, Option, None, sum_by}
 use Rattle.std.specs.Io.KnownBytes.{append_known}
 use Rattle.exec_base.specs.declared.limits.TheConstants.{MOST_STEPS}
-use Rattle.exec_machine.specs.{declared.step.Step.{Step, TheVariants.Work}, Progress.{Plan, IsLogOf}, Text.{text_of_log, told_lines}, Examples.{Told, lines_of}}
+use Rattle.exec_machine.specs.{declared.{config.Configuration.Configuration, step.Step.{Step, TheVariants.Work}}, Run.RunsBy, Progress.{Plan, IsLogOf, begin}, Text.{text_of_log, told_lines}, Examples.{Told, choices_of, lines_of}}
+use Rattle.exec_credit.specs.Minded.{begins_call, is_played}
 use Rattle.exec_text.specs.Grammar.{Meaning, IsTraceOf, count_of}
 use Rattle.exec_run.specs.{Ranges.first_out_of_range, Refusal.IsTextIn}
-use Rattle.exec_moves.specs.Plays.{Plays}
+use Rattle.exec_core.specs.Once.{QueuesOnce}
+use Rattle.exec_moves.specs.Plays.{Playing, Plays, by_step, first_playing}
 
 -- The source held a trace that says this, which is not too long and whose configuration is in its ranges.
 pub record HasTrace (source : Option (List ℕ)) (m : Meaning) : Type 0 where
@@ -15,11 +17,27 @@ pub record HasTrace (source : Option (List ℕ)) (m : Meaning) : Type 0 where
   pub few : sum_by count_of m.steps ≤ MOST_STEPS
   pub in_range : first_out_of_range m.plan.config ≡ None
 
--- The lines, each with what it leaves open, are the log of these steps: a run of the machine in which no party turns for
--- ever and no worker sleeps on work; and each line is what the step tells by its move, so that there is no other log.
+-- One worker is alone with its root: there are no scripts, no word of the root makes or wakes another task, and nobody calls
+-- from outside.
+pub record IsOfOne (p : Plan) (told : List Told) : Type 0 where
+  pub lone : p.config.workers ≡ 1
+  pub scripts : p.scripts ≡ []
+  pub played : All (λ w. is_played w ≡ true) p.root
+  pub calls : All (λ it. begins_call it.0.action ≡ false) told
+
+-- From this state on, and in each to which the lines lead, a task is queued once.
+abbrev pub AreQueuedOnce : Configuration → Playing → List Told → Type 0
+AreQueuedOnce c x [] = QueuesOnce x
+AreQueuedOnce c x (it ∷ told) = QueuesOnce x × AreQueuedOnce c (by_step c x it.0.action).next told
+
+-- The lines, each with what it leaves open, are the log of these steps: a run of the machine; each line is what the step
+-- tells by its move, so that there is no other log; in each state a task that is to be polled has one runnable, and one that
+-- is polled has one poller; and in the log of one worker alone no party turns for ever, and no worker sleeps on work.
 pub record IsTheLogOf (p : Plan) (steps : List Step) (told : List Told) : Type 0 where
-  pub log : IsLogOf p steps (lines_of told)
+  pub runs : RunsBy p.config (begin p) (lines_of told) (choices_of told)
   pub plays : Plays p steps told
+  pub once : AreQueuedOnce p.config (first_playing p) told
+  pub alone : IsOfOne p told → IsLogOf p steps (lines_of told)
 
 -- what is told of such lines
 abbrev pub told_text : Bool → List Told → List ℕ

@@ -1,36 +1,55 @@
--- The body of the root: it makes the acts of its words, one after another.
-use Rattle.std.specs.Prelude.{◌≡◌, ℕ, suc, Bool, true, false, ◌+◌, ◌-◌, ◌^◌, ◌<◌, ◌≤◌, ◌&&◌, if◌then◌else◌, List, [], ◌∷◌, ◌++◌, All, length, drop, slice_get, slice_index_or, Option, Some, None, IfSome}
+-- The bodies of tasks: each makes the acts of its words, one after another, or waits for the stop of the pool.
+use Rattle.std.specs.Prelude.{◌≡◌, ℕ, suc, Bool, true, false, ◌+◌, ◌-◌, ◌%◌, ◌^◌, ◌<◌, ◌≤◌, nat_le, if◌then◌else◌, List, [], ◌∷◌, ◌++◌, All, length, map, drop, slice_get, slice_index_or, Option, Some, None, IfSome, Vec}
+use Rattle.std.specs.declared.alloc.Global.{Global}
 use Rattle.exec_base.specs.declared.{error.Error.TheVariants.NoMemory, limits.TheConstants.LONGEST_TIMEOUT}
 use Rattle.exec_outcomes.specs.declared.outcome.Kind.{Kind}
 use Rattle.exec_request.specs.{declared.request.Request.Request, Requests.{asked_of, cursor_of, deadline_of, target_of}}
-use Rattle.exec_task.specs.{Sight.Sight, declared.body.{Act.{Act, TheVariants.{Register, Await, Drop, Sleep, Yield, Done, Fault}}, Said.{Said, TheVariants.{Admitted, Output, Refused, Pass}}}}
-use Rattle.exec_machine.specs.{declared.{config.{Configuration.Configuration, ScriptWord.ScriptWord}, state.Code.TheVariants.Root}, Tests.is_empty, Tasks.without_newest, Words.asks_drop, Progress.Plan}
+use Rattle.exec_task.specs.{Sight.Sight, declared.body.{Act.{Act, TheVariants.{Register, Await, Drop, Sleep, Spawn, Wake, Yield, Done, Fault}}, Said.{Said, TheVariants.{Admitted, Output, Refused, Pass}}}}
+use Rattle.exec_machine.specs.{declared.{config.{Configuration.Configuration, ScriptWord.ScriptWord}, state.Code.{Code, TheVariants.{Root, Script, Waits}}}, Tests.is_empty, Tasks.without_newest, Progress.Plan}
 use Rattle.exec_machine.specs.declared.config.ScriptWord.TheVariants as word
-use Rattle.exec_steps.specs.{Spots.Spot, Scripts.{Asks, IsPlainRequest}}
+use Rattle.exec_steps.specs.{Spots.Spot, Scripts.{Asks, IsCodeOf, IsPlainRequest}}
+use Rattle.exec_text.specs.Grammar.{StaysInScript}
 use Rattle.exec_run.specs.declared.script.Asked.{Asked}
 use Rattle.exec_run.specs.declared.script.Asked.TheVariants as asked
 
--- a script, with how far it has come: the numbers of its next word and of the one before its last act, what it holds, and
--- what it asked for last
+-- a body, with how far it has come: which script it runs, among which; the numbers of its next word and of the one before
+-- its last act, what it holds, and what it asked for last
 pub record Played : Type 0 where
+  pub code : Code
   pub words : List ScriptWord
+  pub scripts : List (List ScriptWord)
   pub rw : ℕ
   pub place : ℕ
   pub before : ℕ
   pub held : List ℕ
   pub asked : Asked
 
--- the words that it makes acts of, and their bounds
-abbrev pub CanPlay : ScriptWord → Type 0
-CanPlay (word.Send socket length) = (socket < 2 ^ 32) × (length ≤ 1048576)
-CanPlay (word.Poll listener) = listener < 2 ^ 32
-CanPlay word.Await = Unit {0}
-CanPlay word.Drop = Unit {0}
-CanPlay (word.Sleep time) = Unit {0}
-CanPlay word.Yield = Unit {0}
-CanPlay word.End = Unit {0}
-CanPlay (word.Fault code) = Unit {0}
-CanPlay _ = ⊥
+-- a body that is to begin
+abbrev pub begun : Code → List ScriptWord → List (List ScriptWord) → ℕ → Played
+begun code words scripts rw =
+    record { code = code; words = words; scripts = scripts; rw = rw; place = 0; before = 0; held = []; asked = asked.Other }
+
+-- the words of these scripts
+abbrev pub words_of_all : List (Vec ScriptWord Global) → List (List ScriptWord)
+words_of_all scripts = map (λ words. words.items) scripts
+
+-- that of script k of these
+abbrev pub script_begun : List (List ScriptWord) → ℕ → ℕ → Played
+script_begun scripts rw k = begun (Script k) (slice_index_or scripts k []) scripts rw
+
+-- the words that it makes acts of, among so many scripts, and their bounds
+abbrev pub CanPlay : ℕ → ScriptWord → Type 0
+CanPlay many (word.Send socket length) = (socket < 2 ^ 32) × (length ≤ 1048576)
+CanPlay many (word.Poll listener) = listener < 2 ^ 32
+CanPlay many word.Await = Unit {0}
+CanPlay many word.Drop = Unit {0}
+CanPlay many (word.Sleep time) = Unit {0}
+CanPlay many (word.Spawn script) = script < many
+CanPlay many (word.Wake task) = Unit {0}
+CanPlay many word.Yield = Unit {0}
+CanPlay many word.End = Unit {0}
+CanPlay many (word.Fault code) = Unit {0}
+CanPlay many _ = ⊥
 
 -- what it holds, and the number of its next word, once it is told this; one that is through stays at its last word
 abbrev pub held_by : Asked → List ℕ → Said → List ℕ
@@ -47,8 +66,13 @@ place_after a place before told = place
 abbrev pub place_by : Played → Said → ℕ
 place_by s told = place_after s.asked s.place s.before (Some told)
 
+-- a body that waits for the stop is always at its one word
+abbrev pub place_in : Code → ℕ → ℕ
+place_in Waits place = 0
+place_in _ place = place
+
 abbrev pub spot_told : Played → Option Said → Spot
-spot_told s told = record { code = Root; place = place_after s.asked s.place s.before told; adapters = []; call = None }
+spot_told s told = record { code = s.code; place = place_in s.code (place_after s.asked s.place s.before told); adapters = []; call = None }
 
 abbrev pub held_told : Played → Option Said → List ℕ
 held_told s None = s.held
@@ -57,17 +81,37 @@ held_told s (Some told) = held_by s.asked s.held told
 abbrev pub newest : List ℕ → Option ℕ
 newest held = slice_get held (length held - 1)
 
--- how many words ask for nothing, before the first that does: with nothing held, drops
-abbrev pub passed_over : Bool → List ScriptWord → ℕ
-passed_over none [] = 0
-passed_over none (w ∷ words) = if none && asks_drop w then suc (passed_over none words) else 0
+-- a word that asks for nothing: with nothing held a drop, and among so many tasks the wake of another
+abbrev pub is_passed : Bool → ℕ → ScriptWord → Bool
+is_passed none tasks word.Drop = none
+is_passed none tasks (word.Wake task) = nat_le tasks task
+is_passed none tasks _ = false
+
+-- how many words ask for nothing, before the first that does
+abbrev pub passed_over : Bool → ℕ → List ScriptWord → ℕ
+passed_over none tasks [] = 0
+passed_over none tasks (w ∷ words) = if is_passed none tasks w then suc (passed_over none tasks words) else 0
 
 abbrev pub word_at : List ScriptWord → ℕ → ScriptWord
 word_at words place = slice_index_or words place word.End
 
--- its number, and itself as what it is left to do
+-- what a body does that waits for the stop
+abbrev pub word_of_wait : Bool → ScriptWord
+word_of_wait stopped = if stopped then word.End else word.Await
+
+-- the word of this number, for a body that sees this
+abbrev pub word_in : Code → List ScriptWord → Bool → ℕ → ScriptWord
+word_in Waits words stopped place = word_of_wait stopped
+word_in _ words stopped place = word_at words place
+
+-- its number, where it has one
+abbrev pub number_of : Code → ℕ
+number_of (Script k) = k
+number_of _ = 0
+
+-- its name, of 32 bits, and itself as what it is left to do
 abbrev pub name_of : Played → ℕ
-name_of s = 0
+name_of s = number_of s.code % 2 ^ 32
 
 abbrev pub itself : Played → Played
 itself s = s
@@ -85,10 +129,10 @@ asks_request (word.Send socket length) = true
 asks_request (word.Poll listener) = true
 asks_request _ = false
 
--- The act is what the word asks for, of a script that holds these.
-abbrev pub AsksFor : ℕ → ℕ → List ℕ → ScriptWord → Act Played → Type 0
-AsksFor moment rw held w a =
-    CanPlay w → moment + rw < 2 ^ 64 → (c : Configuration) → c.rw ≡ rw → Asks c moment held w a
+-- The act is what the word asks for, of a script that holds these, among so many.
+abbrev pub AsksFor : ℕ → ℕ → ℕ → List ℕ → ScriptWord → Act Played → Type 0
+AsksFor many moment rw held w a =
+    CanPlay many w → moment + rw < 2 ^ 64 → (c : Configuration) → c.rw ≡ rw → Asks c moment held w a
 
 -- a poll or a send of one part, which asks for this and was not begun
 pub record IsPlain (k : Kind) (target length deadline : ℕ) (r : Request) : Type 0 where
@@ -101,32 +145,61 @@ pub record IsPlain (k : Kind) (target length deadline : ℕ) (r : Request) : Typ
 
 -- The request is what the word asks for, whatever the script holds.
 abbrev pub IsRequestOf : ℕ → ℕ → ScriptWord → Request → Type 0
-IsRequestOf moment rw w r = (held : List ℕ) → AsksFor moment rw held w (Register r)
+IsRequestOf moment rw w r = (many : ℕ) (held : List ℕ) → AsksFor many moment rw held w (Register r)
 
--- the act of a word that asks for no request, of a script that holds this as its newest
-abbrev pub IsPlainActOf : ScriptWord → Option ℕ → Act Played → Type 0
-IsPlainActOf word.Await n a = a ≡ Await n
-IsPlainActOf word.Drop (Some r) a = a ≡ Drop r
-IsPlainActOf word.Drop None a = Unit {0}
-IsPlainActOf (word.Sleep time) n a = a ≡ Sleep time
-IsPlainActOf word.Yield n a = a ≡ Yield
-IsPlainActOf (word.Fault code) n a = a ≡ Fault code
-IsPlainActOf _ n a = a ≡ Done 0
+-- the act of a word that asks for no request, of a body of these scripts that holds this as its newest
+abbrev pub IsPlainActOf : List (List ScriptWord) → ℕ → ScriptWord → Option ℕ → Act Played → Type 0
+IsPlainActOf scripts rw word.Await n a = a ≡ Await n
+IsPlainActOf scripts rw word.Drop (Some r) a = a ≡ Drop r
+IsPlainActOf scripts rw word.Drop None a = Unit {0}
+IsPlainActOf scripts rw (word.Sleep time) n a = a ≡ Sleep time
+IsPlainActOf scripts rw (word.Spawn k) n a = k < length scripts → a ≡ Spawn (script_begun scripts rw k)
+IsPlainActOf scripts rw (word.Wake task) n a = task < 2 ^ 32 → a ≡ Wake (record { 0 = task })
+IsPlainActOf scripts rw word.Yield n a = a ≡ Yield
+IsPlainActOf scripts rw (word.Fault code) n a = a ≡ Fault code
+IsPlainActOf scripts rw _ n a = a ≡ Done 0
 
--- One step of a script that is told this at this moment: it makes the act of its next word, and then stands past it.
-pub record StepsTo (s : Played) (moment : ℕ) (told : Said) (a : Act Played) (s' : Played) : Type 0 where
+-- The body that the act makes, if any, begins the script of the word.
+abbrev pub Begets : Played → ScriptWord → Act Played → Type 0
+Begets s w (Spawn b) = (k : ℕ) → w ≡ word.Spawn k → b ≡ script_begun s.scripts s.rw k
+Begets s w a = Unit {0}
+
+-- One step of a body that is told this and sees this: it makes the act of its next word, and then stands past it.
+pub record StepsTo (s : Played) (it : Sight) (told : Said) (a : Act Played) (s' : Played) : Type 0 where
   pub place : ℕ
-  pub here : place ≡ place_by s told + passed_over (is_empty (held_by s.asked s.held told)) (drop (place_by s told) s.words)
-  pub asks : AsksFor moment s.rw (held_by s.asked s.held told) (word_at s.words place) a
+  pub here : it.tasks ≤ 2 ^ 32 → place ≡ place_by s told + passed_over (is_empty (held_by s.asked s.held told)) it.tasks (drop (place_by s told) s.words)
+  pub asks : it.tasks ≤ 2 ^ 32 → AsksFor (length s.scripts) it.moment s.rw (held_by s.asked s.held told) (word_in s.code s.words it.stopped place) a
+  pub begets : CanPlay (length s.scripts) (word_in s.code s.words it.stopped place) → Begets s (word_in s.code s.words it.stopped place) a
   pub past : place < length s.words → s'.place ≡ place + 1
   pub rest : s' ≡ record s { place = s'.place; before = place_by s told; held = held_by s.asked s.held told; asked = asked_by a }
 
 abbrev pub gives : Played → Option Sight → Said → Act Played → Played → Option Sight → Type 0
-gives s sight told a s' sight' = (sight' ≡ sight) × IfSome sight (λ it. StepsTo s it.moment told a s')
+gives s sight told a s' sight' = (sight' ≡ sight) × IfSome sight (λ it. StepsTo s it told a s')
 
--- It runs the root's script of this plan.
-pub record Runs (s : Played) (p : Plan) : Type 0 where
-  pub words : s.words ≡ p.root
-  pub rw : s.rw ≡ p.config.rw
+-- the words of a script of the plan; what waits for the stop has none
+abbrev pub words_of : Code → Plan → List ScriptWord
+words_of Root p = p.root
+words_of (Script k) p = slice_index_or p.scripts k []
+words_of Waits p = []
+
+-- What all bodies of a plan know: its scripts, each of which can be played and asks for nothing that takes time.
+pub record IsProgram (scripts : List (List ScriptWord)) (rw : ℕ) (p : Plan) : Type 0 where
+  pub scripts_are : scripts ≡ p.scripts
+  pub few : length p.scripts ≤ 2 ^ 32
+  pub rw_is : rw ≡ p.config.rw
   pub in_range : p.config.rw ≤ LONGEST_TIMEOUT
-  pub playable : All CanPlay p.root
+  pub playable : All (All (CanPlay (length p.scripts))) p.scripts
+  pub staying : All (All StaysInScript) p.scripts
+
+-- The script is one of so many.
+abbrev pub IsNumbered : Code → ℕ → Type 0
+IsNumbered (Script k) many = k < many
+IsNumbered _ many = Unit {0}
+
+-- It runs the script of a task of this plan: of the root of this worker, or of an ordinary task.
+pub record Runs (s : Played) (p : Plan) (home : Option ℕ) : Type 0 where
+  pub code : IsCodeOf home s.code
+  pub numbered : IsNumbered s.code (length p.scripts)
+  pub words : s.words ≡ words_of s.code p
+  pub program : IsProgram s.scripts s.rw p
+  pub playable : All (CanPlay (length p.scripts)) s.words

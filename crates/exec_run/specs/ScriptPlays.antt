@@ -1,73 +1,89 @@
--- A script does what its words say.
-use Rattle.std.proofs.Common.{◌≡◌, ℕ, zero, suc, ◌+◌, ◌<◌, ◌≤◌, ◌^◌, ◌&&◌, Bool, true, false, List, [], ◌∷◌, ◌++◌, All, drop, length, Option, Some, None, refl, sym, ap, subst, ◌∙◌, arith, slice_index_or}
+-- A body does what its script says.
+use Rattle.std.proofs.Common.{◌≡◌, ℕ, zero, suc, ◌+◌, ◌%◌, ◌<◌, ◌≤◌, ◌^◌, Bool, true, false, List, [], ◌∷◌, All, drop, length, Option, Some, None, refl, sym, ap, subst, ◌∙◌, arith, slice_index_or}
 use Rattle.std.proofs.lemmas.Bool.{true≢false}
 use Rattle.std.specs.Prelude.{if◌then◌else◌}
 use Rattle.std.proofs.lemmas.List.{get_or-drop}
 use Rattle.std.proofs.lemmas.Option.{none-some}
 use Rattle.std.proofs.lemmas.List.Elements.{All-tail}
-use Rattle.exec_base.specs.declared.{error.Error.TheVariants.NoMemory, limits.TheConstants.LAST_MOMENT}
-use Rattle.exec_task.specs.declared.body.{Act.Act, Said.Said}
+use Rattle.exec_base.specs.declared.{error.Error.TheVariants.NoMemory}
+use Rattle.exec_task.specs.{Sight.Sight, declared.body.{Act.Act, Said.Said}}
 use Rattle.exec_task.specs.declared.body.Act.TheVariants as act
 use Rattle.exec_task.specs.declared.body.Said.TheVariants as said
-use Rattle.exec_machine.specs.{declared.{config.{Configuration.Configuration, ScriptWord.ScriptWord}, state.Code.TheVariants.Root}, World.{Task, Common}, Tests.is_empty, Tasks.without_newest, Words.{asks_drop, is_idle_word, idle_words, words_left, next_word, moved_on}, Progress.Plan}
+use Rattle.exec_machine.specs.{declared.{config.{Configuration.Configuration, ScriptWord.ScriptWord}, state.{Code.{Code, TheVariants.{Root, Script, Waits}}}}, World.{Task, Common}, Tests.is_empty, Words.{is_idle_word, idle_words, words_left, next_word, moved_on}, Progress.Plan, Requests.operation_asked}
 use Rattle.exec_machine.specs.declared.config.ScriptWord.TheVariants as word
-use Rattle.exec_steps.specs.{Spots.{Spot, standing_at, spot_of}, Scripts.{Asks, IsAnswer, IsAnswered, is_last, held_after, GoesOn, StepPlays, Plays}}
-use Rattle.exec_run.specs.{declared.script.Asked.Asked, Script.{Played, CanPlay, held_by, held_told, place_after, place_by, spot_told, passed_over, word_at, asked_by, StepsTo, gives, Runs}}
+use Rattle.exec_steps.specs.{Spots.{Spot, standing_at, spot_of}, Scripts.{Asks, IsAnswer, IsAnswered, IsBorn, IsCodeOf, IsNamed, IsSeen, MakesBody, Stays, is_last, held_after, StepPlays, Plays}}
+use Rattle.exec_text.specs.Grammar.{StaysInScript}
+use Rattle.exec_run.specs.{declared.script.Asked.Asked, Script.{Played, Begets, CanPlay, IsNumbered, IsProgram, held_by, held_told, itself, name_of, number_of, place_after, place_by, place_in, script_begun, spot_told, is_passed, passed_over, word_at, word_in, word_of_wait, words_of, asked_by, StepsTo, gives, Runs}}
 use Rattle.exec_run.specs.declared.script.Asked.TheVariants as asked
 
 -- THE NEXT WORD
 
-and_true : (b : Bool) → b ≡ (b && true)
-and_true true = refl
-and_true false = refl
+idle_word : (s : Common) (t : Task) (w : ScriptWord) → is_idle_word s t w ≡ is_passed (is_empty t.held) (length s.tasks) w
+idle_word s t word.Drop = refl
+idle_word s t (word.Wake other) = refl
+idle_word s t _ = refl
 
-and_false : (b : Bool) → false ≡ (b && false)
-and_false true = refl
-and_false false = refl
+idle_all : (s : Common) (t : Task) (words : List ScriptWord) → idle_words s t words ≡ passed_over (is_empty t.held) (length s.tasks) words
+idle_all s t [] = refl
+idle_all s t (w ∷ words) = rw (idle_word s t w, idle_all s t words) refl
 
-idle_word : (s : Common) (t : Task) (w : ScriptWord) → CanPlay w → is_idle_word s t w ≡ (is_empty t.held && asks_drop w)
-idle_word s t word.Drop can = and_true (is_empty t.held)
-idle_word s t (word.Send socket n) can = and_false (is_empty t.held)
-idle_word s t (word.Poll l) can = and_false (is_empty t.held)
-idle_word s t word.Await can = and_false (is_empty t.held)
-idle_word s t (word.Sleep time) can = and_false (is_empty t.held)
-idle_word s t word.Yield can = and_false (is_empty t.held)
-idle_word s t word.End can = and_false (is_empty t.held)
-idle_word s t (word.Fault code) can = and_false (is_empty t.held)
-idle_word s t _ can = absurd can
+-- of a task that has these words left
+next_in : (s : Common) (t : Task) (words : List ScriptWord) (place : ℕ) → words_left s t ≡ drop place words
+    → next_word s t ≡ word_at words (place + passed_over (is_empty t.held) (length s.tasks) (drop place words))
+next_in s t words place left =
+    ap (λ (xs : List ScriptWord). slice_index_or xs (idle_words s t xs) word.End) left
+    ∙ ap (λ (k : ℕ). slice_index_or (drop place words) k word.End) (idle_all s t (drop place words))
+    ∙ get_or-drop place words (passed_over (is_empty t.held) (length s.tasks) (drop place words)) word.End
 
-idle_all : (s : Common) (t : Task) (words : List ScriptWord) → All CanPlay words → idle_words s t words ≡ passed_over (is_empty t.held) words
-idle_all s t [] can = refl
-idle_all s t (w ∷ words) can = rw (idle_word s t w (can 0 w (omega arith)), idle_all s t words (All-tail CanPlay w words can)) refl
+-- a task that is at this place of its script, and holds these
+abbrev at_place : Code → ℕ → List ℕ → Task → Task
+at_place c place held u = record (standing_at (let at : Spot = record { code = c; place = place_in c place; adapters = []; call = None } in at) u) { held = held }
 
-all_behind : (n : ℕ) (words : List ScriptWord) → All CanPlay words → All CanPlay (drop n words)
-all_behind zero words can = can
-all_behind (suc n) [] can = can
-all_behind (suc n) (w ∷ words) can = all_behind n words (All-tail CanPlay w words can)
+wait_passes : (s : Common) (t : Task) (b : Bool) → idle_words s t (word_of_wait b ∷ []) ≡ 0
+wait_passes s t true = refl
+wait_passes s t false = refl
 
-can_play_at : (words : List ScriptWord) (n : ℕ) → All CanPlay words → CanPlay (word_at words n)
-can_play_at [] zero can = tt
-can_play_at [] (suc n) can = tt
-can_play_at (w ∷ words) zero can = can 0 w (omega arith)
-can_play_at (w ∷ words) (suc n) can = can_play_at words n (All-tail CanPlay w words can)
+next_is : (c : Code) (p : Plan) (s : Common) (words : List ScriptWord) (place : ℕ) (held : List ℕ) (u : Task) → words ≡ words_of c p → s.scripts ≡ p.scripts → s.root ≡ p.root
+    → next_word s (at_place c place held u) ≡ word_in c words s.stopped (place + passed_over (is_empty held) (length s.tasks) (drop place words))
+next_is Root p s words place held u are scripts root = next_in s (at_place Root place held u) words place (ap (drop place) (root ∙ sym are))
+next_is (Script k) p s words place held u are scripts root =
+    next_in s (at_place (Script k) place held u) words place (ap (drop place) (ap (λ (xs : List (List ScriptWord)). slice_index_or xs k []) scripts ∙ sym are))
+next_is Waits p s words place held u are scripts root =
+    ap (λ (k : ℕ). slice_index_or (word_of_wait s.stopped ∷ []) k word.End) (wait_passes s (at_place Waits place held u) s.stopped)
 
--- a script's task is at its place in the plan's root, and holds what the script does
-abbrev task_at : Played → Said → Task → Task
-task_at l told u = record (standing_at (spot_told l (Some told)) u) { held = held_by l.asked l.held told }
+can_play_at : (many : ℕ) (words : List ScriptWord) (n : ℕ) → All (CanPlay many) words → CanPlay many (word_at words n)
+can_play_at many [] zero can = tt
+can_play_at many [] (suc n) can = tt
+can_play_at many (w ∷ words) zero can = can 0 w (omega arith)
+can_play_at many (w ∷ words) (suc n) can = can_play_at many words n (All-tail (CanPlay many) w words can)
 
-abbrev idle_at : Played → Said → ℕ
-idle_at l told = passed_over (is_empty (held_by l.asked l.held told)) (drop (place_by l told) l.words)
+can_wait : (many : ℕ) (b : Bool) → CanPlay many (word_of_wait b)
+can_wait many true = tt
+can_wait many false = tt
 
-idle_is : (s : Common) (l : Played) (told : Said) (u : Task) → s.root ≡ l.words → All CanPlay l.words → idle_words s (task_at l told u) (words_left s (task_at l told u)) ≡ idle_at l told
-idle_is s l told u root can =
-    let t = task_at l told u in
-    ap (λ (xs : List ScriptWord). idle_words s t (drop (place_by l told) xs)) root ∙ idle_all s t (drop (place_by l told) l.words) (all_behind (place_by l told) l.words can)
+can_play_in : (c : Code) (many : ℕ) (words : List ScriptWord) (stopped : Bool) (n : ℕ) → All (CanPlay many) words → CanPlay many (word_in c words stopped n)
+can_play_in Root many words stopped n can = can_play_at many words n can
+can_play_in (Script k) many words stopped n can = can_play_at many words n can
+can_play_in Waits many words stopped n can = can_wait many stopped
 
-next_is : (s : Common) (l : Played) (told : Said) (u : Task) → s.root ≡ l.words → All CanPlay l.words → next_word s (task_at l told u) ≡ word_at l.words (place_by l told + idle_at l told)
-next_is s l told u root can =
-    let place = place_by l told in
-    ap (λ (k : ℕ). slice_index_or (words_left s (task_at l told u)) k word.End) (idle_is s l told u root can)
-    ∙ ap (λ (xs : List ScriptWord). slice_index_or (drop place xs) (idle_at l told) word.End) root ∙ get_or-drop place l.words (idle_at l told) word.End
+stays_at : (words : List ScriptWord) (n : ℕ) → All StaysInScript words → StaysInScript (word_at words n)
+stays_at [] zero stay = tt
+stays_at [] (suc n) stay = tt
+stays_at (w ∷ words) zero stay = stay 0 w (omega arith)
+stays_at (w ∷ words) (suc n) stay = stays_at words n (All-tail StaysInScript w words stay)
+
+-- script k, if there is one
+words_stay : (scripts : List (List ScriptWord)) (k : ℕ) → All (All StaysInScript) scripts → All StaysInScript (slice_index_or scripts k [])
+words_stay [] zero stay = λ i d l. absurd (let none : i < 0 = l in omega arith)
+words_stay [] (suc k) stay = λ i d l. absurd (let none : i < 0 = l in omega arith)
+words_stay (ws ∷ scripts) zero stay = stay 0 ws (omega arith)
+words_stay (ws ∷ scripts) (suc k) stay = words_stay scripts k (All-tail (All StaysInScript) ws scripts stay)
+
+words_play : (many : ℕ) (scripts : List (List ScriptWord)) (k : ℕ) → All (All (CanPlay many)) scripts → All (CanPlay many) (slice_index_or scripts k [])
+words_play many [] zero can = λ i d l. absurd (let none : i < 0 = l in omega arith)
+words_play many [] (suc k) can = λ i d l. absurd (let none : i < 0 = l in omega arith)
+words_play many (ws ∷ scripts) zero can = can 0 ws (omega arith)
+words_play many (ws ∷ scripts) (suc k) can = words_play many scripts k (All-tail (All (CanPlay many)) ws scripts can)
 
 -- THE ACT
 
@@ -80,9 +96,9 @@ at_the_end c moment held (act.Sleep time) asks = absurd (cc)
 at_the_end c moment held act.Yield asks = absurd (cc)
 at_the_end c moment held (act.Done n) asks = refl
 at_the_end c moment held (act.Fault n) asks = refl
-at_the_end c moment held (act.Spawn b) asks = absurd asks
+at_the_end c moment held (act.Spawn b) asks = absurd (cc asks.1)
 at_the_end c moment held (act.Dedicated b) asks = absurd asks
-at_the_end c moment held (act.Wake t) asks = absurd asks
+at_the_end c moment held (act.Wake t) asks = absurd (cc)
 
 -- a body that isn't through is not past its words
 inside : (c : Configuration) (moment : ℕ) (held : List ℕ) (words : List ScriptWord) (n : ℕ) (a : Act Played) → Asks c moment held (word_at words n) a → is_last a ≡ false → n < length words
@@ -91,13 +107,43 @@ inside c moment held [] (suc n) a asks going = absurd (true≢false (sym (at_the
 inside c moment held (w ∷ words) zero a asks going = omega arith
 inside c moment held (w ∷ words) (suc n) a asks going = let l = inside c moment held words n a asks going in omega arith
 
+-- the act of a word that takes no time
+no_request : (c : Configuration) (moment many : ℕ) (w : ScriptWord) → CanPlay many w → StaysInScript w → operation_asked c moment w ≡ None
+no_request c moment many (word.Send socket n) can stays = absurd stays
+no_request c moment many (word.Poll l) can stays = absurd stays
+no_request c moment many word.Await can stays = refl
+no_request c moment many word.Drop can stays = refl
+no_request c moment many (word.Sleep time) can stays = refl
+no_request c moment many (word.Spawn k) can stays = refl
+no_request c moment many (word.Wake t) can stays = refl
+no_request c moment many word.Yield can stays = refl
+no_request c moment many word.End can stays = refl
+no_request c moment many (word.Fault n) can stays = refl
+no_request c moment many _ can stays = absurd can
+
+act_stays : (c : Configuration) (moment many : ℕ) (held : List ℕ) (w : ScriptWord) (a : Act Played) → CanPlay many w → StaysInScript w → Asks c moment held w a → Stays a
+act_stays c moment many held w (act.Register r) can stays asks = absurd (none-some _ (sym (no_request c moment many w can stays) ∙ asks.2))
+act_stays c moment many held w (act.Sleep zero) can stays asks = tt
+act_stays c moment many held w (act.Sleep (suc time)) can stays asks = let none : suc time ≡ 0 = subst StaysInScript asks stays in absurd (omega arith)
+act_stays c moment many held w (act.Await r) can stays asks = tt
+act_stays c moment many held w (act.Drop r) can stays asks = tt
+act_stays c moment many held w act.Yield can stays asks = tt
+act_stays c moment many held w (act.Done n) can stays asks = tt
+act_stays c moment many held w (act.Fault n) can stays asks = tt
+act_stays c moment many held w (act.Spawn b) can stays asks = tt
+act_stays c moment many held w (act.Dedicated b) can stays asks = tt
+act_stays c moment many held w (act.Wake t) can stays asks = tt
+
 -- WHERE IT STANDS, AND WHAT IT HOLDS
 
+-- at this place of its script
+abbrev at_spot : Code → ℕ → Spot
+at_spot c place = record { code = c; place = place_in c place; adapters = []; call = None }
+
 pub script_answered : IsAnswered spot_told
-script_answered l answer other = elsewhere l.asked l.place l.before answer other
+script_answered l answer other = ap (at_spot l.code) (elsewhere l.asked l.place l.before answer other)
   where
-    elsewhere : (q : Asked) (place before : ℕ) (answer : Said) → (answer ≡ said.Refused NoMemory → ⊥)
-        → (let it : Spot = record { code = Root; place = place_after q place before (Some answer); adapters = []; call = None } in it) ≡ record { code = Root; place = place_after q place before None; adapters = []; call = None }
+    elsewhere : (q : Asked) (place before : ℕ) (answer : Said) → (answer ≡ said.Refused NoMemory → ⊥) → place_after q place before (Some answer) ≡ place_after q place before None
     elsewhere asked.Ending place before answer other = refl
     elsewhere q place before (said.Refused NoMemory) other = absurd (other refl)
     elsewhere q place before answer other = refl
@@ -107,6 +153,8 @@ heard (act.Register r) (said.Admitted n) q held is kind = rw kind refl
 heard (act.Await (Some r)) (said.Output output) q held is kind = rw kind refl
 heard (act.Drop r) said.Pass q held is kind = rw kind refl
 heard (act.Sleep time) said.Slept q held is kind = rw kind refl
+heard (act.Spawn b) (said.Spawned n) q held is kind = rw kind refl
+heard (act.Spawn b) (said.Refused e) q held is kind = rw kind refl
 heard (act.Await None) said.Pass q held is kind = rw kind refl
 heard (act.Await (Some r)) said.Pass q held is kind = rw kind refl
 heard a said.Pass q held is kind = rw kind refl
@@ -119,9 +167,6 @@ unheard asked.Request held = refl
 unheard asked.LettingGo held = refl
 unheard asked.Ending held = refl
 unheard asked.Other held = refl
-
-spot_with : (place here : ℕ) → place ≡ here → (let at : Spot = record { code = Root; place = place; adapters = []; call = None } in at) ≡ record { code = Root; place = here; adapters = []; call = None }
-spot_with place here one = rw one refl
 
 -- where it stands by itself after this act
 place_alone : (a : Act Played) (place before : ℕ) → place_after (asked_by a) place before None ≡ (if is_last a then before else place)
@@ -138,48 +183,136 @@ place_refused (act.Done n) place before = refl
 place_refused (act.Fault n) place before = refl
 place_refused a place before = refl
 
-stands_by : (last : Bool) (place before here next : ℕ) → before ≡ here → (last ≡ false → place ≡ next)
-    → (let at : Spot = record { code = Root; place = if last then before else place; adapters = []; call = None } in at)
-    ≡ (if last then record { code = Root; place = here; adapters = []; call = None } else record { code = Root; place = next; adapters = []; call = None })
-stands_by true place before here next stays past = spot_with before here stays
-stands_by false place before here next stays past = spot_with place next (past refl)
+-- it stands where the machine's task does, once that is past its word
+stands_on : (c : Code) (s : Common) (words : List ScriptWord) (place next : ℕ) (held : List ℕ) (u : Task) → words_left s (at_place c place held u) ≡ drop place words
+    → next ≡ place + passed_over (is_empty held) (length s.tasks) (drop place words) + 1 → at_spot c next ≡ spot_of (moved_on s (at_place c place held u))
+stands_on Root s words place next held u left is =
+    ap (at_spot Root) (is ∙ ap (λ k. place + k + 1) (sym (ap (idle_words s (at_place Root place held u)) left ∙ idle_all s (at_place Root place held u) (drop place words))))
+stands_on (Script k) s words place next held u left is =
+    ap (at_spot (Script k)) (is ∙ ap (λ k. place + k + 1) (sym (ap (idle_words s (at_place (Script k) place held u)) left ∙ idle_all s (at_place (Script k) place held u) (drop place words))))
+stands_on Waits s words place next held u left is = refl
 
 -- ITS LAW
 
-plays_at : (p : Plan) (s : Common) (u : Task) (moment : ℕ) (l l' : Played) (told : Said) (a : Act Played) → Runs l p → s.root ≡ p.root → moment ≤ LAST_MOMENT → StepsTo l moment told a l'
-    → StepPlays Runs held_told spot_told gives p s (task_at l told u) moment a l'
-plays_at p s u moment l l' told a runs root early step =
-    let t = task_at l told u in
-    let w = word_at l.words step.place in
-    let in_root : s.root ≡ l.words = root ∙ sym runs.words in
-    let can_all : All CanPlay l.words = subst (λ (ws : List ScriptWord). All CanPlay ws) (sym runs.words) runs.playable in
-    let next : w ≡ next_word s t = ap (word_at l.words) step.here ∙ sym (next_is s l told u in_root can_all) in
-    let can : CanPlay w = can_play_at l.words step.place can_all in
-    let small : moment + l.rw < 2 ^ 64 = omega (arith, runs.rw, runs.in_range) in
-    let asks : Asks p.config moment t.held w a = step.asks can small p.config (sym runs.rw) in
+-- a body at this place of its script, which makes this act
+record IsStep (c : Code) (p : Plan) (s : Common) (words : List ScriptWord) (place next : ℕ) (held : List ℕ) (u : Task) (moment many : ℕ) (a : Act Played) : Type 0 where
+  pub are : words ≡ words_of c p
+  pub scripts : s.scripts ≡ p.scripts
+  pub root : s.root ≡ p.root
+  pub asks : Asks p.config moment held (word_in c words s.stopped (place + passed_over (is_empty held) (length s.tasks) (drop place words))) a
+  pub past : (let here : ℕ = place + passed_over (is_empty held) (length s.tasks) (drop place words) in here) < length words → next ≡ place + passed_over (is_empty held) (length s.tasks) (drop place words) + 1
+
+stands_past : (c : Code) (p : Plan) (s : Common) (words : List ScriptWord) (place next : ℕ) (held : List ℕ) (u : Task) (moment many : ℕ) (a : Act Played) → IsStep c p s words place next held u moment many a → is_last a ≡ false
+    → at_spot c next ≡ spot_of (moved_on s (at_place c place held u))
+stands_past Root p s words place next held u moment many a it going =
+    stands_on Root s words place next held u (ap (drop place) (it.root ∙ sym it.are)) (it.past (inside p.config moment held words _ a it.asks going))
+stands_past (Script k) p s words place next held u moment many a it going =
+    stands_on (Script k) s words place next held u (ap (drop place) (ap (λ (xs : List (List ScriptWord)). slice_index_or xs k []) it.scripts ∙ sym it.are)) (it.past (inside p.config moment held words _ a it.asks going))
+stands_past Waits p s words place next held u moment many a it going = refl
+
+stands_by : (c : Code) (p : Plan) (s : Common) (words : List ScriptWord) (place next : ℕ) (held : List ℕ) (u : Task) (moment many : ℕ) (a : Act Played) → IsStep c p s words place next held u moment many a → (last : Bool) → is_last a ≡ last
+    → at_spot c (if last then place else next) ≡ (if last then spot_of (at_place c place held u) else spot_of (moved_on s (at_place c place held u)))
+stands_by c p s words place next held u moment many a it true is = refl
+stands_by c p s words place next held u moment many a it false is = stands_past c p s words place next held u moment many a it is
+
+-- the body that it makes
+pub born : (p : Plan) (l : Played) (k : ℕ) → IsProgram l.scripts l.rw p → k < length p.scripts → IsBorn Runs held_told spot_told p k (script_begun l.scripts l.rw k)
+born p l k program within = record {
+  runs_it = record {
+    code = (k, refl);
+    numbered = within;
+    words = ap (λ (xs : List (List ScriptWord)). slice_index_or xs k []) program.scripts_are;
+    program = program;
+    playable = subst (λ (xs : List (List ScriptWord)). All (CanPlay (length p.scripts)) (slice_index_or xs k [])) (sym program.scripts_are) (words_play (length p.scripts) p.scripts k program.playable);
+  };
+  begins = refl;
+  holding = refl;
+}
+
+makes_body : (p : Plan) (l : Played) (w : ScriptWord) (a : Act Played) → IsProgram l.scripts l.rw p → CanPlay (length p.scripts) w → Begets l w a → MakesBody itself Runs held_told spot_told p w a
+makes_body p l w (act.Spawn b) program can begets =
+    λ k is. subst (λ (x : Played). IsBorn Runs held_told spot_told p k x) (sym (begets k is)) (born p l k program (subst (CanPlay (length p.scripts)) is can))
+makes_body p l w (act.Register r) program can begets = tt
+makes_body p l w (act.Await r) program can begets = tt
+makes_body p l w (act.Drop r) program can begets = tt
+makes_body p l w (act.Sleep time) program can begets = tt
+makes_body p l w act.Yield program can begets = tt
+makes_body p l w (act.Done n) program can begets = tt
+makes_body p l w (act.Fault n) program can begets = tt
+makes_body p l w (act.Dedicated b) program can begets = tt
+makes_body p l w (act.Wake t) program can begets = tt
+
+-- an ordinary task makes no request, and doesn't sleep
+stays_here : (home : Option ℕ) (p : Plan) (l : Played) (moment n : ℕ) (held : List ℕ) (stopped : Bool) (a : Act Played) → Runs l p home → Asks p.config moment held (word_in l.code l.words stopped n) a → home ≡ None → Stays a
+stays_here home p l moment n held stopped a runs asks none =
+    let coded = subst (λ h. IsCodeOf h l.code) none runs.code in
+    let words : l.words ≡ slice_index_or p.scripts coded.0 [] = runs.words ∙ ap (λ c. words_of c p) coded.1 in
+    let stay : All StaysInScript l.words = subst (All StaysInScript) (sym words) (words_stay p.scripts coded.0 runs.program.staying) in
+    act_stays p.config moment (length p.scripts) held (word_at l.words n) a (can_play_at (length p.scripts) l.words n runs.playable) (stays_at l.words n stay)
+    (subst (λ c. Asks p.config moment held (word_in c l.words stopped n) a) coded.1 asks)
+
+plays_at : (p : Plan) (s : Common) (u : Task) (it : Sight) (l l' : Played) (told : Said) (a : Act Played) → Runs l p u.home → s.scripts ≡ p.scripts → s.root ≡ p.root → IsSeen it s → StepsTo l it told a l'
+    → StepPlays itself Runs held_told spot_told gives p s (at_place l.code (place_by l told) (held_by l.asked l.held told) u) it.moment a l'
+plays_at p s u it l l' told a runs scripts root seen step =
+    let held = held_by l.asked l.held told in
+    let place = place_by l told in
+    let t = at_place l.code place held u in
+    let few : it.tasks ≤ 2 ^ 32 = subst (λ n. n ≤ 2 ^ 32) (sym seen.tasks) seen.few in
+    let here : step.place ≡ place + passed_over (is_empty held) (length s.tasks) (drop place l.words) = step.here few ∙ ap (λ n. place + passed_over (is_empty held) n (drop place l.words)) seen.tasks in
+    let many : length l.scripts ≡ length p.scripts = ap length runs.program.scripts_are in
+    let can : CanPlay (length l.scripts) (word_in l.code l.words it.stopped step.place) =
+    subst (λ n. CanPlay n (word_in l.code l.words it.stopped step.place)) (sym many) (can_play_in l.code (length p.scripts) l.words it.stopped step.place runs.playable) in
+    let word_is : word_in l.code l.words it.stopped step.place ≡ word_in l.code l.words s.stopped (place + passed_over (is_empty held) (length s.tasks) (drop place l.words)) =
+    ap (λ b. word_in l.code l.words b step.place) seen.stopped ∙ ap (word_in l.code l.words s.stopped) here in
+    let next : word_in l.code l.words it.stopped step.place ≡ next_word s t = word_is ∙ sym (next_is l.code p s l.words place held u runs.words scripts root) in
+    let small : it.moment + l.rw < 2 ^ 64 = omega (arith, runs.program.rw_is, runs.program.in_range, seen.early) in
+    let asks : Asks p.config it.moment held (word_in l.code l.words it.stopped step.place) a = step.asks few can small p.config (sym runs.program.rw_is) in
+    let code : l'.code ≡ l.code = ap (λ (x : Played). x.code) step.rest in
     let kind : l'.asked ≡ asked_by a = ap (λ (x : Played). x.asked) step.rest in
-    let holds : l'.held ≡ t.held = ap (λ (x : Played). x.held) step.rest in
-    let before : l'.before ≡ t.place = ap (λ (x : Played). x.before) step.rest in
-    let past : is_last a ≡ false → l'.place ≡ t.place + idle_words s t (words_left s t) + 1 =
-    λ going. step.past (inside p.config moment t.held l.words step.place a asks going) ∙ ap (λ k. k + 1) step.here ∙ ap (λ k. place_by l told + k + 1) (sym (idle_is s l told u in_root can_all)) in
+    let holds : l'.held ≡ held = ap (λ (x : Played). x.held) step.rest in
+    let before : l'.before ≡ place = ap (λ (x : Played). x.before) step.rest in
+    let by : IsStep l.code p s l.words place l'.place held u it.moment (length p.scripts) a = record {
+      are = runs.words;
+      scripts = scripts;
+      root = root;
+      asks = subst (λ (w : ScriptWord). Asks p.config it.moment held w a) word_is asks;
+      past = λ within. step.past (subst (λ n. n < length l.words) (sym here) within) ∙ ap (λ k. k + 1) here;
+    } in
     record {
-      asks = subst (λ (x : ScriptWord). Asks p.config moment t.held x a) next asks;
-      stands = spot_with _ _ (ap (λ q. place_after q l'.place l'.before None) kind ∙ place_alone a l'.place l'.before) ∙ stands_by (is_last a) l'.place l'.before t.place _ before past;
+      asks = subst (λ (w : ScriptWord). Asks p.config it.moment held w a) next asks;
+      makes = subst (λ (w : ScriptWord). MakesBody itself Runs held_told spot_told p w a) next (makes_body p l _ a runs.program (subst (λ n. CanPlay n (word_in l.code l.words it.stopped step.place)) many can) (step.begets can));
+      stands = ap (λ c. at_spot c (place_after l'.asked l'.place l'.before None)) code
+          ∙ ap (at_spot l.code) (ap (λ q. place_after q l'.place l'.before None) kind ∙ place_alone a l'.place l'.before ∙ ap (λ b. if is_last a then b else l'.place) before)
+          ∙ stands_by l.code p s l.words place l'.place held u it.moment (length p.scripts) a by (is_last a) refl;
+      code = runs.code;
+      stays = stays_here u.home p l it.moment step.place held it.stopped a runs asks;
       goes_on = λ going. record {
         runs_on = record {
-          words = ap (λ (x : Played). x.words) step.rest ∙ runs.words;
-          rw = ap (λ (x : Played). x.rw) step.rest ∙ runs.rw;
-          in_range = runs.in_range;
-          playable = runs.playable;
+          code = subst (IsCodeOf u.home) (sym code) runs.code;
+          numbered = subst (λ c. IsNumbered c (length p.scripts)) (sym code) runs.numbered;
+          words = ap (λ (x : Played). x.words) step.rest ∙ runs.words ∙ ap (λ c. words_of c p) (sym code);
+          program = subst (λ (xs : List (List ScriptWord)). IsProgram xs l'.rw p) (sym (ap (λ (x : Played). x.scripts) step.rest)) (subst (λ n. IsProgram l.scripts n p) (sym (ap (λ (x : Played). x.rw) step.rest)) runs.program);
+          playable = subst (All (CanPlay (length p.scripts))) (sym (ap (λ (x : Played). x.words) step.rest)) runs.playable;
         };
         holding = λ answer is. heard a answer l'.asked l'.held is kind ∙ ap (held_after a answer) holds;
-        refused = spot_with _ _ (ap (λ q. place_after q l'.place l'.before (Some (said.Refused NoMemory))) kind ∙ place_refused a l'.place l'.before ∙ before);
+        refused = ap (λ c. at_spot c (place_after l'.asked l'.place l'.before (Some (said.Refused NoMemory)))) code
+            ∙ ap (at_spot l.code) (ap (λ q. place_after q l'.place l'.before (Some (said.Refused NoMemory))) kind ∙ place_refused a l'.place l'.before ∙ before);
         refused_holding = unheard l'.asked l'.held ∙ holds;
       };
     }
 
-pub script_plays : Plays Runs held_told spot_told gives
-script_plays p s t sight sight' l l' told a runs scripts root early given stands holds =
-    subst (λ (x : Task). StepPlays Runs held_told spot_told gives p s x sight.moment a l')
+pub script_plays : Plays itself Runs held_told spot_told gives
+script_plays p s t sight sight' l l' told a runs scripts root seen given stands holds =
+    subst (λ (x : Task). StepPlays itself Runs held_told spot_told gives p s x sight.moment a l')
     (ap (λ (xs : List ℕ). record (standing_at (spot_told l (Some told)) t) { held = xs }) holds ∙ ap (λ (x : Spot). standing_at x t) stands)
-    (plays_at p s t sight.moment l l' told a runs root early given.1)
+    (plays_at p s t sight l l' told a runs scripts root seen given.1)
+
+-- its name is the number of its script
+pub script_named : IsNamed Runs spot_told name_of
+script_named p l k runs begins =
+    let code : l.code ≡ Script k = ap (λ (x : Spot). x.code) begins in
+    let within : k < length p.scripts = subst (λ c. IsNumbered c (length p.scripts)) code runs.numbered in
+    ap (λ c. number_of c % 2 ^ 32) code ∙ small k (omega (arith, runs.program.few, within))
+  where
+    small : (n : ℕ) → n < 2 ^ 32 → n % 2 ^ 32 ≡ n
+    small n l = grind arith

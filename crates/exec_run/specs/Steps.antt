@@ -1,11 +1,12 @@
 -- What the functions that take the steps of a trace do.
-use Rattle.std.specs.Prelude.{◌≡◌, ℕ, Bool, true, ◌+◌, ◌<◌, ◌⊎◌, List, [], ◌∷◌, ◌++◌, Option, Some}
+use Rattle.std.specs.Prelude.{◌≡◌, ℕ, Bool, false, ◌+◌, ◌⊎◌, List, [], ◌∷◌, ◌++◌, Option, Some}
 use Rattle.exec_base.specs.Io.{Rose}
 use Rattle.exec_task.specs.declared.body.Said.{Said}
-use Rattle.exec_machine.specs.{declared.{config.Configuration.Configuration, event.Line.Line, step.{Step.Step, Action.Action}}, Run.{Follows, after_work, after_steps}, Progress.{Plan, is_quiet_step}, Credited.{Standing, Account}, Examples.{Told, lines_of}, Text.{text_of_line, text_of_log, told_lines}}
+use Rattle.exec_machine.specs.{declared.{config.Configuration.Configuration, event.Line.Line, step.{Step.Step, Action.Action}}, Run.{Follows, after_work, after_steps}, Progress.Plan, Credited.{Standing, Account}, Examples.{Told, lines_of}, Text.{text_of_line, text_of_log, told_lines}}
+use Rattle.exec_credit.specs.Minded.{begins_call}
 use Rattle.exec_moves.specs.{Plays.{Playing, by_step, credit_of}, Departures.played}
 use Rattle.exec_steps.specs.Spots.{Spot}
-use Rattle.exec_core.specs.{declared.executor.Core.Core, Lift.{IsFair, Shows}}
+use Rattle.exec_core.specs.{declared.executor.Core.Core, Lift.{IsMinded, IsReady, Pays, Shows}, Once.QueuesOnce}
 use Rattle.exec_text.specs.Grammar.{Meaning}
 use Rattle.exec_run.specs.{declared.{trace_error.TraceError.{TraceError, TheVariants.{ReadFault, TooLong, Syntax, Config, WriteFault, NoMemory}}, complaint.Complaint.Complaint}, Refusal.status_of, Explains.complaint_line, Log.{Gave, GaveFront, GaveFrontOfLog, AreTaken, told_text}}
 
@@ -30,18 +31,18 @@ whole_line l = text_of_line l ++ 10 ∷ []
 abbrev pub told_of_line : Bool → Line → List ℕ
 told_of_line quiet l = text_of_log (told_lines quiet (l ∷ []))
 
--- A line, with what it leaves open, is what its step tells: it follows in the machine, a quiet one costs credit, and then
--- there is less credit than the bound and no worker sleeps on work.
-pub record IsStep (c : Configuration) (x : Playing) (it : Told) : Type 0 where
-  pub tells : it ≡ (by_step c x it.0.action).told
-  pub follows : Follows c x.world it.0.action it.0.said it.1
-  pub falls : is_quiet_step x.world it.0.said ≡ true → credit_of c (by_step c x it.0.action).next < credit_of c x
-  pub fair : IsFair c (by_step c x it.0.action).next
+-- A line, with what it leaves open, is what its step tells: it follows in the machine, and then a task is queued once; and of
+-- one worker alone a quiet line costs credit, and then there is less credit than the bound and no worker sleeps on work.
+pub record IsStep (p : Plan) (x : Playing) (it : Told) : Type 0 where
+  pub tells : it ≡ (by_step p.config x it.0.action).told
+  pub follows : Follows p.config x.world it.0.action it.0.said it.1
+  pub once : QueuesOnce (by_step p.config x it.0.action).next
+  pub pays : begins_call it.0.action ≡ false → IsMinded p x → Pays p x it.0.action it.0
 
 -- so is each of these, one after another
-abbrev pub Goes : Configuration → Playing → List Told → Type 0
-Goes c x [] = Unit {0}
-Goes c x (it ∷ told) = IsStep c x it × Goes c (by_step c x it.0.action).next told
+abbrev pub Goes : Plan → Playing → List Told → Type 0
+Goes p x [] = Unit {0}
+Goes p x (it ∷ told) = IsStep p x it × Goes p (by_step p.config x it.0.action).next told
 
 -- where lines are paid from, and what each of them leaves to pay with
 abbrev pub standing : Configuration → Playing → Standing
@@ -53,46 +54,52 @@ accounts_of c x (it ∷ told) =
     let next = (by_step c x it.0.action).next in record { choice = it.1; credit = λ party. credit_of c next } ∷ accounts_of c next told
 
 -- A line could not be taken, or not be told as a whole.
-pub record BreaksLine (quiet : Bool) (c : Configuration) (x : Playing) (a : Action) (old new : Option (List ℕ)) : Type 0 where
+pub record BreaksLine (quiet : Bool) (p : Plan) (x : Playing) (a : Action) (old new : Option (List ℕ)) : Type 0 where
   pub it : Told
   pub action : it.0.action ≡ a
-  pub step : IsStep c x it
+  pub step : IsStep p x it
   pub gave : GaveFront old new (told_of_line quiet it.0)
 
 -- The steps were not all taken, or the last line not told as a whole.
-pub record Breaks (quiet : Bool) (c : Configuration) (x : Playing) (steps : List Step) (old new : Option (List ℕ)) : Type 0 where
+pub record Breaks (quiet : Bool) (p : Plan) (x : Playing) (steps : List Step) (old new : Option (List ℕ)) : Type 0 where
   pub taken : List Step
   pub are_taken : AreTaken taken steps
   pub told : List Told
   pub has_lines : after_steps taken (lines_of told) ≡ Some []
-  pub goes : Goes c x told
+  pub goes : Goes p x told
   pub gave : GaveFront old new (told_text quiet told)
 
 -- from what an executor showed, what it shows then
-module _ {B L : Type 0} (left : B → L) (runs : L → Plan → Type 0) (holds : L → Option Said → List ℕ) (spot : L → Option Said → Spot) where
+module _ {B L : Type 0} (left : B → L) (runs : L → Plan → Option ℕ → Type 0) (holds : L → Option Said → List ℕ) (spot : L → Option Said → Spot) (known : Plan → Type 0) where
+  -- It is ready, and shows this for a plan whose scripts are known.
+  pub record StandsAt (p : Plan) (c : Core B) (x : Playing) : Type 0 where
+    pub ready : IsReady left runs holds p c
+    pub shows : Shows left runs holds spot p c x
+    pub knows : known p
+
   -- One line was taken and told.
   pub record TakesLine (quiet : Bool) (p : Plan) (x : Playing) (a : Action) (l : Line) (core : Core B) (old new : Option (List ℕ)) : Type 0 where
     pub it : Told
     pub line : it.0 ≡ l
     pub action : it.0.action ≡ a
-    pub step : IsStep p.config x it
-    pub shows : Shows left runs holds spot p core (by_step p.config x it.0.action).next
+    pub step : IsStep p x it
+    pub stands : StandsAt p core (by_step p.config x it.0.action).next
     pub gave : Gave old new (told_of_line quiet it.0)
 
   -- So many lines of a worker were taken and told, and none was refused.
   pub record Works (quiet : Bool) (p : Plan) (x : Playing) (worker count : ℕ) (core : Core B) (old new : Option (List ℕ)) : Type 0 where
     pub told : List Told
     pub accepted : (n : ℕ) (ls : List Line) → after_work worker (count + n) (lines_of told ++ ls) ≡ after_work worker n ls
-    pub goes : Goes p.config x told
-    pub shows : Shows left runs holds spot p core (played p.config x told)
+    pub goes : Goes p x told
+    pub stands : StandsAt p core (played p.config x told)
     pub gave : Gave old new (told_text quiet told)
 
   -- The lines of the steps were taken and told.
   pub record Leads (quiet : Bool) (p : Plan) (x : Playing) (steps : List Step) (core : Core B) (old new : Option (List ℕ)) : Type 0 where
     pub told : List Told
     pub has_lines : (ss : List Step) (ls : List Line) → after_steps (steps ++ ss) (lines_of told ++ ls) ≡ after_steps ss ls
-    pub goes : Goes p.config x told
-    pub shows : Shows left runs holds spot p core (played p.config x told)
+    pub goes : Goes p x told
+    pub stands : StandsAt p core (played p.config x told)
     pub gave : Gave old new (told_text quiet told)
 
 -- A complaint was written and passed on, or broke off where the sink failed.

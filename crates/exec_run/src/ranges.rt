@@ -1,13 +1,15 @@
 //! The ranges of a configuration.
 
-ghost use Rattle.std.specs.Prelude.{◌≡◌, ◌==◌, ◌&&◌, ◌^◌, ◌-◌, nat_le};
+ghost use Rattle.std.specs.Prelude.{◌≡◌};
 ghost use Rattle.exec_machine.specs.Ranges.{ticks_needed};
-ghost use Rattle.exec_run.specs.Ranges.{first_out_of_range, tested_parts, is_within};
+ghost use Rattle.exec_run.specs.Ranges.{first_out_of_range, tested_parts, is_within, is_spin};
 
 use crate::field::{Field, OutOfRange};
 use exec_base::limits::LONGEST_TIMEOUT;
 use exec_machine::config::{Configuration, Spin};
 
+/// The most workers.
+const MOST_WORKERS: u64 = 64;
 /// The most that a count of 32 bits can be.
 const MOST_COUNT: u64 = 4_294_967_295;
 /// The most operations that a ring can hold.
@@ -49,7 +51,11 @@ fn tested_parts(config: Configuration) -> [(Field, u64, bool); 10]
     } = config;
     let (files, sockets) = (files as u64, sockets as u64);
     [
-        (Field::Workers, workers as u64, workers == 1),
+        (
+            Field::Workers,
+            workers as u64,
+            is_within(1, MOST_WORKERS, workers as u64),
+        ),
         (
             Field::Interval,
             interval,
@@ -63,7 +69,7 @@ fn tested_parts(config: Configuration) -> [(Field, u64, bool); 10]
             is_within(1, LONGEST_TIMEOUT, connect),
         ),
         (Field::Rw, rw, is_within(1, LONGEST_TIMEOUT, rw)),
-        (Field::Spin, spin.budget, is_without_spin(spin)),
+        (Field::Spin, spin.budget, is_spin(spin)),
         (Field::Files, files, files <= MOST_FILES),
         (Field::Sockets, sockets, sockets <= MOST_SOCKETS),
         (Field::Layout, tick, ticks_needed(config) <= MOST_SLOTS),
@@ -77,11 +83,11 @@ fn is_within(least: u64, most: u64, number: u64) -> bool
     least <= number && number <= most
 }
 
-/// Whether no worker spins, and each other number is a count.
-fn is_without_spin(spin: Spin) -> bool
-    ensures { result ≡ ((spin.budget == 0) && nat_le spin.most (2 ^ 32 - 1) && nat_le spin.quick (2 ^ 32 - 1) && nat_le spin.iterations (2 ^ 32 - 1)) }
+/// Whether the first budget is no larger than the largest, and each number is a count.
+fn is_spin(spin: Spin) -> bool
+    ensures { result ≡ is_spin spin }
 {
-    spin.budget == 0
+    spin.budget <= spin.most
         && spin.most <= MOST_COUNT
         && spin.quick <= MOST_COUNT
         && spin.iterations <= MOST_COUNT

@@ -1,30 +1,33 @@
-//! The body of the root.
+//! The bodies of tasks: a script, or a wait for the stop of the pool.
 //!
 //! A script makes the acts of its words, one after another: it is told what came of the last, and goes on with the word
-//! behind it. So it keeps which word is next, where the last one stood, what it asked for, and which requests it holds. An
-//! act for which there was no memory is made again.
+//! behind it. So it keeps which word is next, where the last one stood, what it asked for, and which requests it holds.
+//! An act for which there was no memory is made again. A word that asks for nothing is passed: a `drop` where nothing
+//! is held, and a `wake` of a task that isn't there. The root of a worker other than the first has no words: it waits
+//! for a wake again and again, until the pool is stopped.
 
-ghost use Rattle.std.specs.Prelude.{◌≡◌, ◌+◌, ◌<◌, ◌≤◌, ◌&&◌, ◌^◌, not, false, is_some, IsTrue, [], length, drop, vec_capacity, IfOk, IfSome, IfNone, OnOk, OnErr};
-ghost use Rattle.exec_outcomes.specs.declared.outcome.Kind.TheVariants as kind;
-ghost use Rattle.exec_machine.specs.{Tasks.without_newest, Words.asks_drop};
+ghost use Rattle.std.specs.Prelude.{◌≡◌, ◌≢◌, ℕ, ◌+◌, ◌<◌, ◌≤◌, ◌^◌, false, is_some, IsTrue, [], length, vec_capacity, Some, IfSome, IfNone, OnOk, OnErr};
+ghost use Rattle.exec_machine.specs.declared.state.Code.TheVariants as code;
+ghost use Rattle.exec_machine.specs.{Progress.Plan, Tasks.without_newest};
 ghost use Rattle.exec_run.specs.declared.script.Asked.TheVariants as question;
-ghost use Rattle.exec_run.specs.Script.{held_by, place_by, newest, passed_over, word_at, asked_by, asks_request, CanPlay, IsPlain, IsRequestOf, IsPlainActOf};
-ghost use Rattle.exec_task.specs.declared.body.Act.TheVariants.{Register};
+ghost use Rattle.exec_run.specs.Script.{begun, held_by, place_by, newest, script_begun, word_in, word_of_wait, words_of_all, asked_by, asks_request, CanPlay, IsProgram, IsRequestOf, IsPlainActOf};
+ghost use Rattle.exec_steps.specs.Scripts.{IsBorn};
+ghost use Rattle.exec_task.specs.{declared.body.Act.TheVariants.{Register, Spawn, Wake}, Sight.Sight};
 
+use crate::asking::request_of;
+use crate::passing::{next_place, place_past, word_of, word_of_wait};
 use exec_base::error::Error;
-use exec_bufs::buf::IoBuf;
+use exec_base::task_no::TaskNo;
 use exec_machine::config::ScriptWord;
-use exec_request::buffers::WriteBuffers;
-use exec_request::poll::PollRequest;
+use exec_machine::state::Code;
 use exec_request::request::Request;
-use exec_request::send::SendRequest;
 use exec_steps::scripted::Scripted;
 use exec_task::body::{Act, Around, Body, Said};
 use std::alloc::{AllocError, Global};
 use std::marker::Model;
 
-/// The most bytes of a send.
-const MOST_BYTES: u64 = 1_048_576;
+/// So many names are there of 32 bits.
+const NAMES: usize = 4_294_967_296;
 
 /// What a script asked for last.
 #[derive(Clone, Copy, Debug, PartialEq, Eq)]
@@ -39,13 +42,44 @@ pub enum Asked {
     Other,
 }
 
+/// What all bodies of a trace know.
+#[derive(Clone, Copy)]
+pub struct Program<'a> {
+    /// The scripts, by number.
+    pub scripts: &'a [Vec<ScriptWord>],
+    /// How long a request of a socket may take, in nanoseconds.
+    pub rw: u64,
+}
+
+/// Who makes the bodies of scripts.
+pub trait Scripts<B: Scripted> {
+    // It knows the scripts of this plan.
+    ghost knows: { Self → Plan → Type 0 };
+
+    /// The body of the script of this number, which is to begin. None where there is no such script.
+    fn body(&self, alloc: Global, script: usize) -> Option<B>
+        ensures born { IfSome result (λ b. (p : Plan) → knows self.now p →
+            IsBorn B.runs B.holds B.spot p script (B.left b)) }
+        ensures none { IfNone result ((p : Plan) → knows self.now p → length p.scripts ≤ script) };
+}
+
+impl<'a> Scripts<Script<'a>> for Program<'a> {
+    ghost knows = { λ it p. IsProgram (words_of_all it.scripts.now) it.rw p };
+
+    fn body(&self, alloc: Global, script: usize) -> Option<Script<'a>> {
+        Script::numbered(alloc, script, *self)
+    }
+}
+
 /// A script, with how far it has come.
 #[derive(Drop)]
-pub struct Script {
+pub struct Script<'a> {
+    /// Which one it is.
+    code: Code,
     /// Its words.
-    words: Vec<ScriptWord>,
-    /// How long a request of a socket may take, in nanoseconds.
-    rw: u64,
+    words: &'a [ScriptWord],
+    /// What all bodies know.
+    program: Program<'a>,
     /// The number of the next word.
     place: usize,
     /// The number of the word that was next before the last act.
@@ -56,28 +90,63 @@ pub struct Script {
     asked: Asked,
 }
 
-impl Model for Script {
+impl<'a> Model for Script<'a> {
     ghost use Rattle.std.specs.Prelude.{◌≡◌, ◌<◌, length, vec_capacity};
     ghost use Rattle.exec_run.specs.declared.script.Asked.TheVariants.{Request};
-    ghost use Rattle.exec_run.specs.Script.{Played};
+    ghost use Rattle.exec_run.specs.Script.{Played, words_of_all};
 
     ghost Value = { Played };
 
-    ghost view = { λ s. record { words = s.words.items; rw = s.rw; place = s.place; before = s.before; held = s.held.items; asked = s.asked } };
+    ghost view = { λ s. record {
+      code = s.code;
+      words = s.words.now;
+      scripts = words_of_all s.program.scripts.now;
+      rw = s.program.rw;
+      place = s.place;
+      before = s.before;
+      held = s.held.items;
+      asked = s.asked;
+    } };
 
     ghost invariant = { λ s. s.asked ≡ Request → length s.held.items < vec_capacity s.held };
 }
 
-impl Script {
+impl<'a> Script<'a> {
     ghost use Rattle.exec_run.specs.Script.{Played};
 
-    /// A script of these words that is to begin, whose requests may take so many nanoseconds.
-    pub(crate) fn new(alloc: Global, words: Vec<ScriptWord>, rw: u64) -> Self
-        ensures { result ≡ record { words = words.items; rw = rw; place = 0; before = 0; held = []; asked = question.Other } }
+    /// The script of the root line, which is to begin.
+    pub(crate) fn root(alloc: Global, words: &'a [ScriptWord], program: Program<'a>) -> Self
+        ensures { result ≡ begun code.Root words.now (words_of_all program.entry.scripts.now) program.entry.rw }
+    {
+        Script::new(alloc, Code::Root, words, program)
+    }
+
+    /// The wait for the stop of the pool, which is to begin.
+    pub(crate) fn waits(alloc: Global, program: Program<'a>) -> Self
+        ensures { result ≡ begun code.Waits [] (words_of_all program.entry.scripts.now) program.entry.rw }
+    {
+        Script::new(alloc, Code::Waits, &[], program)
+    }
+
+    /// The script of this number, which is to begin. None where there is no such script.
+    pub(crate) fn numbered(alloc: Global, script: usize, program: Program<'a>) -> Option<Self>
+        ensures some { IfSome result (λ b. b ≡ script_begun (words_of_all program.entry.scripts.now) program.entry.rw
+            script) }
+        ensures within { IfSome result (λ b. script < length (words_of_all program.entry.scripts.now)) }
+        ensures none { IfNone result (length (words_of_all program.entry.scripts.now) ≤ script) }
+    {
+        let words = program.scripts.get(script)?;
+        Some(Script::new(alloc, Code::Script(script), words.as_slice(), program))
+    }
+
+    /// A script of these words that is to begin.
+    fn new(alloc: Global, code: Code, words: &'a [ScriptWord], program: Program<'a>) -> Self
+        ensures { result ≡ begun code words.now (words_of_all program.entry.scripts.now) program.entry.rw }
     {
         Script {
+            code,
             words,
-            rw,
+            program,
             place: 0,
             before: 0,
             held: Vec::new(alloc),
@@ -92,6 +161,17 @@ impl Script {
         match (self.asked, said) {
             (Asked::Ending, _) | (_, Said::Refused(Error::NoMemory)) => self.before,
             _ => self.place,
+        }
+    }
+
+    /// The word of this number. A body without words waits until the pool is stopped.
+    fn word<A: Around>(&self, place: usize, around: &A) -> ScriptWord
+        ensures { (it : Sight) → A.sees around.now ≡ Some it →
+            result ≡ word_in self.now.code self.now.words it.stopped place }
+    {
+        match self.code {
+            Code::Waits => word_of_wait(around.is_stopped()),
+            Code::Root | Code::Script(_) => word_of(self.words, place),
         }
     }
 }
@@ -120,43 +200,6 @@ fn hear(held: &mut Vec<u32>, asked: Asked, said: &Said)
             held.pop();
         }
         _ => {}
-    }
-}
-
-/// The number of the first word from this one on that asks for something, where a script holds something or nothing.
-#[tactic(auto, using(crate::proofs::Words::drops_within, crate::proofs::Words::skips, crate::proofs::Words::stops))]
-fn next_place(words: &[ScriptWord], holds: bool, from: usize) -> usize
-    ensures { result ≡ from + passed_over (not holds) (drop from words.now) }
-{
-    let mut place = from;
-    while is_idle(words, holds, place) {
-        place += 1;
-    }
-    place
-}
-
-/// Whether the word of this number asks for nothing, where a script holds something or nothing.
-fn is_idle(words: &[ScriptWord], holds: bool, place: usize) -> bool
-    ensures { result ≡ (not holds && asks_drop (word_at words.now place)) }
-{
-    !holds && matches!(word_of(words, place), ScriptWord::Drop)
-}
-
-/// The word of this number. Past the last it is the end.
-fn word_of(words: &[ScriptWord], place: usize) -> ScriptWord
-    ensures { result ≡ word_at words.now place }
-{
-    words.get(place).copied().unwrap_or(ScriptWord::End)
-}
-
-/// The number behind this one, where that is of a word.
-fn place_past(words: &[ScriptWord], place: usize) -> usize
-    ensures { place < length words.now → result ≡ place + 1 }
-{
-    if place < words.len() {
-        place + 1
-    } else {
-        place
     }
 }
 
@@ -195,72 +238,17 @@ fn last_but_one(held: &[u32]) -> Option<u32>
     }
 }
 
-/// The request that a word asks for at this moment, whose deadline is so much later, if it asks for one.
-fn request_of(
-    alloc: Global,
-    now: u64,
-    rw: u64,
-    word: ScriptWord,
-) -> Result<Option<Request>, AllocError>
-    ensures some { IfOk result (λ x. IfSome x (λ r. IsRequestOf now rw word r)) }
-    ensures none { IfOk result (λ x. IfNone x (CanPlay word → now + rw < 2 ^ 64 → asks_request word ≡ false)) }
-    ensures err { OnErr result ((r : Request) × IsRequestOf now rw word r) }
-{
-    let Some(deadline) = deadline_of(now, rw) else {
-        return Ok(None);
-    };
-    match word {
-        ScriptWord::Send { socket, length } => send_of(alloc, socket, length, deadline),
-        ScriptWord::Poll { listener } => Ok(poll_of(listener, deadline)),
-        _ => Ok(None),
-    }
-}
-
-/// The moment so much later, unless that is too late to be said.
-fn deadline_of(now: u64, rw: u64) -> Option<u64>
-    ensures some { IfSome result (λ moment. moment ≡ now + rw) }
-    ensures none { IfNone result (now + rw < 2 ^ 64 → ⊥) }
-{
-    now.checked_add(rw)
-}
-
-/// A send of so many bytes, unless these are too many or there is no such socket.
-fn send_of(
-    alloc: Global,
-    socket: usize,
-    length: u64,
-    deadline: u64,
-) -> Result<Option<Request>, AllocError>
-    ensures some { IfOk result (λ x. IfSome x (λ r. IsPlain kind.Send socket length deadline r)) }
-    ensures none { IfOk result (λ x. IfNone x (socket < 2 ^ 32 → length ≤ 1048576 → ⊥)) }
-{
-    let Ok(fd) = u32::try_from(socket) else {
-        return Ok(None);
-    };
-    if length > MOST_BYTES {
-        return Ok(None);
-    }
-    let bytes = vec![in alloc; 0u8; length as usize]?;
-    let write = WriteBuffers::Single {
-        buf: IoBuf::from(bytes),
-        offset: 0,
-    };
-    Ok(Some(Request::Send(SendRequest::new(fd, write, Some(deadline)))))
-}
-
-/// A poll of the listener, unless there is none.
-fn poll_of(listener: usize, deadline: u64) -> Option<Request>
-    ensures some { IfSome result (λ r. IsPlain kind.Poll listener 1 deadline r) }
-    ensures none { IfNone result (listener < 2 ^ 32 → ⊥) }
-{
-    let fd = u32::try_from(listener).ok()?;
-    Some(Request::Poll(PollRequest::new(fd, Some(deadline))))
-}
-
 /// The act of a word, of a task that holds this as its newest: to make the request that it asks for, or another.
-fn act_of(word: ScriptWord, newest: Option<u32>, request: Option<Request>) -> Act<Script>
+fn act_of<'a>(
+    alloc: Global,
+    word: ScriptWord,
+    newest: Option<u32>,
+    request: Option<Request>,
+    program: Program<'a>,
+) -> Act<Script<'a>>
     ensures some { IfSome request (λ r. result ≡ Register r) }
-    ensures none { IfNone request (CanPlay word → asks_request word ≡ false → IsPlainActOf word newest result) }
+    ensures none { (many : ℕ) → IfNone request (CanPlay many word → asks_request word ≡ false →
+        IsPlainActOf (words_of_all program.entry.scripts.now) program.entry.rw word newest result) }
     ensures asked { asked_by result ≡ question.Request → IsTrue (is_some request) }
 {
     match (word, newest, request) {
@@ -270,13 +258,38 @@ fn act_of(word: ScriptWord, newest: Option<u32>, request: Option<Request>) -> Ac
         (ScriptWord::Sleep { time }, _, None) => Act::Sleep(time),
         (ScriptWord::Yield, _, None) => Act::Yield,
         (ScriptWord::Fault { code }, _, None) => Act::Fault(code),
+        (ScriptWord::Wake { task }, _, None) => wake_of(task),
+        (ScriptWord::Spawn { script }, _, None) => spawn_of(alloc, script, program),
         _ => Act::Done(0),
     }
 }
 
-impl Scripted for Script {
+/// The wake of the task of this number.
+fn wake_of<'a>(task: usize) -> Act<Script<'a>>
+    ensures wakes { task < 2 ^ 32 → result ≡ Wake (record { 0 = task }) }
+    ensures no_request { asked_by result ≢ question.Request }
+{
+    match u32::try_from(task) {
+        Ok(number) => Act::Wake(TaskNo(number)),
+        Err(_) => Act::Done(0),
+    }
+}
+
+/// The spawn of a task of the script of this number.
+fn spawn_of<'a>(alloc: Global, script: usize, program: Program<'a>) -> Act<Script<'a>>
+    ensures spawns { script < length (words_of_all program.entry.scripts.now) →
+        result ≡ Spawn (script_begun (words_of_all program.entry.scripts.now) program.entry.rw script) }
+    ensures no_request { asked_by result ≢ question.Request }
+{
+    match Script::numbered(alloc, script, program) {
+        Some(body) => Act::Spawn(body),
+        None => Act::Done(0),
+    }
+}
+
+impl<'a> Scripted for Script<'a> {
     ghost use Rattle.exec_run.specs.Script.{Runs, spot_told, held_told};
-    ghost use Rattle.exec_run.specs.ScriptPlays.{script_answered, script_plays};
+    ghost use Rattle.exec_run.specs.ScriptPlays.{script_answered, script_named, script_plays};
 
     ghost runs = { Runs };
 
@@ -287,12 +300,14 @@ impl Scripted for Script {
     ghost answered = { script_answered };
 
     ghost plays = { script_plays };
+
+    ghost named = { script_named };
 }
 
-impl Body for Script {
+impl<'a> Body for Script<'a> {
     ghost use Rattle.exec_run.specs.Script.{itself, name_of, gives};
 
-    type Left = Script;
+    type Left = Script<'a>;
 
     ghost left = { itself };
 
@@ -301,7 +316,10 @@ impl Body for Script {
     ghost name_of = { name_of };
 
     fn name(&self) -> u32 {
-        0
+        match self.code {
+            Code::Script(number) => (number % NAMES) as u32,
+            Code::Root | Code::Waits => 0,
+        }
     }
 
     fn step<A: Around>(
@@ -311,22 +329,18 @@ impl Body for Script {
         said: Said,
     ) -> Result<Act<Self>, Said> {
         let newest = newest_told(self.held.as_slice(), self.asked, &said);
-        let place = next_place(
-            self.words.as_slice(),
-            newest.is_some(),
-            self.place_told(&said),
-        );
-        let word = word_of(self.words.as_slice(), place);
-        let Ok(request) = request_of(alloc, around.now(), self.rw, word) else {
+        let place = next_place(self.words, newest.is_some(), around, self.place_told(&said));
+        let word = self.word(place, around);
+        let Ok(request) = request_of(alloc, around.now(), self.program.rw, word) else {
             return Err(said);
         };
         let Ok(()) = make_room(&mut self.held, request.is_some()) else {
             return Err(said);
         };
-        let act = act_of(word, newest, request);
+        let act = act_of(alloc, word, newest, request, self.program);
         self.before = self.place_told(&said);
         hear(&mut self.held, self.asked, &said);
-        self.place = place_past(self.words.as_slice(), place);
+        self.place = place_past(self.words, place);
         self.asked = asked_by(&act);
         Ok(act)
     }

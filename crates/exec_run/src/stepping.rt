@@ -6,73 +6,93 @@
 //! executor is spent, and no further step is taken. What was given is a front of the log up to there, and all
 //! lines of the steps before are whole.
 
-ghost use Rattle.std.specs.Prelude.{◌≡◌, ◌≤◌, ◌⊎◌, List, ◌∷◌, [], All, None, true, IfOk, IfErr, OnOk, OnErr};
+ghost use Rattle.std.specs.Prelude.{◌≡◌, ◌-◌, ◌^◌, ◌<◌, ◌≤◌, ◌⊎◌, List, ◌∷◌, [], All, length, replicate, None, IfOk, IfErr, OnOk, OnErr};
 ghost use Rattle.exec_machine.specs.declared.step.Step.TheVariants as step;
+ghost use Rattle.exec_machine.specs.declared.state.Code.TheVariants as code;
 ghost use Rattle.exec_machine.specs.{Progress.Plan, Examples.Told};
 ghost use Rattle.exec_moves.specs.Plays.{Playing};
-ghost use Rattle.exec_core.specs.Lift.{IsReady, Shows, is_of_first_cut};
-ghost use Rattle.exec_text.specs.Grammar.{MeaningFits, meaning_of, StepFits};
-ghost use Rattle.exec_run.specs.{Ranges.first_out_of_range, Log.{Gave, IsTheLogOf, told_text}, Steps.{BrokeBy, GaveUpTo, TakesLine, BreaksLine, Leads, Breaks}};
+ghost use Rattle.exec_core.specs.Lift.{Carries};
+ghost use Rattle.exec_text.specs.Grammar.{MeaningFits, meaning_of, StepFits, StepNames};
+ghost use Rattle.exec_run.specs.{Ranges.first_out_of_range, Log.{Gave, IsTheLogOf, told_text}, Script.{begun, words_of_all}, Steps.{BrokeBy, GaveUpTo, StandsAt, TakesLine, BreaksLine, Leads, Breaks}};
 
-use crate::script::Script;
+use crate::script::{Program, Script, Scripts};
 use crate::setting_up::config_of;
 use crate::trace_error::TraceError;
 use crate::writing::{flush_all, tell_line};
 use exec_base::io::Output;
 use exec_core::executor::Core;
-use exec_machine::config::Configuration;
+use exec_machine::config::{Configuration, ScriptWord};
 use exec_machine::event::{Line, StepResult};
 use exec_machine::laws::paid_lines_are_runs;
 use exec_machine::step::{Action, Step};
 use exec_steps::scripted::Scripted;
 use exec_text::trace::Trace;
-use std::alloc::Global;
+use std::alloc::{AllocError, Global};
+
+/// The body that a step carries: that of the task which a caller spawns.
+fn body_of<B: Scripted, S: Scripts<B>>(alloc: Global, scripts: &S, action: Action) -> Option<B>
+    ensures { (p : Plan) → S.knows scripts.now p → StepNames (length p.scripts) (step.One action) →
+        Carries B.left B.runs B.holds B.spot B.name_of p action result }
+{
+    match action {
+        Action::Spawn { script, .. } => scripts.body(alloc, script),
+        _ => None,
+    }
+}
 
 /// Takes one step of one party, and tells its line.
-fn take_line<B: Scripted + Drop, O: Output>(
+fn take_line<B: Scripted + Drop, S: Scripts<B>, O: Output>(
     alloc: Global,
     core: &mut Core<B>,
+    scripts: &S,
     sink: &mut O,
     quiet: bool,
     action: Action,
 ) -> Result<Line, TraceError>
-    requires ready { IsReady B.left B.runs B.holds core.old }
-    requires known { is_of_first_cut action ≡ true }
+    requires stands { (p : Plan) × (x : Playing) × StandsAt B.left B.runs B.holds B.spot
+        (S.knows scripts.now) p core.old x × StepNames (length p.scripts) (step.One action) }
     ensures count { O.faults sink.old ≤ O.faults sink.new }
     ensures well { OnOk result (O.faults sink.new ≡ O.faults sink.old) }
-    ensures ready { OnOk result (IsReady B.left B.runs B.holds core.new) }
-    ensures takes { IfOk result (λ line. (p : Plan) (x : Playing) → Shows B.left B.runs B.holds B.spot p core.old x →
-        TakesLine B.left B.runs B.holds B.spot quiet p x action line core.new (O.given sink.old) (O.given sink.new)) }
+    ensures takes { IfOk result (λ line. (p : Plan) (x : Playing) →
+        StandsAt B.left B.runs B.holds B.spot (S.knows scripts.now) p core.old x →
+        StepNames (length p.scripts) (step.One action) →
+        TakesLine B.left B.runs B.holds B.spot (S.knows scripts.now) quiet p x action line core.new (O.given sink.old)
+        (O.given sink.new)) }
     ensures why { IfErr result (λ e. BrokeBy e (O.faults sink.old) (O.faults sink.new)) }
-    ensures breaks { OnErr result ((p : Plan) (x : Playing) → Shows B.left B.runs B.holds B.spot p core.old x →
-        (O.given sink.new ≡ O.given sink.old) ⊎ BreaksLine quiet p.config x action (O.given sink.old) (O.given sink.new)) }
+    ensures breaks { OnErr result ((p : Plan) (x : Playing) →
+        StandsAt B.left B.runs B.holds B.spot (S.knows scripts.now) p core.old x →
+        StepNames (length p.scripts) (step.One action) →
+        (O.given sink.new ≡ O.given sink.old) ⊎ BreaksLine quiet p x action (O.given sink.old) (O.given sink.new)) }
 {
-    let line = core.apply(alloc, action)?;
+    let line = core.apply(alloc, action, body_of(alloc, scripts, action))?;
     tell_line(alloc, sink, quiet, line)?;
     Ok(line)
 }
 
 /// Takes so many steps of the worker, or as many as there are up to the first that is refused.
-fn take_work<B: Scripted + Drop, O: Output>(
+fn take_work<B: Scripted + Drop, S: Scripts<B>, O: Output>(
     alloc: Global,
     core: &mut Core<B>,
+    scripts: &S,
     sink: &mut O,
     quiet: bool,
     worker: usize,
     count: u64,
 ) -> Result<(), TraceError>
-    requires { IsReady B.left B.runs B.holds core.old }
+    requires { (p : Plan) × (x : Playing) × StandsAt B.left B.runs B.holds B.spot (S.knows scripts.now) p core.old x }
     ensures count { O.faults sink.old ≤ O.faults sink.new }
     ensures well { OnOk result (O.faults sink.new ≡ O.faults sink.old) }
-    ensures ready { OnOk result (IsReady B.left B.runs B.holds core.new) }
-    ensures leads { OnOk result ((p : Plan) (x : Playing) → Shows B.left B.runs B.holds B.spot p core.old x →
-        Leads B.left B.runs B.holds B.spot quiet p x (step.Work worker count ∷ []) core.new (O.given sink.old) (O.given sink.new)) }
+    ensures leads { OnOk result ((p : Plan) (x : Playing) → StandsAt B.left B.runs B.holds B.spot
+        (S.knows scripts.now) p core.old x →
+        Leads B.left B.runs B.holds B.spot (S.knows scripts.now) quiet p x (step.Work worker count ∷ []) core.new
+        (O.given sink.old) (O.given sink.new)) }
     ensures why { IfErr result (λ e. BrokeBy e (O.faults sink.old) (O.faults sink.new)) }
-    ensures breaks { OnErr result ((p : Plan) (x : Playing) → Shows B.left B.runs B.holds B.spot p core.old x →
-        Breaks quiet p.config x (step.Work worker count ∷ []) (O.given sink.old) (O.given sink.new)) }
+    ensures breaks { OnErr result ((p : Plan) (x : Playing) →
+        StandsAt B.left B.runs B.holds B.spot (S.knows scripts.now) p core.old x →
+        Breaks quiet p x (step.Work worker count ∷ []) (O.given sink.old) (O.given sink.new)) }
 {
     for _ in 0..count {
-        let line = take_line(alloc, core, sink, quiet, Action::Work { worker })?;
+        let line = take_line(alloc, core, scripts, sink, quiet, Action::Work { worker })?;
         match line.said {
             StepResult::Refused => return Ok(()),
             StepResult::Did(_) => {}
@@ -82,55 +102,87 @@ fn take_work<B: Scripted + Drop, O: Output>(
 }
 
 /// Takes the steps of one line of the trace.
-fn take_step<B: Scripted + Drop, O: Output>(
+fn take_step<B: Scripted + Drop, S: Scripts<B>, O: Output>(
     alloc: Global,
     core: &mut Core<B>,
+    scripts: &S,
     sink: &mut O,
     quiet: bool,
     step: Step,
 ) -> Result<(), TraceError>
-    requires ready { IsReady B.left B.runs B.holds core.old }
+    requires stands { (p : Plan) × (x : Playing) × StandsAt B.left B.runs B.holds B.spot
+        (S.knows scripts.now) p core.old x × StepNames (length p.scripts) step }
     requires fits { StepFits step }
     ensures count { O.faults sink.old ≤ O.faults sink.new }
     ensures well { OnOk result (O.faults sink.new ≡ O.faults sink.old) }
-    ensures ready { OnOk result (IsReady B.left B.runs B.holds core.new) }
-    ensures leads { OnOk result ((p : Plan) (x : Playing) → Shows B.left B.runs B.holds B.spot p core.old x →
-        Leads B.left B.runs B.holds B.spot quiet p x (step ∷ []) core.new (O.given sink.old) (O.given sink.new)) }
+    ensures leads { OnOk result ((p : Plan) (x : Playing) → StandsAt B.left B.runs B.holds B.spot
+        (S.knows scripts.now) p core.old x → StepNames (length p.scripts) step →
+        Leads B.left B.runs B.holds B.spot (S.knows scripts.now) quiet p x (step ∷ []) core.new (O.given sink.old)
+        (O.given sink.new)) }
     ensures why { IfErr result (λ e. BrokeBy e (O.faults sink.old) (O.faults sink.new)) }
-    ensures breaks { OnErr result ((p : Plan) (x : Playing) → Shows B.left B.runs B.holds B.spot p core.old x →
-        Breaks quiet p.config x (step ∷ []) (O.given sink.old) (O.given sink.new)) }
+    ensures breaks { OnErr result ((p : Plan) (x : Playing) →
+        StandsAt B.left B.runs B.holds B.spot (S.knows scripts.now) p core.old x → StepNames (length p.scripts) step →
+        Breaks quiet p x (step ∷ []) (O.given sink.old) (O.given sink.new)) }
 {
     match step {
-        Step::Work { worker, count } => take_work(alloc, core, sink, quiet, worker, count),
+        Step::Work { worker, count } => {
+            take_work(alloc, core, scripts, sink, quiet, worker, count)
+        }
         Step::One { action } => {
-            take_line(alloc, core, sink, quiet, action)?;
+            take_line(alloc, core, scripts, sink, quiet, action)?;
             Ok(())
         }
     }
 }
 
 /// Takes the steps of all lines, in order.
-fn take_steps<B: Scripted + Drop, O: Output>(
+fn take_steps<B: Scripted + Drop, S: Scripts<B>, O: Output>(
     alloc: Global,
     core: &mut Core<B>,
+    scripts: &S,
     sink: &mut O,
     quiet: bool,
     steps: &[Step],
 ) -> Result<(), TraceError>
-    requires ready { IsReady B.left B.runs B.holds core.old }
+    requires stands { (p : Plan) × (x : Playing) × StandsAt B.left B.runs B.holds B.spot
+        (S.knows scripts.now) p core.old x × All (StepNames (length p.scripts)) steps.now }
     requires fit { All StepFits steps.now }
     ensures count { O.faults sink.old ≤ O.faults sink.new }
     ensures well { OnOk result (O.faults sink.new ≡ O.faults sink.old) }
-    ensures leads { OnOk result ((p : Plan) (x : Playing) → Shows B.left B.runs B.holds B.spot p core.old x →
-        Leads B.left B.runs B.holds B.spot quiet p x steps.now core.new (O.given sink.old) (O.given sink.new)) }
+    ensures leads { OnOk result ((p : Plan) (x : Playing) → StandsAt B.left B.runs B.holds B.spot
+        (S.knows scripts.now) p core.old x → All (StepNames (length p.scripts)) steps.now →
+        Leads B.left B.runs B.holds B.spot (S.knows scripts.now) quiet p x steps.now core.new (O.given sink.old)
+        (O.given sink.new)) }
     ensures why { IfErr result (λ e. BrokeBy e (O.faults sink.old) (O.faults sink.new)) }
-    ensures breaks { OnErr result ((p : Plan) (x : Playing) → Shows B.left B.runs B.holds B.spot p core.old x →
-        Breaks quiet p.config x steps.now (O.given sink.old) (O.given sink.new)) }
+    ensures breaks { OnErr result ((p : Plan) (x : Playing) →
+        StandsAt B.left B.runs B.holds B.spot (S.knows scripts.now) p core.old x →
+        All (StepNames (length p.scripts)) steps.now →
+        Breaks quiet p x steps.now (O.given sink.old) (O.given sink.new)) }
 {
     for step in steps {
-        take_step(alloc, core, sink, quiet, *step)?;
+        take_step(alloc, core, scripts, sink, quiet, *step)?;
     }
     Ok(())
+}
+
+/// The bodies of the roots: the first runs the root line, each other waits for the stop of the pool.
+fn roots_of<'a>(
+    alloc: Global,
+    workers: usize,
+    words: &'a [ScriptWord],
+    program: Program<'a>,
+) -> Result<Vec<Script<'a>>, AllocError>
+    requires { 0 < workers }
+    ensures { IfOk result (λ roots. roots.items ≡ begun code.Root words.now
+        (words_of_all program.entry.scripts.now) program.entry.rw ∷
+        replicate (workers - 1) (begun code.Waits [] (words_of_all program.entry.scripts.now) program.entry.rw)) }
+{
+    let mut roots = Vec::with_capacity(alloc, workers)?;
+    roots.push(Script::root(alloc, words, program))?;
+    for _ in 1..workers {
+        roots.push(Script::waits(alloc, program))?;
+    }
+    Ok(roots)
 }
 
 /// Runs the trace, gives its log, or its quiet log, and passes that on.
@@ -142,6 +194,7 @@ pub fn log_trace<O: Output>(
 ) -> Result<(), TraceError>
     requires fits { MeaningFits (meaning_of trace) }
     requires in_range { first_out_of_range trace.config ≡ None }
+    requires few { length trace.scripts.items ≤ 2 ^ 32 }
     ensures count { O.faults sink.old ≤ O.faults sink.new }
     ensures well { OnOk result (O.faults sink.new ≡ O.faults sink.old) }
     ensures passes { OnOk result (O.passed sink.new ≡ O.given sink.new) }
@@ -150,18 +203,28 @@ pub fn log_trace<O: Output>(
     ensures why { IfErr result (λ e. BrokeBy e (O.faults sink.old) (O.faults sink.new)) }
     ensures front { IfErr result (λ e. GaveUpTo e quiet (meaning_of trace) (O.given sink.old) (O.given sink.new)) }
 {
-    // What is paid for, line by line, is a run.
+    // Lines that are paid for are a run in which nobody turns for ever and nobody sleeps on work.
     paid_lines_are_runs();
     let config = config_of(&trace.config);
     let Configuration {
+        workers,
         spin,
         files,
         sockets,
         rw,
         ..
     } = trace.config;
-    let root = Script::new(alloc, trace.root, rw);
-    let mut core = Core::new(alloc, &config, spin.iterations, files, sockets, root)?;
-    take_steps(alloc, &mut core, sink, quiet, trace.steps.as_slice())?;
+    let scripts = trace.scripts.as_slice();
+    let program = Program { scripts, rw };
+    let roots = roots_of(alloc, workers, trace.root.as_slice(), program)?;
+    let mut core = Core::new(alloc, &config, spin.iterations, files, sockets, roots)?;
+    take_steps(
+        alloc,
+        &mut core,
+        &program,
+        sink,
+        quiet,
+        trace.steps.as_slice(),
+    )?;
     flush_all(sink)
 }

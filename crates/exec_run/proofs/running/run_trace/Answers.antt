@@ -1,7 +1,8 @@
 use Rattle.std.proofs.Common.{List, ℕ, refl, subst}
+use Rattle.exec_text.specs.Grammar.{IsTraceOf, meaning_of}
 use Rattle.exec_run.specs.Reading.{CannotRun}
 use Rattle.std.proofs.lemmas.Result.{err_from_is_err_and}
-use Rattle.exec_run.proofs.RunLemmas.{cause_of, unread}
+use Rattle.exec_run.proofs.{Counted.{few_of, few_scripts}, RunLemmas.{cause_of, unread}}
 use Rattle.exec_run.proofs.running.run_trace.Goals as goal
 
 pub returns-in_err-text-clause-err : goal.returns-in_err-text-clause-err
@@ -15,3 +16,9 @@ returns-in_err-trace-clause-err g c =
     rw (p.1, p.2) (cause_of c.in_err-trace.field-0.0 _ c.in_ok-text.text.items _ _ _ _ c.in_ok-text.ensures.whole
     (subst (λ (x : List ℕ). CannotRun c.in_err-trace.field-0.0 x) c.as_slice.ensures.value c.in_err-trace.ensures.err)
     c.in_ok-text.ensures.well refl)
+
+pub log_trace-requires-clause-few : goal.log_trace-requires-clause-few
+log_trace-requires-clause-few g c =
+    let text = c.in_ok-text.text.items in
+    let spelled : IsTraceOf text (meaning_of c.in_ok-trace.trace) = subst (λ (x : List ℕ). IsTraceOf x (meaning_of c.in_ok-trace.trace)) c.as_slice.ensures.value c.in_ok-trace.ensures.ok.spelled in
+    few_of c.in_ok-trace.trace (few_scripts text (meaning_of c.in_ok-trace.trace) c.in_ok-text.ensures.whole.short spelled)

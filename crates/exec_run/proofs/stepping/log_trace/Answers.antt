@@ -1,37 +1,90 @@
-use Rattle.std.proofs.Common.{refl}
+use Rattle.std.proofs.Common.{All, length, refl, sym, subst}
+use Rattle.exec_core.proofs.QueuedOnce.{queues_once}
 use Rattle.exec_moves.specs.Plays.{first_playing}
-use Rattle.exec_text.specs.Grammar.{meaning_of}
-use Rattle.exec_run.proofs.{Told.on_ok, Logs.PaidIsRun, Words.is_plan, First.first_fair, RunLemmas.{logged, front_logged, all_logged, gave_up}}
+use Rattle.exec_text.specs.Grammar.{StepFits, StepNames, meaning_of}
+use Rattle.exec_run.specs.{Script.{IsProgram, Runs, held_told, itself, spot_told, words_of_all}, Steps.StandsAt}
+use Rattle.exec_run.proofs.{Told.on_ok, Logs.{BeginsWell, PaidIsRun}, Plans.{known_of, plan_of}, First.first_fair, RunLemmas.{logged, front_logged, all_logged, gave_up}}
 use Rattle.exec_run.proofs.stepping.log_trace.Goals as goal
 
 pub new-requires-clause-plan : goal.new-requires-clause-plan
 new-requires-clause-plan g c =
-    let m = meaning_of c.args.trace in
-    (m.plan, is_plan m c.new-root.result _ c.requires.fits c.requires.in_range c.config_of-config.ensures.told c.new-root.ensures)
+    let t = c.args.trace in
+    let m = meaning_of t in
+    let is = plan_of t c.as_slice-scripts.result.now c.as_slice.result.now c.in_ok-roots.roots.items _ c.requires.fits c.requires.in_range c.requires.few c.as_slice-scripts.ensures.value c.as_slice.ensures.value c.config_of-config.ensures.told c.in_ok-roots.ensures in
+    (m.plan, is)
+
+pub take_steps-requires : goal.take_steps-requires
+take_steps-requires g c =
+    let t = c.args.trace in
+    let m = meaning_of t in
+    let is = plan_of t c.as_slice-scripts.result.now c.as_slice.result.now c.in_ok-roots.roots.items _ c.requires.fits c.requires.in_range c.requires.few c.as_slice-scripts.ensures.value c.as_slice.ensures.value c.config_of-config.ensures.told c.in_ok-roots.ensures in
+    let stands : StandsAt itself Runs held_told spot_told (λ p. IsProgram (words_of_all c.as_slice-scripts.result.now) t.config.rw p) m.plan c.in_ok-core.core (first_playing m.plan) = record {
+      ready = c.in_ok-core.ensures.ready m.plan is;
+      shows = c.in_ok-core.ensures.begins m.plan is;
+      knows = known_of t c.as_slice-scripts.result.now c.requires.fits c.requires.in_range c.requires.few c.as_slice-scripts.ensures.value;
+    } in
+    let names = subst (All (StepNames (length m.plan.scripts))) (sym c.as_slice-2.ensures.value) c.requires.fits.named.steps in
+    record { stands = (m.plan, first_playing m.plan, stands, names); fit = subst (All StepFits) (sym c.as_slice-2.ensures.value) c.requires.fits.formed.steps }
 
 pub returns-in_err-take_steps-clause-front : goal.returns-in_err-take_steps-clause-front
 returns-in_err-take_steps-clause-front g c =
-    let m = meaning_of c.args.trace in
+    let t = c.args.trace in
+    let m = meaning_of t in
+    let is = plan_of t c.as_slice-scripts.result.now c.as_slice.result.now c.in_ok-roots.roots.items _ c.requires.fits c.requires.in_range c.requires.few c.as_slice-scripts.ensures.value c.as_slice.ensures.value c.config_of-config.ensures.told c.in_ok-roots.ensures in
+    let stands : StandsAt itself Runs held_told spot_told (λ p. IsProgram (words_of_all c.as_slice-scripts.result.now) t.config.rw p) m.plan c.in_ok-core.core (first_playing m.plan) = record {
+      ready = c.in_ok-core.ensures.ready m.plan is;
+      shows = c.in_ok-core.ensures.begins m.plan is;
+      knows = known_of t c.as_slice-scripts.result.now c.requires.fits c.requires.in_range c.requires.few c.as_slice-scripts.ensures.value;
+    } in
+    let names = subst (All (StepNames (length m.plan.scripts))) (sym c.as_slice-2.ensures.value) c.requires.fits.named.steps in
     let law : PaidIsRun = record { runs = c.paid_lines_are_runs.ensures.runs; solo = c.paid_lines_are_runs.ensures.solo; asleep = c.paid_lines_are_runs.ensures.asleep } in
-    let is = is_plan m c.new-root.result _ c.requires.fits c.requires.in_range c.config_of-config.ensures.told c.new-root.ensures in
+    let begins : BeginsWell m.plan = record {
+      once = queues_once itself Runs held_told spot_told m.plan c.in_ok-core.core (first_playing m.plan) stands.ready.stands stands.shows;
+      minded = c.in_ok-core.ensures.minded m.plan is;
+      fair = first_fair m.plan;
+    } in
     gave_up c.from_residual-in_err-take_steps.result c.args.quiet m _ _
-    (front_logged law c.args.quiet m c.as_slice.result.now _ _ _ (first_fair m.plan c.requires.in_range) c.as_slice.ensures.value
-    (c.in_err-take_steps.ensures.breaks m.plan (first_playing m.plan) (c.in_ok-core.ensures.begins m.plan is)) refl)
+    (front_logged law c.args.quiet m c.as_slice-2.result.now _ _ _ begins c.as_slice-2.ensures.value
+    (c.in_err-take_steps.ensures.breaks m.plan (first_playing m.plan) stands names) refl)
 
 pub returns-clause-ok : goal.returns-clause-ok
 returns-clause-ok g c =
-    let m = meaning_of c.args.trace in
+    let t = c.args.trace in
+    let m = meaning_of t in
+    let is = plan_of t c.as_slice-scripts.result.now c.as_slice.result.now c.in_ok-roots.roots.items _ c.requires.fits c.requires.in_range c.requires.few c.as_slice-scripts.ensures.value c.as_slice.ensures.value c.config_of-config.ensures.told c.in_ok-roots.ensures in
+    let stands : StandsAt itself Runs held_told spot_told (λ p. IsProgram (words_of_all c.as_slice-scripts.result.now) t.config.rw p) m.plan c.in_ok-core.core (first_playing m.plan) = record {
+      ready = c.in_ok-core.ensures.ready m.plan is;
+      shows = c.in_ok-core.ensures.begins m.plan is;
+      knows = known_of t c.as_slice-scripts.result.now c.requires.fits c.requires.in_range c.requires.few c.as_slice-scripts.ensures.value;
+    } in
+    let names = subst (All (StepNames (length m.plan.scripts))) (sym c.as_slice-2.ensures.value) c.requires.fits.named.steps in
     let law : PaidIsRun = record { runs = c.paid_lines_are_runs.ensures.runs; solo = c.paid_lines_are_runs.ensures.solo; asleep = c.paid_lines_are_runs.ensures.asleep } in
-    let is = is_plan m c.new-root.result _ c.requires.fits c.requires.in_range c.config_of-config.ensures.told c.new-root.ensures in
+    let begins : BeginsWell m.plan = record {
+      once = queues_once itself Runs held_told spot_told m.plan c.in_ok-core.core (first_playing m.plan) stands.ready.stands stands.shows;
+      minded = c.in_ok-core.ensures.minded m.plan is;
+      fair = first_fair m.plan;
+    } in
     on_ok c.flush_all.result
-    (logged _ _ _ _ law c.args.quiet m c.as_slice.result.now c.take_steps.new.core _ _ _ (first_fair m.plan c.requires.in_range) c.as_slice.ensures.value
-    (c.in_ok-take_steps.ensures.leads m.plan (first_playing m.plan) (c.in_ok-core.ensures.begins m.plan is)) c.flush_all.ensures.same)
+    (logged _ _ _ _ _ law c.args.quiet m c.as_slice-2.result.now c.take_steps.new.core _ _ _ begins c.as_slice-2.ensures.value
+    (c.in_ok-take_steps.ensures.leads m.plan (first_playing m.plan) stands names) c.flush_all.ensures.same)
 
 pub returns-clause-front : goal.returns-clause-front
 returns-clause-front g c =
-    let m = meaning_of c.args.trace in
+    let t = c.args.trace in
+    let m = meaning_of t in
+    let is = plan_of t c.as_slice-scripts.result.now c.as_slice.result.now c.in_ok-roots.roots.items _ c.requires.fits c.requires.in_range c.requires.few c.as_slice-scripts.ensures.value c.as_slice.ensures.value c.config_of-config.ensures.told c.in_ok-roots.ensures in
+    let stands : StandsAt itself Runs held_told spot_told (λ p. IsProgram (words_of_all c.as_slice-scripts.result.now) t.config.rw p) m.plan c.in_ok-core.core (first_playing m.plan) = record {
+      ready = c.in_ok-core.ensures.ready m.plan is;
+      shows = c.in_ok-core.ensures.begins m.plan is;
+      knows = known_of t c.as_slice-scripts.result.now c.requires.fits c.requires.in_range c.requires.few c.as_slice-scripts.ensures.value;
+    } in
+    let names = subst (All (StepNames (length m.plan.scripts))) (sym c.as_slice-2.ensures.value) c.requires.fits.named.steps in
     let law : PaidIsRun = record { runs = c.paid_lines_are_runs.ensures.runs; solo = c.paid_lines_are_runs.ensures.solo; asleep = c.paid_lines_are_runs.ensures.asleep } in
-    let is = is_plan m c.new-root.result _ c.requires.fits c.requires.in_range c.config_of-config.ensures.told c.new-root.ensures in
+    let begins : BeginsWell m.plan = record {
+      once = queues_once itself Runs held_told spot_told m.plan c.in_ok-core.core (first_playing m.plan) stands.ready.stands stands.shows;
+      minded = c.in_ok-core.ensures.minded m.plan is;
+      fair = first_fair m.plan;
+    } in
     gave_up c.flush_all.result c.args.quiet m _ _
-    (all_logged _ _ _ _ law c.args.quiet m c.as_slice.result.now c.take_steps.new.core _ _ _ (first_fair m.plan c.requires.in_range) c.as_slice.ensures.value
-    (c.in_ok-take_steps.ensures.leads m.plan (first_playing m.plan) (c.in_ok-core.ensures.begins m.plan is)) c.flush_all.ensures.same)
+    (all_logged _ _ _ _ _ law c.args.quiet m c.as_slice-2.result.now c.take_steps.new.core _ _ _ begins c.as_slice-2.ensures.value
+    (c.in_ok-take_steps.ensures.leads m.plan (first_playing m.plan) stands names) c.flush_all.ensures.same)

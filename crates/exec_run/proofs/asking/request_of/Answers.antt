@@ -1,5 +1,5 @@
 use Rattle.exec_run.proofs.Acts.{sent, unsent, polled}
-use Rattle.exec_run.proofs.script.request_of.Goals as goal
+use Rattle.exec_run.proofs.asking.request_of.Goals as goal
 
 pub returns-in-Send-clause-some : goal.returns-in-Send-clause-some
 returns-in-Send-clause-some c = sent c.send_of.result c.args.now c.args.rw c.in-Send.socket c.in-Send.length c.in-Some.deadline c.args.word c.in-Some.ensures.some c.in-Send.is c.send_of.ensures.some

@@ -1,0 +1,8 @@
+use Rattle.std.proofs.Common.{◌≡◌, ◌-◌, ◌∷◌, [], replicate}
+use Rattle.exec_machine.specs.declared.state.Code.{TheVariants.{Root, Waits}}
+use Rattle.exec_run.specs.Script.{begun, words_of_all}
+use Rattle.exec_run.proofs.stepping.roots_of.Given as goal
+
+abbrev pub invariant-loop : goal.invariant-loop
+invariant-loop l =
+    l.roots.items ≡ begun Root l.words (words_of_all l.program.scripts.now) l.program.rw ∷ replicate (l.counter - 1) (begun Waits [] (words_of_all l.program.scripts.now) l.program.rw)
