@@ -2,4 +2,10 @@
 #![tactic(auto)]
 
 #[cfg(test)]
+mod logs;
+#[cfg(test)]
+mod pool;
+#[cfg(test)]
 mod run;
+#[cfg(test)]
+mod whole;

@@ -73,7 +73,7 @@ fn words_of(alloc: Global, text: &str) -> Result<Vec<String>, Fail> {
 }
 
 /// The status of a call with these words for this trace, and what was written.
-fn call(alloc: Global, text: &str, trace: &str) -> Result<(u8, MemOutput), Fail> {
+pub(crate) fn call(alloc: Global, text: &str, trace: &str) -> Result<(u8, MemOutput), Fail> {
     let words = words_of(alloc, text)?;
     let mut source = source_of(alloc, trace, [].as_slice(), 4096)?;
     let mut sink = MemOutput::new(alloc, vec![in alloc]?, 4096);
