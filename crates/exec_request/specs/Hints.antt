@@ -1,5 +1,5 @@
 -- The hint that a request asks for, and that its open may have.
-use Rattle.std.specs.Prelude.{Bool, true, false, Option, Some, None, if◌then◌else◌}
+use Rattle.std.specs.Prelude.{◌≡◌, ◌⊎◌, ◌&&◌, Bool, true, false, Option, Some, None, if◌then◌else◌}
 use Rattle.exec_outcomes.specs.Accounts.{Account}
 use Rattle.exec_request.specs.declared.cache.Cache.{Cache}
 use Rattle.exec_request.specs.declared.cache.Cache.TheVariants.{Enabled, Disabled}
@@ -21,3 +21,7 @@ cache_for hinted cache = if hinted then cache else Enabled
 abbrev pub without_hint : Option Account → Option Account
 without_hint None = None
 without_hint (Some account) = Some (record account { hinted = false })
+
+-- after its next operation is built it asks for the hint as before, or no more where its open has none
+abbrev pub AsksOn : Bool → Bool → Bool → Type 0
+AsksOn before after stands = (after ≡ before) ⊎ (after ≡ (before && stands))

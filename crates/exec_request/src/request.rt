@@ -10,7 +10,7 @@ ghost use Rattle.exec_outcomes.specs.Accounts.{is_durable};
 ghost use Rattle.exec_outcomes.specs.Lawful.{is_lawful, window_of};
 ghost use Rattle.exec_outcomes.specs.Outcomes.{HasCome, is_unsupported};
 ghost use Rattle.exec_outcomes.specs.declared.outcome.Judged.{Judged};
-ghost use Rattle.exec_request.specs.Hints.{has_hint, without_hint};
+ghost use Rattle.exec_request.specs.Hints.{AsksOn, has_hint, without_hint};
 ghost use Rattle.exec_request.specs.Judging.{Judges, judged_as};
 ghost use Rattle.exec_request.specs.Bytes.{window_bytes, lent_of, filled_of, filled_at};
 ghost use Rattle.exec_request.specs.Kept.{kept_of, owned_by};
@@ -144,6 +144,7 @@ impl Request {
         ensures hint { hinted_of self.new ≡ result.hint }
         ensures again { window_by true self.new ≡ result }
         ensures goes_on { (results : List Judged) → HasCome (asked_of self.old) (cursor_of self.old) results → HasCome (asked_of self.new) (cursor_of self.new) results }
+        ensures asks { AsksOn (cursor_of self.old).hinted (cursor_of self.new).hinted (has_hint open_.now) }
         ensures kept { kept_of self.new ≡ kept_of self.old }
     {
         match self {
