@@ -32,7 +32,7 @@ pub same_some : {A : Type 0} (o : Option A) (x y : A) → o ≡ Some x → o ≡
 same_some o x y a b = cc
 
 -- the first of a list isn't there twice
-once_first : (id : WaiterId) (ids : List WaiterId) → is_once ids ≡ true → first_of ids ≡ Some id → is_among id (rest_of ids) ≡ false
+pub once_first : (id : WaiterId) (ids : List WaiterId) → is_once ids ≡ true → first_of ids ≡ Some id → is_among id (rest_of ids) ≡ false
 once_first id (x ∷ ids) once is =
     let same : x ≡ id = cc in
     not-true (is_among id ids) (and_parts (not (is_among id ids)) (is_once ids) (rw (← same) once)).0

@@ -5,7 +5,7 @@ use Rattle.exec_base.specs.Slab.{removed}
 use Rattle.exec_base.proofs.Slots.{id_cases}
 
 -- a list without a name that it hasn't
-unchanged : (x : WaiterId) (ids : List WaiterId) → is_among x ids ≡ false → without x ids ≡ ids
+pub unchanged : (x : WaiterId) (ids : List WaiterId) → is_among x ids ≡ false → without x ids ≡ ids
 unchanged x [] none = refl
 unchanged x (y ∷ ids) none =
     let apart = or_parts (is_same y x) (is_among x ids) none in

@@ -2,7 +2,7 @@
 use Rattle.std.specs.Prelude.{◌≡◌, ℕ, Bool, true, false, ◌+◌, ◌-◌, ◌^◌, ◌==◌, ◌&&◌, ◌||◌, List, [], ◌∷◌, ◌++◌, nat_lt, nat_le, min, Option, Some, None, Result, Ok, Err, is_some, IsSomeAnd, if◌then◌else◌}
 use Rattle.exec_base.specs.{Slab.{Slab, value_at, written, inserted}, declared.{error.{Cause.TheVariants.InvalidInput, Error.{Error, TheVariants.{Timeout, Io}}}, slab.Id.Id}}
 use Rattle.exec_outcomes.specs.{Accounts.Account, declared.outcome.{OpResult.OpResult, Judged.Judged}, Outcomes.{HasCome, is_unsupported}}
-use Rattle.exec_request.specs.{Hints.{has_hint, without_hint}, Judging.{Judges, judged_as}, Kept.kept_of, Requests.{asked_of, cursor_of, hinted_of, deadline_of, gate_of, record_after, window_by, outcome_if_granted}, States.{Ended, as_answer, asks_cancel, told_by}, Windows.{cancel_window, wake_window}, Buffers.{length_of, moved_of}, declared.{buffers.WriteBuffers.WriteBuffers, request.Request.{Request, TheVariants.{Send, WriteAt}}, results.WaiterState.TheVariants.Active, window.Window.Window, write_at.WriteAtState.{WriteAtState, TheVariants.Writing}}}
+use Rattle.exec_request.specs.{Hints.{AsksOn, has_hint, without_hint}, Judging.{Judges, judged_as}, Kept.kept_of, Requests.{asked_of, cursor_of, hinted_of, deadline_of, gate_of, record_after, window_by, outcome_if_granted}, States.{Ended, as_answer, asks_cancel, told_by}, Windows.{cancel_window, wake_window}, Buffers.{length_of, moved_of}, declared.{buffers.WriteBuffers.WriteBuffers, request.Request.{Request, TheVariants.{Send, WriteAt}}, results.WaiterState.TheVariants.Active, window.Window.Window, write_at.WriteAtState.{WriteAtState, TheVariants.Writing}}}
 use Rattle.exec_ring.specs.{Completions.result_in, Kernels.{with_entry, entered_with, reaped, next_completion, flight_of, landed}, Rings.fresh as fresh_ring, declared.{store.Store.Store, completion.{Completion.Completion, Posted.Posted, Submission.Submission}}}
 use Rattle.exec_time.specs.{Wheel.{Wheel, fresh, target_of, moment_of, scheduled, removed}, Layouts.slots_of, Turning.advanced}
 use Rattle.exec_waiters.specs.{Events.{admitted, finished, told_by_finish, cancelled, with_permit, with_tick, orphaned, asks_cancel_by_orphan, is_lawful_for, Lands}, Ids.user_data_of, States.{waiter_at, named, tick_in, file_of, gate_in}, Told.{Told, nothing_told, Tells}, declared.{deferred.Deferred.Deferred, observer.Observer.Observer, waiter.{Waiter.Waiter, Entry.{Entry, TheVariants.Pending}}, waiter_id.WaiterId.WaiterId}}
@@ -296,6 +296,7 @@ module _ {S F : Type 0} where
     pub hint : hinted_of request ≡ entry.window.hint
     pub again : window_by true request ≡ entry.window
     pub goes_on : (results : List Judged) → HasCome (asked_of w.request) (cursor_of w.request) results → HasCome (asked_of request) (cursor_of request) results
+    pub asks : AsksOn (cursor_of w.request).hinted (cursor_of request).hinted (has_hint account)
     pub kept : kept_of request ≡ kept_of w.request
 
   -- the kernel takes all entries in, or none where it is busy

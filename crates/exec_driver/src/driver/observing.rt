@@ -72,8 +72,17 @@ impl<R: Ring + Drop, S: Drop, F: Drop> Driver<R, S, F> {
         ensures punctual { IsPunctual (seen self.old) → IsPunctual (seen self.new) }
     {
         if self.waiters.orphan(id, deferred) {
-            self.cancel(id, deferred);
+            self.cancel(id, false, deferred);
         }
+    }
+
+    /// The request in the first slot that has an observer which can let go: the one that `close` takes the observer of.
+    /// None where there is none.
+    pub fn first_observed(&self) -> Option<WaiterId>
+        ensures first { IfSome result (λ id. IsFirstHeld (seen self.now).requests id.0) }
+        ensures none { IfNone result ((id : Name) → is_held_at (value_at (seen self.now).requests id) ≡ false) }
+    {
+        self.waiters.first_observed()
     }
 
     /// Takes the observer of the request in the first slot that has one which can let go, as `orphan` does, and has
@@ -90,7 +99,7 @@ impl<R: Ring + Drop, S: Drop, F: Drop> Driver<R, S, F> {
     {
         let closed = self.waiters.close(deferred)?;
         if closed.cancels {
-            self.cancel(closed.id, deferred);
+            self.cancel(closed.id, false, deferred);
         }
         Some(closed.id)
     }

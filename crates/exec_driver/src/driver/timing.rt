@@ -46,7 +46,7 @@ impl<R: Ring + Drop, S: Drop, F: Drop> Driver<R, S, F> {
         ensures punctual { IsPunctual (seen self.old) → IsPunctual (seen self.new) }
     {
         let id = self.lists.next_due()?;
-        self.cancel(id, deferred);
+        self.cancel(id, true, deferred);
         Some(id)
     }
 

@@ -37,6 +37,7 @@ returns-clause-staged g c = λ w is.
       hint = staged.hint;
       again = staged.again;
       goes_on = staged.goes_on;
+      asks = rw (← same) staged.asks;
       kept = staged.kept;
     }
 
