@@ -1,6 +1,6 @@
 -- Tests that tell two lines apart.
 use Rattle.std.specs.Prelude.{Bool, true, false, not}
-use Rattle.exec_machine.specs.{declared.event.{StepResult.{StepResult, TheVariants.Did}, Event.TheVariants.{Turn, Serve, Return, Apply}}, Choice.{Choice, Choice.Posts}}
+use Rattle.exec_machine.specs.{declared.event.{StepResult.{StepResult, TheVariants.Did}, Event.TheVariants.{Turn, Serve, Grant, Return, Apply}}, Choice.{Choice, Choice.Posts}}
 
 abbrev pub is_turn : StepResult → Bool
 is_turn (Did Turn) = true
@@ -12,6 +12,10 @@ isnt_turn said = not (is_turn said)
 abbrev pub is_serve : StepResult → Bool
 is_serve (Did Serve) = true
 is_serve _ = false
+
+abbrev pub is_grant : StepResult → Bool
+is_grant (Did (Grant r outcome)) = true
+is_grant _ = false
 
 abbrev pub is_return : StepResult → Bool
 is_return (Did Return) = true

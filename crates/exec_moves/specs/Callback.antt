@@ -1,11 +1,15 @@
 -- Moves of the callbacks: what is left to be told and let go, one item a step.
-use Rattle.std.specs.Prelude.{ℕ, Bool, true, false, not, ◌+◌, ◌-◌, ◌==◌, ◌&&◌, ◌||◌, List, [], ◌∷◌, ◌++◌, nat_lt, Option, Some, None, if◌then◌else◌}
+use Rattle.std.specs.Prelude.{ℕ, Bool, false, not, ◌-◌, ◌==◌, ◌&&◌, ◌||◌, List, [], ◌∷◌, drop, nat_lt, Option, Some, None, if◌then◌else◌}
 use Rattle.std.specs.List.{list_any}
-use Rattle.exec_machine.specs.{declared.{event.Event.TheVariants.{Turn, Wake, Release}, state.{Request.Request, Waiting.Waiting}}, Choice.{Choice, Choice.{Plain, Pays}, Payer.{ByRequest, BySleeper}}, World.{Task, Common, Own as Books}, Tests.{is_empty, is_idle, is_resolved}, Requests.ends_by_drop}
+use Rattle.exec_machine.specs.{declared.{event.Event.TheVariants.{Turn, Wake, Release}, state.Waiting.Waiting}, Choice.{Choice, Choice.{Plain, Pays}, Payer.{ByRequest, BySleeper}}, World.{Task, Common, seat_of, task_of, request_of, sleeper_of, Own as Books}, Tests.{is_empty, is_idle, is_done, is_resolved}}
 use Rattle.exec_machine.specs.declared.state.Waiting.TheVariants as waiting
-use Rattle.exec_moves.specs.{declared.{handing.AfterCallbacks.AfterCallbacks, idling.Stay.Stay, place.{AfterService.AfterService, Place.Place}}, State.{Desk, Moved, Own, turns, does}}
+use Rattle.exec_moves.specs.{declared.{handing.{AfterCallbacks.AfterCallbacks, AfterPush.AfterPush, Heard.Heard}, idling.Stay.Stay, place.{AfterService.AfterService, Round.Round, Place.Place}}, State.{Desk, Moved, Own, turns, does, goes}, Told.in_order}
 use Rattle.exec_moves.specs.declared.handing.AfterCallbacks.TheVariants as after
 use Rattle.exec_moves.specs.declared.handing.AfterLeave.TheVariants as leave
+use Rattle.exec_moves.specs.declared.handing.AfterPush.TheVariants as push
+use Rattle.exec_moves.specs.declared.handing.Heard.TheVariants as heard
+use Rattle.exec_moves.specs.declared.handing.InGlobal.TheVariants as global
+use Rattle.exec_moves.specs.declared.handing.InPush.TheVariants as pushes
 use Rattle.exec_moves.specs.declared.place.AfterService.TheVariants as back
 use Rattle.exec_moves.specs.declared.place.InCallbacks.TheVariants as callback
 use Rattle.exec_moves.specs.declared.place.InClosing.TheVariants as closing
@@ -16,34 +20,30 @@ use Rattle.exec_moves.specs.declared.place.Round.TheVariants as round
 use Rattle.exec_moves.specs.declared.idling.Stay.TheVariants as stay
 use Rattle.exec_moves.specs.declared.place.Place.TheVariants as at
 
--- WHAT IS LEFT TO BE TOLD
-
--- a request ends: the task that waits for it is woken, or its output is let go where nobody holds it
-abbrev pub waker_of : Option ℕ → List ℕ
-waker_of None = []
-waker_of (Some t) = t ∷ []
-
-abbrev pub told_of_end : Request → Desk → Desk
-told_of_end r d = if r.observed then (record d { wakes = d.wakes ++ waker_of r.waiter }) else (record d { outputs = d.outputs + 1 })
-
--- the same where it has ended by this step
-abbrev pub told_if_ended : {X : Type 0} → Option X → Request → Desk → Desk
-told_if_ended None r d = d
-told_if_ended (Some how) r d = told_of_end r d
-
--- nobody holds the request any more: the output of one that is over is let go, also where it is over by this
-abbrev pub told_of_drop : Request → Desk → Desk
-told_of_drop r d = if is_resolved r.phase || ends_by_drop r then (record d { outputs = d.outputs + 1 }) else d
-
 -- WHERE THE CALLBACKS LEAD
 
 -- something waits for the callbacks
 abbrev pub has_callbacks : Books → Desk → Bool
-has_callbacks me d = not (is_empty d.wakes) || nat_lt 0 d.outputs || not (is_empty me.ended)
+has_callbacks me d =
+    not (is_empty d.wakes) || nat_lt 0 d.outputs || not (is_empty me.ended) || not (is_empty d.completions)
+    || not (is_empty d.results)
 
 -- a request of the worker isn't over
 abbrev pub has_requests : ℕ → Common → Bool
 has_requests i s = list_any (λ r. (r.worker == i) && not (is_resolved r.phase)) s.requests
+
+-- it is of the pool
+abbrev pub is_of_pool : Common → ℕ → Bool
+is_of_pool s i = (seat_of s i).pool
+
+-- what it queues goes into its own run queue, where it is of the pool
+abbrev pub to_queue : Common → ℕ → AfterPush → Place
+to_queue s i b = if is_of_pool s i then at.Push pushes.LoadPushHead b else at.Global global.Append b
+
+-- the loads of its own words: without a run queue the wake word alone
+abbrev pub first_load : Common → ℕ → Round → Place
+first_load s i r =
+    if is_of_pool s i then at.Loads load.LoadOwnHead r else at.Loads (load.LoadOwnWord (record { ready = false })) r
 
 -- a service that puts nothing off
 abbrev pub serve : AfterService → Place
@@ -57,8 +57,8 @@ abbrev pub ring_wait : ℕ → Stay → Desk → Place
 ring_wait size x d = if is_full size d then at.RingWait ring.EnterFullRing x else at.RingWait ring.TestRing x
 
 abbrev pub after_callbacks : ℕ → ℕ → Common → AfterCallbacks → Desk → Place
-after_callbacks size i s after.Look d = at.Loads load.LoadOwnHead round.First
-after_callbacks size i s after.Test d = at.Loads load.LoadOwnHead round.Second
+after_callbacks size i s after.Look d = first_load s i round.First
+after_callbacks size i s after.Test d = first_load s i round.Second
 after_callbacks size i s after.Begin d = at.BeginTurn
 after_callbacks size i s after.Drain d = serve back.Finish
 after_callbacks size i s after.Finish d = if has_requests i s then ring_wait size stay.Closing d else at.Closing closing.End
@@ -87,21 +87,80 @@ goes_on size i me s x d = record d { place = next_callback size i me s x d }
 abbrev pub flagged_by : Task → Desk → Desk
 flagged_by it d = record d { root_ready = d.root_ready || is_idle it.phase }
 
--- the phase of a task
-abbrev pub call_back : ℕ → ℕ → Books → Common → AfterCallbacks → Desk → Task → Moved Task
-call_back size i me s x d it = by_wakes d.wakes
+-- Task t is woken. An ordinary one that was idle is queued; a root is the own one.
+abbrev pub woken_by : ℕ → ℕ → Books → Common → AfterCallbacks → ℕ → Desk → Task → Desk
+woken_by size i me s x t d it = by_home it.home
   where
-    let_go : Bool → List ℕ → Moved Task
-    let_go true ended = does Turn (goes_on size i me s x (record d { outputs = d.outputs - 1 })) it
-    let_go false [] = does Turn (goes_on size i me s x d) it
-    let_go false (r ∷ ended) = does (Release r) (goes_on size i (record me { ended = ended }) s x d) it
+    by_home : Option ℕ → Desk
+    by_home None =
+        if is_idle it.phase then record d { hand = Some t; place = to_queue s i (push.CallBack x) } else goes_on size i me s x d
+    by_home (Some home) = goes_on size i me s x (flagged_by it d)
 
-    by_wakes : List ℕ → Moved Task
-    by_wakes (t ∷ wakes) =
-        record {
-          event = Wake t;
-          choice = payer_of it.waiting;
-          desk = goes_on size i me s x (flagged_by it (record d { wakes = wakes }));
-          thing = it;
-        }
-    by_wakes [] = let_go (nat_lt 0 d.outputs) me.ended
+-- WHAT COMES NEXT
+
+pub data Item : Type 0 where
+  -- a task is woken, an output let go, what a request owned released
+  Wakes : ℕ → Item
+  LetsGo : Item
+  Releases : ℕ → Item
+  -- the end of a sleeper, and of a request, is sent to who waits elsewhere
+  Completes : ℕ → Item
+  Answers : ℕ → Item
+  Nothing : Item
+
+abbrev pub first_of : List ℕ → (ℕ → Item) → Item → Item
+first_of [] item later = later
+first_of (n ∷ ns) item later = item n
+
+abbrev pub item_next : Books → Desk → Item
+item_next me d =
+    first_of d.wakes Wakes
+    (if nat_lt 0 d.outputs then LetsGo
+    else first_of me.ended Releases (first_of d.completions Completes (first_of d.results Answers Nothing)))
+
+-- the phase of task t
+abbrev pub call_back : ℕ → ℕ → Books → Common → AfterCallbacks → ℕ → Desk → Task → Moved Task
+call_back size i me s x t d it =
+    record {
+      event = Wake t;
+      choice = payer_of it.waiting;
+      desk = woken_by size i me s x t (record d { wakes = drop 1 d.wakes }) it;
+      thing = it;
+    }
+
+abbrev pub let_go : ℕ → ℕ → Books → Common → AfterCallbacks → Desk → Moved Own
+let_go size i me s x d = does Turn (goes_on size i me s x (record d { outputs = d.outputs - 1 })) tt
+
+abbrev pub release : ℕ → ℕ → Books → Common → AfterCallbacks → ℕ → Desk → Moved Own
+release size i me s x r d = does (Release r) (goes_on size i (record me { ended = drop 1 me.ended }) s x d) tt
+
+abbrev pub no_item : ℕ → ℕ → Books → Common → AfterCallbacks → Desk → Moved Own
+no_item size i me s x d = does Turn (goes_on size i me s x d) tt
+
+-- An end is sent. Who waits for it is woken by a step of its own, where its task isn't over.
+abbrev pub tells_waiter : ℕ → ℕ → Books → Common → AfterCallbacks → Option ℕ → Heard → Desk → Desk
+tells_waiter size i me s x None of d = goes_on size i me s x d
+tells_waiter size i me s x (Some t) of d =
+    if is_done (task_of s t).phase then goes_on size i me s x d else goes (at.Callbacks (callback.WakeWaiter t of) x) d
+
+-- what was sent to whom waits elsewhere: the sleepers, and the requests
+abbrev pub send_completion : ℕ → ℕ → Books → Common → AfterCallbacks → ℕ → Desk → List ℕ → Moved (List ℕ)
+send_completion size i me s x z d alarms =
+    does Turn
+    (tells_waiter size i me s x (Some (sleeper_of s z).task) (heard.Timer z) (record d { completions = drop 1 d.completions }))
+    (in_order z alarms)
+
+abbrev pub send_result : ℕ → ℕ → Books → Common → AfterCallbacks → ℕ → Desk → List ℕ → Moved (List ℕ)
+send_result size i me s x r d answers =
+    does Turn (tells_waiter size i me s x (request_of s r).waiter (heard.Request r) (record d { results = drop 1 d.results }))
+    (in_order r answers)
+
+-- the wake of who waits elsewhere, which the sleeper or the request pays
+abbrev pub payer_heard : Heard → Choice
+payer_heard (heard.Request r) = Pays (ByRequest r)
+payer_heard (heard.Timer z) = Pays (BySleeper z)
+
+-- the phase of task t
+abbrev pub wake_waiter : ℕ → ℕ → Books → Common → AfterCallbacks → ℕ → Heard → Desk → Task → Moved Task
+wake_waiter size i me s x t of d it =
+    record { event = Wake t; choice = payer_heard of; desk = woken_by size i me s x t d it; thing = it }

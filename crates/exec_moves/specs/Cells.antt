@@ -1,9 +1,9 @@
 -- Which one shared thing each place names.
-use Rattle.std.specs.Prelude.{ℕ, ◌%◌, ◌==◌, List, [], ◌∷◌, length, Option, Some, None, if◌then◌else◌}
-use Rattle.exec_machine.specs.{declared.{config.{Configuration.Configuration, ScriptWord.ScriptWord}, step.Action.Action}, World.{Common, task_of, request_of}, Words.next_word}
+use Rattle.std.specs.Prelude.{ℕ, ◌%◌, ◌==◌, length, Option, Some, None, if◌then◌else◌}
+use Rattle.exec_machine.specs.{declared.{config.{Configuration.Configuration, ScriptWord.ScriptWord}, step.Action.Action}, World.{Common, task_of, request_of, Own as Books}, Words.next_word}
 use Rattle.exec_machine.specs.declared.config.ScriptWord.TheVariants as word
 use Rattle.exec_machine.specs.declared.step.Action.TheVariants as action
-use Rattle.exec_moves.specs.{declared.{handing.{InGlobal.InGlobal, InKick.InKick, InSignal.InSignal, CallPlace.CallPlace}, idling.{InLook.InLook, InRingWait.InRingWait, InScan.InScan}, place.{InPick.InPick, InPoll.InPoll, InCallbacks.InCallbacks, InLoads.InLoads, InService.InService, InMail.InMail, InClosing.InClosing, Place.Place}}, Pop.shard_count, Search.from_of}
+use Rattle.exec_moves.specs.{declared.{handing.{InGlobal.InGlobal, InKick.InKick, InSignal.InSignal, CallPlace.CallPlace}, idling.{InLook.InLook, InRingWait.InRingWait, InScan.InScan}, place.{InPick.InPick, InPoll.InPoll, InCallbacks.InCallbacks, InLoads.InLoads, InService.InService, InMail.InMail, InClosing.InClosing, Place.Place}}, State.Desk, Pop.shard_count, Search.from_of, Callback.{Item, Item.{Wakes, Completes, Answers}, item_next}, Submit.{Due, Due.AtGate, due_next}, Send.first_letter, Poll.{Sight, Sight.{Here, Asks, HearsRequest, HearsTimer}, sight_of, sight_of_act}}
 use Rattle.exec_moves.specs.declared.handing.CallPlace.TheVariants as call
 use Rattle.exec_moves.specs.declared.handing.InGlobal.TheVariants as global
 use Rattle.exec_moves.specs.declared.handing.InKick.TheVariants as kick
@@ -38,6 +38,11 @@ pub data Cell : Type 0 where
   SearchCount : Cell
   -- the wake poll and the rest of this worker
   Rest : ℕ → Cell
+  -- what a new worker has
+  Newcomer : ℕ → Cell
+  -- the end of this request, and of this sleeper, as it is sent to a task elsewhere
+  Answer : ℕ → Cell
+  Alarm : ℕ → Cell
   -- the phase of this task, the gate of this open, a shard of the task set, the shutdown barrier
   Phase : ℕ → Cell
   Gate : ℕ → Cell
@@ -78,11 +83,21 @@ abbrev pub names_to_wake : ℕ → ℕ → Option ℕ → Cell
 names_to_wake i u None = Phase u
 names_to_wake i u (Some home) = if home == i then Phase u else Inbox home
 
+-- what a task looks at or lets go of: its own, or what its worker has sent, or the inbox of that worker
+abbrev pub names_at : ℕ → Sight → Cell
+names_at t Here = Phase t
+names_at t (Asks j message) = Inbox j
+names_at t (HearsRequest r) = Answer r
+names_at t (HearsTimer z) = Alarm z
+
 -- What an act names goes by its word: a spawn the shard of the next number, a wake the other task or an inbox, any other the
--- task itself.
+-- task itself, or another worker's inbox where that has the thing that it is about.
 abbrev pub names_in_act : Configuration → ℕ → Common → ℕ → ScriptWord → Cell
 names_in_act c i s t (word.Spawn k) = Shard (shard_of c (length s.tasks))
 names_in_act c i s t (word.Wake u) = names_to_wake i u (task_of s u).home
+names_in_act c i s t (word.Dedicated k) = Newcomer (length s.seats)
+names_in_act c i s t word.Await = names_at t (sight_of_act i s (task_of s t) word.Await)
+names_in_act c i s t word.Drop = names_at t (sight_of_act i s (task_of s t) word.Drop)
 names_in_act c i s t _ = Phase t
 
 -- OF A WORKER
@@ -95,6 +110,7 @@ names_in_pick i (pick.TakeShare f room held) = Share i
 
 abbrev pub names_in_poll : Configuration → ℕ → Common → ℕ → InPoll → Cell
 names_in_poll c i s t poll.Act = names_in_act c i s t (next_word s (task_of s t))
+names_in_poll c i s t poll.Resume = names_at t (sight_of i s (task_of s t).waiting)
 names_in_poll c i s t (poll.JoinGate r) = Gate (request_of s r).operation.target
 names_in_poll c i s t poll.LoadSpawnHead = RunQueue i
 names_in_poll c i s t poll.RemoveTask = Shard (shard_of c t)
@@ -105,14 +121,20 @@ names_in_loads i load.LoadOwnHead = RunQueue i
 names_in_loads i (load.LoadOwnMirror f) = GlobalQueue
 names_in_loads i (load.LoadOwnWord f) = WakeWord i
 
-abbrev pub names_in_service : ℕ → InService → Cell
-names_in_service i step.Sample = WakeWord i
-names_in_service i (step.Reap r) = Ring i
-names_in_service i (step.PassPermit file b) = Gate file
-names_in_service i (step.Signal worker b) = WakeWord worker
-names_in_service i (step.Submit gate) = Ring i
-names_in_service i step.EnterLast = Ring i
-names_in_service i _ = Nothing
+-- a gate, or the ring
+abbrev pub names_of_due : ℕ → Due → Cell
+names_of_due i (AtGate file) = Gate file
+names_of_due i _ = Ring i
+
+abbrev pub names_in_service : Configuration → ℕ → Books → Common → Desk → InService → Cell
+names_in_service c i me s d step.Sample = WakeWord i
+names_in_service c i me s d (step.Reap r) = Ring i
+names_in_service c i me s d (step.PassPermit file b) = Gate file
+names_in_service c i me s d (step.Signal worker b) = WakeWord worker
+names_in_service c i me s d (step.Raise ring worker b) = Rest worker
+names_in_service c i me s d (step.Submit gate) = names_of_due i (due_next c i gate me s d)
+names_in_service c i me s d step.EnterLast = Ring i
+names_in_service c i me s d _ = Nothing
 
 abbrev pub names_in_mail : ℕ → InMail → Cell
 names_in_mail i mail.LoadMailWord = WakeWord i
@@ -142,38 +164,45 @@ names_in_closing i closing.LeaveBarrier = Barrier
 names_in_closing i closing.CloseMailbox = Inbox i
 names_in_closing i _ = Nothing
 
--- The callback of a wake names the phase of the task that is woken, which the batch says.
-abbrev pub names_in_callbacks : List ℕ → InCallbacks → Cell
-names_in_callbacks [] x = Nothing
-names_in_callbacks (t ∷ wakes) callback.TakeBatch = Nothing
-names_in_callbacks (t ∷ wakes) callback.CallBack = Phase t
+-- The callback of a wake names the phase of the task that is woken, which the batch says; and of an end that is sent, that.
+abbrev pub names_of_item : Item → Cell
+names_of_item (Wakes t) = Phase t
+names_of_item (Completes z) = Alarm z
+names_of_item (Answers r) = Answer r
+names_of_item _ = Nothing
 
--- what worker i names at this place, with these wakes in its batch
-abbrev pub names : Configuration → ℕ → Common → List ℕ → Place → Cell
-names c i s wakes at.BeginTurn = Nothing
-names c i s wakes (at.Pick x) = names_in_pick i x
-names c i s wakes at.TakeRootFlag = Nothing
-names c i s wakes (at.Poll t x) = names_in_poll c i s t x
-names c i s wakes (at.Callbacks x n) = names_in_callbacks wakes x
-names c i s wakes (at.Loads x r) = names_in_loads i x
-names c i s wakes (at.Service x v) = names_in_service i x
-names c i s wakes (at.Mail x) = names_in_mail i x
-names c i s wakes (at.TestForWork f) = Nothing
-names c i s wakes at.ReadClock = Nothing
-names c i s wakes (at.Search x) = SearchCount
-names c i s wakes (at.Scan x) = names_in_scan c i x
-names c i s wakes (at.Look x) = names_in_look x
-names c i s wakes (at.RingWait x y) = names_in_ring_wait i x
-names c i s wakes (at.WordWait x) = WakeWord i
-names c i s wakes (at.Withdraw n) = IdleSet
-names c i s wakes (at.Closing x) = names_in_closing i x
-names c i s wakes (at.Pop x b) = RunQueue i
-names c i s wakes (at.LeaveSearch b) = SearchCount
-names c i s wakes (at.Push x b) = RunQueue i
-names c i s wakes (at.Global x b) = names_in_global x
-names c i s wakes (at.Kick x b) = names_in_kick x
-names c i s wakes (at.ClaimWorker set b) = IdleSet
-names c i s wakes (at.Signal x j b) = names_in_signal x j
+abbrev pub names_in_callbacks : Books → Desk → InCallbacks → Cell
+names_in_callbacks me d callback.TakeBatch = Nothing
+names_in_callbacks me d callback.CallBack = names_of_item (item_next me d)
+names_in_callbacks me d (callback.WakeWaiter t of) = Phase t
+
+-- what worker i names at this place, with what it has
+abbrev pub names : Configuration → ℕ → Books → Common → Desk → Place → Cell
+names c i me s d at.BeginTurn = Nothing
+names c i me s d (at.Pick x) = names_in_pick i x
+names c i me s d at.TakeRootFlag = Nothing
+names c i me s d (at.Poll t x) = names_in_poll c i s t x
+names c i me s d (at.Callbacks x n) = names_in_callbacks me d x
+names c i me s d (at.Loads x r) = names_in_loads i x
+names c i me s d (at.Service x v) = names_in_service c i me s d x
+names c i me s d (at.Mail x) = names_in_mail i x
+names c i me s d (at.TestForWork f) = Nothing
+names c i me s d at.ReadClock = Nothing
+names c i me s d (at.Search x) = SearchCount
+names c i me s d (at.Scan x) = names_in_scan c i x
+names c i me s d (at.Look x) = names_in_look x
+names c i me s d (at.RingWait x y) = names_in_ring_wait i x
+names c i me s d (at.WordWait x) = WakeWord i
+names c i me s d (at.Withdraw n) = IdleSet
+names c i me s d (at.Closing x) = names_in_closing i x
+names c i me s d (at.Pop x b) = RunQueue i
+names c i me s d (at.LeaveSearch b) = SearchCount
+names c i me s d (at.Push x b) = RunQueue i
+names c i me s d (at.Global x b) = names_in_global x
+names c i me s d (at.Kick x b) = names_in_kick x
+names c i me s d (at.ClaimWorker set b) = IdleSet
+names c i me s d (at.Signal x j b) = names_in_signal x j
+names c i me s d (at.SendCancel b) = Inbox (first_letter d).to
 
 -- OF A CALLER
 

@@ -212,7 +212,7 @@ below_callbacks after.Finish = begin_turn
 
 abbrev pub in_callbacks : AfterCallbacks → InCallbacks → ℕ
 in_callbacks n callback.TakeBatch = take_batch (below_callbacks n)
-in_callbacks n callback.CallBack = call_back (below_callbacks n)
+in_callbacks n _ = call_back (below_callbacks n)
 
 abbrev pub below_loads : Round → ℕ
 below_loads round.First = sample load_mail_word
@@ -233,6 +233,7 @@ in_service below step.Sample = sample below
 in_service below (step.Reap r) = reap below r
 in_service below (step.PassPermit file b) = suc (suc (after_permit below b))
 in_service below (step.Signal worker b) = suc (after_permit below b)
+in_service below (step.Raise ring worker b) = after_permit below b
 in_service below step.AdvanceWheel = advance_wheel below
 in_service below (step.Submit gate) = submit below
 in_service below step.EnterLast = enter_last below
@@ -304,6 +305,15 @@ withdraws_alone next.Search = false
 withdraws_alone (next.MakeUp last) = not last
 withdraws_alone _ = true
 
+-- nobody waits elsewhere, and nobody else is signalled
+abbrev pub calls_back_alone : InCallbacks → Bool
+calls_back_alone (callback.WakeWaiter t of) = false
+calls_back_alone _ = true
+
+abbrev pub serves_alone : InService → Bool
+serves_alone (step.Raise ring worker b) = false
+serves_alone _ = true
+
 abbrev pub is_of_one_worker : Place → Bool
 is_of_one_worker (at.Poll t x) = polls_alone x
 is_of_one_worker (at.Search x) = false
@@ -317,6 +327,9 @@ is_of_one_worker (at.Global x b) = false
 is_of_one_worker (at.Kick x b) = false
 is_of_one_worker (at.ClaimWorker set b) = false
 is_of_one_worker (at.Signal x j b) = false
+is_of_one_worker (at.SendCancel b) = false
+is_of_one_worker (at.Callbacks x n) = calls_back_alone x
+is_of_one_worker (at.Service x v) = serves_alone x
 is_of_one_worker _ = true
 
 -- The height that counts for the signs: a permit is given up on the way, so that place is as low as where it leads; a poll

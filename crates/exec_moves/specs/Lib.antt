@@ -1,4 +1,6 @@
+pub mod Slots
 pub mod State
+pub mod Told
 pub mod Cells
 pub mod Parts
 pub mod Pick
@@ -29,3 +31,4 @@ pub mod Credit
 pub mod Plays
 pub mod Departures
 pub mod PoolLogs
+pub mod MailLogs

@@ -1,14 +1,11 @@
 -- Moves of the loads of the own words, and of the tests that follow.
 use Rattle.std.specs.Prelude.{ℕ, Bool, false, not, ◌==◌, ◌&&◌, ◌||◌, List, nat_le, nat_lt, Option, Some, None, if◌then◌else◌}
 use Rattle.exec_words.specs.{Queue.Queue, declared.word.PureWord.PureWord}
-use Rattle.exec_machine.specs.{declared.config.Configuration.Configuration, Ranges.ring_size, Tests.is_empty, World.{Common, Own as Books}, Deadlines.next_due}
+use Rattle.exec_machine.specs.{declared.config.Configuration.Configuration, Ranges.ring_size, Tests.is_empty, World.{Common, Own as Books}}
 use Rattle.exec_moves.specs.{declared.place.{Found.Found, Round.Round, Place.Place}, State.{Desk, Moved, Own, turns}, Callback.{has_callbacks, has_requests, serve}}
 use Rattle.exec_moves.specs.declared.place.AfterService.TheVariants as back
 use Rattle.exec_moves.specs.declared.place.InLoads.TheVariants as load
 use Rattle.exec_moves.specs.declared.handing.AfterLeave.TheVariants as leave
-use Rattle.exec_moves.specs.declared.idling.InLook.TheVariants as look
-use Rattle.exec_moves.specs.declared.idling.InScan.TheVariants as scan
-use Rattle.exec_moves.specs.declared.idling.InSearch.TheVariants as search
 use Rattle.exec_moves.specs.declared.place.InService.TheVariants as service
 use Rattle.exec_moves.specs.declared.place.Round.TheVariants as round
 use Rattle.exec_moves.specs.declared.place.Place.TheVariants as at
@@ -66,15 +63,3 @@ test_for_work c i me s f d =
 abbrev pub has_come : ℕ → Option ℕ → Bool
 has_come clock None = false
 has_come clock (Some moment) = nat_le moment clock
-
--- a worker that has nothing to do searches for work, unless it is alone
-abbrev pub first_search : Configuration → Desk → Place
-first_search c d =
-    if nat_le c.workers 1 then at.Look look.Publish
-    else if d.searching then at.Scan scan.LoadScanHead else at.Search search.LoadSearchCount
-
-abbrev pub read_clock : Configuration → ℕ → Books → Common → Desk → Moved Own
-read_clock c i me s d =
-    if has_come s.clock (next_due s i)
-    then turns (leaves_for_turn c i me s d) (record d { read = s.clock }) tt
-    else turns (first_search c d) (record d { read = s.clock }) tt

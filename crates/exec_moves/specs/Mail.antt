@@ -1,12 +1,12 @@
 -- Moves at the mailbox.
 use Rattle.std.specs.Prelude.{ℕ, true, ◌+◌, ◌||◌, List, [], ◌∷◌, nat_le, if◌then◌else◌}
 use Rattle.exec_words.specs.{Word.next_batch, declared.word.PureWord.PureWord}
-use Rattle.exec_machine.specs.{declared.{event.Event.TheVariants.Apply, state.MailMessage.MailMessage}, World.Task, Tests.is_empty}
+use Rattle.exec_machine.specs.{declared.{event.Event.TheVariants.Apply, state.MailMessage.MailMessage}, World.{Common, request_of, sleeper_of, task_of}, Tests.is_empty}
 use Rattle.exec_machine.specs.declared.state.MailMessage.TheVariants as message
 use Rattle.exec_moves.specs.declared.handing.AfterCallbacks.TheVariants as after
 use Rattle.exec_moves.specs.declared.place.InCallbacks.TheVariants as callback
 use Rattle.exec_moves.specs.declared.place.InMail.TheVariants as mail
-use Rattle.exec_moves.specs.{declared.place.Place.Place, State.{Desk, Moved, Own, turns, does}, Load.has_mail, Callback.flagged_by}
+use Rattle.exec_moves.specs.{declared.place.Place.Place, State.{Desk, Moved, Own, turns, does}, Load.has_mail, Callback.flagged_by, Told.{told_of_drop, told_of_forward, told_of_cancel, told_of_timer_forward}}
 use Rattle.exec_moves.specs.declared.place.Place.TheVariants as at
 
 abbrev pub to_callbacks : Place
@@ -25,15 +25,19 @@ abbrev pub take_mail : Desk → List MailMessage → Moved (List MailMessage)
 take_mail d [] = turns (after_message 0 []) d []
 take_mail d (m ∷ ms) = turns (after_message 0 (m ∷ ms)) (record d { batch = m ∷ ms; processed = next_batch d.processed }) []
 
--- a message to the root wakes it
-abbrev pub flagged_by_message : MailMessage → Task → Desk → Desk
-flagged_by_message message.Root root d = flagged_by root d
-flagged_by_message _ root d = d
+-- A message to the root wakes it. What a task elsewhere waits for will send it its end; what none holds any more is let
+-- go.
+abbrev pub told_by_message : Common → ℕ → MailMessage → Desk → Desk
+told_by_message s root message.Root d = flagged_by (task_of s root) d
+told_by_message s root (message.ForwardRequest r) d = told_of_forward r (request_of s r) d
+told_by_message s root (message.ForwardTimer z) d = told_of_timer_forward z d
+told_by_message s root (message.CancelRequest r) d = told_of_drop r (request_of s r) d
+told_by_message s root (message.CancelTimer z) d = told_of_cancel z (sleeper_of s z) d
 
-abbrev pub apply : ℕ → Task → Desk → Moved Own
-apply applied root d = applied_first d.batch
+abbrev pub apply : ℕ → ℕ → Common → Desk → Moved Own
+apply applied root s d = applied_first d.batch
   where
     applied_first : List MailMessage → Moved Own
     applied_first [] = turns to_callbacks d tt
     applied_first (m ∷ ms) =
-        does (Apply m) (record (flagged_by_message m root d) { batch = ms; place = after_message (applied + 1) ms }) tt
+        does (Apply m) (record (told_by_message s root m d) { batch = ms; place = after_message (applied + 1) ms }) tt

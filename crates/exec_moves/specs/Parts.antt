@@ -1,8 +1,10 @@
 -- Where the parts lead that several ways go through.
-use Rattle.std.specs.Prelude.{ℕ, Bool, ◌==◌, nat_lt, Option, Some, None, if◌then◌else◌}
-use Rattle.exec_machine.specs.{declared.config.Configuration.Configuration, World.{Common, Own as Books}}
-use Rattle.exec_moves.specs.{declared.{handing.{AfterKick.AfterKick, AfterLeave.AfterLeave, AfterPop.AfterPop, AfterPush.AfterPush, AfterSend.AfterSend, AfterSignal.AfterSignal}, place.Place.Place}, State.{Desk}, Load.{next_turn}}
+use Rattle.std.specs.Prelude.{ℕ, Bool, ◌==◌, nat_lt, List, [], ◌∷◌, Option, Some, None, if◌then◌else◌}
+use Rattle.exec_task.specs.declared.drain.Drain.{Drain}
+use Rattle.exec_machine.specs.{declared.{config.Configuration.Configuration, state.Letter.Letter}, Ranges.ring_size, World.{Common, Own as Books}}
+use Rattle.exec_moves.specs.{declared.{handing.{AfterCancels.AfterCancels, AfterKick.AfterKick, AfterLeave.AfterLeave, AfterPop.AfterPop, AfterPush.AfterPush, AfterSend.AfterSend, AfterSignal.AfterSignal}, place.{InClosing.InClosing, Place.Place}}, State.{Desk}, Callback.next_callback, Load.{next_turn}}
 use Rattle.exec_moves.specs.declared.handing.AfterCallbacks.TheVariants as after
+use Rattle.exec_moves.specs.declared.handing.AfterCancels.TheVariants as cancels
 use Rattle.exec_moves.specs.declared.handing.AfterClaim.TheVariants as claim
 use Rattle.exec_moves.specs.declared.handing.AfterKick.TheVariants as kick
 use Rattle.exec_moves.specs.declared.handing.AfterLeave.TheVariants as leave
@@ -43,9 +45,10 @@ after_poll None d = next_pick d
 after_poll (Some home) d = at.Callbacks callback.TakeBatch after.Look
 
 -- PUSH, GLOBAL
-abbrev pub after_push : AfterPush → Desk → Place
-after_push (push.Act t) d = at.Poll t poll.Act
-after_push push.Pick d = next_pick d
+abbrev pub after_push : Configuration → ℕ → Books → Common → AfterPush → Desk → Place
+after_push c i me s (push.Act t) d = at.Poll t poll.Act
+after_push c i me s push.Pick d = next_pick d
+after_push c i me s (push.CallBack n) d = next_callback (ring_size c) i me s n d
 
 -- LEAVE
 abbrev pub after_leave : Configuration → ℕ → Books → Common → AfterLeave → Desk → Place
@@ -56,7 +59,7 @@ after_leave c i me s leave.Begin d = next_turn c i me s d
 -- KICK
 abbrev pub after_kick : Configuration → ℕ → Books → Common → AfterKick → Desk → Place
 after_kick c i me s (kick.Leave b) d = after_leave c i me s b d
-after_kick c i me s (kick.Push b) d = after_push b d
+after_kick c i me s (kick.Push b) d = after_push c i me s b d
 
 -- a count was returned: who returned the last kicks
 abbrev pub after_return : Configuration → ℕ → Books → Common → Bool → AfterLeave → Desk → Place
@@ -66,13 +69,30 @@ after_return c i me s last b d = if last then at.Kick kicks.LoadKickCount (kick.
 abbrev pub tells_from : Configuration → ℕ → Place
 tells_from c worker = if nat_lt worker c.workers then at.Closing (closing.TellRoot worker) else first_pop c pop.Discard
 
+-- the visits of a drain that are left
+abbrev pub after_visit : Drain → InClosing
+after_visit x = if x.left == 0 then closing.LeaveBarrier else closing.Visit x
+
+-- once all was told of what a task held that is over
+abbrev pub after_cancels : AfterCancels → Desk → Place
+after_cancels (cancels.Remove t) d = at.Poll t poll.RemoveTask
+after_cancels cancels.Pick d = next_pick d
+after_cancels (cancels.Visit x) d = at.Closing (after_visit x)
+
+-- what is left to be told of that, to whom it is of
+abbrev pub cancels_left : AfterCancels → Desk → List Letter → Place
+cancels_left b d [] = after_cancels b d
+cancels_left b d (letter ∷ letters) = at.SendCancel b
+
 -- SEND
-abbrev pub after_send : Configuration → AfterSend → Place
-after_send c (send.Act t) = at.Poll t poll.Act
-after_send c (send.Tell worker) = tells_from c worker
+abbrev pub after_send : Configuration → AfterSend → Desk → Place
+after_send c (send.Act t) d = at.Poll t poll.Act
+after_send c (send.Pend t) d = at.Poll t poll.Pend
+after_send c (send.Cancels b) d = cancels_left b d d.letters
+after_send c (send.Tell worker) d = tells_from c worker
 
 -- SIGNAL
 abbrev pub after_signal : Configuration → ℕ → Books → Common → AfterSignal → Desk → Place
 after_signal c i me s (signal.Claim (claim.Kick b)) d = after_kick c i me s b d
-after_signal c i me s (signal.Claim (claim.Global b)) d = after_push b d
-after_signal c i me s (signal.Send b) d = after_send c b
+after_signal c i me s (signal.Claim (claim.Global b)) d = after_push c i me s b d
+after_signal c i me s (signal.Send b) d = after_send c b d

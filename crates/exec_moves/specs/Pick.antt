@@ -1,8 +1,8 @@
 -- Moves at the beginning of a turn: the picks from the queues, and the root flag.
 use Rattle.std.specs.Prelude.{ℕ, false, ◌-◌, List, [], ◌∷◌, length, take, drop, nat_le, if◌then◌else◌}
 use Rattle.exec_words.specs.{Queue.{Queue, published, room_of}, Global.share_of}
-use Rattle.exec_machine.specs.declared.{config.Configuration.Configuration, event.Event.TheVariants.Turn}
-use Rattle.exec_moves.specs.{declared.{handing.First.First, place.Place.Place}, State.{Desk, Moved, Own, does, turns}, Parts.{first_pop, polls}}
+use Rattle.exec_machine.specs.{declared.{config.Configuration.Configuration, event.Event.TheVariants.Turn}, World.Common}
+use Rattle.exec_moves.specs.{declared.{handing.First.First, place.Place.Place}, State.{Desk, Moved, Own, does, turns}, Callback.is_of_pool, Parts.{first_pop, polls}}
 use Rattle.exec_moves.specs.declared.handing.AfterCallbacks.TheVariants as after
 use Rattle.exec_moves.specs.declared.handing.AfterPop.TheVariants as pop
 use Rattle.exec_moves.specs.declared.handing.First.TheVariants as first
@@ -14,8 +14,12 @@ use Rattle.exec_moves.specs.declared.place.Place.TheVariants as at
 abbrev pub picks_of_turn : ℕ
 picks_of_turn = 64
 
-abbrev pub begin_turn : Desk → Moved Own
-begin_turn d = turns (at.Pick pick.CountDown) (record d { picks = picks_of_turn }) tt
+-- a dedicated worker polls its root alone
+abbrev pub first_pick : Common → ℕ → Place
+first_pick s i = if is_of_pool s i then at.Pick pick.CountDown else at.TakeRootFlag
+
+abbrev pub begin_turn : ℕ → Common → Desk → Moved Own
+begin_turn i s d = turns (first_pick s i) (record d { picks = picks_of_turn }) tt
 
 abbrev pub one_pick_less : Desk → Desk
 one_pick_less d = record d { picks = d.picks - 1 }

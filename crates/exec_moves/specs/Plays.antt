@@ -2,14 +2,14 @@
 --
 -- The machine says what may happen; the moves say what does. So the lines of a log by moves are not chosen: each is what
 -- the move at the party's place tells, and the next is told from where that move leads.
-use Rattle.std.specs.Prelude.{◌≡◌, ℕ, zero, suc, Bool, true, false, not, ◌+◌, ◌==◌, ◌&&◌, List, [], ◌∷◌, replicate, slice_index_or, slice_set, Some, None, if◌then◌else◌, ◌||◌, nat_lt}
+use Rattle.std.specs.Prelude.{◌≡◌, ℕ, zero, suc, Bool, true, false, not, ◌+◌, ◌==◌, ◌&&◌, ◌++◌, List, [], ◌∷◌, replicate, slice_index_or, slice_set, Some, None, if◌then◌else◌, ◌||◌, nat_lt}
 use Rattle.exec_base.specs.Spinner.{begun}
-use Rattle.exec_machine.specs.{declared.{config.Configuration.Configuration, event.{Event.{TheVariants.{Land, Clock, Set, Stir, Peer}, Event}, StepResult.TheVariants.Did}, step.{Action.Action, Step.Step}, state.{Letter.Letter, Next.Next}}, Choice.Choice.Plain, World.{World, Common, own_of, seat_of, request_of}, Same.{same_number, same_message}, Tests.all_numbered, Callers.{is_enabled, may_go_on}, Run.{after_event, after_steps, is_run}, Progress.{Plan, begin, is_quiet_step, quiet_bound}, Examples.{Example, Told, says, refuses, lines_of, choices_of}}
+use Rattle.exec_machine.specs.{declared.{config.Configuration.Configuration, event.{Event.{TheVariants.{Dedicated, Land, Clock, Set, Stir, Peer}, Event}, StepResult.TheVariants.Did}, step.{Action.Action, Step.Step}, state.{Letter.Letter, Next.Next}}, Choice.Choice.Plain, World.{World, Common, own_of, seat_of, request_of}, Same.{same_number, same_message}, Tests.all_numbered, Callers.{is_enabled, may_go_on}, Run.{after_event, after_steps, is_run}, Progress.{Plan, begin, is_quiet_step, quiet_bound}, Examples.{Example, Told, says, refuses, lines_of, choices_of}}
 use Rattle.exec_machine.specs.declared.step.Action.TheVariants as action
 use Rattle.exec_machine.specs.declared.step.Step.TheVariants as step
 use Rattle.exec_machine.specs.declared.state.Next.TheVariants as next
 use Rattle.exec_moves.specs.declared.place.Place.TheVariants as at
-use Rattle.exec_moves.specs.{State.{Desk, Things, WakePoll, Moved, no_queue, no_word, no_wake_poll, wake_poll_of, passed}, Thing.set_wake_poll, Pop.shard_count, Call.{CallDesk, Called, no_call}, Move.move, MoveOfCaller.move_of_caller, Seen.{polls_at, next_at, owes_at, left_at, serves_at, is_calling}, Credit.credit}
+use Rattle.exec_moves.specs.{State.{Desk, Things, WakePoll, Moved, no_queue, no_word, no_wake_poll, wake_poll_of, passed}, Slots.no_slots, Thing.set_wake_poll, Pop.shard_count, Call.{CallDesk, Called, no_call}, Move.move, MoveOfCaller.move_of_caller, Seen.{polls_at, next_at, owes_at, left_at, serves_at, is_calling}, Credit.credit}
 
 -- an executor: what the machine knows of it, what each worker and each caller has of its own, and what they share
 pub record Playing : Type 0 where
@@ -30,6 +30,11 @@ first_desk c i =
       put_off = false;
       wakes = [];
       outputs = 0;
+      completions = [];
+      results = [];
+      requests = no_slots;
+      timers = no_slots;
+      awaited = [];
       entries = 0;
       polled = false;
       others = 0;
@@ -42,6 +47,7 @@ first_desk c i =
       rng = i + 1;
       hand = None;
       loot = [];
+      letters = [];
     }
 
 -- so many workers from this number on
@@ -60,6 +66,9 @@ first_things c =
       idle = record { published = replicate 64 false; count = 0 };
       barrier = false;
       shards = replicate (shard_count c) [];
+      gates = replicate c.files [];
+      answers = [];
+      alarms = [];
     }
 
 abbrev pub first_playing : Plan → Playing
@@ -82,6 +91,11 @@ pub record Played : Type 0 where
   pub told : Told
   pub next : Playing
 
+-- the worker that a step makes
+abbrev pub newcomers : Configuration → Event → List Desk
+newcomers c (Dedicated t j) = first_desk c j ∷ []
+newcomers c _ = []
+
 -- a step of worker i
 abbrev pub by_move : Configuration → Playing → ℕ → Moved Things → Played
 by_move c p i m =
@@ -90,7 +104,7 @@ by_move c p i m =
       next =
           record {
             world = after_event c p.world (action.Work i) m.event m.choice;
-            desks = slice_set p.desks i m.desk;
+            desks = slice_set p.desks i m.desk ++ newcomers c m.event;
             callers = p.callers;
             things = m.thing;
           };
@@ -204,8 +218,8 @@ abbrev pub is_worker_as_seen : Configuration → World → ℕ → Desk → Bool
 is_worker_as_seen c w i d =
     let me = own_of w i in
     same_number me.polls (polls_at d.place) && same_next me.next (next_at d.place)
-    && same_bool me.serving (serves_at d.place) && same_letters me.owed (owes_at c d.place)
-    && same_bool (seat_of w.common i).left (left_at d.place)
+    && same_bool me.serving (serves_at d.place) && same_letters me.owed (owes_at c d)
+    && same_bool (seat_of w.common i).left (left_at (seat_of w.common i).pool d.place)
 
 abbrev pub is_caller_as_seen : Common → ℕ → CallDesk → Bool
 is_caller_as_seen s j d = same_bool (may_go_on s j) (is_calling d.place)

@@ -1,7 +1,7 @@
 -- Moves of a push of the runnable in the hand into the own run queue.
 use Rattle.std.specs.Prelude.{ℕ, ◌&&◌, List, [], ◌∷◌, nat_le, Option, Some, None, if◌then◌else◌}
 use Rattle.exec_words.specs.{declared.head.{Fit.Fit, Head.Head}, Queue.{Queue, head_of, fit_of, published, overflowed, newest, restored}}
-use Rattle.exec_machine.specs.declared.{config.Configuration.Configuration}
+use Rattle.exec_machine.specs.{declared.config.Configuration.Configuration, World.{Common, Own as Books}}
 use Rattle.exec_moves.specs.{declared.{handing.AfterPush.AfterPush, place.Place.Place}, State.{Desk, Moved, turns}, Parts.{has_others, after_push}, Pop.same_head}
 use Rattle.exec_words.specs.declared.head.Fit.TheVariants as fit
 use Rattle.exec_moves.specs.declared.handing.AfterKick.TheVariants as kick
@@ -24,11 +24,13 @@ abbrev pub load_push_head : AfterPush → Desk → Queue ℕ → Moved (Queue �
 load_push_head b d q = turns (after_fit b (head_of q) (fit_of q)) d q
 
 -- with two values others could steal, so somebody is to search
-abbrev pub after_store : Configuration → ℕ → AfterPush → Desk → Place
-after_store c len b d = if nat_le 2 len && has_others c then at.Kick kicks.LoadKickCount (kick.Push b) else after_push b d
+abbrev pub after_store : Configuration → ℕ → Books → Common → ℕ → AfterPush → Desk → Place
+after_store c i me s len b d =
+    if nat_le 2 len && has_others c then at.Kick kicks.LoadKickCount (kick.Push b) else after_push c i me s b d
 
-abbrev pub store_value : Configuration → ℕ → AfterPush → Desk → Queue ℕ → Moved (Queue ℕ)
-store_value c len b d q = turns (after_store c len b d) (record d { hand = None }) (published q (in_hand d.hand))
+abbrev pub store_value : Configuration → ℕ → Books → Common → ℕ → AfterPush → Desk → Queue ℕ → Moved (Queue ℕ)
+store_value c i me s len b d q =
+    turns (after_store c i me s len b d) (record d { hand = None }) (published q (in_hand d.hand))
 
 -- the newest half goes into the hands; a head that has changed is loaded again
 abbrev pub flow_over : AfterPush → Head → Desk → Queue ℕ → Moved (Queue ℕ)

@@ -1,8 +1,9 @@
 -- What a place says of its worker: what of the machine's own part is read off it.
-use Rattle.std.specs.Prelude.{ℕ, Bool, true, false, not, ◌==◌, ◌-◌, ◌&&◌, List, [], Option, Some, None}
+use Rattle.std.specs.Prelude.{ℕ, Bool, true, false, not, ◌==◌, ◌-◌, ◌&&◌, ◌++◌, List, [], Option, Some, None}
 use Rattle.exec_machine.specs.{declared.{config.Configuration.Configuration, state.{Letter.Letter, Next.Next}}, Closing.letters_to_roots}
 use Rattle.exec_machine.specs.declared.state.Next.TheVariants as next
 use Rattle.exec_moves.specs.declared.{handing.{AfterCallbacks.AfterCallbacks, AfterClaim.AfterClaim, AfterKick.AfterKick, AfterPush.AfterPush, AfterSend.AfterSend, AfterSignal.AfterSignal, CallPlace.CallPlace}, idling.Stay.Stay, place.{AfterService.AfterService, InPoll.InPoll, InCallbacks.InCallbacks, InService.InService, InMail.InMail, InClosing.InClosing, Place.Place}}
+use Rattle.exec_moves.specs.State.{Desk}
 use Rattle.exec_moves.specs.declared.handing.AfterCallbacks.TheVariants as after
 use Rattle.exec_moves.specs.declared.handing.AfterClaim.TheVariants as claim
 use Rattle.exec_moves.specs.declared.handing.AfterKick.TheVariants as kick
@@ -29,7 +30,7 @@ polls_in t _ = Some t
 -- a part that hands something on for an act is within the poll
 abbrev pub polls_for : AfterPush → Option ℕ
 polls_for (push.Act t) = Some t
-polls_for push.Pick = None
+polls_for _ = None
 
 abbrev pub polls_in_kick : AfterKick → Option ℕ
 polls_in_kick (kick.Leave b) = None
@@ -41,7 +42,8 @@ polls_in_claim (claim.Global b) = polls_for b
 
 abbrev pub polls_in_send : AfterSend → Option ℕ
 polls_in_send (send.Act t) = Some t
-polls_in_send (send.Tell worker) = None
+polls_in_send (send.Pend t) = Some t
+polls_in_send _ = None
 
 abbrev pub polls_in_signal : AfterSignal → Option ℕ
 polls_in_signal (signal.Claim b) = polls_in_claim b
@@ -72,7 +74,7 @@ next_at (at.Poll t x) = next_in_poll x
 next_at (at.Closing x) = next_in_closing x
 next_at _ = next.Free
 
--- WHAT IT HAS TO SEND: the stop, to the roots of all workers from one on
+-- WHAT IT HAS TO SEND: the stop, to the roots of all workers from one on; or its letters
 
 abbrev pub owes_from : Configuration → ℕ → List Letter
 owes_from c worker = letters_to_roots (c.workers - worker) worker
@@ -81,10 +83,13 @@ abbrev pub owes_in_signal : Configuration → AfterSignal → List Letter
 owes_in_signal c (signal.Send (send.Tell worker)) = owes_from c worker
 owes_in_signal c _ = []
 
-abbrev pub owes_at : Configuration → Place → List Letter
-owes_at c (at.Closing (closing.TellRoot worker)) = owes_from c worker
-owes_at c (at.Signal x j b) = owes_in_signal c b
-owes_at c _ = []
+abbrev pub owes_roots : Configuration → Place → List Letter
+owes_roots c (at.Closing (closing.TellRoot worker)) = owes_from c worker
+owes_roots c (at.Signal x j b) = owes_in_signal c b
+owes_roots c _ = []
+
+abbrev pub owes_at : Configuration → Desk → List Letter
+owes_at c d = owes_roots c d.place ++ d.letters
 
 -- WHETHER IT HAS PASSED THE BARRIER
 
@@ -108,12 +113,16 @@ abbrev pub left_in_wait : Stay → Bool
 left_in_wait stay.Turn = false
 left_in_wait stay.Closing = true
 
-abbrev pub left_at : Place → Bool
-left_at (at.Closing x) = left_in_closing x
-left_at (at.Callbacks x n) = left_before n
-left_at (at.Service x v) = left_in_service v.back
-left_at (at.RingWait x y) = left_in_wait y
-left_at _ = false
+abbrev pub is_past_barrier : Place → Bool
+is_past_barrier (at.Closing x) = left_in_closing x
+is_past_barrier (at.Callbacks x n) = left_before n
+is_past_barrier (at.Service x v) = left_in_service v.back
+is_past_barrier (at.RingWait x y) = left_in_wait y
+is_past_barrier _ = false
+
+-- a dedicated worker passes none
+abbrev pub left_at : Bool → Place → Bool
+left_at pool p = pool && is_past_barrier p
 
 -- WHETHER IT IS WITHIN A SERVICE: from the first line after the sampling up to the line that follows the service
 

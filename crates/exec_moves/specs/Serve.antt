@@ -1,10 +1,10 @@
 -- Moves of a service, but for its middle: sampling, completions, permits, the last enter, sleepers.
-use Rattle.std.specs.Prelude.{ℕ, suc, Bool, true, false, not, ◌+◌, ◌&&◌, ◌||◌, List, [], ◌∷◌, ◌++◌, length, nat_le, Option, Some, None, if◌then◌else◌}
+use Rattle.std.specs.Prelude.{ℕ, suc, Bool, false, not, ◌+◌, ◌&&◌, ◌||◌, List, [], ◌∷◌, drop, length, nat_le, slice_get, Option, Some, None, if◌then◌else◌}
 use Rattle.exec_outcomes.specs.{declared.outcome.{OpResult.{OpResult, TheVariants.Count}, Outcome.Outcome}, Accounts.is_durable}
-use Rattle.exec_words.specs.declared.word.PureWord.{PureWord}
-use Rattle.exec_machine.specs.{declared.{config.Configuration.Configuration, event.Event.TheVariants.{Enter, Busy, Reap, Fire}, state.{RequestPhase.RequestPhase, Request.Request}}, World.{Common, Open, request_of, sleeper_of, seat_of, Own as Books}, Tests.{is_empty, is_asleep, is_open}, Requests.{outcome_given, outcome_shown, account_of_open}, Deadlines.is_none_earlier}
+use Rattle.exec_words.specs.{Word.asks_signal, declared.word.PureWord.PureWord}
+use Rattle.exec_machine.specs.{declared.{config.Configuration.Configuration, event.Event.{Event, TheVariants.{Serve, Enter, Busy, Reap, Fire, Rouse}}, state.{RequestPhase.RequestPhase, Request.Request}}, World.{Common, request_of, sleeper_of, seat_of, Own as Books}, Tests.{is_awake, is_empty, is_asleep, is_open}, Requests.{outcome_given, outcome_shown, account_of_open}, Deadlines.is_none_earlier}
 use Rattle.exec_machine.specs.declared.state.RequestPhase.TheVariants as phase
-use Rattle.exec_moves.specs.{declared.place.{AfterPermit.AfterPermit, AfterService.AfterService, InService.InService, Reaping.Reaping, Service.Service, Place.Place}, State.{WakePoll, Desk, Moved, Own, does, serves, taken_in, others_left, is_dropped, dropped}, Callback.{has_callbacks, has_requests, told_if_ended}, Load.has_submissions}
+use Rattle.exec_moves.specs.{declared.place.{AfterPermit.AfterPermit, AfterService.AfterService, InService.InService, Reaping.Reaping, Service.Service, Place.Place}, State.{WakePoll, Desk, Moved, Own, does, serves, taken_in, others_left, is_dropped, dropped}, Claim.{is_ring, latched, raised_if}, Callback.{has_callbacks, has_requests}, Told.{told_if_ended, told_of_fire}, Slots.first_in, Load.has_submissions}
 use Rattle.exec_moves.specs.declared.place.AfterPermit.TheVariants as permit
 use Rattle.exec_moves.specs.declared.place.AfterService.TheVariants as back
 use Rattle.exec_moves.specs.declared.handing.AfterCallbacks.TheVariants as after
@@ -68,7 +68,7 @@ reap i v r s d x = by_landed x.landed
     told later q it n given =
         does
         (Reap q n (outcome_shown (account_of_open s it) it.operation.kind given))
-        (record (told_if_ended given it (others_after_reap later x.wakes d)) { place = at.Service (after_reap it given (back_from_reap r later)) v })
+        (record (told_if_ended given q it (others_after_reap later x.wakes d)) { place = at.Service (after_reap it given (back_from_reap r later)) v })
         (reaped later x)
 
     judged : List ℕ → ℕ → Request → OpResult → Moved Ring
@@ -78,7 +78,7 @@ reap i v r s d x = by_landed x.landed
     by_landed [] = serves (at.Service (after_permit (permit.Reaped r)) v) (others_after_reap [] x.wakes d) (reaped [] x)
     by_landed (q ∷ later) = judged later q (request_of s q) (result_in (request_of s q).phase)
 
--- PERMITS. The machine passes a permit on as its request ends, so what it has as the holder is whom the gate names now.
+-- PERMITS. The machine passes a permit on as its request ends. Others see that only once the gate is left.
 
 abbrev pub after_passing : Option ℕ → AfterPermit → InService
 after_passing None b = after_permit b
@@ -88,13 +88,28 @@ abbrev pub worker_of : Common → Option ℕ → Option ℕ
 worker_of s None = None
 worker_of s (Some r) = Some (request_of s r).worker
 
--- the gate
-abbrev pub pass_permit : Service → AfterPermit → Common → Desk → Open → Moved Open
-pass_permit v b s d o = serves (at.Service (after_passing (worker_of s o.holder) b) v) d o
+-- the gate: who stands first in it leaves
+abbrev pub left_by_first : List ℕ → List ℕ
+left_by_first gate = drop 1 gate
 
--- the wake word of the next holder's worker
-abbrev pub signal : Service → AfterPermit → Desk → PureWord → Moved PureWord
-signal v b d w = serves (at.Service (after_permit b) v) d (record w { latch = true })
+abbrev pub pass_permit : Service → AfterPermit → Common → Desk → List ℕ → Moved (List ℕ)
+pass_permit v b s d gate =
+    serves (at.Service (after_passing (worker_of s (slice_get (left_by_first gate) 0)) b) v) d (left_by_first gate)
+
+-- the wake word of the next holder's worker, which is worker j: its own too
+abbrev pub after_latch : ℕ → AfterPermit → PureWord → InService
+after_latch j b w = if asks_signal w then step.Raise (is_ring w.target) j b else after_permit b
+
+abbrev pub signal : ℕ → Service → AfterPermit → Desk → PureWord → Moved PureWord
+signal j v b d w = serves (at.Service (after_latch j b w) v) d (latched w)
+
+-- the wait of worker j is ended
+abbrev pub rousing_in_service : Common → ℕ → Event
+rousing_in_service s j = if is_awake (seat_of s j).rest then Serve else Rouse j
+
+abbrev pub raise_in_service : Bool → ℕ → Service → AfterPermit → Common → Desk → WakePoll → Moved WakePoll
+raise_in_service ring j v b s d p =
+    does (rousing_in_service s j) (record d { place = at.Service (after_permit b) v }) (raised_if ring p)
 
 -- THE LAST ENTER
 
@@ -136,12 +151,14 @@ abbrev pub first_numbered : {X : Type 0} → (ℕ → X → Bool) → ℕ → Li
 first_numbered test n [] = None
 first_numbered test n (x ∷ xs) = if test n x then Some n else first_numbered test (suc n) xs
 
--- the first sleeper of the worker that is due by the sampled moment, of an open worker
-abbrev pub first_to_fire : ℕ → Books → Common → Option ℕ
-first_to_fire i me s =
-    if is_open (seat_of s i).phase
-    then first_numbered (λ n z. is_asleep i z && nat_le z.until me.sampled && is_none_earlier i z.until s.sleepers) 0 s.sleepers
-    else None
+-- The first sleeper of the worker that is due by the sampled moment, of an open worker: of those of one moment that in the
+-- first slot.
+abbrev pub is_to_fire : ℕ → Books → Common → ℕ → Bool
+is_to_fire i me s z =
+    let it = sleeper_of s z in is_asleep i it && nat_le it.until me.sampled && is_none_earlier i it.until s.sleepers
+
+abbrev pub first_to_fire : ℕ → Books → Common → Desk → Option ℕ
+first_to_fire i me s d = if is_open (seat_of s i).phase then first_in (is_to_fire i me s) d.timers.held else None
 
 abbrev pub after_service : AfterService → Desk → Place
 after_service back.Mail d = if is_empty d.batch then at.Mail mail.LoadMailWord else at.Mail (mail.Apply 0 false)
@@ -149,8 +166,8 @@ after_service back.Begin d = at.Callbacks callback.TakeBatch after.Begin
 after_service back.Finish d = at.Callbacks callback.TakeBatch after.Finish
 
 abbrev pub end_service : ℕ → Service → Books → Common → Desk → Moved Own
-end_service i v me s d = fired (first_to_fire i me s)
+end_service i v me s d = fired (first_to_fire i me s d)
   where
     fired : Option ℕ → Moved Own
     fired None = serves (after_service v.back d) d tt
-    fired (Some z) = does (Fire z) (record d { wakes = d.wakes ++ (sleeper_of s z).task ∷ [] }) tt
+    fired (Some z) = does (Fire z) (told_of_fire z (sleeper_of s z) d) tt

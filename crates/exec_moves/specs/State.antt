@@ -3,8 +3,8 @@ use Rattle.std.specs.Prelude.{ℕ, suc, Bool, true, false, not, List, [], ◌∷
 use Rattle.exec_base.specs.Spinner.{Spinner}
 use Rattle.exec_words.specs.{Idle.Idle, Queue.Queue, declared.word.PureWord.PureWord}
 use Rattle.exec_words.specs.declared.word.WaitTarget.TheVariants as target
-use Rattle.exec_machine.specs.{declared.{event.Event.{Event, TheVariants.{Turn, Serve}}, state.MailMessage.MailMessage}, Choice.{Choice, Choice.Plain}}
-use Rattle.exec_moves.specs.declared.place.Place.{Place}
+use Rattle.exec_machine.specs.{declared.{event.Event.{Event, TheVariants.{Turn, Serve}}, state.{Letter.Letter, MailMessage.MailMessage}}, Choice.{Choice, Choice.Plain}}
+use Rattle.exec_moves.specs.{declared.place.Place.Place, Slots.Slots}
 
 -- what only the worker touches
 pub record Desk : Type 0 where
@@ -17,9 +17,16 @@ pub record Desk : Type 0 where
   -- the service of this turn was one that may put its last enter off; it did
   pub may_put_off : Bool
   pub put_off : Bool
-  -- what waits for the callbacks beside requests to be released: tasks to be woken, and so many outputs that nobody takes
+  -- what waits for the callbacks beside requests to be released: tasks to be woken, so many outputs that nobody takes,
+  -- and the sleepers and requests whose end is to be sent to who waits elsewhere
   pub wakes : List ℕ
   pub outputs : ℕ
+  pub completions : List ℕ
+  pub results : List ℕ
+  -- the slots of its requests and of its sleepers, and, by slots, the requests that wake their task here once they are over
+  pub requests : Slots
+  pub timers : Slots
+  pub awaited : List ℕ
   -- so many entries stand in the submission queue; the wake poll is one of them, or was taken in and hasn't ended as far as
   -- the worker knows; and so many acknowledged cancels stand behind the last completion of an operation
   pub entries : ℕ
@@ -38,6 +45,8 @@ pub record Desk : Type 0 where
   -- the runnable in its hand, and those that it has moved out of a queue in a steal or an overflow, the oldest first
   pub hand : Option ℕ
   pub loot : List ℕ
+  -- what it has to tell other workers of what a task held that is over, in order
+  pub letters : List Letter
 
 -- the wake poll of a ring, as the kernel has it
 pub record WakePoll : Type 0 where
@@ -64,6 +73,12 @@ pub record Things : Type 0 where
   -- the barrier is open; the ordinary tasks that are live, by shard, the oldest first
   pub barrier : Bool
   pub shards : List (List ℕ)
+  -- Of each open the requests at its gate, the holder of the permit first. One that is over stands there until its worker
+  -- gives the permit up.
+  pub gates : List (List ℕ)
+  -- the requests and the sleepers of which a task elsewhere has been sent the end, in order of their numbers
+  pub answers : List ℕ
+  pub alarms : List ℕ
 
 -- OF ONE WORKER
 
@@ -87,6 +102,10 @@ inbox_of x j = slice_index_or x.inboxes j []
 
 abbrev pub wake_poll_of : Things → ℕ → WakePoll
 wake_poll_of x j = slice_index_or x.wake_polls j no_wake_poll
+
+-- who is at the gate of this open
+abbrev pub gate_of : Things → ℕ → List ℕ
+gate_of x file = slice_index_or x.gates file []
 
 -- THE WAKE POLL
 

@@ -1,12 +1,12 @@
 -- Moves of the middle of a service: deadlines, gates and stagings, which share one place.
-use Rattle.std.specs.Prelude.{ℕ, suc, Bool, true, not, ◌+◌, ◌==◌, ◌&&◌, ◌||◌, nat_lt, nat_le, slice_get, Option, Some, None, if◌then◌else◌}
+use Rattle.std.specs.Prelude.{ℕ, suc, Bool, true, not, ◌+◌, ◌==◌, ◌&&◌, ◌||◌, nat_lt, nat_le, List, slice_get, Option, Some, None, if◌then◌else◌}
 use Rattle.std.specs.List.{list_any}
 use Rattle.exec_outcomes.specs.{declared.outcome.Outcome.Outcome, Accounts.outcome_at_grant}
-use Rattle.exec_machine.specs.{declared.{config.Configuration.Configuration, event.Event.{TheVariants.{Serve, Expire, Enrol, Grant, Cancel, Stage}, Event}, state.Request.Request}, Ranges.ring_size, World.{Common, Open, request_of, Own as Books}, Tests.{is_empty, is_gated}, Requests.account_of_open, Deadlines.{outcome_at_enrol, is_first_due, outcome_at_expiry}}
+use Rattle.exec_machine.specs.{declared.{config.Configuration.Configuration, event.Event.{TheVariants.{Serve, Expire, Enrol, Grant, Cancel, Stage}, Event}, state.Request.Request}, Ranges.ring_size, World.{Common, request_of, Own as Books}, Tests.{is_empty, is_gated}, Requests.account_of_open, Deadlines.{outcome_at_enrol, is_first_due, outcome_at_expiry}}
 use Rattle.exec_machine.specs.declared.event.Event.TheVariants as event
 use Rattle.exec_moves.specs.declared.place.AfterPermit.TheVariants as permit
 use Rattle.exec_moves.specs.declared.place.InService.TheVariants as step
-use Rattle.exec_moves.specs.{declared.place.Service.Service, State.{Desk, Moved, Own, does}, Callback.{told_if_ended, is_full}, Load.may_stage, Serve.{Ring, after_staging, enter, first_numbered}}
+use Rattle.exec_moves.specs.{declared.place.Service.Service, State.{Desk, Moved, Own, does}, Told.told_if_ended, Callback.is_full, Load.may_stage, Serve.{Ring, after_staging, enter, first_numbered}}
 use Rattle.exec_moves.specs.declared.place.Place.TheVariants as at
 
 -- WHAT IS NEXT
@@ -61,17 +61,17 @@ submits v gate d = record d { place = at.Service (step.Submit gate) v }
 abbrev pub expire : Service → ℕ → ℕ → Common → Desk → Moved Own
 expire v gate r s d =
     let it = request_of s r in
-    does (Expire r (outcome_at_expiry it)) (submits v gate (told_if_ended (outcome_at_expiry it) it d)) tt
+    does (Expire r (outcome_at_expiry it)) (submits v gate (told_if_ended (outcome_at_expiry it) r it d)) tt
 
 abbrev pub enrol : Configuration → Service → ℕ → ℕ → Books → Common → Desk → Moved Own
 enrol c v gate r me s d =
     let it = request_of s r in
     let outcome = outcome_at_enrol c me it.operation.deadline in
-    does (Enrol r outcome) (submits v gate (told_if_ended outcome it d)) tt
+    does (Enrol r outcome) (submits v gate (told_if_ended outcome r it d)) tt
 
--- the gate: granted where its holder is a request of this worker that waits
-abbrev pub granted_at : ℕ → Open → Common → Option ℕ
-granted_at i o s = holder_waiting o.holder
+-- the gate: granted where who stands first in it is a request of this worker that waits
+abbrev pub granted_at : ℕ → List ℕ → Common → Option ℕ
+granted_at i gate s = holder_waiting (slice_get gate 0)
   where
     holder_waiting : Option ℕ → Option ℕ
     holder_waiting None = None
@@ -81,14 +81,14 @@ abbrev pub after_grant : Service → ℕ → Option Outcome → Desk → Desk
 after_grant v file None d = submits v (suc file) d
 after_grant v file (Some outcome) d = record d { place = at.Service (step.PassPermit file (permit.Submit (suc file))) v }
 
-abbrev pub try_gate : ℕ → Service → ℕ → Common → Desk → Open → Moved Open
-try_gate i v file s d o = tried (granted_at i o s)
+abbrev pub try_gate : ℕ → Service → ℕ → Common → Desk → List ℕ → Moved (List ℕ)
+try_gate i v file s d gate = tried (granted_at i gate s)
   where
-    told : ℕ → Request → Option Outcome → Moved Open
-    told r it outcome = does (Grant r outcome) (after_grant v file outcome (told_if_ended outcome it d)) o
+    told : ℕ → Request → Option Outcome → Moved (List ℕ)
+    told r it outcome = does (Grant r outcome) (after_grant v file outcome (told_if_ended outcome r it d)) gate
 
-    tried : Option ℕ → Moved Open
-    tried None = does Serve (submits v (suc file) d) o
+    tried : Option ℕ → Moved (List ℕ)
+    tried None = does Serve (submits v (suc file) d) gate
     tried (Some r) = told r (request_of s r) (outcome_at_grant (request_of s r).operation.kind (account_of_open s (request_of s r)))
 
 -- one more entry in the submission queue

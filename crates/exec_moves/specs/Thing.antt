@@ -42,6 +42,15 @@ set_barrier x barrier = record x { barrier = barrier }
 abbrev pub set_shard : ℕ → Things → List ℕ → Things
 set_shard n x shard = record x { shards = slice_set x.shards n shard }
 
+abbrev pub set_gate : ℕ → Things → List ℕ → Things
+set_gate file x gate = record x { gates = slice_set x.gates file gate }
+
+abbrev pub set_answers : Things → List ℕ → Things
+set_answers x answers = record x { answers = answers }
+
+abbrev pub set_alarms : Things → List ℕ → Things
+set_alarms x alarms = record x { alarms = alarms }
+
 -- the mailbox of worker j, and the ring of worker i
 abbrev pub mailbox_of : Things → ℕ → Mailbox
 mailbox_of x j = record { messages = inbox_of x j; word = word_of x j }
@@ -91,6 +100,15 @@ with_barrier x m = puts (set_barrier x) m
 
 abbrev pub with_shard : ℕ → Things → Moved (List ℕ) → Moved Things
 with_shard n x m = puts (set_shard n x) m
+
+abbrev pub with_gate : ℕ → Things → Moved (List ℕ) → Moved Things
+with_gate file x m = puts (set_gate file x) m
+
+abbrev pub with_answers : Things → Moved (List ℕ) → Moved Things
+with_answers x m = puts (set_answers x) m
+
+abbrev pub with_alarms : Things → Moved (List ℕ) → Moved Things
+with_alarms x m = puts (set_alarms x) m
 
 -- OF A CALLER
 

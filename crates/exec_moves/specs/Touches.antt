@@ -1,6 +1,6 @@
 -- That a step changes the one shared thing that its place names, and nothing else that parties share.
 use Rattle.std.specs.Prelude.{◌≡◌, ℕ, Bool, true, false, ◌==◌, List, [], slice_index_or}
-use Rattle.exec_moves.specs.{State.{Things, queue_of, word_of, inbox_of, wake_poll_of}, Cells.{Cell, Cell.{RunQueue, Share, WakeWord, Ring, Inbox, GlobalQueue, IdleSet, SearchCount, Rest, Shard, Barrier}}}
+use Rattle.exec_moves.specs.{State.{Things, queue_of, word_of, inbox_of, wake_poll_of, gate_of}, Told.has_number, Cells.{Cell, Cell.{RunQueue, Share, WakeWord, Ring, Inbox, GlobalQueue, IdleSet, SearchCount, Rest, Shard, Barrier, Gate, Answer, Alarm}}}
 
 -- A share stores the tail of the own run queue too, and a message publishes its batch in the wake word.
 abbrev pub touches_queue : Cell → ℕ → Bool
@@ -40,16 +40,31 @@ abbrev pub touches_barrier : Cell → Bool
 touches_barrier Barrier = true
 touches_barrier _ = false
 
+abbrev pub touches_gate : Cell → ℕ → Bool
+touches_gate (Gate file) other = other == file
+touches_gate _ other = false
+
+abbrev pub touches_answer : Cell → ℕ → Bool
+touches_answer (Answer r) q = q == r
+touches_answer _ q = false
+
+abbrev pub touches_alarm : Cell → ℕ → Bool
+touches_alarm (Alarm z) y = y == z
+touches_alarm _ y = false
+
 abbrev pub shard_at : Things → ℕ → List ℕ
 shard_at x n = slice_index_or x.shards n []
 
--- all but this cell is as before
+-- All but this cell is as before. A new worker has nothing yet, as one that isn't there.
 pub record OnlyTouches (cell : Cell) (before after : Things) : Type 0 where
   pub queues : (j : ℕ) → touches_queue cell j ≡ false → queue_of after j ≡ queue_of before j
   pub words : (j : ℕ) → touches_word cell j ≡ false → word_of after j ≡ word_of before j
   pub inboxes : (j : ℕ) → touches_inbox cell j ≡ false → inbox_of after j ≡ inbox_of before j
   pub wake_polls : (j : ℕ) → touches_wake_poll cell j ≡ false → wake_poll_of after j ≡ wake_poll_of before j
   pub shards : (n : ℕ) → touches_shard cell n ≡ false → shard_at after n ≡ shard_at before n
+  pub gates : (file : ℕ) → touches_gate cell file ≡ false → gate_of after file ≡ gate_of before file
+  pub answers : (r : ℕ) → touches_answer cell r ≡ false → has_number r after.answers ≡ has_number r before.answers
+  pub alarms : (z : ℕ) → touches_alarm cell z ≡ false → has_number z after.alarms ≡ has_number z before.alarms
   pub global : touches_global cell ≡ false → after.global ≡ before.global
   pub idle : touches_idle cell ≡ false → after.idle ≡ before.idle
   pub barrier : touches_barrier cell ≡ false → after.barrier ≡ before.barrier

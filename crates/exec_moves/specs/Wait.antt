@@ -5,9 +5,12 @@ use Rattle.exec_words.specs.{Word.is_idle_at, declared.word.PureWord.PureWord}
 use Rattle.exec_words.specs.declared.word.WaitTarget.TheVariants as target
 use Rattle.exec_machine.specs.{declared.{config.Configuration.Configuration, event.Event.{Event, TheVariants.{Turn, Sleep, Enter}}}, Ranges.ring_size, Tests.is_empty, World.{Common, Own as Books}, Deadlines.next_due}
 use Rattle.exec_moves.specs.declared.place.AfterService.TheVariants as back
-use Rattle.exec_moves.specs.{declared.{idling.{AfterWait.AfterWait, Stay.Stay}, place.Place.Place}, State.{Desk, Moved, Own, turns, does}, Callback.{has_requests, serve, ring_wait, is_full}, Load.{has_mail, has_submissions, has_come}, Submit.with_poll, Serve.{Ring, enter}}
+use Rattle.exec_moves.specs.{declared.{idling.{AfterWait.AfterWait, Stay.Stay}, place.Place.Place}, State.{Desk, Moved, Own, turns, does}, Callback.{has_requests, is_of_pool, serve, ring_wait, is_full}, Load.{has_mail, has_submissions, has_come, leaves_for_turn}, Submit.with_poll, Serve.{Ring, enter}}
 use Rattle.exec_moves.specs.declared.idling.AfterWait.TheVariants as next
+use Rattle.exec_moves.specs.declared.idling.InLook.TheVariants as look
 use Rattle.exec_moves.specs.declared.idling.InRingWait.TheVariants as ring
+use Rattle.exec_moves.specs.declared.idling.InScan.TheVariants as scan
+use Rattle.exec_moves.specs.declared.idling.InSearch.TheVariants as search
 use Rattle.exec_moves.specs.declared.idling.InWordWait.TheVariants as word
 use Rattle.exec_moves.specs.declared.idling.Stay.TheVariants as stay
 use Rattle.exec_moves.specs.declared.place.Place.TheVariants as at
@@ -28,6 +31,21 @@ word_wait c i s d =
 abbrev pub waits : Configuration → ℕ → Common → Desk → Place
 waits c i s d = if has_requests i s then ring_wait (ring_size c) stay.Turn d else word_wait c i s d
 
+-- THE CLOCK
+
+-- A worker of the pool that has nothing to do searches for work, unless it is alone. A dedicated one waits.
+abbrev pub first_search : Configuration → ℕ → Common → Desk → Place
+first_search c i s d =
+    if not (is_of_pool s i) then waits c i s d
+    else if nat_le c.workers 1 then at.Look look.Publish
+    else if d.searching then at.Scan scan.LoadScanHead else at.Search search.LoadSearchCount
+
+abbrev pub read_clock : Configuration → ℕ → Books → Common → Desk → Moved Own
+read_clock c i me s d =
+    if has_come s.clock (next_due s i)
+    then turns (leaves_for_turn c i me s d) (record d { read = s.clock }) tt
+    else turns (first_search c i s (record d { read = s.clock })) (record d { read = s.clock }) tt
+
 -- THE SLEEP
 
 -- until the next moment at which something is due, unless that has come
@@ -36,18 +54,26 @@ sleep i s d x = if has_come s.clock (next_due s i) then does Turn d x else does 
 
 -- ON THE RING
 
--- a closing worker has no bit to withdraw, and serves again
-abbrev pub after_wait : Stay → AfterWait → Place
-after_wait stay.Turn n = at.Withdraw n
-after_wait stay.Closing n = serve back.Finish
+-- what follows a wait of a worker that has published no bit
+abbrev pub goes_back : AfterWait → Place
+goes_back next.Serve = serve back.Begin
+goes_back _ = at.BeginTurn
+
+abbrev pub withdraws : Common → ℕ → AfterWait → Place
+withdraws s i n = if is_of_pool s i then at.Withdraw n else goes_back n
+
+-- a closing worker has no bit to withdraw either, and serves again
+abbrev pub after_wait : Common → ℕ → Stay → AfterWait → Place
+after_wait s i stay.Turn n = withdraws s i n
+after_wait s i stay.Closing n = serve back.Finish
 
 -- the ring
 abbrev pub enter_full_ring : Stay → Books → Desk → Ring → Moved Ring
 enter_full_ring x me d r = enter me (record d { place = at.RingWait ring.TestRing x }) r
 
-abbrev pub test_ring : Configuration → Stay → Books → Desk → Moved Own
-test_ring c x me d =
-    if has_submissions c me || (not d.polled && is_full (ring_size c) d) then turns (after_wait x next.Serve) d tt
+abbrev pub test_ring : Configuration → ℕ → Stay → Books → Common → Desk → Moved Own
+test_ring c i x me s d =
+    if has_submissions c me || (not d.polled && is_full (ring_size c) d) then turns (after_wait s i x next.Serve) d tt
     else turns (at.RingWait ring.ArmRing x) (with_poll (ring_size c) d) tt
 
 -- the wake word
@@ -79,8 +105,8 @@ sleep_on_ring i x s d r =
 abbrev pub disarmed : PureWord → PureWord
 disarmed w = record w { target = target.None; latch = false }
 
-abbrev pub disarm_ring : Stay → AfterWait → Desk → PureWord → Moved PureWord
-disarm_ring x n d w = turns (after_wait x n) d (disarmed w)
+abbrev pub disarm_ring : ℕ → Stay → AfterWait → Common → Desk → PureWord → Moved PureWord
+disarm_ring i x n s d w = turns (after_wait s i x n) d (disarmed w)
 
 -- ON THE WAKE WORD
 
@@ -99,8 +125,8 @@ spin_on_batch left d w = does Turn (if has_mail d w then hit d else (record d { 
 abbrev pub spin_on_latch : ℕ → Desk → PureWord → Moved PureWord
 spin_on_latch left d w = does Turn (if w.latch then hit d else missed left d) w
 
-abbrev pub take_latch : Desk → PureWord → Moved PureWord
-take_latch d w = turns (at.Withdraw next.Begin) d (record w { latch = false })
+abbrev pub take_latch : ℕ → Common → Desk → PureWord → Moved PureWord
+take_latch i s d w = turns (withdraws s i next.Begin) d (record w { latch = false })
 
 abbrev pub arm_word : Desk → PureWord → Moved PureWord
 arm_word d w =
@@ -125,5 +151,5 @@ abbrev pub after_sleep : ℕ → Bool → Option ℕ → Desk → Desk
 after_sleep clock true (Some slept) d = record d { spinner = after_wake d.spinner (clock - slept); slept = None }
 after_sleep clock _ _ d = record d { slept = None }
 
-abbrev pub disarm_word : Common → Desk → PureWord → Moved PureWord
-disarm_word s d w = turns (at.Withdraw next.Begin) (after_sleep s.clock w.latch d.slept d) (disarmed w)
+abbrev pub disarm_word : ℕ → Common → Desk → PureWord → Moved PureWord
+disarm_word i s d w = turns (withdraws s i next.Begin) (after_sleep s.clock w.latch d.slept d) (disarmed w)

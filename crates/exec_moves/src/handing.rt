@@ -15,6 +15,7 @@
 //!
 //! Who returns the last count without a claim looks again: KICK begins anew, GLOBAL loads the set once more.
 
+use exec_task::drain::Drain;
 use exec_words::head::Head;
 use exec_words::idle::WorkerSet;
 
@@ -95,6 +96,8 @@ pub enum AfterPush {
     Act { task: usize },
     /// The next pick.
     Pick,
+    /// The next item of the callbacks.
+    CallBack { next: AfterCallbacks },
 }
 
 /// The steps of a push of all in the hands into the global queue.
@@ -150,11 +153,35 @@ pub enum InSignal {
     Raise { ring: bool },
 }
 
-/// What follows a message to the root of another worker.
+/// A thing of a worker for which a task waits elsewhere.
+#[derive(Clone, Copy, Debug, PartialEq, Eq)]
+pub enum Heard {
+    /// This request.
+    Request(usize),
+    /// This sleeper.
+    Timer(usize),
+}
+
+/// What follows once other workers were told of all that a task held which is over.
+#[derive(Clone, Copy)]
+pub enum AfterCancels {
+    /// This task leaves the task set.
+    Remove { task: usize },
+    /// The next pick.
+    Pick,
+    /// The next visit of a drain.
+    Visit { drain: Drain },
+}
+
+/// What follows a message to another worker.
 #[derive(Clone, Copy)]
 pub enum AfterSend {
     /// The next act of this task, which is polled.
     Act { task: usize },
+    /// The end of the poll of this task, which waits for a thing of that worker.
+    Pend { task: usize },
+    /// The next message of what a task held that is over.
+    Cancels(AfterCancels),
     /// The message to the root of this worker of a pool that stops, or after the last the emptying of the own queue.
     Tell { worker: usize },
 }

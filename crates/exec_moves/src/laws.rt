@@ -15,7 +15,7 @@ pub fn a_trace_has_one_log()
 /// A step changes the one shared thing that its place names, and nothing else of what parties share.
 pub fn a_step_touches_one_thing()
     ensures of_a_worker { (c : Configuration) (i : ℕ) (me : Own) (s : Common) (d : Desk) (x : Things) →
-        OnlyTouches (names c i s d.wakes d.place) x (move c i me s d x).thing }
+        OnlyTouches (names c i me s d d.place) x (move c i me s d x).thing }
     ensures of_a_caller { (c : Configuration) (s : Common) (d : CallDesk) (x : Things) (a : Action) →
         OnlyTouches (names_by_caller c s d.place a) x (move_of_caller c s d x a).thing }
 {}

@@ -11,5 +11,6 @@ pub mod examples;
 pub mod handing;
 pub mod idling;
 pub mod laws;
+pub mod mail_examples;
 pub mod place;
 pub mod pool_examples;

@@ -37,27 +37,40 @@
 //! Withdraw       [idle set]                     -> [SERVICE, CALLBACKS], BeginTurn
 //! ```
 //!
+//! A dedicated worker polls its root alone. It has no run queue and no bit in the idle set: it makes no pick, loads its
+//! wake word alone, neither searches nor looks before it waits, and withdraws nothing. What it makes or wakes goes into
+//! the global queue.
+//!
 //! The parts:
 //!
 //! ```text
 //! POLL        LEAVE                             only with a search count
 //!             BeginPoll      [the task]         begin T: what it waits for is looked at, else it acts; a plain turn
 //!                                               where the task was cleared, and that is all
-//!             Resume         [the task]         got .., or pend T where its await is still open
+//!             Resume         [the task]         got .., or pend T where its await is still open. What another worker has,
+//!                            [an inbox]         it is asked to send, once: send I forward .., with its SIGNAL, then Pend;
+//!                            [a one-shot]       from then on got .., or a plain turn and then Pend
 //!             Act            [the task]         the event of the act; then JoinGate after a durable request, the push
-//!                                               of a task that was made (LoadSpawnHead) or woken, a SIGNAL after a send
+//!                            [an inbox]         of a task that was made (LoadSpawnHead) or woken, a SIGNAL after a send:
+//!                                               of a wake, of a forward (and then Pend), or of a cancel
 //!             LoadSpawnHead  [own run queue]    only with several workers: empty: PUSH, else GLOBAL
 //!             JoinGate       [a gate]
-//!             Pend           [the task]         pend T, then PUSH where it was woken meanwhile
-//!             RemoveTask     [a shard]          after done T of an ordinary task
+//!             Pend           [the task]         pend T, then PUSH where it was woken meanwhile; where it was cleared
+//!                                               meanwhile, CANCELS
+//!             RemoveTask     [a shard]          after done T of an ordinary task, and its CANCELS
+//! CANCELS     SendCancel     [an inbox]         send I cancel .. of each thing of another worker that a task held which
+//!                                               is over, with its SIGNAL
 //! CALLBACKS   TakeBatch                         nothing there: on
 //!             LEAVE                             only with a search count
-//!             CallBack       [the task]         wake T, a plain turn for an output, release R
+//!             CallBack       [the task]         wake T, and PUSH where it was idle; a plain turn for an output; release R;
+//!                            [a one-shot]       a plain turn for the end of a thing that is sent to a task elsewhere
+//!             WakeWaiter     [the task]         wake T of that task, which isn't over, and PUSH where it was idle
 //! LOADS       LoadOwnHead [run queue], LoadOwnMirror [global queue], LoadOwnWord [wake word]
 //! SERVICE     Sample         [wake word]        samples the clock, takes a latch out
 //!             Reap           [ring]             reap R ..: again while there is one
 //!             PassPermit     [a gate]           the next holder is named
-//!             Signal         [a wake word]      and its worker signalled
+//!             Signal         [a wake word]      and its worker signalled: the own one too
+//!             Raise          [a seat]           rouse I where it sleeps
 //!             AdvanceWheel                      finds what is due
 //!             Submit         [ring, or a gate]  expire, enrol, a gate's grant, cancel, stage; enter where full; the end
 //!             EnterLast      [ring]             enter or busy, unless put off
@@ -65,9 +78,9 @@
 //!             EndService                        fire each sleeper that is due, then the end
 //! MAIL        LoadMailWord [wake word], TakeMail [inbox], Apply [the root]   apply M: 64 at most
 //! CLOSING     Close; worker zero: CloseQueue [global queue], OpenBarrier [barrier], Stop, TellRoot [an inbox] each
-//!             with its SIGNAL; POP until empty; Visit [a shard], Clear [a task] each; LeaveBarrier [barrier], CloseMailbox
-//!             [inbox]; Orphan each, CloseSleeper each; CALLBACKS, SERVICE, CALLBACKS, and RING WAIT, SERVICE,
-//!             CALLBACKS while requests stand; End
+//!             with its SIGNAL; POP until empty; Visit [a shard], Clear [a task] with CANCELS each; LeaveBarrier [barrier];
+//!             a dedicated worker from here on; CloseMailbox [inbox]; Orphan each, CloseSleeper each; CALLBACKS, SERVICE,
+//!             CALLBACKS, and RING WAIT, SERVICE, CALLBACKS while requests stand; End
 //! POP         PopAlone       [own run queue]    a lone worker's, in one action
 //!             LoadPopHead    [own run queue]    empty: that is all
 //!             ExchangePop    [own run queue]    lost: judged by what was found there
@@ -91,8 +104,8 @@
 //! ```
 
 use crate::handing::{
-    AfterCallbacks, AfterClaim, AfterKick, AfterLeave, AfterPop, AfterPush, AfterSignal, First,
-    InGlobal, InKick, InPop, InPush, InSignal,
+    AfterCallbacks, AfterCancels, AfterClaim, AfterKick, AfterLeave, AfterPop, AfterPush,
+    AfterSignal, First, Heard, InGlobal, InKick, InPop, InPush, InSignal,
 };
 use crate::idling::{AfterWait, InLook, InRingWait, InScan, InSearch, InWordWait, Stay};
 use exec_task::drain::Drain;
@@ -145,6 +158,8 @@ pub enum InCallbacks {
     TakeBatch,
     /// One item of the batch.
     CallBack,
+    /// The wake of this task, which was sent the end of that thing of this worker.
+    WakeWaiter { task: usize, of: Heard },
 }
 
 /// Which of the two looks at the own words it is.
@@ -220,16 +235,32 @@ pub enum InService {
     /// The sampling of the clock.
     Sample,
     /// The judging of a completion.
-    Reap { reaping: Reaping },
+    Reap {
+        reaping: Reaping,
+    },
     /// The permit of this open is given up.
-    PassPermit { file: u32, back: AfterPermit },
+    PassPermit {
+        file: u32,
+        back: AfterPermit,
+    },
     /// The worker of the permit's next holder is signalled.
-    Signal { worker: usize, back: AfterPermit },
+    Signal {
+        worker: usize,
+        back: AfterPermit,
+    },
+    /// The wait that was found there is ended: of the ring, or of the word.
+    Raise {
+        ring: bool,
+        worker: usize,
+        back: AfterPermit,
+    },
     /// The advance of the timeout wheel.
     AdvanceWheel,
     /// What is next of: a deadline that is due, one to be enrolled, a gate from this number on, a cancel or an operation
     /// to be staged; and where none is left the end of staging.
-    Submit { gate: u32 },
+    Submit {
+        gate: u32,
+    },
     /// The last enter.
     EnterLast,
     /// A sleeper that is due, and where none is left the end of the service.
@@ -327,4 +358,6 @@ pub enum Place {
     ClaimWorker(WorkerSet, AfterClaim),
     /// This worker is signalled.
     Signal(InSignal, usize, AfterSignal),
+    /// Another worker is told that nobody waits any more for a thing of it, which a task held that is over.
+    SendCancel(AfterCancels),
 }
