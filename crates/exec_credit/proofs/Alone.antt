@@ -4,15 +4,19 @@ use Rattle.std.proofs.Common.{◌≡◌, ℕ, zero, suc, ◌&&◌, Bool, true, f
 use Rattle.std.proofs.lemmas.Bool.{true≢false, false≢true, and_from, and_parts}
 use Rattle.std.specs.List.{list_all}
 use Rattle.exec_words.specs.Idle.{is_in}
-use Rattle.exec_machine.specs.{declared.config.Configuration.Configuration, Tests.is_empty}
+use Rattle.exec_machine.specs.{declared.config.Configuration.Configuration, Tests.is_empty, World.{Common, Seat, no_seat, seat_of}}
 use Rattle.exec_moves.specs.{declared.place.Place.Place, State.{Desk, Things, WakePoll, inbox_of, no_queue, no_word, no_wake_poll, queue_of, taken_in, word_of, wake_poll_of}, Thing.set_wake_poll}
-use Rattle.exec_credit.specs.{Minds.{IsAlone, IsUnraised}, Minded.is_settled}
+use Rattle.exec_credit.specs.{Minds.{HasNoEnds, IsAlone, IsUnraised}, Minded.is_settled}
 
 abbrev pub of_one : Configuration → Configuration
 of_one c = record c { workers = 1 }
 
+-- it is of the pool
+abbrev pub pooled : Common → Common
+pooled s = record s { seats = record (seat_of s 0) { pool = true } ∷ drop 1 s.seats }
+
 abbrev pub calm : Desk → Desk
-calm d = record d { searching = false }
+calm d = record d { searching = false; completions = []; results = [] }
 
 abbrev pub unraised : WakePoll → WakePoll
 unraised w = record w { kept = false; ended = None }
@@ -32,8 +36,20 @@ unraised_same w it =
 pub one_same : (c : Configuration) → c.workers ≡ 1 → of_one c ≡ c
 one_same c lone = ap (λ n. record c { workers = n }) (sym lone)
 
-pub calm_same : (d : Desk) → d.searching ≡ false → calm d ≡ d
-calm_same d none = ap (λ b. record d { searching = b }) (sym none)
+some_seats : (seats : List Seat) → (get_or seats 0 no_seat).pool ≡ true → is_empty seats ≡ false
+some_seats [] h = absurd (false≢true h)
+some_seats (seat ∷ seats) h = refl
+
+pub pooled_same : (s : Common) → (seat_of s 0).pool ≡ true → pooled s ≡ s
+pooled_same s pool =
+    ap (λ b. record s { seats = record (seat_of s 0) { pool = b } ∷ drop 1 s.seats }) (sym pool)
+    ∙ ap (λ seats. record s { seats = seats }) (front s.seats no_seat (some_seats s.seats pool))
+
+pub calm_same : (d : Desk) → d.searching ≡ false → HasNoEnds d → calm d ≡ d
+calm_same d none ends =
+    ap (λ b. record d { searching = b; completions = []; results = [] }) (sym none)
+    ∙ (ap (λ cs. record d { completions = cs; results = [] }) (sym ends.0)
+    ∙ ap (λ rs. record d { results = rs }) (sym ends.1))
 
 pub settled_same : (x : Things) → is_empty x.words ≡ false → is_empty x.wake_polls ≡ false → IsUnraised (wake_poll_of x 0)
     → settled x ≡ x
@@ -43,14 +59,17 @@ settled_same x word poll it =
     ∙ ap (λ ws. record x { words = ws }) (front x.words no_word word))
 
 -- what holds of these forms holds
-pub at_alone : (c : Configuration) (i : ℕ) (d : Desk) (x : Things) (p : Place) → IsAlone c i d x p
-    → (P : Configuration → ℕ → Desk → Things → Type 0) → P (of_one c) 0 (calm d) (settled x) → P c i d x
-at_alone c i d x p it P h =
+pub at_alone : (c : Configuration) (i : ℕ) (s : Common) (d : Desk) (x : Things) (p : Place) → IsAlone c i s d x p
+    → (P : Configuration → ℕ → Common → Desk → Things → Type 0) → P (of_one c) 0 (pooled s) (calm d) (settled x)
+    → P c i s d x
+at_alone c i s d x p it P h =
     let first = subst (λ j. IsUnraised (wake_poll_of x j)) it.first it.unraised in
-    let things = subst (λ y. P (of_one c) 0 (calm d) y) (settled_same x it.word it.poll first) h in
-    let desk = subst (λ e. P (of_one c) 0 e x) (calm_same d it.unsearching) things in
-    let one = subst (λ k. P k 0 d x) (one_same c it.lone) desk in
-    subst (λ j. P c j d x) (sym it.first) one
+    let pool = subst (λ j. (seat_of s j).pool ≡ true) it.first it.pool in
+    let things = subst (λ y. P (of_one c) 0 (pooled s) (calm d) y) (settled_same x it.word it.poll first) h in
+    let desk = subst (λ e. P (of_one c) 0 (pooled s) e x) (calm_same d it.unsearching it.no_ends) things in
+    let common = subst (λ b. P (of_one c) 0 b d x) (pooled_same s pool) desk in
+    let one = subst (λ k. P k 0 s d x) (one_same c it.lone) common in
+    subst (λ j. P c j s d x) (sym it.first) one
 
 -- WHERE NOTHING IS LEFT in its queue, in the global one and in its inbox
 

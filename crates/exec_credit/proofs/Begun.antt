@@ -61,7 +61,8 @@ first_minded p one le =
     subst (λ (d : Desk). Minded p.config (own_of x.world 0) x.world.common d x.things) (sym (first_of p.config p.config.workers))
     (record {
       workers = one;
-      lone = record { settled = first_settled p.config one; unsearching = refl; place = refl; bit = λ h. absurd (false≢true h) };
+      lone = record { settled = first_settled p.config one; unsearching = refl; no_ends = (refl, refl); gateless = (refl, refl, refl); place = refl; bit = λ h. absurd (false≢true h) };
+      plain = record { requests = λ r. (refl, refl, refl); sleepers = λ z. (refl, refl) };
       unsent = ap (λ w. w.batch) (same_first p.config.workers no_word);
       unfound = refl;
       looks = tt;

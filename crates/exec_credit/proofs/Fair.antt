@@ -1,6 +1,6 @@
 -- No worker sleeps on work.
 use Rattle.std.proofs.Common.{◌≡◌, ◌⊎◌, ℕ, zero, suc, ◌<◌, ◌==◌, ◌&&◌, ◌||◌, Bool, true, false, not, List, [], ◌∷◌, length, get_or, Option, Some, None, if◌then◌else◌, ◌∙◌, refl, sym, ap, subst, arith, inl, inr}
-use Rattle.std.proofs.lemmas.Bool.{true≢false, false≢true, and_parts, or_cases, ltb-true, leb-true, leb-false, lt-ltb, lt-leb}
+use Rattle.std.proofs.lemmas.Bool.{true≢false, false≢true, and_parts, or_cases, or_parts, ltb-true, leb-true, leb-false, lt-ltb, lt-leb}
 use Rattle.std.proofs.lemmas.List.{get_or_past}
 use Rattle.std.specs.Prelude.{nat_le, nat_lt}
 use Rattle.std.specs.List.{list_any, list_all}
@@ -13,7 +13,7 @@ use Rattle.exec_moves.specs.declared.idling.InWordWait.TheVariants as word
 use Rattle.exec_moves.specs.{declared.place.Place.Place, Load.{may_stage}, State.{Desk, Things}}
 use Rattle.exec_moves.specs.declared.place.Place.TheVariants as at
 use Rattle.exec_moves.specs.declared.idling.Stay.TheVariants as stay
-use Rattle.exec_credit.specs.{Minds.{closes, is_poll}, Minded.{HasRest, HasRoot, IsAtRest, Rested, Stood, is_fresh_in, is_in, is_start, sleeps_closing, sleeps_open}}
+use Rattle.exec_credit.specs.{Minds.{closes, is_poll}, Minded.{ArePlain, HasRest, HasRoot, IsAtRest, Rested, Stood, is_fresh_in, is_in, is_start, sleeps_closing, sleeps_open}}
 use Rattle.exec_credit.proofs.{Minding.and_no, Resting.{all_shut, none_untold}}
 
 -- NOTHING IS DUE
@@ -114,7 +114,8 @@ first_of_three true b d h = absurd (true≢false h)
 first_of_three false true d h = absurd (true≢false h)
 first_of_three false false true h = absurd (true≢false h)
 
-module _ (c : Configuration) (w : World) (d : Desk) (x : Things) (one : w.workers ≡ own_of w 0 ∷ []) (stood : Stood (own_of w 0) w.common d x) (root : HasRoot (own_of w 0) w.common d) (rested : Rested c (own_of w 0) w.common d) where
+module _ (c : Configuration) (w : World) (d : Desk) (x : Things) (one : w.workers ≡ own_of w 0 ∷ []) (stood : Stood (own_of w 0) w.common d x) (root : HasRoot (own_of w 0) w.common d) (rested : Rested c (own_of w 0) w.common d)
+    (here : ArePlain w.common) where
   abbrev me : Books
   me = own_of w 0
 
@@ -130,13 +131,13 @@ module _ (c : Configuration) (w : World) (d : Desk) (x : Things) (one : w.worker
   -- A REQUEST
 
   own_at : (r : ℕ) → own_of w (request_of s r).worker ≡ me
-  own_at r = ap (own_of w) (stood.plain.ours r)
+  own_at r = ap (own_of w) (stood.ours r)
 
   due_here : (r : ℕ) → is_due 0 s.clock (request_of s r) ≡ false → is_due (request_of s r).worker s.clock (request_of s r) ≡ false
-  due_here r h = subst (λ i. is_due i s.clock (request_of s r) ≡ false) (sym (stood.plain.ours r)) h
+  due_here r h = subst (λ i. is_due i s.clock (request_of s r) ≡ false) (sym (stood.ours r)) h
 
   pub gated_no : (r : ℕ) (b : Bool) → (is_gated (request_of s r).phase && b) ≡ false
-  gated_no r b = ap (λ a. a && b) (stood.plain.ungated r)
+  gated_no r b = ap (λ a. a && b) (here.requests r).2
 
   stuck : (q cancelled n : Bool) → (q ≡ true → n ≡ false) → (q && not cancelled && n) ≡ false
   stuck false cancelled n h = refl
@@ -150,7 +151,11 @@ module _ (c : Configuration) (w : World) (d : Desk) (x : Things) (one : w.worker
     submissions = first_of_three (not (is_empty me.unenrolled)) (not (is_empty me.cancels)) (may_stage c me) rest.unready.submissions
 
     callbacks : (not (is_empty d.wakes) ≡ false) × (nat_lt 0 d.outputs ≡ false) × (not (is_empty me.ended) ≡ false)
-    callbacks = first_of_three (not (is_empty d.wakes)) (nat_lt 0 d.outputs) (not (is_empty me.ended)) rest.unready.callbacks
+    callbacks =
+        let told = not (is_empty d.wakes) || nat_lt 0 d.outputs || not (is_empty me.ended) in
+        let more = told || not (is_empty d.completions) in
+        first_of_three (not (is_empty d.wakes)) (nat_lt 0 d.outputs) (not (is_empty me.ended))
+        (or_parts told (not (is_empty d.completions)) (or_parts more (not (is_empty d.results)) rest.unready.callbacks).0).0
 
     both_ahead : (is_after s.clock (first_timer 0 s.requests) ≡ true) × (is_after s.clock (first_until 0 s.sleepers) ≡ true)
     both_ahead = after_earlier s.clock (first_timer 0 s.requests) (first_until 0 s.sleepers) (subst (λ b. is_after s.clock (if b then earlier (first_timer 0 s.requests) (first_until 0 s.sleepers) else first_timer 0 s.requests) ≡ true) is_opened ahead)
@@ -180,7 +185,7 @@ module _ (c : Configuration) (w : World) (d : Desk) (x : Things) (one : w.worker
         (due_here r (none_due s.clock s.requests both_ahead.0 r))
 
     sleeper_done : (z : ℕ) → is_sleeper_unfinished s (sleeper_of s z) ≡ false
-    sleeper_done z = subst (λ i. (is_asleep i (sleeper_of s z) && nat_le (sleeper_of s z).until s.clock) ≡ false) (sym (rested.sleepers z)) (none_slept s.clock s.sleepers both_ahead.1 z)
+    sleeper_done z = subst (λ i. (is_asleep i (sleeper_of s z) && nat_le (sleeper_of s z).until s.clock) ≡ false) (sym (here.sleepers z).0) (none_slept s.clock s.sleepers both_ahead.1 z)
 
     -- the root waits for what hasn't come
     task_done : (p : TaskPhase) → (task_of s 0).phase ≡ p → is_runnable p ≡ false → is_done p ≡ false → is_task_unfinished s (task_of s 0) ≡ false
@@ -242,13 +247,13 @@ module _ (c : Configuration) (w : World) (d : Desk) (x : Things) (one : w.worker
         tasks = tasks;
         messages = messages;
         requests = requests;
-        sleepers = λ z. subst (λ i. (is_asleep i (sleeper_of s z) && nat_le (sleeper_of s z).until s.clock) ≡ false) (sym (rested.sleepers z)) (ap (λ b. b && nat_le (sleeper_of s z).until s.clock) ((root.ended over).sleepers z));
+        sleepers = λ z. subst (λ i. (is_asleep i (sleeper_of s z) && nat_le (sleeper_of s z).until s.clock) ≡ false) (sym (here.sleepers z).0) (ap (λ b. b && nat_le (sleeper_of s z).until s.clock) ((root.ended over).sleepers z));
         cancels = cancels_by (none_untold s (λ k. (shut k).0) me.untold);
         workers = workers_by (inl (not_open (seat_of s 0).phase over));
       }
     where
       shut : (k : ℕ) → (is_resolved (request_of s k).phase ≡ true) × (is_staged (request_of s k).phase ≡ false) × (is_landed (request_of s k).phase ≡ false)
-      shut = all_shut s stood.plain.ours (root.ended over).requests
+      shut = all_shut s stood.ours (root.ended over).requests
 
       not_open : (p : WorkerPhase) → has_ended p ≡ true → is_open p ≡ false
       not_open worker.Ended h = refl

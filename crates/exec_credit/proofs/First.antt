@@ -1,10 +1,11 @@
 -- Where something is due, something is due first.
-use Rattle.std.proofs.Common.{◌≡◌, ℕ, zero, suc, ◌+◌, ◌<◌, ◌≤◌, ◌==◌, ◌&&◌, ◌||◌, Bool, true, false, not, List, [], ◌∷◌, length, get_or, if◌then◌else◌, Some, None, ◌∙◌, refl, sym, ap, subst, arith, inl, inr}
+use Rattle.std.proofs.Common.{◌≡◌, ℕ, zero, suc, ◌+◌, ◌<◌, ◌≤◌, ◌==◌, ◌&&◌, ◌||◌, Bool, true, false, not, List, [], ◌∷◌, length, get_or, if◌then◌else◌, Option, Some, None, ◌∙◌, refl, sym, ap, subst, arith, inl, inr}
 use Rattle.std.proofs.lemmas.Bool.{true≢false, false≢true, or_cases, or_parts, or_from, eq-eqb, and_from, and_parts, or_right, or_left, ltb-false, lt-leb, le-leb, leb-true, leb-false, eqb-true}
 use Rattle.std.specs.Prelude.{nat_le, nat_lt}
 use Rattle.std.specs.List.{list_any}
 use Rattle.exec_machine.specs.{declared.{config.Configuration.Configuration, state.{Request.Request, Sleeper.Sleeper}}, Deadlines.{is_due, is_first_due, is_none_earlier, is_told_after, order_on_wheel}, Tests.{all_numbered, is_asleep, is_open}, World.{Own as Books, Common, no_request, no_sleeper, seat_of}}
-use Rattle.exec_moves.specs.{Serve.{first_numbered, first_to_fire}, Submit.first_due}
+use Rattle.exec_moves.specs.{Serve.{first_numbered, first_to_fire, is_to_fire}, Slots.{first_in, is_some_slot, slot_of}, State.Desk, Submit.first_due}
+use Rattle.exec_credit.specs.Minded.{HaveBeds}
 
 -- where none is found, none passes the test
 pub none_passes : {X : Type 0} (test : ℕ → X → Bool) (n : ℕ) (xs : List X) (d : X) → first_numbered test n xs ≡ None → (k : ℕ) → k < length xs → test (n + k) (get_or xs k d) ≡ false
@@ -123,20 +124,35 @@ deadlines c me s none = by (search_first (is_due 0 me.sampled) (λ r. order_on_w
         let not_first = subst (λ m. is_first_due c me 0 s.requests m ≡ false) zero (none_passes (λ r it. is_first_due c me 0 s.requests r) 0 s.requests no_request none k within) in
         absurd (true≢false (sym is ∙ not_first))
 
+-- where none of the slots passes the test, no number that stands in one does
+none_in : (test : ℕ → Bool) (held : List (Option ℕ)) → first_in test held ≡ None → (n k : ℕ) → is_some_slot (slot_of n k held) ≡ true
+    → test n ≡ false
+none_in test [] none n k there = absurd (false≢true there)
+none_in test (None ∷ held) none n k there = none_in test held none n (suc k) there
+none_in test (Some m ∷ held) none n k there = by (test m) refl none (n == m) refl there (λ h. none_in test held h n (suc k))
+  where
+    by : (b : Bool) → test m ≡ b → (if b then Some m else first_in test held) ≡ None
+        → (same : Bool) → (n == m) ≡ same → is_some_slot (if same then Some k else slot_of n (suc k) held) ≡ true
+        → (first_in test held ≡ None → is_some_slot (slot_of n (suc k) held) ≡ true → test n ≡ false) → test n ≡ false
+    by true h none same is there later = let no : Some m ≡ None = none in absurd (cc)
+    by false h none true is there later = ap test (eqb-true n m is) ∙ h
+    by false h none false is there later = later none there
+
 weaker : (a b e : Bool) → (not a || not (b || e)) ≡ true → (not a || not b) ≡ true
 weaker false b e h = refl
 weaker true false e h = refl
 weaker true true e h = h
 
 -- where no sleeper is told first, none of an open worker is due
-pub sleepers : (me : Books) (s : Common) → is_open (seat_of s 0).phase ≡ true → first_to_fire 0 me s ≡ None → list_any (λ z. is_asleep 0 z && nat_le z.until me.sampled) s.sleepers ≡ false
-sleepers me s open_still none = by (search_first (λ z. is_asleep 0 z && nat_le z.until me.sampled) (λ z. z.until) no_sleeper 0 s.sleepers)
+pub sleepers : (me : Books) (s : Common) (d : Desk) → HaveBeds s d → is_open (seat_of s 0).phase ≡ true
+    → first_to_fire 0 me s d ≡ None → list_any (λ z. is_asleep 0 z && nat_le z.until me.sampled) s.sleepers ≡ false
+sleepers me s d beds open_still none = by (search_first (λ z. is_asleep 0 z && nat_le z.until me.sampled) (λ z. z.until) no_sleeper 0 s.sleepers)
   where
     passes : Sleeper → Bool
     passes z = is_asleep 0 z && nat_le z.until me.sampled
 
-    none_first : first_numbered (λ n z. is_asleep 0 z && nat_le z.until me.sampled && is_none_earlier 0 z.until s.sleepers) 0 s.sleepers ≡ None
-    none_first = subst (λ b. (if b then first_numbered (λ n z. is_asleep 0 z && nat_le z.until me.sampled && is_none_earlier 0 z.until s.sleepers) 0 s.sleepers else None) ≡ None) open_still none
+    none_first : first_in (is_to_fire 0 me s) d.timers.held ≡ None
+    none_first = subst (λ b. (if b then first_in (is_to_fire 0 me s) d.timers.held else None) ≡ None) open_still none
 
     later : (until : ℕ) → until ≤ me.sampled → (z : Sleeper) (b : Bool) → is_asleep 0 z ≡ b → (not (b && nat_le z.until me.sampled) || not (nat_lt z.until until)) ≡ true → (not b || nat_le until z.until) ≡ true
     later until le z false h k = refl
@@ -157,4 +173,4 @@ sleepers me s open_still none = by (search_first (λ z. is_asleep 0 z && nat_le 
         let y = get_or s.sleepers k no_sleeper in
         let parts = and_parts (is_asleep 0 y) (nat_le y.until me.sampled) passed in
         let is = and_from (passes y) (is_none_earlier 0 y.until s.sleepers) passed (none_earlier y.until (0 + k) 0 (leb-true y.until me.sampled parts.1) s.sleepers before) in
-        absurd (true≢false (sym is ∙ none_passes (λ n z. is_asleep 0 z && nat_le z.until me.sampled && is_none_earlier 0 z.until s.sleepers) 0 s.sleepers no_sleeper none_first k within))
+        absurd (true≢false (sym is ∙ none_in (is_to_fire 0 me s) d.timers.held none_first k 0 (beds k parts.0)))

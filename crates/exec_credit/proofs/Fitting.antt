@@ -1,14 +1,14 @@
 -- What each move tells: an event of the cut, how many outputs more, and which wakes.
-use Rattle.std.proofs.Common.{◌≡◌, ℕ, ◌+◌, ◌-◌, ◌≤◌, ◌==◌, ◌&&◌, ◌||◌, Bool, true, false, not, if◌then◌else◌, List, [], ◌∷◌, ◌++◌, length, Option, Some, None, ◌∙◌, refl, sym, ap, subst, arith, inl, inr}
-use Rattle.std.proofs.lemmas.Bool.{false≢true, and_parts, cases_Bool, eq-eqb}
-use Rattle.std.specs.Prelude.{nat_le, nat_lt}
+use Rattle.std.proofs.Common.{◌≡◌, ℕ, suc, All, drop, ◌+◌, ◌-◌, ◌≤◌, ◌==◌, ◌&&◌, ◌||◌, Bool, true, false, not, if◌then◌else◌, List, [], ◌∷◌, ◌++◌, length, Option, Some, None, ◌∙◌, refl, sym, ap, subst, arith, inl, inr}
+use Rattle.std.proofs.lemmas.Bool.{true≢false, false≢true, and_parts, cases_Bool, eq-eqb}
+use Rattle.std.specs.Prelude.{filter, nat_le, nat_lt}
 use Rattle.exec_outcomes.specs.{Accounts.{is_durable}}
-use Rattle.exec_machine.specs.{declared.{config.{Configuration.Configuration, ScriptWord.ScriptWord}, event.Event.Event, state.{Operation.Operation, Request.Request, RequestPhase.RequestPhase, Waiting.Waiting}}, Choice.{Choice, Choice.{Pays}, Payer.ByAct}, Ranges.ring_size, Requests.{ends_by_drop, operation_asked, outcome_if_late}, Tasks.begun_waiting, Tests.{is_ready, is_resolved}, Words.{newest_held, next_word, sleep_asked}, World.{Own as Books, Common, Task, request_of, sleeper_of, task_of}}
+use Rattle.exec_machine.specs.{declared.{config.{Configuration.Configuration, ScriptWord.ScriptWord}, event.Event.Event, state.{Forwarding.TheVariants.Unsent, MailMessage.TheVariants.CancelTimer, Operation.Operation, Request.Request, RequestPhase.RequestPhase, Waiting.Waiting}}, Choice.{Choice, Choice.{Pays}, Payer.ByAct}, Ranges.ring_size, Requests.{ends_by_drop, operation_asked, outcome_if_late}, Tasks.begun_waiting, Tests.{is_applied, is_ready, is_resolved}, Words.{newest_held, next_word, sleep_asked}, World.{Own as Books, Common, Task, request_of, sleeper_of, task_of}}
 use Rattle.exec_machine.specs.declared.config.ScriptWord.TheVariants as word
 use Rattle.exec_machine.specs.declared.event.Event.TheVariants as event
 use Rattle.exec_machine.specs.declared.state.RequestPhase.TheVariants as phase
 use Rattle.exec_machine.specs.declared.state.Waiting.TheVariants as waiting
-use Rattle.exec_moves.specs.{declared.handing.{AfterCallbacks.AfterCallbacks, AfterPop.AfterPop, InPop.InPop}, declared.place.{InCallbacks.InCallbacks, InPick.InPick, InPoll.InPoll, Place.Place}, Callback.{flagged_by, goes_on, payer_of, told_if_ended, told_of_drop, waker_of}, Heights.{polls_alone, pops_alone}, Move.move_at, Parts.{first_pop, polls}, Pick.one_pick_less, Poll.{act_asked, acts_on, after_begin, after_pend, await, drop_newest, let_go, pend, sleep_for, stops, told_of_all}, State.{Desk, Moved, Own, Things, does, goes as stands_at, turns}, Thing.aside}
+use Rattle.exec_moves.specs.{declared.handing.{AfterCallbacks.AfterCallbacks, AfterPop.AfterPop, InPop.InPop}, declared.place.{InCallbacks.InCallbacks, InPick.InPick, InPoll.InPoll, Place.Place}, Callback.{Item, Item.{Wakes, LetsGo, Releases, Nothing}, flagged_by, goes_on, item_next, payer_of}, Slots.{is_in_slots, numbers_in}, Told.{awaits, awaits_no_more, has_number, lets_go_all, lets_go_request, lets_go_requests, lets_go_sleep, one_completion, one_output, one_result, owes, told_if_ended, told_of_cancel, told_of_drop, turned_away, waker_of, with_request, without_request, without_timer}, Heights.{calls_back_alone, polls_alone, pops_alone}, Move.{move_at, move_item}, Parts.{first_pop, polls}, Pick.one_pick_less, Poll.{act_asked, acts_on, after_begin, after_pend, await, drop_newest, let_go, pend, resume, sleep_for, stops}, State.{Desk, Moved, Own, Things, does, goes as stands_at, turns}, Thing.aside}
 use Rattle.exec_moves.specs.declared.handing.AfterCallbacks.TheVariants as after
 use Rattle.exec_moves.specs.declared.handing.AfterPop.TheVariants as popped
 use Rattle.exec_moves.specs.declared.handing.First.TheVariants as first
@@ -19,8 +19,8 @@ use Rattle.exec_moves.specs.declared.place.InPoll.TheVariants as poll
 use Rattle.exec_moves.specs.declared.idling.InRingWait.TheVariants as ring
 use Rattle.exec_moves.specs.declared.idling.InWordWait.TheVariants as word_wait
 use Rattle.exec_moves.specs.declared.place.Place.TheVariants as at
-use Rattle.exec_credit.specs.{Minds.stands, Minded.is_played}
-use Rattle.exec_credit.proofs.{Alone.{calm, emptied, of_one}, Minding.acted_as}
+use Rattle.exec_credit.specs.{Minds.stands, Minded.{ArePlain, is_played}}
+use Rattle.exec_credit.proofs.{Alone.{calm, emptied, of_one, pooled}, Minding.{acted_as, resumed_as}}
 
 -- the events of the cut
 abbrev pub is_cut : Event → Bool
@@ -55,10 +55,10 @@ gains s (event.Done t) = length (task_of s t).held
 gains s (event.Fault t n) = length (task_of s t).held
 gains s _ = 0
 
--- who is woken by the end of a request
-abbrev pub woken_by_end : {X : Type 0} → Option X → Request → List ℕ → List ℕ
-woken_by_end None r wakes = wakes
-woken_by_end (Some x) r wakes = if r.observed then wakes ++ waker_of r.waiter else wakes
+-- who is woken by the end of a request, beside those that are to be woken already
+abbrev pub woken_by_end : {X : Type 0} → Option X → ℕ → Request → List ℕ → List ℕ → List ℕ
+woken_by_end None r it awaited wakes = wakes
+woken_by_end (Some x) r it awaited wakes = if it.observed && has_number r awaited then wakes ++ waker_of it.waiter else wakes
 
 -- the wakes that are left after a wake by this payer
 abbrev pub left_of : ℕ → List ℕ → List ℕ
@@ -69,14 +69,34 @@ abbrev pub left_by : Choice → ℕ → List ℕ → List ℕ
 left_by (Pays ByAct) t wakes = wakes
 left_by _ t wakes = left_of t wakes
 
-abbrev pub wakes_after : Common → Event → Choice → List ℕ → List ℕ
-wakes_after s (event.Reap r n o) choice wakes = woken_by_end o (request_of s r) wakes
-wakes_after s (event.Expire r o) choice wakes = woken_by_end o (request_of s r) wakes
-wakes_after s (event.Enrol r o) choice wakes = woken_by_end o (request_of s r) wakes
-wakes_after s (event.Grant r o) choice wakes = woken_by_end o (request_of s r) wakes
-wakes_after s (event.Fire z) choice wakes = wakes ++ (sleeper_of s z).task ∷ []
-wakes_after s (event.Wake t) choice wakes = left_by choice t wakes
-wakes_after s _ choice wakes = wakes
+abbrev pub wakes_after : Common → Event → Choice → Desk → List ℕ
+wakes_after s (event.Reap r n o) choice d = woken_by_end o r (request_of s r) d.awaited d.wakes
+wakes_after s (event.Expire r o) choice d = woken_by_end o r (request_of s r) d.awaited d.wakes
+wakes_after s (event.Enrol r o) choice d = woken_by_end o r (request_of s r) d.awaited d.wakes
+wakes_after s (event.Grant r o) choice d = woken_by_end o r (request_of s r) d.awaited d.wakes
+wakes_after s (event.Fire z) choice d = d.wakes ++ (sleeper_of s z).task ∷ []
+wakes_after s (event.Wake t) choice d = left_by choice t d.wakes
+wakes_after s _ choice d = d.wakes
+
+-- the act lets go of what the root held, which waits for nothing then
+abbrev pub lets_go_by : Event → Bool
+lets_go_by (event.Drop r) = true
+lets_go_by (event.Done t) = true
+lets_go_by (event.Fault t n) = true
+lets_go_by _ = false
+
+-- of which requests the end wakes a task here, after the end of this one, or a wait for it
+abbrev pub unawaited : {X : Type 0} → Option X → ℕ → Request → List ℕ → List ℕ
+unawaited None r it awaited = awaited
+unawaited (Some x) r it awaited = if it.observed then filter (λ q. not (q == r)) awaited else awaited
+
+abbrev pub awaited_after : Common → Event → Desk → List ℕ
+awaited_after s (event.Reap r n o) d = unawaited o r (request_of s r) d.awaited
+awaited_after s (event.Expire r o) d = unawaited o r (request_of s r) d.awaited
+awaited_after s (event.Enrol r o) d = unawaited o r (request_of s r) d.awaited
+awaited_after s (event.Grant r o) d = unawaited o r (request_of s r) d.awaited
+awaited_after s (event.Wait (Some r)) d = filter (λ q. (q == r) || has_number q d.awaited) (numbers_in d.requests.held)
+awaited_after s _ d = d.awaited
 
 abbrev pub is_sleep : Event → Bool
 is_sleep (event.Sleep until) = true
@@ -93,7 +113,8 @@ may_sleep _ = false
 
 module _ (sleeps : Bool) (s : Common) (d : Desk) where
   abbrev pub Fits : Moved Things → Type 0
-  Fits m = (is_cut_by sleeps m.event ≡ true) × (m.desk.outputs ≤ d.outputs + gains s m.event) × (m.desk.wakes ≡ wakes_after s m.event m.choice d.wakes)
+  Fits m = (is_cut_by sleeps m.event ≡ true) × (m.desk.outputs ≤ d.outputs + gains s m.event) × (m.desk.wakes ≡ wakes_after s m.event m.choice d)
+      × (lets_go_by m.event ≡ false → m.desk.awaited ≡ awaited_after s m.event d)
 
   pub choose : {X : Type 0} (f : X → Moved Things) (b : Bool) (m n : X) → Fits (f m) → Fits (f n) → Fits (f (if b then m else n))
   choose f true m n h k = h
@@ -102,40 +123,108 @@ module _ (sleeps : Bool) (s : Common) (d : Desk) where
   pub same_as : (m n : Moved Things) → m ≡ n → Fits n → Fits m
   same_as m n same = subst (λ y. Fits y) (sym same)
 
--- what a request leaves that ends
-pub told_fits : {X : Type 0} (o : Option X) (r : Request) (d : Desk) → (told_if_ended o r d).outputs ≤ d.outputs + one_if_some o
-told_fits None r d = omega arith
-told_fits (Some x) r d = by r.observed
-  where
-    by : (b : Bool) → (if b then record d { wakes = d.wakes ++ waker_of r.waiter } else record d { outputs = d.outputs + 1 }).outputs ≤ d.outputs + 1
-    by true = omega arith
-    by false = omega arith
+-- WHAT IS LEFT of what ends, or is let go, where nobody waits elsewhere: so many outputs at most, and no more wakes
 
-pub told_wakes : {X : Type 0} (o : Option X) (r : Request) (d : Desk) → (told_if_ended o r d).wakes ≡ woken_by_end o r d.wakes
-told_wakes None r d = refl
-told_wakes (Some x) r d = by r.observed
-  where
-    by : (b : Bool) → (if b then record d { wakes = d.wakes ++ waker_of r.waiter } else record d { outputs = d.outputs + 1 }).wakes ≡ (if b then d.wakes ++ waker_of r.waiter else d.wakes)
-    by true = refl
-    by false = refl
+abbrev pub Leaves : ℕ → Desk → Desk → Type 0
+Leaves n d e = (e.outputs ≤ d.outputs + n) × (e.wakes ≡ d.wakes)
 
-dropped_fits : (r : Request) (d : Desk) → ((told_of_drop r d).outputs ≤ d.outputs + 1) × ((told_of_drop r d).wakes ≡ d.wakes)
-dropped_fits r d = by (is_resolved r.phase || ends_by_drop r)
-  where
-    by : (b : Bool) → ((if b then record d { outputs = d.outputs + 1 } else d).outputs ≤ d.outputs + 1) × ((if b then record d { outputs = d.outputs + 1 } else d).wakes ≡ d.wakes)
-    by true = (omega arith, refl)
-    by false = (omega arith, refl)
+leaves_if : (b : Bool) (n : ℕ) (d e f : Desk) → Leaves n d e → Leaves n d f → Leaves n d (if b then e else f)
+leaves_if true n d e f h k = h
+leaves_if false n d e f h k = k
 
-all_fits : (s : Common) (held : List ℕ) (d : Desk) → ((told_of_all s held d).outputs ≤ d.outputs + length held) × ((told_of_all s held d).wakes ≡ d.wakes)
-all_fits s [] d = (omega arith, refl)
-all_fits s (r ∷ held) d =
-    let first = dropped_fits (request_of s r) d in
-    let later = all_fits s held (told_of_drop (request_of s r) d) in
-    (omega (arith, first.0, later.0), later.1 ∙ first.1)
+leaves_both : (n m : ℕ) (d e f : Desk) → Leaves n d e → Leaves m e f → Leaves (n + m) d f
+leaves_both n m d e f first later = (omega (arith, first.0, later.0), later.1 ∙ first.1)
 
-module _ (k : Configuration) (me : Books) (s : Common) (o : Desk) (x : Things) where
+module _ (r : ℕ) (it : Request) (unsent : it.forwarding ≡ Unsent) (d : Desk) where
+  unapplied : is_applied it.forwarding ≡ false
+  unapplied = ap is_applied unsent
+
+  pub told_fits : {X : Type 0} (o : Option X) → (told_if_ended o r it d).outputs ≤ d.outputs + one_if_some o
+  told_fits None = omega arith
+  told_fits (Some x) = by it.observed (is_applied it.forwarding) unapplied (has_number r d.awaited)
+    where
+      by : (observed applied : Bool) → applied ≡ false → (awaited : Bool)
+          → (if not observed then one_output (without_request r d) else if applied then one_result r (without_request r d) else awaits_no_more r (if awaited then record d { wakes = d.wakes ++ waker_of it.waiter } else d)).outputs ≤ d.outputs + 1
+      by false applied h awaited = omega arith
+      by true true h awaited = absurd (true≢false h)
+      by true false h true = omega arith
+      by true false h false = omega arith
+
+  pub told_wakes : {X : Type 0} (o : Option X) → (told_if_ended o r it d).wakes ≡ woken_by_end o r it d.awaited d.wakes
+  told_wakes None = refl
+  told_wakes (Some x) = by it.observed (is_applied it.forwarding) unapplied (has_number r d.awaited)
+    where
+      by : (observed applied : Bool) → applied ≡ false → (awaited : Bool)
+          → (if not observed then one_output (without_request r d) else if applied then one_result r (without_request r d) else awaits_no_more r (if awaited then record d { wakes = d.wakes ++ waker_of it.waiter } else d)).wakes
+          ≡ (if observed && awaited then d.wakes ++ waker_of it.waiter else d.wakes)
+      by false applied h awaited = refl
+      by true true h awaited = absurd (true≢false h)
+      by true false h true = refl
+      by true false h false = refl
+
+  pub told_awaits : {X : Type 0} (o : Option X) → (told_if_ended o r it d).awaited ≡ unawaited o r it d.awaited
+  told_awaits None = refl
+  told_awaits (Some x) = by it.observed (is_applied it.forwarding) unapplied (has_number r d.awaited)
+    where
+      by : (observed applied : Bool) → applied ≡ false → (awaited : Bool)
+          → (if not observed then one_output (without_request r d) else if applied then one_result r (without_request r d) else awaits_no_more r (if awaited then record d { wakes = d.wakes ++ waker_of it.waiter } else d)).awaited
+          ≡ (if observed then filter (λ q. not (q == r)) d.awaited else d.awaited)
+      by false applied h awaited = refl
+      by true true h awaited = absurd (true≢false h)
+      by true false h true = refl
+      by true false h false = refl
+
+  turned_leaves : (n : ℕ) → Leaves n d (turned_away r it d)
+  turned_leaves n = by (is_applied it.forwarding) unapplied
+    where
+      by : (b : Bool) → b ≡ false → Leaves n d (if b then one_result r d else awaits_no_more r d)
+      by true h = absurd (true≢false h)
+      by false h = (omega arith, refl)
+
+  pub dropped_fits : Leaves 1 d (told_of_drop r it d)
+  dropped_fits =
+      let turned = turned_leaves 0 in
+      leaves_if (not (it.observed && is_in_slots r d.requests)) 1 d d _ (omega arith, refl)
+      (leaves_if (is_resolved it.phase) 1 d (one_output (without_request r d)) _ (omega arith, refl)
+      (leaves_if (ends_by_drop it) 1 d (one_output (without_request r (turned_away r it d))) (turned_away r it d)
+      (omega (arith, turned.0), turned.1) (turned_leaves 1)))
+
+module _ (s : Common) (ours : (r : ℕ) → (request_of s r).worker ≡ 0) (nobody : ArePlain s) where
+  held_fits : (held : List ℕ) (d : Desk) → Leaves (length held) d (lets_go_requests 0 s held d)
+  held_fits [] d = (omega arith, refl)
+  held_fits (r ∷ held) d =
+      let e = told_of_drop r (request_of s r) d in
+      let same : lets_go_request 0 r (request_of s r) d ≡ e = rw (ours r) refl in
+      let all = leaves_both 1 (length held) d e (lets_go_requests 0 s held e) (dropped_fits r (request_of s r) (nobody.requests r).0 d) (held_fits held e) in
+      subst (λ f. Leaves (suc (length held)) d (lets_go_requests 0 s held f)) (sym same) (omega (arith, all.0), all.1)
+
+  cancelled_fits : (z : ℕ) (d : Desk) → Leaves 0 d (told_of_cancel z (sleeper_of s z) d)
+  cancelled_fits z d =
+      leaves_if (not (is_in_slots z d.timers)) 0 d d _ (omega arith, refl)
+      (leaves_if (is_applied (sleeper_of s z).forwarding) 0 d (one_completion z (without_timer z d)) (without_timer z d) (omega arith, refl) (omega arith, refl))
+
+  asleep_fits : (w : Waiting) (d : Desk) → Leaves 0 d (lets_go_sleep 0 s w d)
+  asleep_fits (waiting.Timer z) d =
+      leaves_if ((sleeper_of s z).worker == 0) 0 d (told_of_cancel z (sleeper_of s z) d) (owes (sleeper_of s z).worker (CancelTimer z) d)
+      (cancelled_fits z d) (omega arith, refl)
+  asleep_fits (waiting.Request r) d = (omega arith, refl)
+  asleep_fits waiting.Nothing d = (omega arith, refl)
+  asleep_fits waiting.Wake d = (omega arith, refl)
+  asleep_fits waiting.Woken d = (omega arith, refl)
+  asleep_fits waiting.Yielded d = (omega arith, refl)
+
+  pub all_fits : (it : Task) (d : Desk) → Leaves (length it.held) d (lets_go_all 0 s it d)
+  all_fits it d =
+      let e = lets_go_requests 0 s it.held d in
+      let both = leaves_both (length it.held) 0 d e (lets_go_sleep 0 s it.waiting e) (held_fits it.held d) (asleep_fits it.waiting e) in
+      (omega (arith, both.0), both.1)
+
+module _ (k : Configuration) (me : Books) (base : Common) (o : Desk) (x : Things) (ours : (r : ℕ) → (request_of base r).worker ≡ 0) (nobody : ArePlain (pooled base)) where
   abbrev c : Configuration
   c = of_one k
+
+  abbrev s : Common
+  s = pooled base
 
   abbrev d : Desk
   d = calm o
@@ -153,13 +242,13 @@ module _ (k : Configuration) (me : Books) (s : Common) (o : Desk) (x : Things) w
   picks pick.CountDown =
       let e = one_pick_less (stands (at.Pick pick.CountDown) d) in
       choose false s d (aside (emptied x)) (nat_le d.countdown 1) (turns {T = Own} (at.Pick (pick.LoadMirror first.Global)) (record e { countdown = c.interval }) tt)
-      (turns {T = Own} (first_pop c (popped.Pick first.Own)) (record e { countdown = d.countdown - 1 }) tt) (refl, same, refl) (refl, same, refl)
-  picks (pick.LoadMirror f) = (refl, same, refl)
-  picks (pick.LoadHead f) = (refl, same, refl)
-  picks (pick.TakeShare f room held) = (refl, same, refl)
+      (turns {T = Own} (first_pop c (popped.Pick first.Own)) (record e { countdown = d.countdown - 1 }) tt) (refl, same, refl, λ h. refl) (refl, same, refl, λ h. refl)
+  picks (pick.LoadMirror f) = (refl, same, refl, λ h. refl)
+  picks (pick.LoadHead f) = (refl, same, refl, λ h. refl)
+  picks (pick.TakeShare f room held) = (refl, same, refl, λ h. refl)
 
   pub pops : (p : InPop) (b : AfterPop) → pops_alone p ≡ true → Fit (at.Pop p b)
-  pops pop.PopAlone b alone = (refl, same, refl)
+  pops pop.PopAlone b alone = (refl, same, refl, λ h. refl)
   pops pop.LoadPopHead b alone = absurd (false≢true alone)
   pops (pop.ExchangePop h) b alone = absurd (false≢true alone)
   pops pop.StorePop b alone = absurd (false≢true alone)
@@ -167,7 +256,7 @@ module _ (k : Configuration) (me : Books) (s : Common) (o : Desk) (x : Things) w
   pub flags : Fit at.TakeRootFlag
   flags =
       let e = stands at.TakeRootFlag d in
-      choose false s d (aside (emptied x)) d.root_ready (does {T = Own} event.Turn (polls me.root (record e { root_ready = false })) tt) (turns {T = Own} (at.Callbacks callback.TakeBatch after.Look) e tt) (refl, same, refl) (refl, same, refl)
+      choose false s d (aside (emptied x)) d.root_ready (does {T = Own} event.Turn (polls me.root (record e { root_ready = false })) tt) (turns {T = Own} (at.Callbacks callback.TakeBatch after.Look) e tt) (refl, same, refl, λ h. refl) (refl, same, refl, λ h. refl)
 
   -- A POLL
 
@@ -175,92 +264,107 @@ module _ (k : Configuration) (me : Books) (s : Common) (o : Desk) (x : Things) w
     abbrev it : Task
     it = task_of s t
 
-    abbrev on : InPoll → Moved Task → Type 0
-    on p n = move_at c 0 me s (stands (at.Poll t p) d) (emptied x) (at.Poll t p) ≡ aside (emptied x) n
+    abbrev Acts : Moved Task → Type 0
+    Acts n = Fits false s d (aside (emptied x) n)
 
-    pends : (p : InPoll) → on p (pend t (stands (at.Poll t p) d) it) → Fit (at.Poll t p)
-    pends p is =
+    as_it : (m n : Moved Task) → m ≡ n → Acts n → Acts m
+    as_it m n is = subst (λ y. Acts y) (sym is)
+
+    pended : (p : InPoll) → Acts (pend 0 t s (stands (at.Poll t p) d) it)
+    pended p =
         let e = stands (at.Poll t p) d in
-        same_as false s d (move_at c 0 me s e (emptied x) (at.Poll t p)) (aside (emptied x) (does (event.Pend t) (after_pend t e it (Some 0)) it))
-        (is ∙ ap (λ h. aside (emptied x) (does (event.Pend t) (after_pend t e it h) it)) home) (refl, same, refl)
+        let n = does (event.Pend t) (after_pend 0 t s e it (Some 0)) it in
+        as_it (pend 0 t s e it) n (ap (λ h. does (event.Pend t) (after_pend 0 t s e it h) it) home) (refl, same, refl, λ h. refl)
 
-    resumes : (w : Waiting) → it.waiting ≡ w → Fit (at.Poll t poll.Resume)
+    abbrev looking : Desk
+    looking = stands (at.Poll t poll.Resume) d
+
+    looked : (n : Moved Task) → resume 0 t s looking it ≡ n → Acts n → Acts (resume 0 t s looking it)
+    looked n = as_it (resume 0 t s looking it) n
+
+    resumes : (w : Waiting) → it.waiting ≡ w → Acts (resume 0 t s looking it)
     resumes (waiting.Request r) h = by (request_of s r).phase refl
       where
-        by : (ph : RequestPhase) → (request_of s r).phase ≡ ph → Fit (at.Poll t poll.Resume)
-        by (phase.Resolved outcome) k = same_as false s d (move_at c 0 me s (stands (at.Poll t poll.Resume) d) (emptied x) (at.Poll t poll.Resume)) (aside (emptied x) (does (event.Got r outcome) (acts_on t d) it)) (rw (h, k) refl) (refl, same, refl)
-        by phase.Gated k = pends poll.Resume (rw (h, k) refl)
-        by phase.Queued k = pends poll.Resume (rw (h, k) refl)
-        by phase.Staged k = pends poll.Resume (rw (h, k) refl)
-        by phase.Flying k = pends poll.Resume (rw (h, k) refl)
-        by (phase.Landed n) k = pends poll.Resume (rw (h, k) refl)
+        by : (ph : RequestPhase) → (request_of s r).phase ≡ ph → Acts (resume 0 t s looking it)
+        by (phase.Resolved outcome) k =
+            looked (does (event.Got r outcome) (acts_on t (without_request r looking)) it) (rw (h, k) refl) (refl, same, refl, λ h. refl)
+        by phase.Gated k = looked (pend 0 t s looking it) (rw (h, k) refl) (pended poll.Resume)
+        by phase.Queued k = looked (pend 0 t s looking it) (rw (h, k) refl) (pended poll.Resume)
+        by phase.Staged k = looked (pend 0 t s looking it) (rw (h, k) refl) (pended poll.Resume)
+        by phase.Flying k = looked (pend 0 t s looking it) (rw (h, k) refl) (pended poll.Resume)
+        by (phase.Landed n) k = looked (pend 0 t s looking it) (rw (h, k) refl) (pended poll.Resume)
     resumes (waiting.Timer z) h = by (sleeper_of s z).fired refl
       where
-        by : (b : Bool) → (sleeper_of s z).fired ≡ b → Fit (at.Poll t poll.Resume)
-        by true k = same_as false s d (move_at c 0 me s (stands (at.Poll t poll.Resume) d) (emptied x) (at.Poll t poll.Resume)) (aside (emptied x) (does (event.GotTimer z) (acts_on t d) it)) (rw (h, k) refl) (refl, same, refl)
-        by false k = pends poll.Resume (rw (h, k) refl)
-    resumes waiting.Woken h = same_as false s d (move_at c 0 me s (stands (at.Poll t poll.Resume) d) (emptied x) (at.Poll t poll.Resume)) (aside (emptied x) (does event.Pass (acts_on t d) it)) (rw h refl) (refl, same, refl)
-    resumes waiting.Nothing h = pends poll.Resume (rw h refl)
-    resumes waiting.Wake h = pends poll.Resume (rw h refl)
-    resumes waiting.Yielded h = pends poll.Resume (rw h refl)
+        by : (b : Bool) → (sleeper_of s z).fired ≡ b → Acts (resume 0 t s looking it)
+        by true k = looked (does (event.GotTimer z) (acts_on t looking) it) (rw (h, k) refl) (refl, same, refl, λ h. refl)
+        by false k = looked (pend 0 t s looking it) (rw (h, k) refl) (pended poll.Resume)
+    resumes waiting.Woken h = looked (does event.Pass (acts_on t looking) it) (rw h refl) (refl, same, refl, λ h. refl)
+    resumes waiting.Nothing h = looked (pend 0 t s looking it) (rw h refl) (pended poll.Resume)
+    resumes waiting.Wake h = looked (pend 0 t s looking it) (rw h refl) (pended poll.Resume)
+    resumes waiting.Yielded h = looked (pend 0 t s looking it) (rw h refl) (pended poll.Resume)
+
+    resumed : Fit (at.Poll t poll.Resume)
+    resumed =
+        same_as false s d (move_at c 0 me s looking (emptied x) (at.Poll t poll.Resume)) (aside (emptied x) (resume 0 t s looking it))
+        (resumed_as c me s looking (emptied x) ours nobody t) (resumes it.waiting refl)
 
     abbrev here : Desk
     here = stands (at.Poll t poll.Act) d
 
-    abbrev Acts : Moved Task → Type 0
-    Acts n = Fits false s d (aside (emptied x) n)
-
-    awaits : (o : Option ℕ) → Acts (await t s here it o)
-    awaits None = (refl, same, refl)
-    awaits (Some r) = by (request_of s r).phase refl
+    awaits_newest : (o : Option ℕ) → Acts (await t s here it o)
+    awaits_newest None = (refl, same, refl, λ h. refl)
+    awaits_newest (Some r) = by (request_of s r).phase refl
       where
-        to : (n : Moved Task) → await t s here it (Some r) ≡ n → Acts n → Acts (await t s here it (Some r))
-        to n is = same_as false s d (aside (emptied x) (await t s here it (Some r))) (aside (emptied x) n) (ap (aside (emptied x)) is)
+        waited : await t s here it (Some r) ≡ does (event.Wait (Some r)) (stops t (awaits r here)) it → Acts (await t s here it (Some r))
+        waited is = as_it (await t s here it (Some r)) (does (event.Wait (Some r)) (stops t (awaits r here)) it) is (refl, same, refl, λ h. refl)
 
         by : (ph : RequestPhase) → (request_of s r).phase ≡ ph → Acts (await t s here it (Some r))
-        by (phase.Resolved outcome) k = to (does (event.Got r outcome) (acts_on t here) it) (rw k refl) (refl, same, refl)
-        by phase.Gated k = to (does (event.Wait (Some r)) (stops t here) it) (rw k refl) (refl, same, refl)
-        by phase.Queued k = to (does (event.Wait (Some r)) (stops t here) it) (rw k refl) (refl, same, refl)
-        by phase.Staged k = to (does (event.Wait (Some r)) (stops t here) it) (rw k refl) (refl, same, refl)
-        by phase.Flying k = to (does (event.Wait (Some r)) (stops t here) it) (rw k refl) (refl, same, refl)
-        by (phase.Landed n) k = to (does (event.Wait (Some r)) (stops t here) it) (rw k refl) (refl, same, refl)
+        by (phase.Resolved outcome) k =
+            as_it (await t s here it (Some r)) (does (event.Got r outcome) (acts_on t (without_request r here)) it) (rw k refl) (refl, same, refl, λ h. refl)
+        by phase.Gated k = waited (rw k refl)
+        by phase.Queued k = waited (rw k refl)
+        by phase.Staged k = waited (rw k refl)
+        by phase.Flying k = waited (rw k refl)
+        by (phase.Landed n) k = waited (rw k refl)
 
     drops : (o : Option ℕ) → Acts (drop_newest t s here it o)
-    drops None = (refl, same, refl)
-    drops (Some r) = let told = dropped_fits (request_of s r) here in (refl, told.0, told.1)
+    drops None = (refl, same, refl, λ h. refl)
+    drops (Some r) = let told = dropped_fits r (request_of s r) (nobody.requests r).0 here in (refl, told.0, told.1, λ h. absurd (true≢false h))
 
     sleeps : (o : Option ℕ) → Acts (sleep_for t s here it o)
-    sleeps None = (refl, same, refl)
-    sleeps (Some until) = (refl, same, refl)
+    sleeps None = (refl, same, refl, λ h. refl)
+    sleeps (Some until) = (refl, same, refl, λ h. refl)
 
-    acts : (w : ScriptWord) (o : Option Operation) → Acts (act_asked t me s here it w o)
+    acts : (w : ScriptWord) (o : Option Operation) → Acts (act_asked 0 t me s here it w o)
     acts w (Some o) =
-        choose false s d (λ (e : Desk). aside (emptied x) (does (event.Admit (length s.requests) o.kind (outcome_if_late me.sampled o.deadline)) e it)) (is_durable o.kind)
-        (record here { place = at.Poll t (poll.JoinGate (length s.requests)) }) (acts_on t here) (refl, same, refl) (refl, same, refl)
-    acts word.Await None = awaits (newest_held it)
+        let admits = event.Admit (length s.requests) o.kind (outcome_if_late me.sampled o.deadline) in
+        let e = with_request (length s.requests) here in
+        choose false s d (λ (e : Desk). aside (emptied x) (does admits e it)) (is_durable o.kind)
+        (record e { place = at.Poll t (poll.JoinGate (length s.requests)) }) (acts_on t e) (refl, same, refl, λ h. refl) (refl, same, refl, λ h. refl)
+    acts word.Await None = awaits_newest (newest_held it)
     acts word.Drop None = drops (newest_held it)
     acts (word.Sleep time) None = sleeps (sleep_asked me.sampled (word.Sleep time))
-    acts (word.Fault code) None = let told = all_fits s it.held here in (refl, told.0, told.1)
-    acts word.End None = let told = all_fits s it.held here in (refl, told.0, told.1)
-    acts w None = (refl, same, refl)
+    acts (word.Fault code) None = let told = all_fits s ours nobody it here in (refl, told.0, told.1, λ h. absurd (true≢false h))
+    acts word.End None = let told = all_fits s ours nobody it here in (refl, told.0, told.1, λ h. absurd (true≢false h))
+    acts w None = (refl, same, refl, λ h. refl)
 
     begins : is_ready it.phase ≡ true → Fit (at.Poll t poll.BeginPoll)
     begins ready =
         let e = stands (at.Poll t poll.BeginPoll) d in
-        same_as false s d (move_at c 0 me s e (emptied x) (at.Poll t poll.BeginPoll)) (aside (emptied x) (does (event.Begin t) (stands_at (at.Poll t (after_begin (begun_waiting it.waiting))) (let_go e)) it)) (rw ready refl) (refl, same, refl)
+        same_as false s d (move_at c 0 me s e (emptied x) (at.Poll t poll.BeginPoll)) (aside (emptied x) (does (event.Begin t) (stands_at (at.Poll t (after_begin (begun_waiting it.waiting))) (let_go e)) it)) (rw ready refl) (refl, same, refl, λ h. refl)
 
     acted : is_played (next_word s it) ≡ true → Fit (at.Poll t poll.Act)
     acted can =
         let w = next_word s it in
-        same_as false s d (move_at c 0 me s here (emptied x) (at.Poll t poll.Act)) (aside (emptied x) (act_asked t me s here it w (operation_asked c me.sampled w)))
-        (acted_as c me s here (emptied x) t w refl can) (acts w (operation_asked c me.sampled w))
+        same_as false s d (move_at c 0 me s here (emptied x) (at.Poll t poll.Act)) (aside (emptied x) (act_asked 0 t me s here it w (operation_asked c me.sampled w)))
+        (acted_as c me s here (emptied x) ours nobody t w refl can) (acts w (operation_asked c me.sampled w))
 
     pub polls_on : (p : InPoll) → polls_alone p ≡ true → (p ≡ poll.BeginPoll → is_ready it.phase ≡ true) → is_played (next_word s it) ≡ true → Fit (at.Poll t p)
     polls_on poll.BeginPoll alone ready can = begins (ready refl)
-    polls_on poll.Resume alone ready can = resumes it.waiting refl
+    polls_on poll.Resume alone ready can = resumed
     polls_on poll.Act alone ready can = acted can
-    polls_on (poll.JoinGate r) alone ready can = (refl, same, refl)
-    polls_on poll.Pend alone ready can = pends poll.Pend refl
+    polls_on (poll.JoinGate r) alone ready can = (refl, same, refl, λ h. refl)
+    polls_on poll.Pend alone ready can = pended poll.Pend
     polls_on poll.LoadSpawnHead alone ready can = absurd (false≢true alone)
     polls_on poll.RemoveTask alone ready can = absurd (false≢true alone)
 
@@ -277,30 +381,42 @@ module _ (k : Configuration) (me : Books) (s : Common) (o : Desk) (x : Things) w
   paid_left waiting.Woken t wakes = first_left t wakes
   paid_left waiting.Yielded t wakes = first_left t wakes
 
-  module _ (n : AfterCallbacks) where
+  -- each wake that is left is of the root
+  module _ (home : (task_of s 0).home ≡ Some 0) (zeros : All (λ t. t ≡ 0) d.wakes) (n : AfterCallbacks) where
     abbrev calling : Desk
     calling = stands (at.Callbacks callback.CallBack n) d
 
-    abbrev calls : Moved Things
-    calls = move_at c 0 me s calling (emptied x) (at.Callbacks callback.CallBack n)
+    abbrev FitItem : Item → Type 0
+    FitItem it = Fits false s d (move_item c 0 me s calling (emptied x) n it)
 
-    released : (ended : List ℕ) → d.wakes ≡ [] → nat_lt 0 d.outputs ≡ false → me.ended ≡ ended → Fits false s d calls
-    released [] none no_output is = same_as false s d calls (aside (emptied x) (does event.Turn (record calling { place = calls.desk.place }) (task_of s 0))) (rw (none, no_output, is) refl) (refl, same, refl)
-    released (r ∷ ended) none no_output is = same_as false s d calls (aside (emptied x) (does (event.Release r) (record calling { place = calls.desk.place }) (task_of s 0))) (rw (none, no_output, is) refl) (refl, same, refl)
+    by_item : (i : Item) → item_next me calling ≡ i → FitItem i → FitItem (item_next me calling)
+    by_item i is = subst (λ j. FitItem j) (sym is)
 
-    calls_back : (wakes : List ℕ) → d.wakes ≡ wakes → Fits false s d calls
-    calls_back (t ∷ wakes) is =
+    wakes_one : (t : ℕ) (wakes : List ℕ) → d.wakes ≡ t ∷ wakes → (task_of s t).home ≡ Some 0 → FitItem (Wakes t)
+    wakes_one t wakes is at_home =
         let it = task_of s t in
-        same_as false s d calls (aside (emptied x) (record { event = event.Wake t; choice = payer_of it.waiting; desk = goes_on (ring_size c) 0 me s n (flagged_by it (record calling { wakes = wakes })); thing = it })) (rw is refl)
-        (refl, same, paid_left it.waiting t wakes ∙ ap (left_by (payer_of it.waiting) t) (sym is))
+        let e = goes_on (ring_size c) 0 me s n (flagged_by it (record calling { wakes = drop 1 d.wakes })) in
+        same_as false s d (move_item c 0 me s calling (emptied x) n (Wakes t))
+        (aside (emptied x) (record { event = event.Wake t; choice = payer_of it.waiting; desk = e; thing = it })) (rw at_home refl)
+        (refl, same, ap (drop 1) is ∙ (paid_left it.waiting t wakes ∙ ap (left_by (payer_of it.waiting) t) (sym is)), λ h. refl)
+
+    last : (ended : List ℕ) → me.ended ≡ ended → d.wakes ≡ [] → nat_lt 0 d.outputs ≡ false → FitItem (item_next me calling)
+    last [] is none no_output = by_item Nothing (rw (none, no_output, is) refl) (refl, same, refl, λ h. refl)
+    last (r ∷ ended) is none no_output = by_item (Releases r) (rw (none, no_output, is) refl) (refl, same, refl, λ h. refl)
+
+    calls_back : (wakes : List ℕ) → d.wakes ≡ wakes → FitItem (item_next me calling)
+    calls_back (t ∷ wakes) is =
+        let zero : t ≡ 0 = subst (λ us. All (λ u. u ≡ 0) us) is zeros 0 t (omega arith) in
+        by_item (Wakes t) (rw is refl) (wakes_one t wakes is (ap (λ j. (task_of s j).home) zero ∙ home))
     calls_back [] is = elim (cases_Bool (nat_lt 0 d.outputs)) [
-      | inl some ↦ same_as false s d calls (aside (emptied x) (does event.Turn (goes_on (ring_size c) 0 me s n (record calling { outputs = d.outputs - 1 })) (task_of s 0))) (rw (is, some) refl) (refl, omega arith, refl)
-      | inr no_output ↦ released me.ended is no_output refl
+      | inl some ↦ by_item LetsGo (rw (is, some) refl) (refl, omega arith, refl, λ h. refl)
+      | inr no_output ↦ last me.ended refl is no_output
     ]
 
-    pub calls_on : (p : InCallbacks) → Fit (at.Callbacks p n)
-    calls_on callback.TakeBatch = (refl, same, refl)
-    calls_on callback.CallBack = calls_back d.wakes refl
+    pub calls_on : (p : InCallbacks) → calls_back_alone p ≡ true → Fit (at.Callbacks p n)
+    calls_on callback.TakeBatch alone = (refl, same, refl, λ h. refl)
+    calls_on callback.CallBack alone = calls_back d.wakes refl
+    calls_on (callback.WakeWaiter t of) alone = absurd (false≢true alone)
 
 pub cut_of : (b : Bool) (e : Event) → is_cut_by b e ≡ true → is_cut e ≡ true
 cut_of b e h = (and_parts (b || not (is_sleep e)) (is_cut e) h).1

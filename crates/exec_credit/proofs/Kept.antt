@@ -7,7 +7,7 @@ use Rattle.exec_machine.specs.After.{common_after}
 use Rattle.exec_machine.specs.{declared.{config.Configuration.Configuration, step.Action.Action}, Callers.{after_landing, is_enabled}, Examples.refuses, Progress.{Plan, quiet_bound}, Requests.{asked_of, cursor_of}, Run.{Follows, first_tasks}, Tests.{is_empty, is_flying}, World.{no_task, own_of, request_of}}
 use Rattle.exec_machine.specs.declared.state.RequestPhase.TheVariants as phase
 use Rattle.exec_machine.specs.declared.step.Action.TheVariants as action
-use Rattle.exec_moves.specs.{Move.move, Plays.{Played, Playing, by_action, by_step, credit_of, desk_of, first_desk, first_playing}, State.{Desk, Things}}
+use Rattle.exec_moves.specs.{Move.move, Plays.{Played, Playing, by_action, by_step, credit_of, desk_of, first_desk, first_playing, newcomers}, State.{Desk, Things}}
 use Rattle.exec_credit.specs.Minded.{Bounded, BoundedIn, PaidIn, StoodIn, begins_call}
 use Rattle.exec_credit.proofs.{Begun.first_of, Bounding.{bounded_then, bounded_credit}, Others.flying_open, Stepped.{desk_set, landed_desk, nobody_there, none_half}, Weighing.{no_more_open, one_le, open_one}}
 
@@ -28,14 +28,14 @@ module _ (c : Configuration) (x : Playing) (stood : StoodIn c x) (desks : is_emp
   by_party : (a : Action) → begins_call a ≡ false → is_enabled x.world.common a ≡ true → Follows c x.world a (by_action c x a).told.0.said (by_action c x a).told.1 → BoundedIn c (by_action c x a).next
   by_party (action.Work zero) inside may follows =
       let m = move c 0 (own_of x.world 0) x.world.common (desk_of c x 0) x.things in
-      subst (λ (e : Desk). Bounded (common_after c (own_of x.world 0) x.world.common 0 m.event m.choice) e) (sym (desk_set x.desks m.desk (first_desk c 0) desks))
+      subst (λ (e : Desk). Bounded (common_after c (own_of x.world 0) x.world.common 0 m.event m.choice) e) (sym (desk_set x.desks m.desk (first_desk c 0) (newcomers c m.event) desks))
       (bounded_then c (own_of x.world 0) x.world.common (desk_of c x 0) x.things stood.here stood.root paid bounded follows.1)
   by_party (action.Work (suc i)) inside may follows = absurd (false≢true (sym (nobody_there x.world.common i stood.here.seats) ∙ may))
   by_party (action.Spawn j k) inside may follows = absurd (true≢false inside)
   by_party (action.Wake j t) inside may follows = absurd (true≢false inside)
   by_party (action.GoOn j) inside may follows = absurd (false≢true (sym (none_half x.world.common.callers stood.callers j) ∙ may))
   by_party (action.Clock d) inside may follows = record { outputs = bounded.outputs }
-  by_party (action.Land r n) inside may follows = landed_desk c x desks r (stood.here.plain.ours r) (λ (e : Desk) (y : Things). Bounded (after_landing x.world.common r n) e) (lands r n (and_parts (is_flying (request_of x.world.common r).phase) (is_lawful (window_of (asked_of (request_of x.world.common r).operation) (cursor_of (request_of x.world.common r).operation)) n) may).0)
+  by_party (action.Land r n) inside may follows = landed_desk c x desks r (stood.here.ours r) (λ (e : Desk) (y : Things). Bounded (after_landing x.world.common r n) e) (lands r n (and_parts (is_flying (request_of x.world.common r).phase) (is_lawful (window_of (asked_of (request_of x.world.common r).operation) (cursor_of (request_of x.world.common r).operation)) n) may).0)
   by_party (action.SetBusy i) inside may follows = record { outputs = bounded.outputs }
   by_party (action.EndPoll i) inside may follows = record { outputs = bounded.outputs }
   by_party (action.Stir i) inside may follows = record { outputs = bounded.outputs }

@@ -24,6 +24,7 @@ mod Others
 mod Stepped
 mod Begun
 mod Fitting
+mod Here
 mod Fitted
 mod Listed
 mod Listing
@@ -37,3 +38,4 @@ mod Woken
 mod Resting
 mod Fair
 mod RestedThen
+pub mod Knowing

@@ -9,15 +9,18 @@ use Rattle.exec_moves.specs.declared.place.InMail.TheVariants as mail
 use Rattle.exec_moves.specs.declared.place.Round.TheVariants as round
 use Rattle.exec_moves.specs.declared.place.Place.TheVariants as at
 use Rattle.exec_credit.specs.Minds.{Falls, FallsAt, IsAlone, seen, stands}
-use Rattle.exec_credit.proofs.{Alone.{at_alone, calm, of_one, settled}, Falling.{sinks, down, either}}
+use Rattle.exec_credit.proofs.{Alone.{at_alone, calm, of_one, pooled, settled}, Falling.{sinks, down, either}}
 
 -- no mail is there
 pub unread : (d : Desk) (w : PureWord) → has_mail d w ≡ false → d.batch ≡ [] → one_if (has_mail d w || not (is_empty d.batch)) ≡ 0
 unread d w none empty = ap one_if (or_from (has_mail d w) (not (is_empty d.batch)) none (ap (λ b. not (is_empty b)) empty))
 
-module _ (k : Configuration) (me : Books) (s : Common) (e : Desk) (y : Things) where
+module _ (k : Configuration) (me : Books) (base : Common) (e : Desk) (y : Things) where
   abbrev c : Configuration
   c = of_one k
+
+  abbrev s : Common
+  s = pooled base
 
   abbrev d : Desk
   d = calm e
@@ -66,10 +69,10 @@ module _ (k : Configuration) (me : Books) (s : Common) (e : Desk) (y : Things) w
   mails_alone none empty (mail.Apply applied taken) = apply_falls none applied taken d.batch
 
 module _ (c : Configuration) (i : ℕ) (me : Books) (s : Common) (d : Desk) (x : Things) where
-  pub loads : (p : InLoads) (r : Round) → IsAlone c i d x (at.Loads p r) → FallsAt c i me s d x (at.Loads p r)
-  loads p r it = at_alone c i d x (at.Loads p r) it (λ k j e y. FallsAt k j me s e y (at.Loads p r)) (loads_alone c me s d x p r)
+  pub loads : (p : InLoads) (r : Round) → IsAlone c i s d x (at.Loads p r) → FallsAt c i me s d x (at.Loads p r)
+  loads p r it = at_alone c i s d x (at.Loads p r) it (λ k j common e y. FallsAt k j me common e y (at.Loads p r)) (loads_alone c me s d x p r)
 
-  pub mails : has_mail d (word_of x i) ≡ false → d.batch ≡ [] → (p : InMail) → IsAlone c i d x (at.Mail p) → FallsAt c i me s d x (at.Mail p)
+  pub mails : has_mail d (word_of x i) ≡ false → d.batch ≡ [] → (p : InMail) → IsAlone c i s d x (at.Mail p) → FallsAt c i me s d x (at.Mail p)
   mails none empty p it =
-      at_alone c i d x (at.Mail p) it (λ k j e y. FallsAt k j me s e y (at.Mail p))
+      at_alone c i s d x (at.Mail p) it (λ k j common e y. FallsAt k j me common e y (at.Mail p))
       (mails_alone c me s d x (subst (λ j. has_mail d (word_of x j) ≡ false) it.first none) empty p)

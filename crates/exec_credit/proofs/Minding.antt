@@ -6,17 +6,19 @@ use Rattle.std.proofs.lemmas.List.Elements.{All-tail}
 use Rattle.std.proofs.lemmas.Option.{slice_get-get_or}
 use Rattle.std.specs.Prelude.{slice_get}
 use Rattle.std.specs.List.{list_any}
-use Rattle.exec_machine.specs.{declared.{config.{Configuration.Configuration, ScriptWord.ScriptWord, Spin.Spin}, state.{Code.Code, Request.Request, RequestPhase.RequestPhase, Waiting.Waiting}}, Ranges.{largest_spin, ring_size}, Requests.operation_asked, Tests.{is_gated, is_empty}, Text.is_quiet, Words.{idle_words, is_idle_word, newest_held, next_word, sleep_asked, waiting_words, words_left}, World.{Own as Books, Common, Open, Task, no_request, task_of, request_of, sleeper_of}}
+use Rattle.exec_outcomes.specs.Accounts.{is_durable}
+use Rattle.exec_machine.specs.{declared.{config.{Configuration.Configuration, ScriptWord.ScriptWord, Spin.Spin}, state.{Code.Code, Request.Request, RequestPhase.RequestPhase, Waiting.Waiting}}, Ranges.{largest_spin, ring_size}, Requests.{operation_asked, operation_or_none}, Tests.{is_gated, is_empty}, Text.is_quiet, Words.{idle_words, is_idle_word, newest_held, next_word, sleep_asked, waiting_words, words_left}, World.{Own as Books, Common, Open, Task, no_request, task_of, request_of, sleeper_of}}
 use Rattle.exec_machine.specs.declared.config.ScriptWord.TheVariants as word
 use Rattle.exec_machine.specs.declared.state.Code.TheVariants as code
 use Rattle.exec_machine.specs.declared.state.Next.TheVariants as next
 use Rattle.exec_machine.specs.declared.state.RequestPhase.TheVariants as phase
 use Rattle.exec_machine.specs.declared.state.Waiting.TheVariants as waiting
 use Rattle.exec_machine.specs.Tests.{is_ready}
-use Rattle.exec_moves.specs.{declared.place.{InPoll.InPoll, Place.Place}, Heights.polls_alone, Move.{move_act, move_at}, Poll.{act, act_asked, await, drop_newest, resume, sleep_for}, Seen.next_at, Serve.first_numbered, State.{Desk, Things, Moved, word_of as wake_word}, Submit.{next_gate, waits_at}, Thing.aside}
+use Rattle.exec_moves.specs.{declared.place.{InPoll.InPoll, Place.Place}, Heights.polls_alone, Move.{move_act, move_at, move_look_at}, Poll.{Sight.Here, act, act_asked, await, cancels_elsewhere, drop_newest, resume, sight_of, sight_of_act, sight_of_newest, sight_of_request, sleep_for}, Seen.next_at, Serve.first_numbered, State.{Desk, Things, Moved, word_of as wake_word}, Submit.{next_gate, waits_at}, Thing.aside}
+use Rattle.exec_moves.specs.declared.handing.AfterSend.TheVariants as send
 use Rattle.exec_moves.specs.declared.place.InPoll.TheVariants as poll
 use Rattle.exec_moves.specs.declared.place.Place.TheVariants as at
-use Rattle.exec_credit.specs.{Minds.{Minds, closes, is_alone, is_poll}, Minded.{HasRoot, Minded, PollsRoot, Stood, is_joining, is_played}}
+use Rattle.exec_credit.specs.{Minds.{Minds, closes, is_alone, is_poll}, Minded.{ArePlain, HasRoot, Minded, PollsRoot, Stood, is_joining, is_played}}
 use Rattle.exec_credit.proofs.{Alone.parts_of, First.{deadlines, sleepers}, Leading.no_mail}
 
 -- NO GATES
@@ -84,9 +86,57 @@ module _ (s : Common) (scripts : s.scripts ≡ []) (words : All (λ w. is_played
 
   pub played : is_played (next_word s t) ≡ true
   played = word_of (words_left s t) (all_left t.code refl) (idle_words s t (words_left s t))
-  -- NO STEP OF A POLL IS QUIET
 
-module _ (c : Configuration) (me : Books) (s : Common) (d : Desk) (x : Things) (t : ℕ) where
+-- none asks for a permit
+pub undurable : (c : Configuration) (sampled : ℕ) (w : ScriptWord) → is_played w ≡ true
+    → is_durable (operation_or_none (operation_asked c sampled w)).kind ≡ false
+undurable c sampled (word.Poll l) h = refl
+undurable c sampled (word.Send socket n) h = refl
+undurable c sampled (word.Recv socket n) h = refl
+undurable c sampled (word.Fill socket n) h = refl
+undurable c sampled (word.Connect socket) h = refl
+undurable c sampled (word.Read file offset n) h = refl
+undurable c sampled (word.Hint file offset n) h = refl
+undurable c sampled (word.Direct file offset n) h = refl
+undurable c sampled (word.Write file offset n) h = refl
+undurable c sampled word.Await h = refl
+undurable c sampled word.Drop h = refl
+undurable c sampled (word.Sleep time) h = refl
+undurable c sampled word.Yield h = refl
+undurable c sampled word.End h = refl
+undurable c sampled (word.Fault code) h = refl
+undurable c sampled w h = absurd (false≢true h)
+
+-- WHERE THE ROOT LOOKS: here, since nobody waits elsewhere
+
+module _ (s : Common) (ours : (r : ℕ) → (request_of s r).worker ≡ 0) (here : ArePlain s) where
+  request_here : (r : ℕ) → sight_of_request 0 s r ≡ Here
+  request_here r = rw ((here.requests r).0, ours r) refl
+
+  newest_here : (o : Option ℕ) → sight_of_newest 0 s o ≡ Here
+  newest_here None = refl
+  newest_here (Some r) = request_here r
+
+  dropped_here : (o : Option ℕ) → cancels_elsewhere 0 s o ≡ Here
+  dropped_here None = refl
+  dropped_here (Some r) = rw (ours r) refl
+
+  pub waiting_here : (w : Waiting) → sight_of 0 s w ≡ Here
+  waiting_here (waiting.Request r) = request_here r
+  waiting_here (waiting.Timer z) = rw ((here.sleepers z).1, (here.sleepers z).0) refl
+  waiting_here waiting.Nothing = refl
+  waiting_here waiting.Wake = refl
+  waiting_here waiting.Woken = refl
+  waiting_here waiting.Yielded = refl
+
+  pub acting_here : (it : Task) (w : ScriptWord) → sight_of_act 0 s it w ≡ Here
+  acting_here it word.Await = newest_here (newest_held it)
+  acting_here it word.Drop = dropped_here (newest_held it)
+  acting_here it w = refl
+
+-- NO STEP OF A POLL IS QUIET
+
+module _ (c : Configuration) (me : Books) (s : Common) (d : Desk) (x : Things) (ours : (r : ℕ) → (request_of s r).worker ≡ 0) (here : ArePlain s) (t : ℕ) where
   abbrev it : Task
   it = task_of s t
 
@@ -110,9 +160,16 @@ module _ (c : Configuration) (me : Books) (s : Common) (d : Desk) (x : Things) (
   drops None none some = absurd (newest it.held some none)
   drops (Some r) is some = refl
 
-  acts : (w : ScriptWord) → is_played w ≡ true → is_idle_word s it w ≡ false → is_quiet (act_asked t me s d it w (operation_asked c me.sampled w)).event ≡ false
-  acts (word.Send socket n) can idle = refl
+  acts : (w : ScriptWord) → is_played w ≡ true → is_idle_word s it w ≡ false → is_quiet (act_asked 0 t me s d it w (operation_asked c me.sampled w)).event ≡ false
   acts (word.Poll l) can idle = refl
+  acts (word.Send socket n) can idle = refl
+  acts (word.Recv socket n) can idle = refl
+  acts (word.Fill socket n) can idle = refl
+  acts (word.Connect socket) can idle = refl
+  acts (word.Read file offset n) can idle = refl
+  acts (word.Hint file offset n) can idle = refl
+  acts (word.Direct file offset n) can idle = refl
+  acts (word.Write file offset n) can idle = refl
   acts word.Await can idle = awaits (newest_held it)
   acts word.Drop can idle = drops (newest_held it) refl idle
   acts (word.Sleep time) can idle = sleeps (sleep_asked me.sampled (word.Sleep time))
@@ -121,10 +178,14 @@ module _ (c : Configuration) (me : Books) (s : Common) (d : Desk) (x : Things) (
   acts (word.Fault code) can idle = refl
   acts w can idle = absurd (false≢true can)
 
-  resumes : (w : Waiting) → it.waiting ≡ w → is_quiet (resume t s d it).event ≡ false
+  -- a look at what it waits for
+  pub resumed_as : move_at c 0 me s d x (at.Poll t poll.Resume) ≡ aside x (resume 0 t s d it)
+  resumed_as = ap (move_look_at c s d x t (send.Pend t) (aside x (resume 0 t s d it))) (waiting_here s ours here it.waiting)
+
+  resumes : (w : Waiting) → it.waiting ≡ w → is_quiet (resume 0 t s d it).event ≡ false
   resumes (waiting.Request r) h = by (request_of s r).phase refl
     where
-      by : (ph : RequestPhase) → (request_of s r).phase ≡ ph → is_quiet (resume t s d it).event ≡ false
+      by : (ph : RequestPhase) → (request_of s r).phase ≡ ph → is_quiet (resume 0 t s d it).event ≡ false
       by (phase.Resolved outcome) k = rw (h, k) refl
       by phase.Gated k = rw (h, k) refl
       by phase.Queued k = rw (h, k) refl
@@ -133,7 +194,7 @@ module _ (c : Configuration) (me : Books) (s : Common) (d : Desk) (x : Things) (
       by (phase.Landed n) k = rw (h, k) refl
   resumes (waiting.Timer z) h = by (sleeper_of s z).fired refl
     where
-      by : (b : Bool) → (sleeper_of s z).fired ≡ b → is_quiet (resume t s d it).event ≡ false
+      by : (b : Bool) → (sleeper_of s z).fired ≡ b → is_quiet (resume 0 t s d it).event ≡ false
       by true k = rw (h, k) refl
       by false k = rw (h, k) refl
   resumes waiting.Woken h = rw h refl
@@ -142,15 +203,24 @@ module _ (c : Configuration) (me : Books) (s : Common) (d : Desk) (x : Things) (
   resumes waiting.Yielded h = rw h refl
 
   -- an act, by its word
-  pub acted_as : (w : ScriptWord) → next_word s it ≡ w → is_played w ≡ true → move_at c 0 me s d x (at.Poll t poll.Act) ≡ aside x (act_asked t me s d it w (operation_asked c me.sampled w))
+  pub acted_as : (w : ScriptWord) → next_word s it ≡ w → is_played w ≡ true → move_at c 0 me s d x (at.Poll t poll.Act) ≡ aside x (act_asked 0 t me s d it w (operation_asked c me.sampled w))
   acted_as w is can =
-      ap (λ v. move_act c 0 me s d x t v) is ∙ (by w can ∙ ap (λ v. aside x (act_asked t me s d it v (operation_asked c me.sampled v))) is)
+      ap (λ v. move_act c 0 me s d x t v) is ∙ (by w can ∙ ap (λ v. aside x (act_asked 0 t me s d it v (operation_asked c me.sampled v))) is)
     where
-      by : (w : ScriptWord) → is_played w ≡ true → move_act c 0 me s d x t w ≡ aside x (act c t me s d it)
-      by (word.Send socket n) can = refl
+      by : (w : ScriptWord) → is_played w ≡ true → move_act c 0 me s d x t w ≡ aside x (act c 0 t me s d it)
       by (word.Poll l) can = refl
-      by word.Await can = refl
-      by word.Drop can = refl
+      by (word.Send socket n) can = refl
+      by (word.Recv socket n) can = refl
+      by (word.Fill socket n) can = refl
+      by (word.Connect socket) can = refl
+      by (word.Read file offset n) can = refl
+      by (word.Hint file offset n) can = refl
+      by (word.Direct file offset n) can = refl
+      by (word.Write file offset n) can = refl
+      by word.Await can =
+          ap (move_look_at c s d x t (send.Pend t) (aside x (act c 0 t me s d it))) (acting_here s ours here it word.Await)
+      by word.Drop can =
+          ap (move_look_at c s d x t (send.Act t) (aside x (act c 0 t me s d it))) (acting_here s ours here it word.Drop)
       by (word.Sleep time) can = refl
       by word.Yield can = refl
       by word.End can = refl
@@ -160,7 +230,8 @@ module _ (c : Configuration) (me : Books) (s : Common) (d : Desk) (x : Things) (
   polls : s.scripts ≡ [] → All (λ w. is_played w ≡ true) s.root → (p : InPoll) → (p ≡ poll.BeginPoll → is_ready it.phase ≡ true) → polls_alone p ≡ true → is_joining (at.Poll t p) ≡ false
       → is_quiet (move_at c 0 me s d x (at.Poll t p)).event ≡ false
   polls scripts words poll.BeginPoll ready alone joins = rw (ready refl) refl
-  polls scripts words poll.Resume ready alone joins = resumes it.waiting refl
+  polls scripts words poll.Resume ready alone joins =
+      subst (λ (m : Moved Things). is_quiet m.event ≡ false) (sym resumed_as) (resumes it.waiting refl)
   polls scripts words poll.Act ready alone joins =
       let can = played s scripts words it in
       subst (λ (m : Moved Things). is_quiet m.event ≡ false) (sym (acted_as (next_word s it) refl can)) (acts (next_word s it) can (next_acts s it (words_left s it)))
@@ -194,11 +265,11 @@ next_free (at.Poll t (poll.JoinGate r)) open_still joins = absurd (true≢false 
 next_free p open_still joins = refl
 
 module _ (c : Configuration) (me : Books) (s : Common) (d : Desk) (x : Things) where
-  told : s.scripts ≡ [] → All (λ w. is_played w ≡ true) s.root → (p : Place) → PollsRoot s p → is_alone p ≡ true → is_joining p ≡ false → is_poll p ≡ true → is_quiet (move_at c 0 me s d x p).event ≡ false
-  told scripts words (at.Poll t p) polled alone joins polling =
+  told : ((r : ℕ) → (request_of s r).worker ≡ 0) → ArePlain s → s.scripts ≡ [] → All (λ w. is_played w ≡ true) s.root → (p : Place) → PollsRoot s p → is_alone p ≡ true → is_joining p ≡ false → is_poll p ≡ true → is_quiet (move_at c 0 me s d x p).event ≡ false
+  told ours nobody scripts words (at.Poll t p) polled alone joins polling =
       let here = in_poll s t p polled in
-      polls c me s d x t scripts words p (λ h. subst (λ j. is_ready (task_of s j).phase ≡ true) (sym here.0) (here.1 h)) alone joins
-  told scripts words p polled alone joins polling = absurd (false≢true polling)
+      polls c me s d x ours nobody t scripts words p (λ h. subst (λ j. is_ready (task_of s j).phase ≡ true) (sym here.0) (here.1 h)) alone joins
+  told ours nobody scripts words p polled alone joins polling = absurd (false≢true polling)
 
   pub minds : nat_lt 0 (ring_size c) ≡ true → Stood me s d x → HasRoot me s d → Minded c me s d x → closes d.place ≡ false → Minds c 0 me s d x
   minds ring stood root minded open_still =
@@ -210,6 +281,8 @@ module _ (c : Configuration) (me : Books) (s : Common) (d : Desk) (x : Things) w
             record {
               lone = minded.workers;
               first = refl;
+              pool = stood.pool;
+              no_ends = lone.no_ends;
               place = lone.place;
               unsearching = lone.unsearching;
               word = parts.word;
@@ -220,17 +293,17 @@ module _ (c : Configuration) (me : Books) (s : Common) (d : Desk) (x : Things) w
         some_ring = ring;
         open_still = open_still;
         serving = stood.serving;
-        free = stood.next ∙ next_free d.place open_still stood.joining;
+        free = stood.next ∙ next_free d.place open_still lone.gateless.1;
         unread = stood.batch;
         unsent = no_mail d (wake_word x 0) minded.unsent;
         elsewhere = stood.global;
         unfound = minded.unfound;
-        ungated = ungated s stood.plain.ungated;
-        kept = stood.passing;
-        told = told stood.scripts stood.words d.place root.polls lone.place stood.joining;
+        ungated = ungated s (λ r. (minded.plain.requests r).2);
+        kept = lone.gateless.0;
+        told = told stood.ours minded.plain stood.scripts stood.words d.place root.polls lone.place lone.gateless.1;
         sampled = stood.sampled;
         deadlines = deadlines c me s;
-        sleepers = sleepers me s (stood.opened open_still);
+        sleepers = sleepers me s d (stood.beds open_still) (stood.opened open_still);
         budget = within_largest c.spin d.spinner.budget minded.spinner.none minded.spinner.budget;
         looks = minded.looks;
       }

@@ -75,6 +75,7 @@ module _ (c : Configuration) (me : Books) (s s' : Common) (d e : Desk) (flag : e
   knows_still (at.Kick x b) it = tt
   knows_still (at.ClaimWorker set b) it = tt
   knows_still (at.Signal x j b) it = tt
+  knows_still (at.SendCancel b) it = tt
 
 -- A LANDING
 

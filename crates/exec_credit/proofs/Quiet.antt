@@ -16,16 +16,17 @@ module _ (c : Configuration) (i : ℕ) (me : Books) (s : Common) (d : Desk) (x :
   abbrev MindsAt : Place → Type 0
   MindsAt p = Minds c i (seen p me) s (stands p d) x
 
-  alone : (p : Place) → MindsAt p → IsAlone c i d x p
+  alone : (p : Place) → MindsAt p → IsAlone c i s d x p
   alone p m =
       let it = m.alone in
-      record { lone = it.lone; first = it.first; place = it.place; unsearching = it.unsearching; word = it.word; poll = it.poll; unraised = it.unraised; bit = it.bit }
+      record { lone = it.lone; first = it.first; pool = it.pool; no_ends = it.no_ends; place = it.place; unsearching = it.unsearching; word = it.word; poll = it.poll; unraised = it.unraised; bit = it.bit }
 
   serves : (p : InService) (v : Service) → MindsAt (at.Service p v) → FallsAt c i me s d x (at.Service p v)
   serves step.Sample v m = samples c i me s d x v v.back (alone (at.Service step.Sample v) m) m.open_still
   serves (step.Reap r) v m = reaps c i me s d x v r v.back (alone (at.Service (step.Reap r) v) m) m.open_still
   serves (step.PassPermit file b) v m = absurd (true≢false m.kept)
   serves (step.Signal worker b) v m = absurd (true≢false m.kept)
+  serves (step.Raise ring worker b) v m = absurd (false≢true m.alone.place)
   serves step.AdvanceWheel v m = advances c i me s d x v v.back (alone (at.Service step.AdvanceWheel v) m) m.open_still
   serves (step.Submit gate) v m = submits c i me s d x v gate m.sampled m.deadlines m.here m.some_ring (m.ungated gate) v.back (alone (at.Service (step.Submit gate) v) m) m.open_still
   serves step.EnterLast v m = enters_last c i me s d x v m.here v.back (alone (at.Service step.EnterLast v) m) m.open_still
@@ -67,6 +68,7 @@ module _ (c : Configuration) (i : ℕ) (me : Books) (s : Common) (d : Desk) (x :
   at_place (at.Kick p b) m = absurd (false≢true m.alone.place)
   at_place (at.ClaimWorker set b) m = absurd (false≢true m.alone.place)
   at_place (at.Signal p j b) m = absurd (false≢true m.alone.place)
+  at_place (at.SendCancel b) m = absurd (false≢true m.alone.place)
 
 pub falls : (c : Configuration) (i : ℕ) (me : Books) (s : Common) (d : Desk) (x : Things) → Minds c i me s d x → Falls c i me s d x (move c i me s d x)
 falls c i me s d x m =

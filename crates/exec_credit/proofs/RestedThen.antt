@@ -1,32 +1,32 @@
 -- One step of any party keeps what lets no worker sleep on work.
-use Rattle.std.proofs.Common.{◌≡◌, ℕ, zero, suc, ◌+◌, ◌<◌, ◌&&◌, Bool, true, false, not, [], ◌∷◌, ◌++◌, length, set, get_or, Option, Some, None, if◌then◌else◌, ◌∙◌, refl, sym, ap, subst, arith, inl, inr}
+use Rattle.std.proofs.Common.{◌≡◌, ℕ, zero, suc, ◌+◌, ◌<◌, ◌&&◌, Bool, true, false, not, List, [], ◌∷◌, ◌++◌, length, set, get_or, Option, Some, None, if◌then◌else◌, ◌∙◌, refl, sym, ap, subst, arith, inl, inr}
 use Rattle.std.proofs.lemmas.Bool.{true≢false, false≢true, and_parts, leb-false, lt-ltb}
 use Rattle.std.proofs.lemmas.List.{get_or-set_same}
 use Rattle.std.proofs.Math.ListN.{get_or-map}
 use Rattle.std.specs.Prelude.{nat_le, nat_lt}
-use Rattle.exec_outcomes.specs.{Accounts.is_durable, declared.outcome.OpResult.OpResult, Lawful.{is_lawful, window_of}}
-use Rattle.exec_machine.specs.{declared.{config.{Configuration.Configuration, ScriptWord.ScriptWord}, state.{Rest.Rest, RequestPhase.RequestPhase, Waiting.Waiting}, step.Action.Action}, After.{own_after, common_after, made_by}, Allowed.allowed, Callers.{after_clock, after_landing, is_enabled, is_held}, Deadlines.{earlier, first_timer, first_until, is_after, next_due, rest_until, roused_at}, Progress.{Plan, has_come}, Requests.{asked_of, cursor_of, operation_asked, operation_or_none}, Run.{Follows, first_tasks}, Tests.{is_empty, AllTrue, has_ended, is_awake, is_flying, is_open, is_resolved, set_seat, is_idle, is_in_flight}, Words.{next_word, polled_task}, World.{Own as Books, Common, Seat, no_seat, no_task, own_of, request_of, seat_of, task_of}, Examples.refuses, Same.is_none, Tasks.new_seat}
-use Rattle.exec_machine.specs.declared.config.ScriptWord.TheVariants as word
+use Rattle.exec_outcomes.specs.{declared.outcome.OpResult.OpResult, Lawful.{is_lawful, window_of}}
+use Rattle.exec_machine.specs.{declared.{config.{Configuration.Configuration}, state.{Rest.Rest, RequestPhase.RequestPhase, Waiting.Waiting}, step.Action.Action}, After.{own_after, common_after, made_by}, Allowed.allowed, Callers.{after_clock, after_landing, is_enabled, is_held}, Deadlines.{earlier, first_timer, first_until, is_after, next_due, rest_until, roused_at}, Progress.{Plan, has_come}, Requests.{asked_of, cursor_of}, Run.{Follows, first_tasks}, Tests.{is_empty, AllTrue, has_ended, is_awake, is_flying, is_open, is_resolved, set_seat, is_idle, is_in_flight}, Words.{next_word, polled_task}, World.{Own as Books, Common, Seat, Task, no_request, no_seat, no_task, own_of, request_of, seat_of, task_of}, Examples.refuses, Same.is_none, Tasks.new_seat}
 use Rattle.exec_machine.specs.declared.state.RequestPhase.TheVariants as phase
 use Rattle.exec_machine.specs.declared.state.Rest.TheVariants as rest
 use Rattle.exec_machine.specs.declared.step.Action.TheVariants as action
-use Rattle.exec_moves.specs.{Move.move, Plays.{Played, Playing, by_action, by_step, desk_of, first_desk, first_playing}, State.{Desk, Things}}
+use Rattle.exec_moves.specs.{Told.has_number, Move.move, Plays.{Played, Playing, by_action, by_step, desk_of, first_desk, first_playing, newcomers}, State.{Desk, Things}}
 use Rattle.std.proofs.lemmas.List.{get_or_past}
 use Rattle.std.proofs.Common.{replicate}
 use Rattle.exec_machine.specs.declared.state.Waiting.TheVariants as waiting
-use Rattle.exec_credit.specs.Minded.{HasRoot, IsAtRest, IsListed, Minded, PaidIn, Rested, RestedIn, Stood, StoodIn, begins_call, is_fresh_in, is_played}
-use Rattle.exec_credit.proofs.{Woken.called_then, Fitted.fits, Fitting.{cut_of, may_sleep}, Listed.{in_last, kept_joined, no_listed}, Listing.put_unenrolled, Lists.lists, Minding.played, Others.{flying_open, landed_at, kept as landed_kept}, Stepped.{desk_set, first_set, landed_desk, nobody_there, none_half}, Resting.{rests_then, sleepers_then}}
+use Rattle.exec_credit.specs.Minded.{Aware, HasRoot, IsAware, IsAtRest, IsListed, Minded, PaidIn, Rested, RestedIn, Stood, StoodIn, begins_call, is_fresh_in}
+use Rattle.exec_credit.proofs.{Woken.called_then, Knowing.aware_then, Fitted.fits, Fitting.{cut_of, may_sleep}, Listed.{in_last, kept_joined, no_listed}, Listing.put_unenrolled, Lists.lists, Minding.{played, undurable}, Others.{flying_open, landed_at, kept as landed_kept}, Stepped.{desk_set, first_set, landed_desk, nobody_there, none_half}, Resting.rests_then}
 
-undurable : (c : Configuration) (sampled : ℕ) (w : ScriptWord) → is_played w ≡ true → is_durable (operation_or_none (operation_asked c sampled w)).kind ≡ false
-undurable c sampled (word.Send socket n) h = refl
-undurable c sampled (word.Poll l) h = refl
-undurable c sampled word.Await h = refl
-undurable c sampled word.Drop h = refl
-undurable c sampled (word.Sleep time) h = refl
-undurable c sampled word.Yield h = refl
-undurable c sampled word.End h = refl
-undurable c sampled (word.Fault code) h = refl
-undurable c sampled w h = absurd (false≢true h)
+-- what a request that is waited for says stays where requests stay
+still_aware : (s s' : Common) (awaited : List ℕ) (t : Task) → s'.requests ≡ s.requests → Aware s awaited t → Aware s' awaited t
+still_aware s s' awaited t same h = λ going. by t.waiting (h going)
+  where
+    by : (w : Waiting) → IsAware s awaited w → IsAware s' awaited w
+    by (waiting.Request r) h = subst (λ rs. is_resolved (get_or rs r no_request).phase ≡ false → has_number r awaited ≡ true) (sym same) h
+    by (waiting.Timer z) h = tt
+    by waiting.Nothing h = tt
+    by waiting.Wake h = tt
+    by waiting.Woken h = tt
+    by waiting.Yielded h = tt
 
 -- A STEP OF THE WORKER
 pub rested_then : (c : Configuration) (me : Books) (s : Common) (d : Desk) (x : Things) → Stood me s d x → HasRoot me s d → Minded c me s d x → Rested c me s d → is_awake (seat_of s 0).rest ≡ true
@@ -37,10 +37,10 @@ rested_then c me s d x stood root minded rested awake may =
     let cut = cut_of (may_sleep d.place) m.event it.0 in
     let here : 0 < length s.seats = omega (arith, stood.seats) in
     record {
-      rests = rests_then c me s d x here rested.listed stood.plain.ours stood root minded awake may;
-      listed = lists c me s rested.listed here stood.plain.ours (undurable c me.sampled (next_word s (polled_task me s)) (played s stood.scripts stood.words (polled_task me s))) stood.plain.ungated m.event m.choice cut may;
-      called = called_then c me s d m.desk.wakes root stood.plain.ungated rested.called m.event m.choice cut it.2 may;
-      sleepers = sleepers_then c me s rested.sleepers m.event m.choice cut;
+      rests = rests_then c me s d x here rested.listed stood.ours stood root minded awake may;
+      listed = lists c me s rested.listed here stood.ours (undurable c me.sampled (next_word s (polled_task me s)) (played s stood.scripts stood.words (polled_task me s))) (λ r. (minded.plain.requests r).2) m.event m.choice cut may;
+      called = called_then c me s d m.desk.wakes root minded.plain (λ r. (minded.plain.requests r).2) rested.called rested.aware m.event m.choice cut it.2 may;
+      aware = aware_then c me s d stood.polled rested.aware stood.slots (λ r. (minded.plain.requests r).2) m.event m.choice cut may m.desk.awaited it.3;
     }
 
 -- OTHER PARTIES
@@ -48,7 +48,7 @@ rested_then c me s d x stood root minded rested awake may =
 module _ (c : Configuration) (me : Books) (s : Common) (d : Desk) (here : 0 < length s.seats) (rested : Rested c me s d) where
   -- the clock goes on, and rouses
   clock_on : (by : ℕ) → Rested c me (after_clock s by) d
-  clock_on by = record { rests = rests; listed = λ k. subst (λ l. IsListed me l k (request_of s k)) (sym (ap (λ (it : Seat). it.landed) seat)) (rested.listed k); called = record { fresh = rested.called.fresh; woken = rested.called.woken }; sleepers = rested.sleepers }
+  clock_on by = record { rests = rests; listed = λ k. subst (λ l. IsListed me l k (request_of s k)) (sym (ap (λ (it : Seat). it.landed) seat)) (rested.listed k); called = record { fresh = rested.called.fresh; woken = rested.called.woken }; aware = still_aware s (after_clock s by) d.awaited (task_of s 0) refl rested.aware }
     where
       seat : seat_of (after_clock s by) 0 ≡ roused_at (s.clock + by) (seat_of s 0)
       seat = get_or-map (roused_at (s.clock + by)) s.seats 0 no_seat
@@ -83,7 +83,7 @@ module _ (c : Configuration) (me : Books) (s : Common) (d : Desk) (here : 0 < le
 
   -- the seat is told something that no sleep speaks of
   marks : (y : Seat) → y.rest ≡ (seat_of s 0).rest → y.phase ≡ (seat_of s 0).phase → y.landed ≡ (seat_of s 0).landed → Rested c me (set_seat s 0 y) d
-  marks y same open_as landed = record { rests = rests; listed = λ k. subst (λ l. IsListed me l k (request_of s k)) (sym (ap (λ (it : Seat). it.landed) seat ∙ landed)) (rested.listed k); called = record { fresh = rested.called.fresh; woken = rested.called.woken }; sleepers = rested.sleepers }
+  marks y same open_as landed = record { rests = rests; listed = λ k. subst (λ l. IsListed me l k (request_of s k)) (sym (ap (λ (it : Seat). it.landed) seat ∙ landed)) (rested.listed k); called = record { fresh = rested.called.fresh; woken = rested.called.woken }; aware = still_aware s (set_seat s 0 y) d.awaited (task_of s 0) refl rested.aware }
     where
       seat : seat_of (set_seat s 0 y) 0 ≡ y
       seat = get_or-set_same s.seats 0 y no_seat here
@@ -109,7 +109,7 @@ module _ (c : Configuration) (me : Books) (s : Common) (d : Desk) (here : 0 < le
         rests = λ asleep. absurd (true≢false (subst (λ (it : Seat). is_awake it.rest ≡ false) seat asleep));
         listed = λ k. subst (λ l. IsListed me l k (request_of s k)) (sym (ap (λ (it : Seat). it.landed) seat)) (rested.listed k);
         called = record { fresh = rested.called.fresh; woken = rested.called.woken };
-        sleepers = rested.sleepers;
+        aware = still_aware s (set_seat s 0 (record (seat_of s 0) { rest = rest.Awake })) d.awaited (task_of s 0) refl rested.aware;
       }
 
   -- a result lands
@@ -158,13 +158,21 @@ module _ (c : Configuration) (me : Books) (s : Common) (d : Desk) (here : 0 < le
     come_then waiting.Woken h = h
     come_then waiting.Yielded h = h
 
+    landed_aware : (w : Waiting) → IsAware s d.awaited w → IsAware after_it d.awaited w
+    landed_aware (waiting.Request k) h = λ unresolved. h (sym (landed_kept s r n flies is_resolved (flying_open (request_of s r).phase flies).0 k) ∙ unresolved)
+    landed_aware (waiting.Timer z) h = tt
+    landed_aware waiting.Nothing h = tt
+    landed_aware waiting.Wake h = tt
+    landed_aware waiting.Woken h = tt
+    landed_aware waiting.Yielded h = tt
+
     lands : Rested c me after_it (record d { others = 0 })
     lands =
         record {
           rests = λ asleep. absurd (true≢false (subst (λ (it : Seat). is_awake it.rest ≡ false) seat_then asleep));
           listed = λ k. subst (λ l. IsListed me l k (request_of after_it k)) (sym (ap (λ (it : Seat). it.landed) seat_then)) (listed_then k);
           called = record { fresh = rested.called.fresh; woken = λ idle come. rested.called.woken idle (come_then (task_of s 0).waiting come) };
-          sleepers = rested.sleepers;
+          aware = λ going. landed_aware (task_of s 0).waiting (rested.aware going);
         }
 
 -- OF ANY PARTY
@@ -183,7 +191,7 @@ module _ (c : Configuration) (x : Playing) (stood : StoodIn c x) (desks : is_emp
       let d = desk_of c x 0 in
       let m = move c 0 me s d x.things in
       let same = first_set x.world.workers me (own_after c me s 0 m.event m.choice) (made_by s m.event) stood.one in
-      subst (λ (e : Desk). Rested c (own_of (by_action c x (action.Work 0)).next.world 0) (common_after c me s 0 m.event m.choice) e) (sym (desk_set x.desks m.desk (first_desk c 0) desks))
+      subst (λ (e : Desk). Rested c (own_of (by_action c x (action.Work 0)).next.world 0) (common_after c me s 0 m.event m.choice) e) (sym (desk_set x.desks m.desk (first_desk c 0) (newcomers c m.event) desks))
       (subst (λ (own : Books). Rested c own (common_after c me s 0 m.event m.choice) m.desk) (sym same)
       (rested_then c me s d x.things stood.here stood.root paid rested awake follows.1))
 
@@ -196,7 +204,7 @@ module _ (c : Configuration) (x : Playing) (stood : StoodIn c x) (desks : is_emp
   by_party (action.Wake j t) inside may follows = absurd (true≢false inside)
   by_party (action.GoOn j) inside may follows = absurd (false≢true (sym (none_half x.world.common.callers stood.callers j) ∙ may))
   by_party (action.Clock d) inside may follows = clock_on c (own_of x.world 0) x.world.common (desk_of c x 0) here rested d
-  by_party (action.Land r n) inside may follows = landed_desk c x desks r (stood.here.plain.ours r) (λ (e : Desk) (y : Things). Rested c (own_of x.world 0) (after_landing x.world.common r n) e) (lands c (own_of x.world 0) x.world.common (desk_of c x 0) here rested stood.here.plain.ours r n (and_parts (is_flying (request_of x.world.common r).phase) (is_lawful (window_of (asked_of (request_of x.world.common r).operation) (cursor_of (request_of x.world.common r).operation)) n) may).0)
+  by_party (action.Land r n) inside may follows = landed_desk c x desks r (stood.here.ours r) (λ (e : Desk) (y : Things). Rested c (own_of x.world 0) (after_landing x.world.common r n) e) (lands c (own_of x.world 0) x.world.common (desk_of c x 0) here rested stood.here.ours r n (and_parts (is_flying (request_of x.world.common r).phase) (is_lawful (window_of (asked_of (request_of x.world.common r).operation) (cursor_of (request_of x.world.common r).operation)) n) may).0)
   by_party (action.SetBusy zero) inside may follows = marks c (own_of x.world 0) x.world.common (desk_of c x 0) here rested (record (seat_of x.world.common 0) { busy = true }) refl refl refl
   by_party (action.SetBusy (suc i)) inside may follows = absurd (false≢true (sym (ap (λ (it : Seat). not (has_ended it.phase)) (other_seat x.world.common i stood.here.seats)) ∙ may))
   by_party (action.EndPoll i) inside may follows = rested
@@ -207,7 +215,7 @@ module _ (c : Configuration) (x : Playing) (stood : StoodIn c x) (desks : is_emp
         rests = λ asleep. let old = rested.rests asleep in record { until = old.until; ahead = old.ahead; there = old.there; open_still = λ h. let r = old.open_still h in record { unready = r.unready; entered = record { untold = r.entered.untold; staged = r.entered.staged }; landed = r.landed }; waits = old.waits };
         listed = rested.listed;
         called = record { fresh = rested.called.fresh; woken = rested.called.woken };
-        sleepers = rested.sleepers;
+        aware = still_aware x.world.common (by_action c x (action.Peer l)).next.world.common (desk_of c x 0).awaited (task_of x.world.common 0) refl rested.aware;
       }
 
 pub rested_steps : (c : Configuration) (x : Playing) (a : Action) → begins_call a ≡ false → StoodIn c x → is_empty x.desks ≡ false → PaidIn c x → RestedIn c x → Follows c x.world a (by_step c x a).told.0.said (by_step c x a).told.1 → RestedIn c (by_step c x a).next
@@ -225,9 +233,13 @@ first_rested p one =
       rests = λ asleep. absurd (true≢false (awake p.config.workers asleep));
       listed = λ k. no_listed (own_of (first_playing p).world 0) (seat_of (first_playing p).world.common 0).landed k;
       called = record { fresh = fresh p.config.workers; woken = λ idle. absurd (busy p.config.workers idle) };
-      sleepers = λ z. refl;
+      aware = λ going. first_aware p.config.workers (desk_of p.config (first_playing p) 0).awaited;
     }
   where
+    first_aware : (k : ℕ) (awaited : List ℕ) → IsAware (first_playing p).world.common awaited (get_or (first_tasks k 0) 0 no_task).waiting
+    first_aware zero awaited = tt
+    first_aware (suc k) awaited = tt
+
     awake : (k : ℕ) → is_awake (get_or (replicate k (new_seat true)) 0 no_seat).rest ≡ false → true ≡ false
     awake zero h = h
     awake (suc k) h = h

@@ -1,9 +1,9 @@
 -- Where a worker sleeps, and what it has then.
-use Rattle.std.proofs.Common.{◌≡◌, ℕ, zero, suc, length, drop, set, ◌+◌, ◌++◌, ◌<◌, ◌==◌, ◌&&◌, ◌||◌, Bool, true, false, not, List, [], ◌∷◌, get_or, Option, Some, None, if◌then◌else◌, ◌∙◌, refl, sym, ap, subst}
+use Rattle.std.proofs.Common.{◌≡◌, ℕ, zero, suc, length, drop, ◌<◌, ◌==◌, ◌&&◌, ◌||◌, Bool, true, false, not, List, [], ◌∷◌, get_or, Option, Some, None, if◌then◌else◌, ◌∙◌, refl, sym, ap, subst}
 use Rattle.std.proofs.lemmas.Bool.{true≢false, false≢true, and_parts, or_parts, eqb-true}
 use Rattle.std.proofs.lemmas.List.{get_or-set_same}
 use Rattle.std.specs.List.{list_any}
-use Rattle.exec_machine.specs.{declared.{config.Configuration.Configuration, event.Event.Event, state.{Next.Next, Request.Request, RequestPhase.RequestPhase, Sleeper.Sleeper, Waiting.Waiting}}, After.{own_after, common_after, polled}, Allowed.allowed, Choice.{Choice, Choice.{Plain, Passes, Pays, Posts}, Payer.{ByRequest, BySleeper, ByAct, ByCall, ByStop}}, Closing.{after_next, with_closed_mailbox, gone_with}, Deadlines.{next_due, rest_until, earlier, first_timer, first_until, is_after, new_sleeper}, Same.same_number, Tests.{AllTrue, is_awake, is_empty, is_landed, is_resolved, is_staged, set_seat, is_open, set_task, set_open}, World.{Own as Books, Common, Seat, no_request, no_seat, request_of, seat_of, task_of, no_sleeper, open_of, sleeper_of}, Tasks.{after_over, pended_phase, removed, sleepers_after_waking_up}, Requests.{account_of_open, judged_of}}
+use Rattle.exec_machine.specs.{declared.{config.Configuration.Configuration, event.Event.Event, state.{Next.Next, Request.Request, RequestPhase.RequestPhase}}, After.{own_after, common_after}, Allowed.allowed, Choice.{Choice, Choice.{Plain, Passes, Pays, Posts}, Payer.{ByRequest, BySleeper, ByAct, ByCall, ByStop}}, Closing.{after_next, with_closed_mailbox}, Deadlines.{next_due, rest_until, earlier, first_timer, first_until, is_after}, Same.same_number, Tests.{AllTrue, is_awake, is_empty, is_landed, is_resolved, is_staged, set_seat, is_open, set_task}, World.{Own as Books, Common, Seat, no_request, no_seat, request_of, seat_of, task_of}, Tasks.{after_over, pended_phase}}
 use Rattle.exec_machine.specs.declared.event.Event.TheVariants as event
 use Rattle.exec_machine.specs.declared.state.Next.TheVariants as next
 use Rattle.exec_machine.specs.declared.state.RequestPhase.TheVariants as phase
@@ -15,10 +15,7 @@ use Rattle.exec_moves.specs.declared.idling.InWordWait.TheVariants as word
 use Rattle.exec_moves.specs.{declared.idling.Stay.Stay, declared.place.Place.Place, Callback.has_requests, Load.has_come, Move.{move, move_at}, Serve.Ring, State.{Desk, Moved, Things, does, wake_poll_of, word_of}, Thing.{ring_of, with_ring, with_word}, Wait.{has_completion, noting_sleep}}
 use Rattle.exec_moves.specs.declared.place.Place.TheVariants as at
 use Rattle.exec_moves.specs.declared.idling.Stay.TheVariants as stay
-use Rattle.std.proofs.Math.ListN.{get_or-map}
 use Rattle.std.specs.Prelude.{nat_lt}
-use Rattle.exec_outcomes.specs.Outcomes.{refuses_hint}
-use Rattle.exec_machine.specs.declared.state.Waiting.TheVariants as waiting
 use Rattle.exec_credit.specs.{Minds.stands, Minded.{AreListed, HasRest, HasRoot, IsAtRest, Knows, Minded, Stood, is_in, sleeps_closing, sleeps_open}}
 use Rattle.exec_credit.proofs.{Asking.is_open_of, Fitted.fits, Fitting.{cut_of, is_cut, is_sleep, may_sleep}}
 
@@ -216,104 +213,3 @@ module _ (c : Configuration) (me : Books) (s : Common) (d : Desk) (x : Things) (
           neither true b h k it = absurd (true≢false h)
           neither false true h k it = it
           neither false false h k it = k
-
--- SLEEPERS are of the worker
-
-worker_set : (zs : List Sleeper) (z : ℕ) (y : Sleeper) → ((k : ℕ) → (get_or zs k no_sleeper).worker ≡ 0) → y.worker ≡ 0 → (k : ℕ) → (get_or (set zs z y) k no_sleeper).worker ≡ 0
-worker_set [] z y old new k = old k
-worker_set (x ∷ zs) zero y old new zero = new
-worker_set (x ∷ zs) zero y old new (suc k) = old (suc k)
-worker_set (x ∷ zs) (suc z) y old new zero = old zero
-worker_set (x ∷ zs) (suc z) y old new (suc k) = worker_set zs z y (λ j. old (suc j)) new k
-
-worker_more : (zs : List Sleeper) (y : Sleeper) → ((k : ℕ) → (get_or zs k no_sleeper).worker ≡ 0) → y.worker ≡ 0 → (k : ℕ) → (get_or (zs ++ y ∷ []) k no_sleeper).worker ≡ 0
-worker_more [] y old new zero = new
-worker_more [] y old new (suc k) = refl
-worker_more (x ∷ zs) y old new zero = old zero
-worker_more (x ∷ zs) y old new (suc k) = worker_more zs y (λ j. old (suc j)) new k
-
-module _ (c : Configuration) (me : Books) (s : Common) (old : (z : ℕ) → (sleeper_of s z).worker ≡ 0) where
-  abbrev Ours : Common → Type 0
-  Ours s' = (z : ℕ) → (sleeper_of s' z).worker ≡ 0
-
-  over_ours : (t : ℕ) → Ours (after_over s 0 t)
-  over_ours t = by (task_of s t).waiting
-    where
-      by : (w : Waiting) → (z : ℕ) → (get_or (sleepers_after_waking_up s 0 w) z no_sleeper).worker ≡ 0
-      by (waiting.Timer z) = either ((sleeper_of s z).worker == 0)
-        where
-          either : (b : Bool) → (k : ℕ) → (get_or (if b then set s.sleepers z (removed (sleeper_of s z)) else s.sleepers) k no_sleeper).worker ≡ 0
-          either true = worker_set s.sleepers z (removed (sleeper_of s z)) old (old z)
-          either false = old
-      by (waiting.Request r) = old
-      by waiting.Nothing = old
-      by waiting.Wake = old
-      by waiting.Woken = old
-      by waiting.Yielded = old
-
-  turned_ours : (n : Next) → Ours (after_next s 0 n)
-  turned_ours next.Free = old
-  turned_ours (next.Joins r) = old
-  turned_ours next.ClosesQueue = old
-  turned_ours next.ClosesMailbox = old
-
-  pub sleepers_then : (e : Event) (choice : Choice) → is_cut e ≡ true → Ours (common_after c me s 0 e choice)
-  sleepers_then event.Turn Plain cut = turned_ours me.next
-  sleepers_then event.Turn Passes cut = old
-  sleepers_then event.Turn (Pays p) cut = turned_ours me.next
-  sleepers_then event.Turn (Posts p b) cut = turned_ours me.next
-  sleepers_then (event.Pend t) choice cut = by (task_of s t).cleared
-    where
-      by : (b : Bool) → Ours (if b then after_over s 0 t else set_task s t (record (task_of s t) { phase = pended_phase (task_of s t).phase }))
-      by true = over_ours t
-      by false = old
-  sleepers_then (event.Done t) choice cut = over_ours t
-  sleepers_then (event.Fault t n) choice cut = over_ours t
-  sleepers_then (event.Timer z until) choice cut = worker_more s.sleepers (new_sleeper until 0 (polled me)) old refl
-  sleepers_then (event.Fire z) choice cut = worker_set s.sleepers z (record (sleeper_of s z) { fired = true }) old (old z)
-  sleepers_then (event.Wake t) choice cut = by choice me.polls refl
-    where
-      by : (choice : Choice) (polls : Option ℕ) → me.polls ≡ polls → Ours (common_after c me s 0 (event.Wake t) choice)
-      by Plain polls is = old
-      by Passes polls is = old
-      by (Posts p b) polls is = old
-      by (Pays (ByRequest r)) polls is = old
-      by (Pays (BySleeper z)) polls is = worker_set s.sleepers z (record (sleeper_of s z) { wakes_paid = (sleeper_of s z).wakes_paid + 1 }) old (old z)
-      by (Pays ByAct) None is = rw is old
-      by (Pays ByAct) (Some u) is = rw is old
-      by (Pays ByCall) polls is = old
-      by (Pays ByStop) polls is = old
-  sleepers_then (event.Reap r n o) choice cut = by (refuses_hint (judged_of (request_of s r) n))
-    where
-      by : (b : Bool) → (z : ℕ) → (get_or (if b then set_open s (request_of s r).operation.target (record (open_of s (request_of s r).operation.target) { account = record (account_of_open s (request_of s r)) { hinted = false } }) else s).sleepers z no_sleeper).worker ≡ 0
-      by true = old
-      by false = old
-  sleepers_then event.End choice cut = λ z. ap (λ (it : Sleeper). it.worker) (get_or-map (gone_with 0) s.sleepers z no_sleeper) ∙ (kept (sleeper_of s z) ∙ old z)
-    where
-      kept : (it : Sleeper) → (gone_with 0 it).worker ≡ it.worker
-      kept it = by (it.worker == 0)
-        where
-          by : (b : Bool) → (if b then removed it else it).worker ≡ it.worker
-          by true = refl
-          by false = refl
-  sleepers_then event.Serve choice cut = old
-  sleepers_then (event.Begin t) choice cut = old
-  sleepers_then (event.Admit r kind o) choice cut = old
-  sleepers_then (event.Wait None) choice cut = old
-  sleepers_then (event.Wait (Some r)) choice cut = old
-  sleepers_then (event.Got r o) choice cut = old
-  sleepers_then (event.Drop r) choice cut = old
-  sleepers_then (event.GotTimer z) choice cut = old
-  sleepers_then event.Pass choice cut = old
-  sleepers_then (event.Enrol r o) choice cut = old
-  sleepers_then (event.Grant r o) choice cut = old
-  sleepers_then (event.Stage r) choice cut = old
-  sleepers_then event.Enter choice cut = old
-  sleepers_then event.Busy choice cut = old
-  sleepers_then (event.Expire r o) choice cut = old
-  sleepers_then (event.Cancel r) choice cut = old
-  sleepers_then (event.Release r) choice cut = old
-  sleepers_then (event.Sleep until) choice cut = old
-  sleepers_then event.Close choice cut = old
-  sleepers_then event.Stop choice cut = old
-  sleepers_then e choice cut = absurd (false≢true cut)

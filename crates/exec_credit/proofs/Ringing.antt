@@ -1,5 +1,5 @@
 -- A wait on the ring.
-use Rattle.std.proofs.Common.{◌≡◌, ℕ, ◌+◌, ◌<◌, ◌≤◌, Bool, true, false, not, ◌&&◌, ◌||◌, List, [], ◌∷◌, length, if◌then◌else◌, refl, ap, subst, arith}
+use Rattle.std.proofs.Common.{◌≡◌, ℕ, ◌+◌, ◌<◌, ◌≤◌, Bool, true, false, not, ◌&&◌, ◌||◌, List, [], ◌∷◌, length, if◌then◌else◌, refl, ap, arith}
 use Rattle.std.proofs.lemmas.Bool.{false≢true}
 use Rattle.std.proofs.lemmas.List.{get_or-set_same}
 use Rattle.std.specs.Prelude.{nat_lt}
@@ -12,7 +12,7 @@ use Rattle.exec_moves.specs.declared.idling.InRingWait.TheVariants as ring
 use Rattle.exec_moves.specs.declared.place.Place.TheVariants as at
 use Rattle.exec_moves.specs.declared.idling.Stay.TheVariants as stay
 use Rattle.exec_credit.specs.Minds.{Falls, FallsAt, IsAlone, seen, stands}
-use Rattle.exec_credit.proofs.{Alone.{at_alone, calm, of_one, settled, unraised}, Falling.{sinks, pays, down, either}, Testing.{due, on}, Entering.{due_same, gates_same}, Waiting.stirred}
+use Rattle.exec_credit.proofs.{Alone.{at_alone, calm, of_one, pooled, settled, unraised}, Falling.{sinks, pays, down, either}, Testing.{due, on}, Entering.{due_same, gates_same}, Waiting.stirred}
 
 pending : (work polled full : Bool) → (work || (not polled && full)) ≡ true → 1 ≤ one_if (work || not polled)
 pending true polled full h = omega arith
@@ -64,9 +64,12 @@ acknowledged landed n cancels polled w =
 pub freed : (s : Common) (i : ℕ) → i < length s.seats → seat_of (set_seat s i (record (seat_of s i) { busy = false })) i ≡ record (seat_of s i) { busy = false }
 freed s i there = get_or-set_same s.seats i (record (seat_of s i) { busy = false }) no_seat there
 
-module _ (k : Configuration) (me : Books) (s : Common) (o : Desk) (y : Things) where
+module _ (k : Configuration) (me : Books) (base : Common) (o : Desk) (y : Things) where
   abbrev c : Configuration
   c = of_one k
+
+  abbrev s : Common
+  s = pooled base
 
   abbrev d : Desk
   d = calm o
@@ -151,7 +154,7 @@ module _ (k : Configuration) (me : Books) (s : Common) (o : Desk) (y : Things) w
   on_ring there (ring.DisarmRing n) = sinks c 0 me s d x (at.RingWait (ring.DisarmRing n) stay.Turn) (refl, omega arith, omega arith, omega arith)
 
 module _ (c : Configuration) (i : ℕ) (me : Books) (s : Common) (d : Desk) (x : Things) where
-  pub waits_on_ring : i < length s.seats → (p : InRingWait) → IsAlone c i d x (at.RingWait p stay.Turn) → FallsAt c i me s d x (at.RingWait p stay.Turn)
+  pub waits_on_ring : i < length s.seats → (p : InRingWait) → IsAlone c i s d x (at.RingWait p stay.Turn) → FallsAt c i me s d x (at.RingWait p stay.Turn)
   waits_on_ring there p it =
-      at_alone c i d x (at.RingWait p stay.Turn) it (λ k j e y. FallsAt k j me s e y (at.RingWait p stay.Turn))
-      (on_ring c me s d x (subst (λ j. j < length s.seats) it.first there) p)
+      at_alone c i s d x (at.RingWait p stay.Turn) it (λ k j common e y. FallsAt k j me common e y (at.RingWait p stay.Turn))
+      (on_ring c me s d x (omega arith) p)

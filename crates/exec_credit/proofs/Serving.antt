@@ -11,7 +11,7 @@ use Rattle.exec_moves.specs.declared.place.InService.TheVariants as step
 use Rattle.exec_moves.specs.declared.place.Place.TheVariants as at
 use Rattle.exec_moves.specs.declared.place.Reaping.TheVariants as reaping
 use Rattle.exec_credit.specs.Minds.{Falls, FallsAt, IsAlone, ends, seen, stands}
-use Rattle.exec_credit.proofs.{Alone.{at_alone, calm, of_one, settled, unraised}, Falling.{sinks, down, either, by_move}, Testing.on, Entering.{due_same, gates_same}, Ringing.freed}
+use Rattle.exec_credit.proofs.{Alone.{at_alone, calm, of_one, pooled, settled, unraised}, Falling.{sinks, down, either, by_move}, Testing.on, Entering.{due_same, gates_same}, Ringing.freed}
 
 pub one_at_most : (b : Bool) → one_if b ≤ 1
 one_at_most true = omega arith
@@ -31,9 +31,12 @@ and_on : (b : Bool) → (b && true) ≡ b
 and_on true = refl
 and_on false = refl
 
-module _ (k : Configuration) (me : Books) (s : Common) (o : Desk) (y : Things) (v : Service) where
+module _ (k : Configuration) (me : Books) (base : Common) (o : Desk) (y : Things) (v : Service) where
   abbrev c : Configuration
   c = of_one k
+
+  abbrev s : Common
+  s = pooled base
 
   abbrev d : Desk
   d = calm o
@@ -103,8 +106,8 @@ module _ (k : Configuration) (me : Books) (s : Common) (o : Desk) (y : Things) (
   EndsTo b q = Falls c 0 (seen (at.Service step.EndService (record v { back = b })) me) s (stands (at.Service step.EndService (record v { back = b })) d) x (aside x (serves {T = Own} q (stands (at.Service step.EndService (record v { back = b })) d) tt))
 
   ends_service : me.sampled ≤ s.clock
-      → (first_to_fire 0 me s ≡ None → list_any (λ z. is_asleep 0 z && nat_le z.until me.sampled) s.sleepers ≡ false)
-      → (b : AfterService) → ends b ≡ false → first_to_fire 0 me s ≡ None → EndsTo b (after_service b (stands (at.Service step.EndService (record v { back = b })) d))
+      → (first_to_fire 0 me s d ≡ None → list_any (λ z. is_asleep 0 z && nat_le z.until me.sampled) s.sleepers ≡ false)
+      → (b : AfterService) → ends b ≡ false → first_to_fire 0 me s d ≡ None → EndsTo b (after_service b (stands (at.Service step.EndService (record v { back = b })) d))
   ends_service le told back.Mail h none =
       let late = if_stale me.sampled s.clock (λ m. list_any (λ z. is_asleep 0 z && nat_le z.until m) s.sleepers) le (told none) in
       either c 0 (seen (at.Service step.EndService (record v { back = back.Mail })) me) s (stands (at.Service step.EndService (record v { back = back.Mail })) d) x (λ (q : Place). aside x (serves {T = Own} q (stands (at.Service step.EndService (record v { back = back.Mail })) d) tt))
@@ -114,33 +117,33 @@ module _ (k : Configuration) (me : Books) (s : Common) (o : Desk) (y : Things) (
   ends_service le told back.Begin h none = down c 0 me s d x (at.Service step.EndService (record v { back = back.Begin })) (aside x (serves {T = Own} (after_service back.Begin d) (stands (at.Service step.EndService (record v { back = back.Begin })) d) tt)) (refl, omega arith, omega arith, omega arith)
   ends_service le told back.Finish h none = absurd (true≢false h)
 
-  fires_alone : me.sampled ≤ s.clock → (first_to_fire 0 me s ≡ None → list_any (λ z. is_asleep 0 z && nat_le z.until me.sampled) s.sleepers ≡ false)
+  fires_alone : me.sampled ≤ s.clock → (first_to_fire 0 me s d ≡ None → list_any (λ z. is_asleep 0 z && nat_le z.until me.sampled) s.sleepers ≡ false)
       → (b : AfterService) → ends b ≡ false → FallsAt c 0 me s d x (at.Service step.EndService (record v { back = b }))
-  fires_alone le told b h = by (first_to_fire 0 me s) refl
+  fires_alone le told b h = by (first_to_fire 0 me s d) refl
     where
-      by : (o : Option ℕ) → first_to_fire 0 me s ≡ o → FallsAt c 0 me s d x (at.Service step.EndService (record v { back = b }))
+      by : (o : Option ℕ) → first_to_fire 0 me s d ≡ o → FallsAt c 0 me s d x (at.Service step.EndService (record v { back = b }))
       by None none =
           by_move c 0 (seen (at.Service step.EndService (record v { back = b })) me) s (stands (at.Service step.EndService (record v { back = b })) d) x (move_at c 0 (seen (at.Service step.EndService (record v { back = b })) me) s (stands (at.Service step.EndService (record v { back = b })) d) x (at.Service step.EndService (record v { back = b })))
           (aside x (serves {T = Own} (after_service b (stands (at.Service step.EndService (record v { back = b })) d)) (stands (at.Service step.EndService (record v { back = b })) d) tt)) (rw none refl) (ends_service le told b h none)
       by (Some z) some = rw some (λ q. absurd (false≢true q))
 
 module _ (c : Configuration) (i : ℕ) (me : Books) (s : Common) (d : Desk) (x : Things) (v : Service) where
-  pub samples : (b : AfterService) → IsAlone c i d x (at.Service step.Sample (record v { back = b })) → ends b ≡ false → FallsAt c i me s d x (at.Service step.Sample (record v { back = b }))
-  samples b it h = at_alone c i d x (at.Service step.Sample (record v { back = b })) it (λ k j e y. FallsAt k j me s e y (at.Service step.Sample (record v { back = b }))) (samples_alone c me s d x v b h)
+  pub samples : (b : AfterService) → IsAlone c i s d x (at.Service step.Sample (record v { back = b })) → ends b ≡ false → FallsAt c i me s d x (at.Service step.Sample (record v { back = b }))
+  samples b it h = at_alone c i s d x (at.Service step.Sample (record v { back = b })) it (λ k j common e y. FallsAt k j me common e y (at.Service step.Sample (record v { back = b }))) (samples_alone c me s d x v b h)
 
-  pub reaps : (r : Reaping) (b : AfterService) → IsAlone c i d x (at.Service (step.Reap r) (record v { back = b })) → ends b ≡ false → FallsAt c i me s d x (at.Service (step.Reap r) (record v { back = b }))
-  reaps r b it h = at_alone c i d x (at.Service (step.Reap r) (record v { back = b })) it (λ k j e y. FallsAt k j me s e y (at.Service (step.Reap r) (record v { back = b }))) (reaps_alone c me s d x v r b h)
+  pub reaps : (r : Reaping) (b : AfterService) → IsAlone c i s d x (at.Service (step.Reap r) (record v { back = b })) → ends b ≡ false → FallsAt c i me s d x (at.Service (step.Reap r) (record v { back = b }))
+  reaps r b it h = at_alone c i s d x (at.Service (step.Reap r) (record v { back = b })) it (λ k j common e y. FallsAt k j me common e y (at.Service (step.Reap r) (record v { back = b }))) (reaps_alone c me s d x v r b h)
 
-  pub advances : (b : AfterService) → IsAlone c i d x (at.Service step.AdvanceWheel (record v { back = b })) → ends b ≡ false → FallsAt c i me s d x (at.Service step.AdvanceWheel (record v { back = b }))
-  advances b it h = at_alone c i d x (at.Service step.AdvanceWheel (record v { back = b })) it (λ k j e y. FallsAt k j me s e y (at.Service step.AdvanceWheel (record v { back = b }))) (advances_alone c me s d x v b h)
+  pub advances : (b : AfterService) → IsAlone c i s d x (at.Service step.AdvanceWheel (record v { back = b })) → ends b ≡ false → FallsAt c i me s d x (at.Service step.AdvanceWheel (record v { back = b }))
+  advances b it h = at_alone c i s d x (at.Service step.AdvanceWheel (record v { back = b })) it (λ k j common e y. FallsAt k j me common e y (at.Service step.AdvanceWheel (record v { back = b }))) (advances_alone c me s d x v b h)
 
-  pub enters_last : i < length s.seats → (b : AfterService) → IsAlone c i d x (at.Service step.EnterLast (record v { back = b })) → ends b ≡ false → FallsAt c i me s d x (at.Service step.EnterLast (record v { back = b }))
+  pub enters_last : i < length s.seats → (b : AfterService) → IsAlone c i s d x (at.Service step.EnterLast (record v { back = b })) → ends b ≡ false → FallsAt c i me s d x (at.Service step.EnterLast (record v { back = b }))
   enters_last there b it h =
-      at_alone c i d x (at.Service step.EnterLast (record v { back = b })) it (λ k j e y. FallsAt k j me s e y (at.Service step.EnterLast (record v { back = b })))
-      (enters_alone c me s d x v (subst (λ j. j < length s.seats) it.first there) b h)
+      at_alone c i s d x (at.Service step.EnterLast (record v { back = b })) it (λ k j common e y. FallsAt k j me common e y (at.Service step.EnterLast (record v { back = b })))
+      (enters_alone c me s d x v (omega arith) b h)
 
-  pub fires : me.sampled ≤ s.clock → (first_to_fire i me s ≡ None → list_any (λ z. is_asleep i z && nat_le z.until me.sampled) s.sleepers ≡ false)
-      → (b : AfterService) → IsAlone c i d x (at.Service step.EndService (record v { back = b })) → ends b ≡ false → FallsAt c i me s d x (at.Service step.EndService (record v { back = b }))
+  pub fires : me.sampled ≤ s.clock → (first_to_fire i me s d ≡ None → list_any (λ z. is_asleep i z && nat_le z.until me.sampled) s.sleepers ≡ false)
+      → (b : AfterService) → IsAlone c i s d x (at.Service step.EndService (record v { back = b })) → ends b ≡ false → FallsAt c i me s d x (at.Service step.EndService (record v { back = b }))
   fires le told b it h =
-      at_alone c i d x (at.Service step.EndService (record v { back = b })) it (λ k j e y. FallsAt k j me s e y (at.Service step.EndService (record v { back = b })))
-      (fires_alone c me s d x v le (subst (λ j. first_to_fire j me s ≡ None → list_any (λ z. is_asleep j z && nat_le z.until me.sampled) s.sleepers ≡ false) it.first told) b h)
+      at_alone c i s d x (at.Service step.EndService (record v { back = b })) it (λ k j common e y. FallsAt k j me common e y (at.Service step.EndService (record v { back = b })))
+      (fires_alone c me s d x v le (subst (λ j. first_to_fire j me s d ≡ None → list_any (λ z. is_asleep j z && nat_le z.until me.sampled) s.sleepers ≡ false) it.first told) b h)

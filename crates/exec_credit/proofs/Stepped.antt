@@ -5,15 +5,16 @@ use Rattle.std.proofs.lemmas.List.{get_or_past}
 use Rattle.std.specs.Prelude.{nat_le, nat_lt}
 use Rattle.std.specs.List.{list_any}
 use Rattle.exec_outcomes.specs.{declared.outcome.OpResult.OpResult, Lawful.{is_lawful, window_of}}
-use Rattle.exec_machine.specs.{declared.{config.Configuration.Configuration, state.{Call.Call, WorkerPhase.WorkerPhase, Rest.TheVariants.Awake}, step.Action.Action}, After.{own_after, common_after, made_by}, Callers.{after_clock, after_landing, after_peer, is_enabled, is_half_done, is_held, may_work}, Progress.{is_anyone_closing, is_quiet_step}, Ranges.{ring_size, doubled_up_to}, Requests.{asked_of, cursor_of}, Run.Follows, Tests.{set_seat, has_ended, is_empty, is_awake, is_closing, is_flying, is_open}, Text.is_quiet, World.{Own as Books, Common, Seat, no_own, no_seat, own_of, seat_of, request_of}, Examples.refuses}
+use Rattle.exec_machine.specs.{declared.{config.Configuration.Configuration, state.{Call.Call, WorkerPhase.WorkerPhase, Rest.TheVariants.Awake}, step.Action.Action}, After.{own_after, common_after, made_by}, Callers.{after_clock, after_landing, after_peer, is_enabled, is_half_done, is_held, may_work}, Progress.{is_anyone_closing, is_quiet_step}, Ranges.{ring_size, doubled_up_to}, Requests.{asked_of, cursor_of}, Run.Follows, Tests.{set_seat, has_ended, is_empty, is_awake, is_closing, is_flying, is_open}, Text.is_quiet, Words.{next_word, polled_task}, World.{Own as Books, Common, Seat, no_own, no_request, no_seat, own_of, seat_of, request_of}, Examples.refuses}
 use Rattle.exec_machine.specs.declared.state.Call.TheVariants as call
+use Rattle.exec_machine.specs.declared.state.RequestPhase.TheVariants as phase
 use Rattle.exec_machine.specs.declared.state.WorkerPhase.TheVariants as worker
 use Rattle.exec_machine.specs.declared.step.Action.TheVariants as action
 use Rattle.exec_moves.specs.declared.place.InClosing.TheVariants as closing
-use Rattle.exec_moves.specs.{declared.place.Place.Place, Credit.credit, Move.{move, move_at}, Plays.{Played, Playing, by_action, by_step, credit_of, desk_of, first_desk, last_told, with_none_behind}, State.{Desk, Things, Moved, WakePoll, no_wake_poll, one_behind, passed, wake_poll_of}, Thing.set_wake_poll}
+use Rattle.exec_moves.specs.{declared.place.Place.Place, Credit.credit, Move.{move, move_at}, Plays.{Played, Playing, by_action, by_step, credit_of, desk_of, first_desk, last_told, newcomers, with_none_behind}, State.{Desk, Things, Moved, WakePoll, no_wake_poll, one_behind, passed, wake_poll_of}, Thing.set_wake_poll}
 use Rattle.exec_moves.specs.declared.place.Place.TheVariants as at
-use Rattle.exec_credit.specs.{Minds.{Falls, IsUnraised, closes}, Minded.{HasRoot, Lone, Minded, PaidIn, Stood, StoodIn, begins_call, is_start}}
-use Rattle.exec_credit.proofs.{Alone.{HasParts, parts_of, settled_of}, Asking.is_open_of, Led.leads, Minding.minds, Others.{knows_still, landing_entered, landing_open}, Quiet.falls}
+use Rattle.exec_credit.specs.{Minds.{Falls, IsUnraised, closes}, Minded.{HasRoot, IsPlain, Lone, Minded, PaidIn, Stood, StoodIn, begins_call, is_start}}
+use Rattle.exec_credit.proofs.{Alone.{HasParts, parts_of, settled_of}, Asking.is_open_of, Fitted.fits, Fitting.{cut_of, may_sleep}, Here.{each_set, plain_still}, Led.leads, Minding.{minds, played, undurable}, Others.{knows_still, landing_entered, landing_open}, Quiet.falls}
 
 -- there is some room in a ring
 doubled : (k p n : ℕ) → 0 < p → 0 < doubled_up_to k p n
@@ -38,7 +39,11 @@ module _ (c : Configuration) (me : Books) (s : Common) (d : Desk) (x : Things) (
   did = move c 0 me s d x
 
   pub minded_then : Minded c (own_after c me s 0 did.event did.choice) (common_after c me s 0 did.event did.choice) did.desk did.thing
-  minded_then = let it = leads me s c d x stood root minded in record { workers = minded.workers; lone = it.5; unsent = it.0; unfound = it.2; looks = it.3; spinner = it.1; knows = it.4 }
+  minded_then =
+      let it = leads me c s d x stood root minded in
+      let cut = cut_of (may_sleep d.place) did.event (fits c me s d x stood root minded).0 in
+      let asks = undurable c me.sampled (next_word s (polled_task me s)) (played s stood.scripts stood.words (polled_task me s)) in
+      record { workers = minded.workers; lone = it.5; plain = plain_still c me s asks minded.plain did.event did.choice cut; unsent = it.0; unfound = it.2; looks = it.3; spinner = it.1; knows = it.4 }
 
   closing_of : (p : WorkerPhase) → is_open p ≡ false → has_ended p ≡ false → is_closing p ≡ true
   closing_of worker.Open shut going = absurd (true≢false shut)
@@ -69,15 +74,23 @@ none_half [] none j = refl
 none_half (k ∷ calls) none zero = (or_parts (is_half_done k) (list_any is_half_done calls) none).0
 none_half (k ∷ calls) none (suc j) = none_half calls (or_parts (is_half_done k) (list_any is_half_done calls) none).1 j
 
--- a desk that was put back
-pub desk_set : (desks : List Desk) (y first : Desk) → is_empty desks ≡ false → get_or (set desks 0 y) 0 first ≡ y
-desk_set [] y first some = absurd (true≢false some)
-desk_set (d ∷ desks) y first some = refl
+-- a desk that was put back, whoever is new
+pub desk_set : (desks : List Desk) (y first : Desk) (more : List Desk) → is_empty desks ≡ false → get_or (set desks 0 y ++ more) 0 first ≡ y
+desk_set [] y first more some = absurd (true≢false some)
+desk_set (d ∷ desks) y first more some = refl
+
+desk_put : (desks : List Desk) (y first : Desk) → is_empty desks ≡ false → get_or (set desks 0 y) 0 first ≡ y
+desk_put [] y first some = absurd (true≢false some)
+desk_put (d ∷ desks) y first some = refl
 
 pub some_left : (desks : List Desk) (i : ℕ) (y : Desk) → is_empty desks ≡ false → is_empty (set desks i y) ≡ false
 some_left [] i y some = some
 some_left (d ∷ desks) zero y some = refl
 some_left (d ∷ desks) (suc i) y some = refl
+
+some_more : (desks more : List Desk) → is_empty desks ≡ false → is_empty (desks ++ more) ≡ false
+some_more [] more some = absurd (true≢false some)
+some_more (d ∷ desks) more some = refl
 
 -- what lands stands behind all other completions
 pub landed_desk : (c : Configuration) (x : Playing) → is_empty x.desks ≡ false
@@ -88,7 +101,7 @@ landed_desk c x some r ours P h =
     let things = set_wake_poll 0 x.things (passed (wake_poll_of x.things 0)) in
     subst (λ i. let y = with_none_behind c i x in P (desk_of c y 0) y.things) (sym ours)
     (subst (λ d. P d things)
-    (sym (desk_set x.desks (record (desk_of c x 0) { others = 0 }) (first_desk c 0) some)) h)
+    (sym (desk_put x.desks (record (desk_of c x 0) { others = 0 }) (first_desk c 0) some)) h)
 
 -- the wake poll of a ring, after what raises no wake of it
 module _ (f : WakePoll → WakePoll) (kept : (w : WakePoll) → IsUnraised w → IsUnraised (f w)) where
@@ -121,6 +134,8 @@ module _ (f : WakePoll → WakePoll) (kept : (w : WakePoll) → IsUnraised w →
           untasked = parts.untasked;
         });
         unsearching = lone.unsearching;
+        no_ends = lone.no_ends;
+        gateless = lone.gateless;
         place = lone.place;
         bit = lone.bit;
       }
@@ -156,7 +171,7 @@ module _ (c : Configuration) (x : Playing) (stood : StoodIn c x) (desks : is_emp
       let d = desk_of c x 0 in
       let m = move c 0 me s d x.things in
       let same = first_set x.world.workers me (own_after c me s 0 m.event m.choice) (made_by s m.event) stood.one in
-      let here = desk_set x.desks m.desk (first_desk c 0) desks in
+      let here = desk_set x.desks m.desk (first_desk c 0) (newcomers c m.event) desks in
       let own_then = own_of (by_action c x (action.Work 0)).next.world 0 in
       let awake = and_parts (is_awake (seat_of s 0).rest && not (has_ended (seat_of s 0).phase)) (not (is_held s (seat_of s 0))) may in
       let going = none_of (has_ended (seat_of s 0).phase) (and_parts (is_awake (seat_of s 0).rest) (not (has_ended (seat_of s 0).phase)) awake.0).1 in (
@@ -173,11 +188,12 @@ module _ (c : Configuration) (x : Playing) (stood : StoodIn c x) (desks : is_emp
       nobody (seat ∷ seats) one none = (or_parts (is_closing seat.phase) (list_any (λ seat. is_closing seat.phase) seats) none).0
 
   -- where requests and their worker's part stay
-  beside : (s' : Common) (e : Desk) → s'.requests ≡ x.world.common.requests → Minded c (own_of x.world 0) x.world.common e x.things → Minded c (own_of x.world 0) s' e x.things
-  beside s' e same it =
+  beside : (s' : Common) (e : Desk) → s'.requests ≡ x.world.common.requests → s'.sleepers ≡ x.world.common.sleepers → Minded c (own_of x.world 0) x.world.common e x.things → Minded c (own_of x.world 0) s' e x.things
+  beside s' e same naps it =
       record {
         workers = it.workers;
         lone = it.lone;
+        plain = record { requests = λ r. rw same (it.plain.requests r); sleepers = λ z. rw naps (it.plain.sleepers z) };
         unsent = it.unsent;
         unfound = it.unfound;
         looks = it.looks;
@@ -195,7 +211,8 @@ module _ (c : Configuration) (x : Playing) (stood : StoodIn c x) (desks : is_emp
         workers = minded.workers;
         lone =
             (let it = has_passed x.things (desk_of c x 0) minded.lone in
-            record { settled = it.settled; unsearching = it.unsearching; place = it.place; bit = it.bit });
+            record { settled = it.settled; unsearching = it.unsearching; no_ends = it.no_ends; gateless = it.gateless; place = it.place; bit = it.bit });
+        plain = record { requests = landed_plain; sleepers = minded.plain.sleepers };
         unsent = minded.unsent;
         unfound = minded.unfound;
         looks = minded.looks;
@@ -204,6 +221,14 @@ module _ (c : Configuration) (x : Playing) (stood : StoodIn c x) (desks : is_emp
             knows_still c (own_of x.world 0) x.world.common (after_landing x.world.common r n) (desk_of c x 0) (record (desk_of c x 0) { others = 0 }) refl refl
             (landing_open x.world.common r n flies) (landing_entered x.world.common r n flies (own_of x.world 0)) (desk_of c x 0).place minded.knows;
       }
+    where
+      s : Common
+      s = x.world.common
+
+      landed_plain : (k : ℕ) → IsPlain (request_of (after_landing s r n) k)
+      landed_plain =
+          let it = minded.plain.requests r in
+          each_set IsPlain no_request s.requests r (record (request_of s r) { phase = phase.Landed n }) minded.plain.requests (it.0, it.1, refl)
 
   by_party : (a : Action) → begins_call a ≡ false → is_enabled x.world.common a ≡ true
       → Follows c x.world a (by_action c x a).told.0.said (by_action c x a).told.1 → after_it a
@@ -212,13 +237,14 @@ module _ (c : Configuration) (x : Playing) (stood : StoodIn c x) (desks : is_emp
   by_party (action.Spawn j k) inside may follows = absurd (true≢false inside)
   by_party (action.Wake j t) inside may follows = absurd (true≢false inside)
   by_party (action.GoOn j) inside may follows = absurd (false≢true (sym (none_half x.world.common.callers stood.callers j) ∙ may))
-  by_party (action.Clock d) inside may follows = (beside (after_clock x.world.common d) (desk_of c x 0) refl minded, λ quiet. absurd (false≢true quiet))
-  by_party (action.Land r n) inside may follows = (landed_desk c x desks r (stood.here.plain.ours r) (λ (e : Desk) (y : Things). Minded c (own_of x.world 0) (after_landing x.world.common r n) e y) (lands r n (and_parts (is_flying (request_of x.world.common r).phase) (is_lawful (window_of (asked_of (request_of x.world.common r).operation) (cursor_of (request_of x.world.common r).operation)) n) may).0), λ quiet. absurd (false≢true quiet))
-  by_party (action.SetBusy i) inside may follows = (beside (set_seat x.world.common i (record (seat_of x.world.common i) { busy = true })) (desk_of c x 0) refl minded, λ quiet. absurd (false≢true quiet))
+  by_party (action.Clock d) inside may follows = (beside (after_clock x.world.common d) (desk_of c x 0) refl refl minded, λ quiet. absurd (false≢true quiet))
+  by_party (action.Land r n) inside may follows = (landed_desk c x desks r (stood.here.ours r) (λ (e : Desk) (y : Things). Minded c (own_of x.world 0) (after_landing x.world.common r n) e y) (lands r n (and_parts (is_flying (request_of x.world.common r).phase) (is_lawful (window_of (asked_of (request_of x.world.common r).operation) (cursor_of (request_of x.world.common r).operation)) n) may).0), λ quiet. absurd (false≢true quiet))
+  by_party (action.SetBusy i) inside may follows = (beside (set_seat x.world.common i (record (seat_of x.world.common i) { busy = true })) (desk_of c x 0) refl refl minded, λ quiet. absurd (false≢true quiet))
   by_party (action.EndPoll i) inside may follows = (
     record {
       workers = minded.workers;
       lone = told_last i x.things (desk_of c x 0) minded.lone;
+      plain = minded.plain;
       unsent = minded.unsent;
       unfound = minded.unfound;
       looks = minded.looks;
@@ -227,8 +253,8 @@ module _ (c : Configuration) (x : Playing) (stood : StoodIn c x) (desks : is_emp
     },
     λ quiet. absurd (false≢true quiet),
   )
-  by_party (action.Stir i) inside may follows = (beside (set_seat x.world.common i (record (seat_of x.world.common i) { rest = Awake })) (desk_of c x 0) refl minded, λ quiet. absurd (false≢true quiet))
-  by_party (action.Peer l) inside may follows = (beside (after_peer x.world.common l) (desk_of c x 0) refl minded, λ quiet. absurd (false≢true quiet))
+  by_party (action.Stir i) inside may follows = (beside (set_seat x.world.common i (record (seat_of x.world.common i) { rest = Awake })) (desk_of c x 0) refl refl minded, λ quiet. absurd (false≢true quiet))
+  by_party (action.Peer l) inside may follows = (beside (after_peer x.world.common l) (desk_of c x 0) refl refl minded, λ quiet. absurd (false≢true quiet))
 
 abbrev Pays : Configuration → Playing → Action → Played → Type 0
 Pays c x a y = PaidIn c y.next × (is_quiet_step x.world y.told.0.said ≡ true → credit_of c y.next < credit_of c x)
@@ -248,7 +274,9 @@ pub desks_then : (c : Configuration) (x : Playing) (a : Action) → is_empty x.d
 desks_then c x a some = by (is_enabled x.world.common a)
   where
     of_action : (a : Action) → is_empty (by_action c x a).next.desks ≡ false
-    of_action (action.Work i) = some_left x.desks i (move c i (own_of x.world i) x.world.common (desk_of c x i) x.things).desk some
+    of_action (action.Work i) =
+        let m = move c i (own_of x.world i) x.world.common (desk_of c x i) x.things in
+        some_more (set x.desks i m.desk) (newcomers c m.event) (some_left x.desks i m.desk some)
     of_action (action.Land r n) = let i = (request_of x.world.common r).worker in some_left x.desks i (record (desk_of c x i) { others = 0 }) some
     of_action (action.Spawn j k) = some
     of_action (action.Wake j t) = some

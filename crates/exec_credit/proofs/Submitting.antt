@@ -10,7 +10,7 @@ use Rattle.exec_moves.specs.declared.place.InService.TheVariants as step
 use Rattle.exec_moves.specs.declared.place.Place.TheVariants as at
 use Rattle.exec_moves.specs.declared.place.Reaping.TheVariants as reaping
 use Rattle.exec_credit.specs.Minds.{Falls, FallsAt, IsAlone, ends, seen, stands}
-use Rattle.exec_credit.proofs.{Alone.{at_alone, calm, of_one, settled, unraised}, Falling.{down, either}, Testing.on, Entering.{due_same, gates_same}, Ringing.freed, Serving.{if_stale, one_at_most}}
+use Rattle.exec_credit.proofs.{Alone.{at_alone, calm, of_one, pooled, settled, unraised}, Falling.{down, either}, Testing.on, Entering.{due_same, gates_same}, Ringing.freed, Serving.{if_stale, one_at_most}}
 
 no_first : (xs : List ℕ) → slice_get xs 0 ≡ None → not (is_empty xs) ≡ false
 no_first [] none = refl
@@ -28,9 +28,12 @@ full_of : (full more : Bool) → (full && more) ≡ true → full ≡ true
 full_of true more h = refl
 full_of false more h = absurd (false≢true h)
 
-module _ (k : Configuration) (me : Books) (s : Common) (o : Desk) (y : Things) (v : Service) (gate : ℕ) where
+module _ (k : Configuration) (me : Books) (base : Common) (o : Desk) (y : Things) (v : Service) (gate : ℕ) where
   abbrev c : Configuration
   c = of_one k
+
+  abbrev s : Common
+  s = pooled base
 
   abbrev d : Desk
   d = calm o
@@ -173,8 +176,8 @@ module _ (k : Configuration) (me : Books) (s : Common) (o : Desk) (y : Things) (
 
 pub submits : (c : Configuration) (i : ℕ) (me : Books) (s : Common) (d : Desk) (x : Things) (v : Service) (gate : ℕ) → me.sampled ≤ s.clock
     → (first_due c i me s ≡ None → list_any (is_due i me.sampled) s.requests ≡ false) → i < length s.seats → nat_lt 0 (ring_size c) ≡ true → next_gate i gate s ≡ None
-    → (b : AfterService) → IsAlone c i d x (at.Service (step.Submit gate) (record v { back = b })) → ends b ≡ false → FallsAt c i me s d x (at.Service (step.Submit gate) (record v { back = b }))
+    → (b : AfterService) → IsAlone c i s d x (at.Service (step.Submit gate) (record v { back = b })) → ends b ≡ false → FallsAt c i me s d x (at.Service (step.Submit gate) (record v { back = b }))
 submits c i me s d x v gate le told there some ungated b it h =
-    at_alone c i d x (at.Service (step.Submit gate) (record v { back = b })) it (λ k j e y. FallsAt k j me s e y (at.Service (step.Submit gate) (record v { back = b })))
+    at_alone c i s d x (at.Service (step.Submit gate) (record v { back = b })) it (λ k j common e y. FallsAt k j me common e y (at.Service (step.Submit gate) (record v { back = b })))
     (submits_alone c me s d x v gate le (subst (λ j. first_due c j me s ≡ None → list_any (is_due j me.sampled) s.requests ≡ false) it.first told)
-    (subst (λ j. j < length s.seats) it.first there) some (subst (λ j. next_gate j gate s ≡ None) it.first ungated) b h)
+    (omega arith) some (subst (λ j. next_gate j gate s ≡ None) it.first ungated) b h)

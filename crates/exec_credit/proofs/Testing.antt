@@ -9,7 +9,7 @@ use Rattle.exec_moves.specs.{declared.place.{Found.Found, Place.Place}, Callback
 use Rattle.exec_moves.specs.declared.idling.InLook.TheVariants as look
 use Rattle.exec_moves.specs.declared.place.Place.TheVariants as at
 use Rattle.exec_credit.specs.Minds.{Falls, FallsAt, IsAlone, seen, stands}
-use Rattle.exec_credit.proofs.{Alone.{at_alone, calm, of_one, settled}, Falling.{pays, down, either}}
+use Rattle.exec_credit.proofs.{Alone.{at_alone, calm, of_one, pooled, settled}, Falling.{pays, down, either}}
 
 -- WHAT A TEST FINDS
 
@@ -96,9 +96,12 @@ due i s come = by (is_open (seat_of s i).phase) come
 
 -- THE TESTS
 
-module _ (k : Configuration) (me : Books) (s : Common) (e : Desk) (x : Things) where
+module _ (k : Configuration) (me : Books) (base : Common) (e : Desk) (x : Things) where
   abbrev c : Configuration
   c = of_one k
+
+  abbrev s : Common
+  s = pooled base
 
   abbrev d : Desk
   d = calm e
@@ -136,9 +139,9 @@ module _ (k : Configuration) (me : Books) (s : Common) (e : Desk) (x : Things) w
           (λ h. pays c 0 me s d x at.ReadClock (aside x (turns {T = Own} at.BeginTurn (record d { place = at.ReadClock; read = s.clock }) tt)) 1 0 (refl, omega arith, omega (arith, due 0 s come), omega arith))
 
 module _ (c : Configuration) (i : ℕ) (me : Books) (s : Common) (d : Desk) (x : Things) where
-  pub tests : (f : Found) → IsAlone c i d x (at.TestForWork f) → f.ready ≡ false → d.batch ≡ [] → FallsAt c i me s d x (at.TestForWork f)
+  pub tests : (f : Found) → IsAlone c i s d x (at.TestForWork f) → f.ready ≡ false → d.batch ≡ [] → FallsAt c i me s d x (at.TestForWork f)
   tests f it none empty =
-      at_alone c i d x (at.TestForWork f) it (λ k j e y. FallsAt k j me s e y (at.TestForWork f)) (test_for_work c me s d (settled x) f none empty)
+      at_alone c i s d x (at.TestForWork f) it (λ k j common e y. FallsAt k j me common e y (at.TestForWork f)) (test_for_work c me s d (settled x) f none empty)
 
-  pub reads : IsAlone c i d x at.ReadClock → FallsAt c i me s d x at.ReadClock
-  reads it = at_alone c i d x at.ReadClock it (λ k j e y. FallsAt k j me s e y at.ReadClock) (read_clock c me s d (settled x))
+  pub reads : IsAlone c i s d x at.ReadClock → FallsAt c i me s d x at.ReadClock
+  reads it = at_alone c i s d x at.ReadClock it (λ k j common e y. FallsAt k j me common e y at.ReadClock) (read_clock c me s d (settled x))

@@ -9,11 +9,14 @@ use Rattle.exec_moves.specs.declared.handing.First.TheVariants as first
 use Rattle.exec_moves.specs.declared.place.InPick.TheVariants as pick
 use Rattle.exec_moves.specs.declared.place.Place.TheVariants as at
 use Rattle.exec_credit.specs.Minds.{Falls, FallsAt, IsAlone, seen, stands}
-use Rattle.exec_credit.proofs.{Alone.{at_alone, calm, of_one, settled}, Falling.{sinks, down, either}}
+use Rattle.exec_credit.proofs.{Alone.{at_alone, calm, of_one, pooled, settled}, Falling.{sinks, down, either}}
 
-module _ (k : Configuration) (me : Books) (s : Common) where
+module _ (k : Configuration) (me : Books) (base : Common) where
   abbrev c : Configuration
   c = of_one k
+
+  abbrev s : Common
+  s = pooled base
 
   begin_turn : (d : Desk) (x : Things) → FallsAt c 0 me s d x at.BeginTurn
   begin_turn d x = sinks c 0 me s d x at.BeginTurn (refl, omega arith, omega arith, omega arith)
@@ -68,14 +71,14 @@ module _ (k : Configuration) (me : Books) (s : Common) where
   picks_alone d x (pick.TakeShare f room held) = take_share d x f room held x.global
 
 module _ (c : Configuration) (i : ℕ) (me : Books) (s : Common) (d : Desk) (x : Things) where
-  pub begins : IsAlone c i d x at.BeginTurn → FallsAt c i me s d x at.BeginTurn
-  begins it = at_alone c i d x at.BeginTurn it (λ k j e y. FallsAt k j me s e y at.BeginTurn) (begin_turn c me s (calm d) (settled x))
+  pub begins : IsAlone c i s d x at.BeginTurn → FallsAt c i me s d x at.BeginTurn
+  begins it = at_alone c i s d x at.BeginTurn it (λ k j common e y. FallsAt k j me common e y at.BeginTurn) (begin_turn c me s (calm d) (settled x))
 
-  pub takes : IsAlone c i d x at.TakeRootFlag → FallsAt c i me s d x at.TakeRootFlag
-  takes it = at_alone c i d x at.TakeRootFlag it (λ k j e y. FallsAt k j me s e y at.TakeRootFlag) (take_root_flag c me s d (settled x))
+  pub takes : IsAlone c i s d x at.TakeRootFlag → FallsAt c i me s d x at.TakeRootFlag
+  takes it = at_alone c i s d x at.TakeRootFlag it (λ k j common e y. FallsAt k j me common e y at.TakeRootFlag) (take_root_flag c me s d (settled x))
 
-  pub pops : (f : First) → IsAlone c i d x (at.Pop pop.PopAlone (popped.Pick f)) → FallsAt c i me s d x (at.Pop pop.PopAlone (popped.Pick f))
-  pops f it = at_alone c i d x (at.Pop pop.PopAlone (popped.Pick f)) it (λ k j e y. FallsAt k j me s e y (at.Pop pop.PopAlone (popped.Pick f))) (pop_own c me s d (settled x) f)
+  pub pops : (f : First) → IsAlone c i s d x (at.Pop pop.PopAlone (popped.Pick f)) → FallsAt c i me s d x (at.Pop pop.PopAlone (popped.Pick f))
+  pops f it = at_alone c i s d x (at.Pop pop.PopAlone (popped.Pick f)) it (λ k j common e y. FallsAt k j me common e y (at.Pop pop.PopAlone (popped.Pick f))) (pop_own c me s d (settled x) f)
 
-  pub picks : (p : InPick) → IsAlone c i d x (at.Pick p) → FallsAt c i me s d x (at.Pick p)
-  picks p it = at_alone c i d x (at.Pick p) it (λ k j e y. FallsAt k j me s e y (at.Pick p)) (picks_alone c me s d (settled x) p)
+  pub picks : (p : InPick) → IsAlone c i s d x (at.Pick p) → FallsAt c i me s d x (at.Pick p)
+  picks p it = at_alone c i s d x (at.Pick p) it (λ k j common e y. FallsAt k j me common e y (at.Pick p)) (picks_alone c me s d (settled x) p)

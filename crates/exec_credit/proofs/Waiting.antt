@@ -14,7 +14,7 @@ use Rattle.exec_moves.specs.declared.idling.InWordWait.TheVariants as word
 use Rattle.exec_moves.specs.declared.place.Place.TheVariants as at
 use Rattle.exec_moves.specs.declared.idling.Stay.TheVariants as stay
 use Rattle.exec_credit.specs.Minds.{Falls, FallsAt, HasLooks, IsAlone, seen, stands}
-use Rattle.exec_credit.proofs.{Alone.{at_alone, calm, of_one, settled}, Falling.{by_move, sinks, pays, down, either}, Testing.{due, on, one_or}}
+use Rattle.exec_credit.proofs.{Alone.{at_alone, calm, of_one, pooled, settled}, Falling.{by_move, sinks, pays, down, either}, Testing.{due, on, one_or}}
 
 -- a word that a wait may not begin at has a latch or mail
 not_idle : (latch mail more : Bool) → (not latch && not mail) ≡ false → 1 ≤ one_if latch + one_if (mail || more)
@@ -30,9 +30,12 @@ mail_or_not false = refl
 pub stirred : (d : Desk) (w : PureWord) → is_idle_at w d.processed ≡ false → 1 ≤ one_if w.latch + one_if (has_mail d w || not (is_empty d.batch))
 stirred d w h = not_idle w.latch (has_mail d w) (not (is_empty d.batch)) (ap (λ b. not w.latch && b) (mail_or_not (w.batch == d.processed)) ∙ h)
 
-module _ (k : Configuration) (me : Books) (s : Common) (e : Desk) (y : Things) where
+module _ (k : Configuration) (me : Books) (base : Common) (e : Desk) (y : Things) where
   abbrev c : Configuration
   c = of_one k
+
+  abbrev s : Common
+  s = pooled base
 
   abbrev d : Desk
   d = calm e
@@ -179,14 +182,14 @@ module _ (k : Configuration) (me : Books) (s : Common) (e : Desk) (y : Things) w
   on_word word.DisarmWord some = disarm_word
 
 module _ (c : Configuration) (i : ℕ) (me : Books) (s : Common) (d : Desk) (x : Things) where
-  pub looks : d.spinner.budget ≤ largest_spin c.spin → (p : InLook) → IsAlone c i d x (at.Look p) → FallsAt c i me s d (record x { global = [] }) (at.Look p)
+  pub looks : d.spinner.budget ≤ largest_spin c.spin → (p : InLook) → IsAlone c i s d x (at.Look p) → FallsAt c i me s d (record x { global = [] }) (at.Look p)
   looks within p it =
-      at_alone c i d x (at.Look p) it (λ k j e y. FallsAt k j me s e (record y { global = [] }) (at.Look p)) (looks_alone c me s d x within p it.place)
+      at_alone c i s d x (at.Look p) it (λ k j common e y. FallsAt k j me common e (record y { global = [] }) (at.Look p)) (looks_alone c me s d x within p it.place)
 
-  pub waits_on_word : (p : InWordWait) → IsAlone c i d x (at.WordWait p) → HasLooks (at.WordWait p) → FallsAt c i me s d x (at.WordWait p)
-  waits_on_word p it more = at_alone c i d x (at.WordWait p) it (λ k j e y. FallsAt k j me s e y (at.WordWait p)) (on_word c me s d x p more)
+  pub waits_on_word : (p : InWordWait) → IsAlone c i s d x (at.WordWait p) → HasLooks (at.WordWait p) → FallsAt c i me s d x (at.WordWait p)
+  waits_on_word p it more = at_alone c i s d x (at.WordWait p) it (λ k j common e y. FallsAt k j me common e y (at.WordWait p)) (on_word c me s d x p more)
 
-  pub leaves : (n : AfterWait) → IsAlone c i d x (at.Withdraw n) → FallsAt c i me s d x (at.Withdraw n)
+  pub leaves : (n : AfterWait) → IsAlone c i s d x (at.Withdraw n) → FallsAt c i me s d x (at.Withdraw n)
   leaves n it =
       let bit = subst (λ j. is_in x.idle.published j ≡ true) it.first (it.bit refl) in
-      at_alone c i d x (at.Withdraw n) it (λ k j e y. FallsAt k j me s e y (at.Withdraw n)) (withdraws c me s d x n it.place bit)
+      at_alone c i s d x (at.Withdraw n) it (λ k j common e y. FallsAt k j me common e y (at.Withdraw n)) (withdraws c me s d x n it.place bit)

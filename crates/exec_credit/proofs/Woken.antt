@@ -3,15 +3,15 @@ use Rattle.std.proofs.Common.{◌≡◌, ◌⊎◌, ℕ, ◌+◌, ◌==◌, ◌&
 use Rattle.std.proofs.lemmas.Bool.{true≢false, false≢true, and_parts, or_cases, eqb-true}
 use Rattle.std.proofs.Math.ListN.{get_or-map}
 use Rattle.exec_outcomes.specs.{declared.outcome.{Outcome.Outcome, OpResult.OpResult}, Outcomes.refuses_hint}
-use Rattle.exec_machine.specs.{declared.{config.{Configuration.Configuration, ScriptWord.ScriptWord}, event.Event.Event, state.{Forwarding.{Forwarding, TheVariants.Unsent}, Next.Next, Request.Request, TaskPhase.TaskPhase, Waiting.Waiting, Sleeper.Sleeper}}, After.{common_after, polled}, Allowed.allowed, Choice.{Choice, Choice.{Plain, Passes, Pays, Posts}, Payer.{ByRequest, BySleeper, ByAct, ByCall, ByStop}}, Closing.{after_next, gone_with}, Deadlines.{enrolled, expired, fires_at}, Progress.has_come, Requests.{flown, reaped, staged, account_of_open, judged_of, asks_kind, operation_asked}, Same.{is_none, is_number}, Tasks.{after_over, after_pend, after_waking_word, begun, may_stop, pended_phase, wake, woken, woken_phase, polls_waiting, waits_for, without_newest, after_taking, removed}, Tests.{AllTrue, is_empty, is_idle, is_resolved, is_staged, set_task, set_request, set_sleeper, is_unsent, set_open, waits_for_nothing, is_gated, is_woken, waits_for_request, waits_for_timer}, Words.{acts, moved_on, asks_yield, next_word, asks_await, asks_drop, asks_no_sleep, asks_wake, sleep_asked}, World.{Own as Books, Common, Task, no_request, no_sleeper, no_task, request_of, sleeper_of, task_of, open_of}}
+use Rattle.exec_machine.specs.{declared.{config.{Configuration.Configuration, ScriptWord.ScriptWord}, event.Event.Event, state.{Forwarding.{Forwarding, TheVariants.Unsent}, Next.Next, Request.Request, TaskPhase.TaskPhase, Waiting.Waiting, Sleeper.Sleeper}}, After.{common_after, polled}, Allowed.allowed, Choice.{Choice, Choice.{Plain, Passes, Pays, Posts}, Payer.{ByRequest, BySleeper, ByAct, ByCall, ByStop}}, Closing.{after_next, gone_with}, Deadlines.{enrolled, expired, fires_at}, Progress.has_come, Requests.{flown, reaped, staged, account_of_open, judged_of, asks_kind, operation_asked}, Same.{is_none, is_number}, Tasks.{after_over, after_pend, after_waking_word, begun, may_stop, pended_phase, wake, woken, woken_phase, polls_waiting, waits_for, without_newest, after_taking, removed}, Tests.{AllTrue, is_done, is_empty, is_idle, is_resolved, is_staged, set_task, set_request, set_sleeper, is_unsent, set_open, waits_for_nothing, is_gated, is_woken, waits_for_request, waits_for_timer}, Words.{acts, moved_on, asks_yield, next_word, asks_await, asks_drop, asks_no_sleep, asks_wake, sleep_asked}, World.{Own as Books, Common, Task, no_request, no_sleeper, no_task, request_of, sleeper_of, task_of, open_of}}
 use Rattle.exec_machine.specs.declared.event.Event.TheVariants as event
 use Rattle.exec_machine.specs.declared.state.Next.TheVariants as next
 use Rattle.exec_machine.specs.declared.state.RequestPhase.TheVariants as phase
 use Rattle.exec_machine.specs.declared.state.TaskPhase.TheVariants as task
 use Rattle.exec_machine.specs.declared.state.Waiting.TheVariants as waiting
-use Rattle.exec_moves.specs.{Callback.waker_of, State.Desk}
+use Rattle.exec_moves.specs.{Told.{has_number, waker_of}, State.Desk}
 use Rattle.std.specs.Prelude.{unwrap_or}
-use Rattle.exec_credit.specs.Minded.{HasRoot, IsCalled, IsFollowed}
+use Rattle.exec_credit.specs.Minded.{ArePlain, Aware, HasRoot, IsAware, IsCalled, IsFollowed}
 use Rattle.exec_credit.proofs.{Fitting.{is_cut, left_of, wakes_after, woken_by_end}, Called.{fired_before, freshes, other_set, over_after, task_set}}
 
 none_of : (b : Bool) → not b ≡ true → b ≡ false
@@ -26,16 +26,24 @@ last_wake : (xs : List ℕ) (y : ℕ) → is_empty (xs ++ y ∷ []) ≡ false
 last_wake [] y = refl
 last_wake (x ∷ xs) y = refl
 
-ended_more : (o : Option Outcome) (r : Request) (xs : List ℕ) → is_empty xs ≡ false → is_empty (woken_by_end o r xs) ≡ false
-ended_more None r xs h = h
-ended_more (Some x) r xs h = by r.observed
+ended_more : (o : Option Outcome) (r : ℕ) (it : Request) (awaited xs : List ℕ) → is_empty xs ≡ false → is_empty (woken_by_end o r it awaited xs) ≡ false
+ended_more None r it awaited xs h = h
+ended_more (Some x) r it awaited xs h = by (it.observed && has_number r awaited)
   where
-    by : (b : Bool) → is_empty (if b then xs ++ waker_of r.waiter else xs) ≡ false
-    by true = more_wakes xs (waker_of r.waiter) h
+    by : (b : Bool) → is_empty (if b then xs ++ waker_of it.waiter else xs) ≡ false
+    by true = more_wakes xs (waker_of it.waiter) h
     by false = h
 
-ended_last : (x : Outcome) (r : Request) (xs : List ℕ) → r.observed ≡ true → r.waiter ≡ Some 0 → is_empty (woken_by_end (Some x) r xs) ≡ false
-ended_last x r xs observed waiter = rw (observed, waiter) (last_wake xs 0)
+ended_last : (x : Outcome) (r : ℕ) (it : Request) (awaited xs : List ℕ) → it.observed ≡ true → it.waiter ≡ Some 0 → has_number r awaited ≡ true
+    → is_empty (woken_by_end (Some x) r it awaited xs) ≡ false
+ended_last x r it awaited xs observed waiter waits = rw (observed, waits, waiter) (last_wake xs 0)
+
+pub idle_on : (p : TaskPhase) → is_idle p ≡ true → is_done p ≡ false
+idle_on task.Idle h = refl
+idle_on task.Queued h = refl
+idle_on (task.Running i) h = refl
+idle_on (task.Noted i) h = refl
+idle_on task.Done h = absurd (false≢true h)
 
 not_woken : (p : TaskPhase) → is_idle (woken_phase p) ≡ false
 not_woken task.Idle = refl
@@ -52,8 +60,11 @@ left_more t (u ∷ us) zeros other h = by (t == u) refl
     by true same = absurd (other (eqb-true t u same ∙ zeros 0 u (omega arith)))
     by false apart = refl
 
-module _ (c : Configuration) (me : Books) (s : Common) (wakes : List ℕ) (was : is_idle (task_of s 0).phase ≡ true → has_come s (task_of s 0).waiting ≡ true → is_empty wakes ≡ false)
-    (busy : is_none me.polls ≡ false → is_idle (task_of s 0).phase ≡ false) (follows : IsFollowed s (task_of s 0).waiting) (zeros : All (λ t. t ≡ 0) wakes) where
+module _ (c : Configuration) (me : Books) (s : Common) (d : Desk) (was : is_idle (task_of s 0).phase ≡ true → has_come s (task_of s 0).waiting ≡ true → is_empty d.wakes ≡ false)
+    (busy : is_none me.polls ≡ false → is_idle (task_of s 0).phase ≡ false) (follows : IsFollowed s (task_of s 0).waiting) (aware : Aware s d.awaited (task_of s 0)) (nobody : ArePlain s) (zeros : All (λ t. t ≡ 0) d.wakes) where
+  abbrev wakes : List ℕ
+  wakes = d.wakes
+
   abbrev Woken : Common → List ℕ → Type 0
   Woken s' wakes' = is_idle (task_of s' 0).phase ≡ true → has_come s' (task_of s' 0).waiting ≡ true → is_empty wakes' ≡ false
 
@@ -77,21 +88,32 @@ module _ (c : Configuration) (me : Books) (s : Common) (wakes : List ℕ) (was :
       by k (inr h) = subst (λ j. is_resolved (request_of s j).phase ≡ true) (sym h.0) (over h.1)
 
   -- it is over, and wakes whom it has to
-  ended : (r : ℕ) (x : Outcome) (y : Request) → Woken (set_request s r y) (woken_by_end (Some x) (request_of s r) wakes)
-  ended r x y idle come = by (task_of s 0).waiting refl follows (λ h. was idle h) come
+  ended : (r : ℕ) (x : Outcome) (y : Request) → Woken (set_request s r y) (woken_by_end (Some x) r (request_of s r) d.awaited wakes)
+  ended r x y idle come = by (task_of s 0).waiting follows (aware (idle_on (task_of s 0).phase idle)) (λ h. was idle h) come
     where
-      by : (w : Waiting) → (task_of s 0).waiting ≡ w → IsFollowed s w → (has_come s w ≡ true → is_empty wakes ≡ false) → has_come (set_request s r y) w ≡ true → is_empty (woken_by_end (Some x) (request_of s r) wakes) ≡ false
-      by (waiting.Request k) is follows before come = elim (over_after s.requests r y k come) [
-        | inl h ↦ ended_more (Some x) (request_of s r) wakes (before h)
-        | inr h ↦ ended_last x (request_of s r) wakes (subst (λ j. (request_of s j).observed ≡ true) h.0 follows.0) (subst (λ j. (request_of s j).waiter ≡ Some 0) h.0 follows.1)
-      ]
-      by (waiting.Timer z) is follows before come = ended_more (Some x) (request_of s r) wakes (before come)
-      by waiting.Nothing is follows before come = absurd (false≢true come)
-      by waiting.Wake is follows before come = absurd (false≢true come)
-      by waiting.Woken is follows before come = absurd (false≢true come)
-      by waiting.Yielded is follows before come = absurd (false≢true come)
+      -- it was over before, or this is the end that is waited for
+      first : (over : Bool) → is_resolved (request_of s r).phase ≡ over → IsFollowed s (waiting.Request r) → IsAware s d.awaited (waiting.Request r) → (over ≡ true → is_empty wakes ≡ false)
+          → is_empty (woken_by_end (Some x) r (request_of s r) d.awaited wakes) ≡ false
+      first true is follows known before = ended_more (Some x) r (request_of s r) d.awaited wakes (before refl)
+      first false is follows known before = ended_last x r (request_of s r) d.awaited wakes follows.0 follows.1 (known is)
 
-  ends : (o : Option Outcome) (r : ℕ) (y : Option Outcome → Request) → (is_resolved (y None).phase ≡ true → is_resolved (request_of s r).phase ≡ true) → Woken (set_request s r (y o)) (woken_by_end o (request_of s r) wakes)
+      by : (w : Waiting) → IsFollowed s w → IsAware s d.awaited w → (has_come s w ≡ true → is_empty wakes ≡ false) → has_come (set_request s r y) w ≡ true
+          → is_empty (woken_by_end (Some x) r (request_of s r) d.awaited wakes) ≡ false
+      by (waiting.Request k) follows known before come = elim (over_after s.requests r y k come) [
+        | inl h ↦ ended_more (Some x) r (request_of s r) d.awaited wakes (before h)
+        | inr h ↦
+            let over = is_resolved (request_of s r).phase in
+            let same = ap (λ j. is_resolved (request_of s j).phase) h.0 in
+            first over refl (subst (λ j. IsFollowed s (waiting.Request j)) h.0 follows) (subst (λ j. IsAware s d.awaited (waiting.Request j)) h.0 known) (λ is. before (same ∙ is))
+      ]
+      by (waiting.Timer z) follows known before come = ended_more (Some x) r (request_of s r) d.awaited wakes (before come)
+      by waiting.Nothing follows known before come = absurd (false≢true come)
+      by waiting.Wake follows known before come = absurd (false≢true come)
+      by waiting.Woken follows known before come = absurd (false≢true come)
+      by waiting.Yielded follows known before come = absurd (false≢true come)
+
+  ends : (o : Option Outcome) (r : ℕ) (y : Option Outcome → Request) → (is_resolved (y None).phase ≡ true → is_resolved (request_of s r).phase ≡ true)
+      → Woken (set_request s r (y o)) (woken_by_end o r (request_of s r) d.awaited wakes)
   ends None r y over = marked r (y None) over
   ends (Some x) r y over = ended r x (y (Some x))
 
@@ -122,7 +144,7 @@ module _ (c : Configuration) (me : Books) (s : Common) (wakes : List ℕ) (was :
   ]
 
   abbrev After : Event → Choice → Type 0
-  After e choice = Woken (common_after c me s 0 e choice) (wakes_after s e choice wakes)
+  After e choice = Woken (common_after c me s 0 e choice) (wakes_after s e choice d)
 
   number_some : (t : ℕ) → is_number t me.polls ≡ true → is_none me.polls ≡ false
   number_some t h = by (is_none me.polls) refl
@@ -160,20 +182,20 @@ module _ (c : Configuration) (me : Books) (s : Common) (wakes : List ℕ) (was :
       unsent_timer : (f : Forwarding) (a b d : Bool) → f ≡ Unsent → (not (is_unsent f) || (a && b && d)) ≡ true → b ≡ true
       unsent_timer f a b d is h = middle a b d (subst (λ g. (not (is_unsent g) || (a && b && d)) ≡ true) is h)
 
-      none_came : (w : Waiting) → IsFollowed s w → may_stop s 0 w ≡ true → has_come s w ≡ true → ⊥
-      none_came (waiting.Request r) follows stop come = false≢true (sym (none_of (is_resolved (request_of s r).phase) (unsent (request_of s r).forwarding ((request_of s r).worker == 0) (not (is_resolved (request_of s r).phase)) follows.2 stop)) ∙ come)
-      none_came (waiting.Timer z) follows stop come = false≢true (sym (none_of (sleeper_of s z).fired (unsent_timer (sleeper_of s z).forwarding ((sleeper_of s z).worker == 0) (not (sleeper_of s z).fired) (not (sleeper_of s z).removed) follows stop)) ∙ come)
-      none_came waiting.Nothing follows stop come = false≢true come
-      none_came waiting.Wake follows stop come = false≢true come
-      none_came waiting.Woken follows stop come = false≢true come
-      none_came waiting.Yielded follows stop come = false≢true come
+      none_came : (w : Waiting) → may_stop s 0 w ≡ true → has_come s w ≡ true → ⊥
+      none_came (waiting.Request r) stop come = false≢true (sym (none_of (is_resolved (request_of s r).phase) (unsent (request_of s r).forwarding ((request_of s r).worker == 0) (not (is_resolved (request_of s r).phase)) (nobody.requests r).0 stop)) ∙ come)
+      none_came (waiting.Timer z) stop come = false≢true (sym (none_of (sleeper_of s z).fired (unsent_timer (sleeper_of s z).forwarding ((sleeper_of s z).worker == 0) (not (sleeper_of s z).fired) (not (sleeper_of s z).removed) (nobody.sleepers z).1 stop)) ∙ come)
+      none_came waiting.Nothing stop come = false≢true come
+      none_came waiting.Wake stop come = false≢true come
+      none_came waiting.Woken stop come = false≢true come
+      none_came waiting.Yielded stop come = false≢true come
 
       by : (b : Bool) → Woken (if b then after_over s 0 t else set_task s t (record (task_of s t) { phase = pended_phase (task_of s t).phase })) wakes
       by true idle come = over_woken t wakes polls idle come
       by false idle come =
           absurd (task_set (λ (it : Task). is_idle it.phase ≡ true → has_come s it.waiting ≡ true → ⊥) s t (record (task_of s t) { phase = pended_phase (task_of s t).phase })
           (λ idle come. false≢true (sym (busy polls) ∙ idle))
-          (λ zero idle come. none_came (task_of s t).waiting (subst (λ j. IsFollowed s (task_of s j).waiting) (sym zero) follows) stop come) idle come)
+          (λ zero idle come. none_came (task_of s t).waiting stop come) idle come)
 
   begun_woken : (t : ℕ) → Woken (set_task s t (begun 0 (task_of s t))) wakes
   begun_woken t idle come =
@@ -322,10 +344,12 @@ module _ (c : Configuration) (me : Books) (s : Common) (wakes : List ℕ) (was :
 
 -- TOGETHER
 
-pub called_then : (c : Configuration) (me : Books) (s : Common) (d : Desk) (wakes' : List ℕ) → HasRoot me s d → ((k : ℕ) → is_gated (request_of s k).phase ≡ false) → IsCalled s d.wakes (task_of s 0)
-    → (e : Event) (choice : Choice) → is_cut e ≡ true → wakes' ≡ wakes_after s e choice d.wakes → AllTrue (allowed c me s 0 e choice) → (let s' = common_after c me s 0 e choice in IsCalled s' wakes' (task_of s' 0))
-called_then c me s d wakes' root ungated called e choice cut same may =
+pub called_then : (c : Configuration) (me : Books) (s : Common) (d : Desk) (wakes' : List ℕ) → HasRoot me s d → ArePlain s
+    → ((k : ℕ) → is_gated (request_of s k).phase ≡ false) → IsCalled s d.wakes (task_of s 0) → Aware s d.awaited (task_of s 0) → (e : Event) (choice : Choice) → is_cut e ≡ true
+    → wakes' ≡ wakes_after s e choice d → AllTrue (allowed c me s 0 e choice)
+    → (let s' = common_after c me s 0 e choice in IsCalled s' wakes' (task_of s' 0))
+called_then c me s d wakes' root nobody ungated called aware e choice cut same may =
     record {
       fresh = freshes c me s called.fresh e choice cut;
-      woken = λ idle come. ap is_empty same ∙ wokens c me s d.wakes called.woken root.busy root.follows root.wakes ungated e choice cut may idle come;
+      woken = λ idle come. ap is_empty same ∙ wokens c me s d called.woken root.busy root.follows aware nobody root.wakes ungated e choice cut may idle come;
     }

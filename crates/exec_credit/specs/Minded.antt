@@ -2,27 +2,36 @@
 use Rattle.std.specs.Prelude.{◌≡◌, ◌≤◌, ℕ, Bool, true, false, not, ◌+◌, ◌*◌, ◌==◌, ◌&&◌, ◌||◌, List, [], ◌∷◌, length, All, Some, None, is_some, count_by}
 use Rattle.std.specs.List.{list_all, list_any}
 use Rattle.exec_base.specs.Spinner.{Spinner}
-use Rattle.exec_machine.specs.{declared.{config.{Configuration.Configuration, Spin.Spin, ScriptWord.ScriptWord}, state.{Request.Request, TaskPhase.TaskPhase, Forwarding.TheVariants.Unsent, Waiting.Waiting}, step.Action.Action}, Same.is_none, Ranges.{largest_spin}, Tests.{is_empty, is_open, has_ended, is_awake, is_idle, is_ready, is_done, is_gated, is_queued, is_staged, is_landed, is_in_flight, is_resolved, is_asleep}, World.{Own, Common, Task, seat_of, task_of, request_of, sleeper_of, own_of}, Deadlines.{next_due, rest_until, is_after}, Progress.{has_come, is_runnable, is_cancel_untold}, Callers.is_half_done}
+use Rattle.exec_outcomes.specs.Accounts.{is_durable}
+use Rattle.exec_machine.specs.{declared.{config.{Configuration.Configuration, Spin.Spin, ScriptWord.ScriptWord}, state.{Request.Request, Sleeper.Sleeper, TaskPhase.TaskPhase, Forwarding.TheVariants.Unsent, Waiting.Waiting}, step.Action.Action}, Same.is_none, Ranges.{largest_spin}, Tests.{is_empty, is_open, has_ended, is_awake, is_idle, is_ready, is_done, is_gated, is_queued, is_staged, is_landed, is_in_flight, is_resolved, is_asleep}, World.{Own, Common, Task, seat_of, task_of, request_of, sleeper_of, own_of}, Deadlines.{next_due, rest_until, is_after}, Progress.{has_come, is_runnable, is_cancel_untold}, Callers.is_half_done}
 use Rattle.exec_machine.specs.declared.config.ScriptWord.TheVariants as word
 use Rattle.exec_machine.specs.declared.state.TaskPhase.TheVariants as task
 use Rattle.exec_machine.specs.declared.step.Action.TheVariants as action
 use Rattle.exec_machine.specs.declared.state.Waiting.TheVariants as waiting
 use Rattle.exec_moves.specs.declared.place.InClosing.TheVariants as closing
 use Rattle.exec_moves.specs.declared.place.InPoll.TheVariants as poll
-use Rattle.exec_moves.specs.{declared.idling.{InRingWait.InRingWait, InWordWait.InWordWait, Stay.Stay}, declared.place.Place.Place, Callback.{has_callbacks, has_requests}, Load.has_submissions, Plays.{Playing, desk_of}, Seen.{serves_at, next_at}, State.{Desk, Things, inbox_of, queue_of, wake_poll_of, word_of}}
+use Rattle.exec_moves.specs.{declared.idling.{InRingWait.InRingWait, InWordWait.InWordWait, Stay.Stay}, declared.place.Place.Place, Callback.{has_callbacks, has_requests}, Load.has_submissions, Slots.{is_in_slots, numbers_in}, Told.has_number, Plays.{Playing, desk_of}, Seen.{serves_at, next_at}, State.{Desk, Things, inbox_of, queue_of, wake_poll_of, word_of}}
 use Rattle.exec_moves.specs.declared.idling.InRingWait.TheVariants as ring
 use Rattle.exec_moves.specs.declared.idling.InWordWait.TheVariants as word_wait
 use Rattle.exec_moves.specs.declared.place.Place.TheVariants as at
 use Rattle.exec_moves.specs.declared.idling.Stay.TheVariants as stay
 use Rattle.exec_words.specs.Idle.{is_in as is_in_set}
-use Rattle.exec_credit.specs.Minds.{HasLooks, closes, finds, is_alone, is_poll, is_published, passes}
+use Rattle.exec_credit.specs.Minds.{HasLooks, HasNoEnds, closes, finds, is_alone, is_poll, is_published, passes}
 
 -- WHAT THE INVARIANT OF THE WORKER GIVES, of each state
 
--- tasks spawn nothing yet, and make no requests of open files
+-- The words of a task that makes no other task or worker, wakes none, and makes no request that needs the permit of an
+-- open.
 abbrev pub is_played : ScriptWord → Bool
-is_played (word.Send socket n) = true
 is_played (word.Poll l) = true
+is_played (word.Send socket n) = true
+is_played (word.Recv socket n) = true
+is_played (word.Fill socket n) = true
+is_played (word.Connect socket) = true
+is_played (word.Read file offset n) = true
+is_played (word.Hint file offset n) = true
+is_played (word.Direct file offset n) = true
+is_played (word.Write file offset n) = true
 is_played word.Await = true
 is_played word.Drop = true
 is_played (word.Sleep time) = true
@@ -31,10 +40,9 @@ is_played word.End = true
 is_played (word.Fault code) = true
 is_played _ = false
 
--- what the root waits for knows it
+-- a request that the root waits for is held, and says so
 abbrev pub IsFollowed : Common → Waiting → Type 0
-IsFollowed s (waiting.Request r) = ((request_of s r).observed ≡ true) × ((request_of s r).waiter ≡ Some 0) × ((request_of s r).forwarding ≡ Unsent)
-IsFollowed s (waiting.Timer z) = (sleeper_of s z).forwarding ≡ Unsent
+IsFollowed s (waiting.Request r) = ((request_of s r).observed ≡ true) × ((request_of s r).waiter ≡ Some 0)
 IsFollowed s _ = Unit {0}
 
 abbrev pub is_joining : Place → Bool
@@ -46,16 +54,17 @@ abbrev pub is_start : Place → Bool
 is_start (at.Closing closing.Close) = true
 is_start _ = false
 
--- a closing worker lets go of what its root held, which is nothing
+-- A closing worker lets go of what is held still, and of who sleeps: that is nothing, since its root is over.
 abbrev pub lets_go : Place → Bool
 lets_go (at.Closing closing.Orphan) = true
 lets_go (at.Closing closing.CloseSleeper) = true
 lets_go _ = false
 
--- the requests as they may be yet
-pub record ArePlain (s : Common) : Type 0 where
-  pub ungated : (r : ℕ) → is_gated (request_of s r).phase ≡ false
-  pub ours : (r : ℕ) → (request_of s r).worker ≡ 0
+-- its mailbox closes next: nobody holds a request then, and nobody sleeps
+abbrev pub IsBare : Place → Common → Type 0
+IsBare (at.Closing closing.CloseMailbox) s =
+    ((r : ℕ) → (request_of s r).observed ≡ false) × ((z : ℕ) → is_asleep 0 (sleeper_of s z) ≡ false)
+IsBare p s = Unit {0}
 
 -- a worker that has ended has nothing left
 pub record HasNothing (me : Own) (s : Common) : Type 0 where
@@ -63,12 +72,21 @@ pub record HasNothing (me : Own) (s : Common) : Type 0 where
   pub requests : has_requests 0 s ≡ false
   pub sleepers : (z : ℕ) → is_asleep 0 (sleeper_of s z) ≡ false
 
+-- each that sleeps stands in a slot
+abbrev pub HaveBeds : Common → Desk → Type 0
+HaveBeds s d = (z : ℕ) → is_asleep 0 (sleeper_of s z) ≡ true → is_in_slots z d.timers ≡ true
+
+-- each request that isn't over stands in a slot
+abbrev pub HaveSlots : Common → Desk → Type 0
+HaveSlots s d = (r : ℕ) → is_resolved (request_of s r).phase ≡ false → has_number r (numbers_in d.requests.held) ≡ true
+
 -- The machine's part says the same as the place; nobody else leaves anything; and tasks are of the cut.
 pub record Stood (me : Own) (s : Common) (d : Desk) (x : Things) : Type 0 where
   pub serving : me.serving ≡ serves_at d.place
   pub next : me.next ≡ next_at d.place
   pub sampled : me.sampled ≤ s.clock
   pub seats : length s.seats ≡ 1
+  pub pool : (seat_of s 0).pool ≡ true
   pub inbox : (seat_of s 0).inbox ≡ []
   pub queue : (queue_of x 0).values ≡ []
   pub global : x.global ≡ []
@@ -76,10 +94,10 @@ pub record Stood (me : Own) (s : Common) (d : Desk) (x : Things) : Type 0 where
   pub opened : closes d.place ≡ false → is_open (seat_of s 0).phase ≡ true
   pub closed : closes d.place ≡ true → is_start d.place ≡ false → is_open (seat_of s 0).phase ≡ false
   pub polled : (t : ℕ) → me.polls ≡ Some t → t ≡ 0
-  pub passing : passes d.place ≡ false
-  pub joining : is_joining d.place ≡ false
-  pub lets : lets_go d.place ≡ false
-  pub plain : ArePlain s
+  pub bare : IsBare d.place s
+  pub beds : closes d.place ≡ false → HaveBeds s d
+  pub slots : HaveSlots s d
+  pub ours : (r : ℕ) → (request_of s r).worker ≡ 0
   pub scripts : s.scripts ≡ []
   pub words : All (λ w. is_played w ≡ true) s.root
 
@@ -168,17 +186,36 @@ is_settled x =
     && not (is_empty x.idle.published) && not (wake_poll_of x 0).kept && not (is_some (wake_poll_of x 0).ended)
     && is_empty (inbox_of x 0) && list_all is_empty x.shards
 
+-- no request joins a gate there, or leaves one; and nothing is let go
+abbrev pub IsGateless : Place → Type 0
+IsGateless p = (passes p ≡ false) × (is_joining p ≡ false) × (lets_go p ≡ false)
+
 -- at its place; and its bit is in the idle set where it is to be
 pub record Lone (d : Desk) (x : Things) : Type 0 where
   pub settled : is_settled x ≡ true
   pub unsearching : d.searching ≡ false
+  pub no_ends : HasNoEnds d
+  pub gateless : IsGateless d.place
   pub place : is_alone d.place ≡ true
   pub bit : is_published d.place ≡ true → is_in_set x.idle.published 0 ≡ true
+
+-- nobody waits for the request elsewhere, it needs no permit, and waits for none
+abbrev pub IsPlain : Request → Type 0
+IsPlain r = (r.forwarding ≡ Unsent) × (is_durable r.operation.kind ≡ false) × (is_gated r.phase ≡ false)
+
+-- the sleeper is of the worker, and nobody waits for it elsewhere
+abbrev pub IsHere : Sleeper → Type 0
+IsHere z = (z.worker ≡ 0) × (z.forwarding ≡ Unsent)
+
+pub record ArePlain (s : Common) : Type 0 where
+  pub requests : (r : ℕ) → IsPlain (request_of s r)
+  pub sleepers : (z : ℕ) → IsHere (sleeper_of s z)
 
 -- What is carried so that each quiet step is paid for.
 pub record Minded (c : Configuration) (me : Own) (s : Common) (d : Desk) (x : Things) : Type 0 where
   pub workers : c.workers ≡ 1
   pub lone : Lone d x
+  pub plain : ArePlain s
   pub unsent : (word_of x 0).batch ≡ d.processed
   pub unfound : finds d.place ≡ false
   pub looks : HasLooks d.place
@@ -232,6 +269,14 @@ pub record IsCalled (s : Common) (wakes : List ℕ) (t : Task) : Type 0 where
   pub fresh : is_fresh_in t.phase ≡ true → t.fresh ≡ true
   pub woken : is_idle t.phase ≡ true → has_come s t.waiting ≡ true → is_empty wakes ≡ false
 
+-- a request that isn't over, and that the root waits for, wakes it once it is over
+abbrev pub IsAware : Common → List ℕ → Waiting → Type 0
+IsAware s awaited (waiting.Request r) = is_resolved (request_of s r).phase ≡ false → has_number r awaited ≡ true
+IsAware s awaited _ = Unit {0}
+
+abbrev pub Aware : Common → List ℕ → Task → Type 0
+Aware s awaited t = is_done t.phase ≡ false → IsAware s awaited t.waiting
+
 -- how many requests aren't over
 abbrev pub open_count : List Request → ℕ
 open_count rs = count_by (λ r. not (is_resolved r.phase)) rs
@@ -240,7 +285,7 @@ pub record Rested (c : Configuration) (me : Own) (s : Common) (d : Desk) : Type 
   pub rests : is_awake (seat_of s 0).rest ≡ false → IsAtRest c me s d
   pub listed : AreListed me s
   pub called : IsCalled s d.wakes (task_of s 0)
-  pub sleepers : (z : ℕ) → (sleeper_of s z).worker ≡ 0
+  pub aware : Aware s d.awaited (task_of s 0)
 
 -- WHAT IS CARRIED BESIDE, so that there is never as much credit as the bound: outputs are of requests that were let go
 pub record Bounded (s : Common) (d : Desk) : Type 0 where

@@ -1,7 +1,7 @@
 -- What holds so that each quiet step of a worker is paid for. The worker is alone, and there are no callers.
 use Rattle.std.specs.Prelude.{◌≡◌, ◌≤◌, ◌<◌, ℕ, Bool, true, false, ◌&&◌, [], length, nat_le, nat_lt, None}
 use Rattle.std.specs.List.{list_any}
-use Rattle.exec_machine.specs.{declared.config.Configuration.Configuration, Ranges.{largest_spin, ring_size}, World.{Own, Common}, Text.is_quiet, After.{own_after, common_after}, Deadlines.is_due, Tests.{is_asleep, is_empty}}
+use Rattle.exec_machine.specs.{declared.config.Configuration.Configuration, Ranges.{largest_spin, ring_size}, World.{Own, Common, seat_of}, Text.is_quiet, After.{own_after, common_after}, Deadlines.is_due, Tests.{is_asleep, is_empty}}
 use Rattle.exec_machine.specs.declared.state.Next.TheVariants as next
 use Rattle.exec_words.specs.Idle.{is_in}
 use Rattle.exec_moves.specs.declared.handing.AfterCallbacks.TheVariants as after
@@ -129,10 +129,20 @@ pub record IsUnraised (w : WakePoll) : Type 0 where
   pub unkept : w.kept ≡ false
   pub unended : w.ended ≡ None
 
--- At place p it is alone: nobody could be searched for, stolen from or claimed.
-pub record IsAlone (c : Configuration) (i : ℕ) (d : Desk) (x : Things) (p : Place) : Type 0 where
+-- no end is to be sent to a task elsewhere
+abbrev pub HasNoEnds : Desk → Type 0
+HasNoEnds d = (d.completions ≡ []) × (d.results ≡ [])
+
+-- nor does it search
+abbrev pub IsCalm : Desk → Type 0
+IsCalm d = (d.searching ≡ false) × HasNoEnds d
+
+-- At place p it is alone: nobody could be searched for, stolen from or claimed, and nobody waits elsewhere.
+pub record IsAlone (c : Configuration) (i : ℕ) (s : Common) (d : Desk) (x : Things) (p : Place) : Type 0 where
   pub lone : c.workers ≡ 1
   pub first : i ≡ 0
+  pub pool : (seat_of s i).pool ≡ true
+  pub no_ends : HasNoEnds d
   pub place : is_alone p ≡ true
   pub unsearching : d.searching ≡ false
   pub word : is_empty x.words ≡ false
@@ -147,7 +157,7 @@ pub record IsAlone (c : Configuration) (i : ℕ) (d : Desk) (x : Things) (p : Pl
 -- Where no deadline is told any more, and no sleeper, none is due by the sampled moment.
 pub record Minds (c : Configuration) (i : ℕ) (me : Own) (s : Common) (d : Desk) (x : Things) : Type 0 where
   pub here : i < length s.seats
-  pub alone : IsAlone c i d x d.place
+  pub alone : IsAlone c i s d x d.place
   pub some_ring : nat_lt 0 (ring_size c) ≡ true
   pub open_still : closes d.place ≡ false
   pub serving : me.serving ≡ serves_at d.place
@@ -161,7 +171,7 @@ pub record Minds (c : Configuration) (i : ℕ) (me : Own) (s : Common) (d : Desk
   pub told : is_poll d.place ≡ true → is_quiet (move c i me s d x).event ≡ false
   pub sampled : me.sampled ≤ s.clock
   pub deadlines : first_due c i me s ≡ None → list_any (is_due i me.sampled) s.requests ≡ false
-  pub sleepers : first_to_fire i me s ≡ None → list_any (λ z. is_asleep i z && nat_le z.until me.sampled) s.sleepers ≡ false
+  pub sleepers : first_to_fire i me s d ≡ None → list_any (λ z. is_asleep i z && nat_le z.until me.sampled) s.sleepers ≡ false
   pub budget : d.spinner.budget ≤ largest_spin c.spin
   pub looks : HasLooks d.place
 
