@@ -3,7 +3,7 @@ use Rattle.std.proofs.Common.{◌≡◌, ◌≢◌, ℕ, ◌+◌, ◌<◌, ◌�
 use Rattle.std.proofs.lemmas.List.{length-map, take-append-drop, length-take-le, get_or_at, get_or_append_left, get_or-map, append-nil, map_push}
 use Rattle.std.proofs.lemmas.List.Elements.{All-push}
 use Rattle.exec_machine.specs.declared.{config.{Configuration.Configuration, ScriptWord.{ScriptWord, TheVariants.End}}, step.Step.{Step, TheVariants.Work}}
-use Rattle.exec_text.specs.{Grammar.{Meaning, HeaderFits, IsWellFormed, NamesScripts, trace_lines, text_of_script, text_of_root, text_of_step, WordFits, ScriptFits, RootFits, StepFits, WordNames, StepNames}, Reading.{header, IsRoot, IsScript, IsHead, IsTop, IsMarkedTop}}
+use Rattle.exec_text.specs.{Grammar.{Meaning, HeaderFits, IsWellFormed, NamesScripts, trace_lines, text_of_script, text_of_root, text_of_step, WordFits, WordsFit, StepFits, WordNames, StepNames}, Reading.{header, IsRoot, IsScript, IsHead, IsTop, IsMarkedTop}}
 use Rattle.exec_text.proofs.Headers.{header_length, header_same, append_same}
 
 -- lines that are right by themselves begin so, and name scripts below this count
@@ -31,13 +31,13 @@ meaning_from c scripts root steps = record { plan = record { config = c; scripts
 pub none_all : {X : Type 0} (P : X → Type 0) → All P []
 none_all P = λ k d l. absurd (omega arith)
 
-pub root_end : (c : Configuration) → RootFits c (End ∷ [])
+pub root_end : (c : Configuration) → WordsFit c (End ∷ [])
 root_end c = record { some = omega arith; fit = All-push (WordFits c) [] End (none_all (WordFits c)) tt }
 
 pub end_named : (count : ℕ) → All (WordNames count) (End ∷ [])
 end_named count = All-push (WordNames count) [] End (none_all (WordNames count)) tt
 
-pub parts_fit : (c : Configuration) (scripts : List (List ScriptWord)) (root : List ScriptWord) (steps : List Step) → HeaderFits c → All (ScriptFits c) scripts → RootFits c root → All StepFits steps → IsWellFormed (meaning_from c scripts root steps)
+pub parts_fit : (c : Configuration) (scripts : List (List ScriptWord)) (root : List ScriptWord) (steps : List Step) → HeaderFits c → All (WordsFit c) scripts → WordsFit c root → All StepFits steps → IsWellFormed (meaning_from c scripts root steps)
 parts_fit c scripts root steps h s r t = record { header = h; scripts = s; root = r; steps = t }
 
 pub parts_named : (c : Configuration) (count : ℕ) (scripts : List (List ScriptWord)) (root : List ScriptWord) (steps : List Step) → All (All (WordNames count)) scripts → All (WordNames count) root → All (StepNames count) steps → NamesScripts count (meaning_from c scripts root steps)
@@ -48,7 +48,7 @@ header_front count c k fits =
     let h = header c in
     let r : List (List ℕ) = below [] (End ∷ []) [] in (
       meaning_from c [] (End ∷ []) [],
-      parts_fit c [] (End ∷ []) [] fits (none_all (ScriptFits c)) (root_end c) (none_all StepFits),
+      parts_fit c [] (End ∷ []) [] fits (none_all (WordsFit c)) (root_end c) (none_all StepFits),
       parts_named c count [] (End ∷ []) [] (none_all (All (WordNames count))) (end_named count) (none_all (StepNames count)),
       drop k h ++ r,
       sym (append_assoc (take k h) (drop k h) r) ∙ ap (λ (x : List (List ℕ)). x ++ r) (take-append-drop k h) ∙ sym (lines_are (meaning_from c [] (End ∷ []) [])),
@@ -112,7 +112,7 @@ head_lines c said xs ss p h s f e =
 head_spelled : (c : Configuration) (said r : List (List ℕ)) (ss : List (List ScriptWord)) → said ≡ header c ++ map text_of_script ss → said ++ r ≡ header c ++ (map text_of_script ss ++ r)
 head_spelled c said r ss s = ap (λ (x : List (List ℕ)). x ++ r) s ∙ append_assoc (header c) (map text_of_script ss) r
 
-pub scripts_formed : (c : Configuration) (said : List (List ℕ)) (ss : List (List ScriptWord)) → HeaderFits c → said ≡ header c ++ map text_of_script ss → All (ScriptFits c) ss → Formed said
+pub scripts_formed : (c : Configuration) (said : List (List ℕ)) (ss : List (List ScriptWord)) → HeaderFits c → said ≡ header c ++ map text_of_script ss → All (WordsFit c) ss → Formed said
 scripts_formed c said ss h s fit =
     let p = meaning_from c ss (End ∷ []) [] in (
       p,
@@ -143,18 +143,18 @@ task_next c count said ss line h b =
     let words : List ScriptWord = get_or plan.scripts n [] in
     let i = head_lines c said (line ∷ b.3) ss b.0 h.header_fits h.spelled b.1 (sym (append_assoc said (line ∷ []) b.3) ∙ b.4) in
     elim (behind_scripts ss plan.scripts plan.root b.0.steps line b.3 i.1) [
-      | inl a ↦ inl (words, record { spelled = a.1; fits = subst (λ (g : Configuration). ScriptFits g words) (sym i.0) (b.1.scripts n [] a.0); named = b.2.scripts n [] a.0 })
-      | inr a ↦ inr (plan.root, record { spelled = a.1; fits = subst (λ (g : Configuration). RootFits g plan.root) (sym i.0) b.1.root; named = b.2.root })
+      | inl a ↦ inl (words, record { spelled = a.1; fits = subst (λ (g : Configuration). WordsFit g words) (sym i.0) (b.1.scripts n [] a.0); named = b.2.scripts n [] a.0 })
+      | inr a ↦ inr (plan.root, record { spelled = a.1; fits = subst (λ (g : Configuration). WordsFit g plan.root) (sym i.0) b.1.root; named = b.2.root })
     ]
 
 pub head_none : (c : Configuration) (count : ℕ) (said : List (List ℕ)) → HeaderFits c → said ≡ header c → IsHead c count said []
-head_none c count said h e = record { header_fits = h; spelled = e ∙ sym (append-nil (header c)); fit = none_all (ScriptFits c); named = none_all (All (WordNames count)) }
+head_none c count said h e = record { header_fits = h; spelled = e ∙ sym (append-nil (header c)); fit = none_all (WordsFit c); named = none_all (All (WordNames count)) }
 
 pub head_script : (c : Configuration) (count : ℕ) (said : List (List ℕ)) (ss : List (List ScriptWord)) (line : List ℕ) (words : List ScriptWord) → IsHead c count said ss → IsScript c count line words → IsHead c count (said ++ line ∷ []) (ss ++ words ∷ [])
 head_script c count said ss line words h r = record {
   header_fits = h.header_fits;
   spelled = head_spelled c said (line ∷ []) ss h.spelled ∙ ap (λ (l : List ℕ). header c ++ (map text_of_script ss ++ l ∷ [])) r.spelled ∙ ap (λ (x : List (List ℕ)). header c ++ x) (sym (map_push text_of_script ss words));
-  fit = All-push (ScriptFits c) ss words h.fit r.fits;
+  fit = All-push (WordsFit c) ss words h.fit r.fits;
   named = All-push (All (WordNames count)) ss words h.named r.named;
 }
 

@@ -6,6 +6,7 @@ pub mod Scripts
 pub mod Faults
 pub mod Said
 pub mod Steps
+pub mod Spelling
 pub mod Words
 pub mod Meanings
 pub mod Tasks

@@ -5,7 +5,7 @@ use Rattle.std.specs.Fmt.{decimal}
 use Rattle.std.specs.List.{flat_map}
 use Rattle.std.specs.Str.Lines.{lines}
 use Rattle.exec_outcomes.specs.declared.outcome.OpResult.{OpResult, TheVariants.{Count, Errno}}
-use Rattle.exec_machine.specs.{declared.{config.{Configuration.Configuration, ScriptWord.{ScriptWord, TheVariants.{Send, Poll, Await, Drop, Sleep, Spawn, Yield, End, Fault}}}, step.{Action.TheVariants.{GoOn, Clock, Land, SetBusy, EndPoll, Stir}, Step.{Step, TheVariants.{Work, One}}}}, Text.text_of_action, Progress.Plan}
+use Rattle.exec_machine.specs.{declared.{config.{Configuration.Configuration, ScriptWord.ScriptWord}, step.{Action.TheVariants.{GoOn, Clock, Land, SetBusy, EndPoll, Stir}, Step.{Step, TheVariants.{Work, One}}}}, Text.text_of_action, Progress.Plan}
 use Rattle.exec_machine.specs.declared.config.ScriptWord.TheVariants as word
 use Rattle.exec_machine.specs.declared.step.Action.TheVariants as action
 use Rattle.exec_text.specs.declared.trace.Trace.{Trace}
@@ -28,19 +28,32 @@ header_lines c =
     ∷ (codes "spin " ++ decimal c.spin.budget ++ 32 ∷ decimal c.spin.most ++ 32 ∷ decimal c.spin.quick ++ 32 ∷ decimal c.spin.iterations)
     ∷ (codes "files " ++ decimal c.files) ∷ (codes "sockets " ++ decimal c.sockets) ∷ []
 
--- Other words have no text yet.
+-- a number behind a word, with the space before it
+abbrev pub behind : ℕ → List ℕ
+behind n = 32 ∷ decimal n
+
 abbrev pub text_of_word : ScriptWord → List ℕ
-text_of_word (Send socket length) = codes "send " ++ decimal socket ++ 32 ∷ decimal length
-text_of_word (Poll listener) = codes "poll " ++ decimal listener
-text_of_word Await = codes "await"
-text_of_word Drop = codes "drop"
-text_of_word (Sleep time) = codes "sleep " ++ decimal time
-text_of_word (Spawn script) = codes "spawn " ++ decimal script
-text_of_word (word.Wake task) = codes "wake " ++ decimal task
-text_of_word Yield = codes "yield"
-text_of_word End = codes "end"
-text_of_word (Fault code) = codes "fault " ++ decimal code
-text_of_word _ = []
+text_of_word (word.Poll listener) = codes "poll" ++ behind listener
+text_of_word (word.Send socket length) = codes "send" ++ behind socket ++ behind length
+text_of_word (word.Recv socket length) = codes "recv" ++ behind socket ++ behind length
+text_of_word (word.Fill socket length) = codes "fill" ++ behind socket ++ behind length
+text_of_word (word.Connect socket) = codes "conn" ++ behind socket
+text_of_word (word.Read file offset length) = codes "read" ++ behind file ++ behind offset ++ behind length
+text_of_word (word.Hint file offset length) = codes "hint" ++ behind file ++ behind offset ++ behind length
+text_of_word (word.Direct file offset length) = codes "direct" ++ behind file ++ behind offset ++ behind length
+text_of_word (word.Write file offset length) = codes "write" ++ behind file ++ behind offset ++ behind length
+text_of_word (word.Dsync file offset length) = codes "dsync" ++ behind file ++ behind offset ++ behind length
+text_of_word (word.Many file offset length) = codes "many" ++ behind file ++ behind offset ++ behind length
+text_of_word (word.Sync file) = codes "sync" ++ behind file
+text_of_word word.Await = codes "await"
+text_of_word word.Drop = codes "drop"
+text_of_word (word.Sleep time) = codes "sleep" ++ behind time
+text_of_word (word.Spawn script) = codes "spawn" ++ behind script
+text_of_word (word.Dedicated script) = codes "dedicated" ++ behind script
+text_of_word (word.Wake task) = codes "wake" ++ behind task
+text_of_word word.Yield = codes "yield"
+text_of_word word.End = codes "end"
+text_of_word (word.Fault code) = codes "fault" ++ behind code
 
 -- the words of a script, a space before each
 abbrev pub text_of_words : List ScriptWord → List ℕ
@@ -61,42 +74,55 @@ abbrev pub trace_lines : Meaning → List (List ℕ)
 trace_lines m =
     header_lines m.plan.config ++ map text_of_script m.plan.scripts ++ text_of_root m.plan.root ∷ codes "steps" ∷ map text_of_step m.steps
 
--- Bounds of what a line says: a number is at most 2^64 - 1, an error number isn't 0, and there are sixteen callers. Other
--- words and steps come later.
-abbrev pub WordFits : Configuration → ScriptWord → Type 0
-WordFits c (Send socket length) = (socket < c.sockets) × (0 < length) × (length ≤ 1048576)
-WordFits c (Poll listener) = listener < c.sockets
-WordFits c Await = Unit {0}
-WordFits c Drop = Unit {0}
-WordFits c (Sleep time) = time < 2 ^ 64
-WordFits c (Spawn script) = script < 2 ^ 64
-WordFits c (word.Wake task) = task < 2 ^ 64
-WordFits c Yield = Unit {0}
-WordFits c End = Unit {0}
-WordFits c (Fault code) = code < 2 ^ 64
-WordFits c _ = ⊥
+-- Bounds of what a line says: a number is at most 2^64 - 1, and sockets, listeners and files are those of the header.
 
--- Requests and sleeps that take time stand in the root's line alone so far.
-abbrev pub StaysInScript : ScriptWord → Type 0
-StaysInScript (Send socket length) = ⊥
-StaysInScript (Poll listener) = ⊥
-StaysInScript (Sleep time) = time ≡ 0
-StaysInScript _ = Unit {0}
+-- so many bytes of a socket
+pub record SocketFits (c : Configuration) (socket length : ℕ) : Type 0 where
+  pub there : socket < c.sockets
+  pub some : 0 < length
+  pub most : length ≤ 1048576
+
+-- so many bytes of a file, from an offset on
+pub record FileFits (c : Configuration) (file offset length : ℕ) : Type 0 where
+  pub there : file < c.files
+  pub early : offset ≤ 2 ^ 62
+  pub some : 0 < length
+  pub most : length ≤ 1048576
+
+abbrev pub WordFits : Configuration → ScriptWord → Type 0
+WordFits c (word.Poll listener) = listener < c.sockets
+WordFits c (word.Send socket length) = SocketFits c socket length
+WordFits c (word.Recv socket length) = SocketFits c socket length
+WordFits c (word.Fill socket length) = SocketFits c socket length
+WordFits c (word.Connect socket) = socket < c.sockets
+WordFits c (word.Read file offset length) = FileFits c file offset length
+WordFits c (word.Hint file offset length) = FileFits c file offset length
+WordFits c (word.Direct file offset length) = FileFits c file offset length
+WordFits c (word.Write file offset length) = FileFits c file offset length
+WordFits c (word.Dsync file offset length) = FileFits c file offset length
+WordFits c (word.Many file offset length) = FileFits c file offset length
+WordFits c (word.Sync file) = file < c.files
+WordFits c word.Await = Unit {0}
+WordFits c word.Drop = Unit {0}
+WordFits c (word.Sleep time) = time < 2 ^ 64
+WordFits c (word.Spawn script) = script < 2 ^ 64
+WordFits c (word.Dedicated script) = script < 2 ^ 64
+WordFits c (word.Wake task) = task < 2 ^ 64
+WordFits c word.Yield = Unit {0}
+WordFits c word.End = Unit {0}
+WordFits c (word.Fault code) = code < 2 ^ 64
 
 -- a line of words has one at least
-pub record RootFits (c : Configuration) (words : List ScriptWord) : Type 0 where
+pub record WordsFit (c : Configuration) (words : List ScriptWord) : Type 0 where
   pub some : 0 < length words
   pub fit : All (WordFits c) words
 
-pub record ScriptFits (c : Configuration) (words : List ScriptWord) : Type 0 where
-  pub some : 0 < length words
-  pub fit : All (WordFits c) words
-  pub stay : All StaysInScript words
-
+-- an error number isn't 0
 abbrev pub ResultFits : OpResult → Type 0
 ResultFits (Count n) = n < 2 ^ 64
 ResultFits (Errno code) = (0 < code) × (code < 2 ^ 64)
 
+-- There are sixteen callers. No peer comes yet.
 abbrev pub StepFits : Step → Type 0
 StepFits (Work worker count) = (worker < 2 ^ 64) × (0 < count) × (count < 2 ^ 64)
 StepFits (One (action.Spawn caller script)) = (caller < 16) × (script < 2 ^ 64)
@@ -127,13 +153,14 @@ pub record HeaderFits (c : Configuration) : Type 0 where
 -- each line by itself is right
 pub record IsWellFormed (m : Meaning) : Type 0 where
   pub header : HeaderFits m.plan.config
-  pub scripts : All (ScriptFits m.plan.config) m.plan.scripts
-  pub root : RootFits m.plan.config m.plan.root
+  pub scripts : All (WordsFit m.plan.config) m.plan.scripts
+  pub root : WordsFit m.plan.config m.plan.root
   pub steps : All StepFits m.steps
 
 -- The numbers of scripts are below this count.
 abbrev pub WordNames : ℕ → ScriptWord → Type 0
-WordNames count (Spawn script) = script < count
+WordNames count (word.Spawn script) = script < count
+WordNames count (word.Dedicated script) = script < count
 WordNames count _ = Unit {0}
 
 abbrev pub StepNames : ℕ → Step → Type 0

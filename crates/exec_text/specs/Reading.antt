@@ -1,11 +1,12 @@
 -- What the clauses of the reader say, beside the grammar.
-use Rattle.std.specs.Prelude.{◌≡◌, ◌≢◌, ℕ, ◌+◌, ◌-◌, ◌^◌, ◌<◌, ◌≤◌, ◌⊎◌, Bool, true, ◌||◌, ◌==◌, nat_lt, List, [], ◌∷◌, ◌++◌, All, Option, Some, None, map, filter, length, take, drop, slice_index, codes}
+use Rattle.std.specs.Prelude.{◌≡◌, ◌≢◌, ℕ, ◌+◌, ◌-◌, ◌^◌, ◌<◌, ◌≤◌, ◌⊎◌, Bool, true, nat_lt, List, [], ◌∷◌, ◌++◌, All, Option, Some, None, map, filter, length, take, drop, slice_index, codes}
 use Rattle.std.specs.Fmt.{decimal}
 use Rattle.std.specs.List.{AllByRecursion}
 use Rattle.std.specs.Str.Lines.{lines}
-use Rattle.exec_machine.specs.declared.{config.{Configuration.Configuration, Spin.Spin, ScriptWord.{ScriptWord, TheVariants.{Send, Poll, Sleep, Spawn}}}, step.Action.Action}
+use Rattle.exec_machine.specs.declared.{config.{Configuration.Configuration, Spin.Spin, ScriptWord.ScriptWord}, step.Action.Action}
+use Rattle.exec_machine.specs.declared.config.ScriptWord.TheVariants as word
 use Rattle.exec_machine.specs.declared.step.Action.TheVariants as action
-use Rattle.exec_text.specs.{Grammar.{says_something, header_lines, HeaderFits, text_of_word, text_of_words, text_of_script, text_of_root, WordFits, ScriptFits, RootFits, WordNames, IsTrace, IsFirstFault}, Kept.{Keeps, KeepsLists}, declared.{read_error.ReadError.{ReadError, TheVariants.{Syntax, NoMemory}}, rules.Rules.Rules, task.{TaskLine.{TaskLine, TheVariants.{Script, Root}}, Tasks.Tasks}}}
+use Rattle.exec_text.specs.{Grammar.{says_something, header_lines, HeaderFits, text_of_word, text_of_words, text_of_script, text_of_root, WordFits, WordsFit, WordNames, IsTrace, IsFirstFault}, Kept.{Keeps, KeepsLists}, declared.{read_error.ReadError.{ReadError, TheVariants.{Syntax, NoMemory}}, task.{TaskLine.{TaskLine, TheVariants.{Script, Root}}, Tasks.Tasks}}}
 
 -- Why a text was not read: the line is the first at which it is no trace, or it is one, and there was no memory.
 abbrev pub IsUnread : ReadError → List ℕ → Type 0
@@ -74,6 +75,62 @@ pub record IsNumber (bytes : List ℕ) (number : ℕ) (rest : List ℕ) : Type 0
   pub small : number < 2 ^ 64
   pub cut : IsCut rest
 
+-- what a word begins with, and the numbers behind it
+abbrev pub name_of : ScriptWord → List ℕ
+name_of (word.Poll listener) = codes "poll"
+name_of (word.Send socket size) = codes "send"
+name_of (word.Recv socket size) = codes "recv"
+name_of (word.Fill socket size) = codes "fill"
+name_of (word.Connect socket) = codes "conn"
+name_of (word.Read file offset size) = codes "read"
+name_of (word.Hint file offset size) = codes "hint"
+name_of (word.Direct file offset size) = codes "direct"
+name_of (word.Write file offset size) = codes "write"
+name_of (word.Dsync file offset size) = codes "dsync"
+name_of (word.Many file offset size) = codes "many"
+name_of (word.Sync file) = codes "sync"
+name_of word.Await = codes "await"
+name_of word.Drop = codes "drop"
+name_of (word.Sleep time) = codes "sleep"
+name_of (word.Spawn script) = codes "spawn"
+name_of (word.Dedicated script) = codes "dedicated"
+name_of (word.Wake task) = codes "wake"
+name_of word.Yield = codes "yield"
+name_of word.End = codes "end"
+name_of (word.Fault code) = codes "fault"
+
+abbrev pub numbers_of : ScriptWord → List ℕ
+numbers_of (word.Poll listener) = listener ∷ []
+numbers_of (word.Send socket size) = socket ∷ size ∷ []
+numbers_of (word.Recv socket size) = socket ∷ size ∷ []
+numbers_of (word.Fill socket size) = socket ∷ size ∷ []
+numbers_of (word.Connect socket) = socket ∷ []
+numbers_of (word.Read file offset size) = file ∷ offset ∷ size ∷ []
+numbers_of (word.Hint file offset size) = file ∷ offset ∷ size ∷ []
+numbers_of (word.Direct file offset size) = file ∷ offset ∷ size ∷ []
+numbers_of (word.Write file offset size) = file ∷ offset ∷ size ∷ []
+numbers_of (word.Dsync file offset size) = file ∷ offset ∷ size ∷ []
+numbers_of (word.Many file offset size) = file ∷ offset ∷ size ∷ []
+numbers_of (word.Sync file) = file ∷ []
+numbers_of word.Await = []
+numbers_of word.Drop = []
+numbers_of (word.Sleep time) = time ∷ []
+numbers_of (word.Spawn script) = script ∷ []
+numbers_of (word.Dedicated script) = script ∷ []
+numbers_of (word.Wake task) = task ∷ []
+numbers_of word.Yield = []
+numbers_of word.End = []
+numbers_of (word.Fault code) = code ∷ []
+
+-- the word has this name and these numbers
+pub record IsSpelled (name : List ℕ) (numbers : List ℕ) (word : ScriptWord) : Type 0 where
+  pub named : name ≡ name_of word
+  pub counted : numbers ≡ numbers_of word
+
+-- no word that fits has them
+abbrev pub IsNoWord : Configuration → List ℕ → List ℕ → Type 0
+IsNoWord c name numbers = (word : ScriptWord) → WordFits c word → IsSpelled name numbers word → ⊥
+
 -- a word at the front, behind a space, and the rest
 pub record IsWord (c : Configuration) (bytes : List ℕ) (word : ScriptWord) (rest : List ℕ) : Type 0 where
   pub spelled : bytes ≡ 32 ∷ text_of_word word ++ rest
@@ -94,45 +151,43 @@ pub record SpinFits (s : Spin) : Type 0 where
   pub quick : s.quick < 2 ^ 64
   pub iterations : s.iterations < 2 ^ 64
 
--- how many scripts the rules know of
+-- a script is one of so many, once they are counted
 abbrev pub is_named : Option ℕ → ℕ → Bool
 is_named None script = true
 is_named (Some count) script = nat_lt script count
 
--- whether the rules allow the word
-abbrev pub allows : Rules → ScriptWord → Bool
-allows r (Spawn script) = is_named r.scripts script
-allows r (Send socket length) = r.is_root
-allows r (Poll listener) = r.is_root
-allows r (Sleep time) = r.is_root || (time == 0)
-allows r _ = true
+-- the word names no script, or one of so many, once they are counted
+abbrev pub names_within : Option ℕ → ScriptWord → Bool
+names_within scripts (word.Spawn script) = is_named scripts script
+names_within scripts (word.Dedicated script) = is_named scripts script
+names_within scripts _ = true
 
-pub record AllAllowed (c : Configuration) (r : Rules) (words : List ScriptWord) : Type 0 where
+pub record AllRight (c : Configuration) (scripts : Option ℕ) (words : List ScriptWord) : Type 0 where
   pub fit : All (WordFits c) words
-  pub allowed : All (λ word. allows r word ≡ true) words
+  pub named : All (λ word. names_within scripts word ≡ true) words
 
--- the line is this name and these words, which the rules allow
-pub record IsLineOf (c : Configuration) (r : Rules) (name line : List ℕ) (words : List ScriptWord) : Type 0 where
+-- the line is this name and these words, which may stand there
+pub record IsLineOf (c : Configuration) (scripts : Option ℕ) (name line : List ℕ) (words : List ScriptWord) : Type 0 where
   pub spelled : line ≡ name ++ text_of_words words
   pub some : 0 < length words
-  pub fit : AllAllowed c r words
+  pub right : AllRight c scripts words
 
 -- the line is one of the root or of a script, where so many scripts count
 pub record IsRoot (c : Configuration) (count : ℕ) (line : List ℕ) (root : List ScriptWord) : Type 0 where
   pub spelled : line ≡ text_of_root root
-  pub fits : RootFits c root
+  pub fits : WordsFit c root
   pub named : All (WordNames count) root
 
 pub record IsScript (c : Configuration) (count : ℕ) (line : List ℕ) (words : List ScriptWord) : Type 0 where
   pub spelled : line ≡ text_of_script words
-  pub fits : ScriptFits c words
+  pub fits : WordsFit c words
   pub named : All (WordNames count) words
 
 -- the lines are the header and those of these scripts
 pub record IsHead (c : Configuration) (count : ℕ) (said : List (List ℕ)) (scripts : List (List ScriptWord)) : Type 0 where
   pub header_fits : HeaderFits c
   pub spelled : said ≡ header c ++ map text_of_script scripts
-  pub fit : All (ScriptFits c) scripts
+  pub fit : All (WordsFit c) scripts
   pub named : All (All (WordNames count)) scripts
 
 -- and the line of the root

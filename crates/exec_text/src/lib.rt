@@ -5,10 +5,11 @@
 //! text that is a trace: `kept.rt` says how.
 //!
 //! The lines are read one after another (`line.rt`): the header by a table (`header.rt`), the lines of tasks, which
-//! are counted first (`task.rt`) and read word by word (`word.rt`), the mark `steps`, and the steps (`step.rt`). What
-//! can't want memory has a type that says so: its error is a `FaultyLine`.
+//! are counted first (`task.rt`) and read word by word (`word.rt`, within `bounds.rt`), the mark `steps`, and the steps
+//! (`step.rt`). What can't want memory has a type that says so: its error is a `FaultyLine`.
 #![tactic(auto)]
 
+mod bounds;
 mod field;
 mod header;
 mod kept;
@@ -16,7 +17,6 @@ mod line;
 mod number;
 mod read;
 mod read_error;
-mod rules;
 mod step;
 mod task;
 pub mod trace;

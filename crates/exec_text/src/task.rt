@@ -3,14 +3,13 @@
 //! A word may name a script that comes later. So the scripts are counted first, and then their lines are read again,
 //! and each number of a script is held against the count.
 
-ghost use Rattle.std.specs.Prelude.{◌≡◌, ◌<◌, ◌^◌, List, IfOk, IfErr, IfSome, IfNone};
+ghost use Rattle.std.specs.Prelude.{◌≡◌, List, IfOk, IfErr, IfSome, IfNone};
 ghost use Rattle.exec_machine.specs.declared.config.ScriptWord.{ScriptWord};
 ghost use Rattle.exec_text.specs.{Grammar.{HeaderFits, IsFirstFault, ScriptsThatCount}, Reading.{said_before, header, IsScript, IsRoot, IsTaskLine, HasTasks}};
 
 use crate::kept::Kept;
 use crate::line::Lines;
 use crate::read_error::FaultyLine;
-use crate::rules::Rules;
 use crate::word::words_in;
 use exec_machine::config::{Configuration, ScriptWord};
 use std::alloc::Global;
@@ -39,14 +38,10 @@ pub(crate) fn count_scripts(config: &Configuration, lines: &Lines) -> usize
     requires fits { HeaderFits config.now }
     ensures { ScriptsThatCount lines.now.text.now result }
 {
-    let rules = Rules {
-        scripts: None,
-        is_root: false,
-    };
     let mut ahead = lines.ahead();
     let mut count = 0;
     while let Some(line) = ahead.next_said() {
-        let Some(_) = words_in(b"script", Kept::Lost, config, rules, line) else {
+        let Some(_) = words_in(b"script", Kept::Lost, config, None, line) else {
             return count;
         };
         count += 1;
@@ -81,22 +76,14 @@ pub(crate) fn read_tasks(
 
 /// The words of the line, where so many scripts count.
 fn task_of(alloc: Global, config: &Configuration, count: usize, line: &[u8]) -> Option<TaskLine>
-    requires { config.now.sockets < 2 ^ 64 }
+    requires { HeaderFits config.now }
     ensures found { IfSome result (IsTaskLine config.now count line.now) }
     ensures no_script { IfNone result ((words : List ScriptWord) → IsScript config.now count line.now words → ⊥) }
     ensures no_root { IfNone result ((root : List ScriptWord) → IsRoot config.now count line.now root → ⊥) }
 {
-    let in_script = Rules {
-        scripts: Some(count),
-        is_root: false,
-    };
-    if let Some(words) = words_in(b"script", Kept::new(alloc), config, in_script, line) {
+    if let Some(words) = words_in(b"script", Kept::new(alloc), config, Some(count), line) {
         return Some(TaskLine::Script(words));
     }
-    let in_root = Rules {
-        scripts: Some(count),
-        is_root: true,
-    };
-    let words = words_in(b"root", Kept::new(alloc), config, in_root, line)?;
+    let words = words_in(b"root", Kept::new(alloc), config, Some(count), line)?;
     Some(TaskLine::Root(words))
 }

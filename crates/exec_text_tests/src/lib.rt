@@ -7,3 +7,5 @@ mod faults;
 mod pool;
 #[cfg(test)]
 mod read_trace;
+#[cfg(test)]
+mod words;

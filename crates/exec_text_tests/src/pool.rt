@@ -6,12 +6,12 @@ use exec_text::trace::Trace;
 use exec_text::{ReadError, read_trace, total_steps};
 use std::test::*;
 
-/// A header with four workers and one socket.
+/// A header with four workers, two files and one socket.
 const HEADER: &str =
     "workers 4\ninterval 3\nring 4\ntick 1000\nconnect 3000\nrw 3000\nspin 1 2 3 4\nfiles 2\nsockets 1\n";
 
 /// The trace of this text below the header.
-fn read(rt: HostRuntime, body: &str) -> Result<Trace, Fail> {
+pub(crate) fn read(rt: HostRuntime, body: &str) -> Result<Trace, Fail> {
     let text = format!(in rt.alloc(); "{HEADER}{body}")
         .ok()
         .ok_or("no memory")?;
@@ -22,7 +22,7 @@ fn read(rt: HostRuntime, body: &str) -> Result<Trace, Fail> {
 }
 
 /// The line at which this text below the header is no trace.
-fn fault(rt: HostRuntime, body: &str) -> Result<usize, Fail> {
+pub(crate) fn fault(rt: HostRuntime, body: &str) -> Result<usize, Fail> {
     let text = format!(in rt.alloc(); "{HEADER}{body}")
         .ok()
         .ok_or("no memory")?;
@@ -185,6 +185,9 @@ fn counts_scripts_first(rt: HostRuntime) -> Result<(), Fail> {
         ("script spawn 0\nroot spawn 0\nsteps\nx 0 spawn 0\nz", 14),
         ("root spawn 0\nsteps", 10),
         ("root end\nsteps\nx 0 spawn 0", 12),
+        ("script dedicated 1\nscript end\nroot dedicated 1", 13),
+        ("script dedicated 1\nscript bad\nroot end\nsteps", 10),
+        ("script end\nroot dedicated 0 dedicated 1\nsteps", 11),
         ("script spawn 18446744073709551615\nroot end\nsteps", 10),
     ] {
         let found = fault(rt, body)?;
@@ -193,8 +196,8 @@ fn counts_scripts_first(rt: HostRuntime) -> Result<(), Fail> {
     Ok(())
 }
 
-/// Lines that are no script of the root line, or name a script that there isn't.
-const FAULTY_SCRIPTS: [&str; 34] = [
+/// Lines that are no script, or name a script that there isn't.
+const FAULTY_SCRIPTS: [&str; 27] = [
     "script",
     "script ",
     "scripts end",
@@ -202,21 +205,10 @@ const FAULTY_SCRIPTS: [&str; 34] = [
     "script  end",
     "script end ",
     "Script end",
-    "script send 0 1",
-    "script await poll 0",
-    "script sleep 1",
-    "script sleep 0 sleep 18446744073709551615",
-    "script recv 0 1",
-    "script fill 0 1",
-    "script conn 0",
-    "script read 0 0 1",
-    "script hint 0 0 1",
-    "script direct 0 0 1",
-    "script write 0 0 1",
-    "script dsync 0 0 1",
-    "script many 0 0 1",
-    "script sync 0",
-    "script dedicated 0",
+    "script send 1 1",
+    "script await poll 1",
+    "script sleep",
+    "script sleep 0 sleep 18446744073709551616",
     "script dial 0",
     "script get 0 1",
     "script spawn",
@@ -225,6 +217,10 @@ const FAULTY_SCRIPTS: [&str; 34] = [
     "script spawn -1",
     "script spawn 2",
     "script spawn 18446744073709551616",
+    "script dedicated",
+    "script dedicated 2",
+    "script dedicated 0 0",
+    "script dedicated 01",
     "script wake",
     "script wake 01",
     "script wake 18446744073709551616",
@@ -296,9 +292,8 @@ fn finds_faults_in_calls(rt: HostRuntime) -> Result<(), Fail> {
 fn finds_faults_in_the_root(rt: HostRuntime) -> Result<(), Fail> {
     for root in [
         "root",
-        "root dedicated 0",
-        "root recv 0 1",
-        "root sync 0",
+        "root dedicated 1",
+        "root dedicated",
         "root spawn 1",
         "root spawn",
         "root wake",

@@ -1,34 +1,105 @@
-use Rattle.std.proofs.Common.{codes}
-use Rattle.exec_text.proofs.{Fields.{told_equal, told_unequal, none_then}, Words.{plain_read, no_first, no_numbered, no_send}}
+use Rattle.std.proofs.Common.{[], ◌∷◌, arith}
+use Rattle.exec_text.proofs.Spelling.{IsFront, front_named, front_more, front_read, front_longer, front_ended, front_whole}
 use Rattle.exec_text.proofs.word.next_word.Goals as goal
 
 pub returns-in-Some-clause-found : goal.returns-in-Some-clause-found
 returns-in-Some-clause-found c =
+    let a = c.args in
     let p = c.in_ok-name in
-    let f = p.ensures.found in
-    plain_read c.args.config.now c.args.bytes.now f.0 p.name.now p.rest.now c.in-Some.word f.1 f.2 c.in-Some.ensures.found (c.in-Some.ensures.fits c.args.config.now)
+    let s = p.ensures.found in
+    let f0 = front_named a.bytes.now s.0 p.name.now p.rest.now s.1 s.2 in
+    front_read a.config.now a.bytes.now p.name.now [] p.rest.now c.in-Some.word f0 c.in-Some.ensures.found (c.in-Some.ensures.fits a.config.now)
 
-pub returns-in_err-number-clause-none : goal.returns-in_err-number-clause-none
-returns-in_err-number-clause-none c =
+pub returns-in-Some-numbered_word-clause-found : goal.returns-in-Some-numbered_word-clause-found
+returns-in-Some-numbered_word-clause-found c =
+    let a = c.args in
     let p = c.in_ok-name in
-    let f = p.ensures.found in
-    rw c.from_residual-in_err-number.ensures (λ w r h.
-    no_first c.args.config.now c.args.bytes.now f.0 p.name.now p.rest.now r w c.requires f.1 f.2 c.in_default.ensures.none c.in_err-number.ensures.none h)
+    let s = p.ensures.found in
+    let f0 = front_named a.bytes.now s.0 p.name.now p.rest.now s.1 s.2 in
+    let n1 = c.in_ok-first in
+    let f1 : IsFront a.bytes.now p.name.now (n1.first ∷ []) n1.rest.now = front_more a.bytes.now p.name.now [] p.rest.now n1.rest.now n1.first f0 n1.ensures.found in
+    front_read a.config.now a.bytes.now p.name.now (n1.first ∷ []) n1.rest.now c.in-Some-numbered_word.word f1 c.in-Some-numbered_word.ensures.found c.in-Some-numbered_word.ensures.fits
 
-pub returns-then-eq-clause-none : goal.returns-then-eq-clause-none
-returns-then-eq-clause-none c =
+pub returns-in-Some-socket_word-clause-found : goal.returns-in-Some-socket_word-clause-found
+returns-in-Some-socket_word-clause-found c =
+    let a = c.args in
     let p = c.in_ok-name in
-    let f = p.ensures.found in
-    let q = c.in_ok-number in
-    none_then c.send_of.result (λ over w r h.
-    no_send c.args.config.now c.args.bytes.now f.0 p.name.now p.rest.now q.rest.now r q.number w c.requires f.1 f.2 q.ensures.found
-    (told_equal p.name.now c.as_slice.result.now (codes "send") c.eq.result c.eq.ensures c.as_slice.ensures c.if-eq.true) over h) c.send_of.ensures.none
+    let s = p.ensures.found in
+    let f0 = front_named a.bytes.now s.0 p.name.now p.rest.now s.1 s.2 in
+    let n1 = c.in_ok-first in
+    let f1 : IsFront a.bytes.now p.name.now (n1.first ∷ []) n1.rest.now = front_more a.bytes.now p.name.now [] p.rest.now n1.rest.now n1.first f0 n1.ensures.found in
+    let n2 = c.in_ok-second in
+    let f2 : IsFront a.bytes.now p.name.now (n1.first ∷ n2.second ∷ []) n2.rest.now = front_more a.bytes.now p.name.now (n1.first ∷ []) n1.rest.now n2.rest.now n2.second f1 n2.ensures.found in
+    front_read a.config.now a.bytes.now p.name.now (n1.first ∷ n2.second ∷ []) n2.rest.now c.in-Some-socket_word.word f2 c.in-Some-socket_word.ensures.found c.in-Some-socket_word.ensures.fits
+
+pub returns-clause-found : goal.returns-clause-found
+returns-clause-found c =
+    let a = c.args in
+    let p = c.in_ok-name in
+    let s = p.ensures.found in
+    let f0 = front_named a.bytes.now s.0 p.name.now p.rest.now s.1 s.2 in
+    let n1 = c.in_ok-first in
+    let f1 : IsFront a.bytes.now p.name.now (n1.first ∷ []) n1.rest.now = front_more a.bytes.now p.name.now [] p.rest.now n1.rest.now n1.first f0 n1.ensures.found in
+    let n2 = c.in_ok-second in
+    let f2 : IsFront a.bytes.now p.name.now (n1.first ∷ n2.second ∷ []) n2.rest.now = front_more a.bytes.now p.name.now (n1.first ∷ []) n1.rest.now n2.rest.now n2.second f1 n2.ensures.found in
+    let n3 = c.in_ok-third in
+    let f3 : IsFront a.bytes.now p.name.now (n1.first ∷ n2.second ∷ n3.third ∷ []) n3.rest.now = front_more a.bytes.now p.name.now (n1.first ∷ n2.second ∷ []) n2.rest.now n3.rest.now n3.third f2 n3.ensures.found in
+    front_read a.config.now a.bytes.now p.name.now (n1.first ∷ n2.second ∷ n3.third ∷ []) n3.rest.now c.in_ok-word.word f3 c.in_ok-word.ensures.found c.in_ok-word.ensures.fits
+
+pub returns-in_err-first-clause-none : goal.returns-in_err-first-clause-none
+returns-in_err-first-clause-none c =
+    let a = c.args in
+    let p = c.in_ok-name in
+    let s = p.ensures.found in
+    let f0 = front_named a.bytes.now s.0 p.name.now p.rest.now s.1 s.2 in
+    rw c.from_residual-in_err-first.ensures (λ w r h.
+    let l0 = front_longer a.config.now a.bytes.now p.name.now [] p.rest.now r w c.requires f0 (c.in_default.ensures.none a.config.now) h (omega arith) in
+    front_ended a.config.now a.bytes.now p.name.now [] p.rest.now r w c.requires f0 c.in_err-first.ensures.none h l0)
+
+pub returns-in_err-second-clause-none : goal.returns-in_err-second-clause-none
+returns-in_err-second-clause-none c =
+    let a = c.args in
+    let p = c.in_ok-name in
+    let s = p.ensures.found in
+    let f0 = front_named a.bytes.now s.0 p.name.now p.rest.now s.1 s.2 in
+    let n1 = c.in_ok-first in
+    let f1 : IsFront a.bytes.now p.name.now (n1.first ∷ []) n1.rest.now = front_more a.bytes.now p.name.now [] p.rest.now n1.rest.now n1.first f0 n1.ensures.found in
+    rw c.from_residual-in_err-second.ensures (λ w r h.
+    let l0 = front_longer a.config.now a.bytes.now p.name.now [] p.rest.now r w c.requires f0 (c.in_default.ensures.none a.config.now) h (omega arith) in
+    let l1 = front_longer a.config.now a.bytes.now p.name.now (n1.first ∷ []) n1.rest.now r w c.requires f1 c.in_default-numbered_word.ensures.none h (omega (arith, l0)) in
+    front_ended a.config.now a.bytes.now p.name.now (n1.first ∷ []) n1.rest.now r w c.requires f1 c.in_err-second.ensures.none h l1)
+
+pub returns-in_err-third-clause-none : goal.returns-in_err-third-clause-none
+returns-in_err-third-clause-none c =
+    let a = c.args in
+    let p = c.in_ok-name in
+    let s = p.ensures.found in
+    let f0 = front_named a.bytes.now s.0 p.name.now p.rest.now s.1 s.2 in
+    let n1 = c.in_ok-first in
+    let f1 : IsFront a.bytes.now p.name.now (n1.first ∷ []) n1.rest.now = front_more a.bytes.now p.name.now [] p.rest.now n1.rest.now n1.first f0 n1.ensures.found in
+    let n2 = c.in_ok-second in
+    let f2 : IsFront a.bytes.now p.name.now (n1.first ∷ n2.second ∷ []) n2.rest.now = front_more a.bytes.now p.name.now (n1.first ∷ []) n1.rest.now n2.rest.now n2.second f1 n2.ensures.found in
+    rw c.from_residual-in_err-third.ensures (λ w r h.
+    let l0 = front_longer a.config.now a.bytes.now p.name.now [] p.rest.now r w c.requires f0 (c.in_default.ensures.none a.config.now) h (omega arith) in
+    let l1 = front_longer a.config.now a.bytes.now p.name.now (n1.first ∷ []) n1.rest.now r w c.requires f1 c.in_default-numbered_word.ensures.none h (omega (arith, l0)) in
+    let l2 = front_longer a.config.now a.bytes.now p.name.now (n1.first ∷ n2.second ∷ []) n2.rest.now r w c.requires f2 c.in_default-socket_word.ensures.none h (omega (arith, l1)) in
+    front_ended a.config.now a.bytes.now p.name.now (n1.first ∷ n2.second ∷ []) n2.rest.now r w c.requires f2 c.in_err-third.ensures.none h l2)
 
 pub returns-in_err-word-clause-none : goal.returns-in_err-word-clause-none
 returns-in_err-word-clause-none c =
+    let a = c.args in
     let p = c.in_ok-name in
-    let f = p.ensures.found in
-    let q = c.in_ok-number in
+    let s = p.ensures.found in
+    let f0 = front_named a.bytes.now s.0 p.name.now p.rest.now s.1 s.2 in
+    let n1 = c.in_ok-first in
+    let f1 : IsFront a.bytes.now p.name.now (n1.first ∷ []) n1.rest.now = front_more a.bytes.now p.name.now [] p.rest.now n1.rest.now n1.first f0 n1.ensures.found in
+    let n2 = c.in_ok-second in
+    let f2 : IsFront a.bytes.now p.name.now (n1.first ∷ n2.second ∷ []) n2.rest.now = front_more a.bytes.now p.name.now (n1.first ∷ []) n1.rest.now n2.rest.now n2.second f1 n2.ensures.found in
+    let n3 = c.in_ok-third in
+    let f3 : IsFront a.bytes.now p.name.now (n1.first ∷ n2.second ∷ n3.third ∷ []) n3.rest.now = front_more a.bytes.now p.name.now (n1.first ∷ n2.second ∷ []) n2.rest.now n3.rest.now n3.third f2 n3.ensures.found in
     rw c.from_residual-in_err-word.ensures (λ w r h.
-    no_numbered c.args.config.now c.args.bytes.now f.0 p.name.now p.rest.now q.rest.now r q.number w c.requires f.1 f.2 c.in_default.ensures.none q.ensures.found
-    (told_unequal p.name.now c.as_slice.result.now (codes "send") c.eq.result c.eq.ensures c.as_slice.ensures c.if-eq.false) c.in_err-word.ensures.none h)
+    let l0 = front_longer a.config.now a.bytes.now p.name.now [] p.rest.now r w c.requires f0 (c.in_default.ensures.none a.config.now) h (omega arith) in
+    let l1 = front_longer a.config.now a.bytes.now p.name.now (n1.first ∷ []) n1.rest.now r w c.requires f1 c.in_default-numbered_word.ensures.none h (omega (arith, l0)) in
+    let l2 = front_longer a.config.now a.bytes.now p.name.now (n1.first ∷ n2.second ∷ []) n2.rest.now r w c.requires f2 c.in_default-socket_word.ensures.none h (omega (arith, l1)) in
+    let l3 = front_longer a.config.now a.bytes.now p.name.now (n1.first ∷ n2.second ∷ n3.third ∷ []) n3.rest.now r w c.requires f3 c.in_err-word.ensures.none h (omega (arith, l2)) in
+    front_whole w (omega (arith, l3)))
