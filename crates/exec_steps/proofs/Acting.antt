@@ -6,21 +6,7 @@ use Rattle.exec_driver.specs.Driving.{Driving}
 use Rattle.exec_task.specs.{Phases.{is_polled, woken as cell_woken}, Sight.Sight, declared.{body.{Act.Act, Said.Said}, runnable.Runnable.Runnable, task.Phase.Phase}}
 use Rattle.exec_machine.specs.{Choice.{Choice, Choice.{Plain, Pays}, Payer.ByAct}, declared.{config.ScriptWord.ScriptWord, event.Event.{Event, TheVariants.{Pass, Wait, Wake}}, state.{Next.Next, Waiting.Waiting}}, Progress.Plan, Requests.operation_asked, Tasks.{after_taking, after_waking_word, is_woken_here, polls_waiting, waits_for, woken, woken_phase}, Tests.{is_empty, is_resolved, is_woken, waits_for_nothing}, Words.{acts, asks_await, asks_no_sleep, asks_wake, asks_yield, moved_on, next_word}, World.{Own, Task, Common, no_task, task_of}}
 use Rattle.exec_moves.specs.{declared.place.{Place.Place, InPoll.InPoll}, Move.move_act, Poll.{act_asked, await}, Seen.{next_in_poll, polls_at, polls_in}, State.{Moved, Things}}
-use Rattle.exec_steps.{specs.{declared.parts.{mail.Reply.Reply, names.Names.Names, record.Record.Record, shared.Shared.Shared, sleeping.SleeperRecord.SleeperRecord, task_slot.TaskSlot.TaskSlot, worker.Worker.Worker}, Acting.{ActsAs, HasActed, Performs, PerformsAll, PerformsOne, StepsOf}, Hearing.{CanHear, held_once_come}, Phased.is_complete, Places.{begins_at, hands_on_at, in_poll_of, one_if, polled_in, removes_at}, Polls.{MadeAct, sight_of, yielded_slot}, Records.number_in, Rooted.{Holds, Awaits, ends_poll}, Scripts.{GoesOn, IsAnswered, Plays, is_last}, Sound.{HasGuest, IsGuest, IsInHand, SoundAt, IsRunnable, Stands, WaitsAt, acts_next, is_told, one_of, root_in_hand, waits_for_wakes}, Spots.{Spot, spot_of, standing_at}, View.{Views, own_of, desk_of, driver_of, common_of, phase_seen, task_seen, spot_by, body_in, things_with}, Whole.{HasOne, is_number as is_counted, runnables_in}, Works.{Beside, Suits, TurnsSlot}}, proofs.{Facts.{by_number, same_thing, set_there, or_right, both_true}, Here.{IsHere, going_on, polled_here, unflagged_there}, Pending.{in_poll, polled_none}, Performing.{performs_passed, performs_waiting, performs_yielded, still_performs, wakes_as}, Polling.{at_phase, home_mine, in_own_poll, number_apart, number_there, on_in_poll, removes_none}, PoolKept.unremoved, Slots.{Balances, IsEvent, beside_slot, task_there, works_slot}, SlotTasks.{IsAfter, Keeps, Sits, Tasked, Visits, guest_tasked, none_in, root_tasked, sound_tasked}}}
-
--- WHAT THE ROOT HOLDS, where its poll is to end
-
-pub holds_stopping : (ends : Bool) (i t : ℕ) (holding : List ℕ) (u what : Waiting) (over : Bool) (n : Names) (d : Driving Reply Reply) (zs : Slab (Sleeping Reply)) (rs : List Record) (ss : List SleeperRecord)
-    → u ≡ Waiting.Nothing → over ≡ false → Awaits ends i t holding what rs ss → Holds false i t holding u over n d zs rs ss → Holds ends i t holding what over n d zs rs ss
-holds_stopping ends i t holding u what over n d zs rs ss nothing open_still waits old =
-    let awaited : (k : ℕ) (r : Record) (v : ℕ) → slice_get rs k ≡ Some r → r.shown.worker ≡ i → is_resolved r.shown.phase ≡ false → r.shown.observed ≡ true → r.shown.waiter ≡ Some v → (v ≡ t) × (what ≡ Waiting.Request k) =
-    λ k r v there mine unresolved seen waiter. absurd (let never : Waiting.Nothing ≡ Waiting.Request k = sym nothing ∙ (old.awaited k r v there mine unresolved seen waiter).1 in cc) in
-    let sleeping : (id : Id) (it : Sleeping Reply) → value_at zs id ≡ Some it → (it.observer ≡ Observer.Local (record { 0 = t })) × (what ≡ Waiting.Timer (number_in n.timers.items id)) =
-    λ id it live. absurd (let never : Waiting.Nothing ≡ Waiting.Timer (number_in n.timers.items id) = sym nothing ∙ (old.sleeping id it live).1 in cc) in
-    let asleep : (k : ℕ) (z : SleeperRecord) → slice_get ss k ≡ Some z → z.shown.worker ≡ i → z.shown.fired ≡ false → z.shown.removed ≡ false → what ≡ Waiting.Timer k =
-    λ k z there mine unfired kept. absurd (let never : Waiting.Nothing ≡ Waiting.Timer k = sym nothing ∙ old.asleep k z there mine unfired kept in cc) in
-    let ended : over ≡ true → (holding ≡ []) × (what ≡ Waiting.Nothing) = λ h. absurd (false≢true (sym open_still ∙ h)) in
-    record { counted = old.counted; held = old.held; once = old.once; all = old.all; awaited = awaited; kept = old.kept; waits = waits; sleeping = sleeping; asleep = asleep; over = ended }
+use Rattle.exec_steps.{specs.{declared.parts.{mail.Reply.Reply, names.Names.Names, record.Record.Record, shared.Shared.Shared, sleeping.SleeperRecord.SleeperRecord, task_slot.TaskSlot.TaskSlot, worker.Worker.Worker}, Acting.{ActsAs, HasActed, Performs, PerformsAll, PerformsOne, StepsOf}, Hearing.{CanHear, held_once_come}, Holding.{awaited_in, holder_of}, Phased.is_complete, Places.{begins_at, hands_on_at, in_poll_of, is_pooled_at, joins_at, one_if, polled_in, removes_at}, Polls.{MadeAct, sight_of, yielded_slot}, Records.{number_in, numbers_held}, Scripts.{GoesOn, IsAnswered, Plays, is_last}, Sound.{HasGuest, IsGuest, IsInHand, SoundAt, IsRunnable, Stands, StopsIn, WaitsAt, acts_next, is_told, one_of, root_in_hand}, Spots.{Spot, spot_of, standing_at}, View.{Views, own_of, desk_of, driver_of, common_of, phase_seen, task_seen, spot_by, body_in, things_with}, Whole.{HasOne, is_number as is_counted, runnables_in}, Works.{Beside, Suits, TurnsSlot}}, proofs.{Facts.{by_number, same_thing, set_there, or_right, both_true}, Here.{IsHere, going_on, polled_here, unflagged_there}, Pending.{in_poll, polled_none}, Performing.{performs_passed, performs_waiting, performs_yielded, still_performs, wakes_as}, Polling.{at_phase, home_mine, in_own_poll, number_apart, number_there, on_in_poll, removes_none}, PoolKept.unremoved, Slots.{Balances, IsEvent, beside_slot, task_there, works_slot}, SlotTasks.{IsAfter, Keeps, Sits, Tasked, Visits, guest_tasked, none_in, root_tasked, sound_tasked, stops_own}}}
 
 -- nothing is newest where nothing is held
 pub none_held : (held : List ℕ) → slice_get held (length held - 1) ≡ None → held ≡ []
@@ -36,13 +22,6 @@ pub woken_here : (i : ℕ) (home : Option ℕ) → (home ≡ Some i) ⊎ (home �
 woken_here i home (inl is) = ap (is_woken_here i) is ∙ eq-eqb i i refl
 woken_here i home (inr is) = ap (is_woken_here i) is
 
--- the root holds what it did
-holds_so : (ends : Bool) (i t : ℕ) (holding : List ℕ) (u what : Waiting) (over over' : Bool) (n : Names) (d : Driving Reply Reply) (zs : Slab (Sleeping Reply)) (rs : List Record) (ss : List SleeperRecord)
-    → u ≡ Waiting.Nothing → over ≡ false → over' ≡ false → Awaits ends i t holding what rs ss → Holds false i t holding u over n d zs rs ss → Holds ends i t holding what over' n d zs rs ss
-holds_so ends i t holding u what over over' n d zs rs ss nothing open_still still waits old =
-    let it = holds_stopping ends i t holding u what over n d zs rs ss nothing open_still waits old in
-    subst (λ b. Holds ends i t holding what b n d zs rs ss) (open_still ∙ sym still) it
-
 -- A POLLED SLOT that stays polled, whose body is there: the task waits for nothing yet, and for this then
 
 module _ {B : Type 0} where
@@ -54,14 +33,16 @@ module _ {B : Type 0} where
     pub cancelled : slot'.cell.cancelled ≡ slot.cell.cancelled
     pub cleared : slot'.cleared ≡ slot.cleared
     pub held : slot'.held ≡ slot.held
+    pub holder : holder_of slot' ≡ holder_of slot
     pub waits : WaitsAt (Some y) slot'.waiting
-    pub wakes : waits_for_wakes slot'.waiting ≡ true
     pub told : is_told slot'.waiting false ≡ true → IsSome slot'.told
     pub untold : acts_next slot'.waiting ≡ false → slot'.told ≡ None
-    pub awaits : (i : ℕ) (held : List ℕ) (rs : List Record) (ss : List SleeperRecord) → Awaits (ends_poll (Some y)) i t held slot'.waiting rs ss
+    pub stops : (i : ℕ) (rs : List Record) (ss : List SleeperRecord) → StopsIn y i slot'.waiting rs ss
     pub polls : polls_in t y ≡ Some t
     pub begins : begins_at (Place.Poll t y) ≡ None
     pub hands : hands_on_at (Place.Poll t y) ≡ false
+    pub joins : joins_at (Place.Poll t y) ≡ None
+    pub unpooled : is_pooled_at (Place.Poll t y) ≡ false
     pub free : next_in_poll y ≡ Next.Free
 
   none_polled : (g : Bool) (p : Phase B) (n : ℕ) → is_polled p ≡ true → n ≡ 0 → HasOne g p n
@@ -84,17 +65,11 @@ module _ {B : Type 0} where
           let q : Place = Place.Poll t y in
           let there : slice_get s.tasks.items w.root ≡ Some slot = subst (λ n. slice_get s.tasks.items n ≡ Some slot) same it.there in
           let own : polled_in w.root q ≡ Some y = in_own_poll w.root (polls_in t y) y (on.polls ∙ ap (λ n. Some n) same) in
-          let before : polled_in w.root (Place.Poll t InPoll.Act) ≡ Some InPoll.Act = in_own_poll w.root (Some t) InPoll.Act (ap (λ n. Some n) same) in
           let old = (it.root same).0 in
           let same_root : slot ≡ sound.runnable.root = same_thing slot sound.runnable.root (sym there ∙ sound.runnable.there) in
           let unflagged : w.root_ready ≡ None = unflagged_there w.root_ready None slot it.polled (subst (λ (o : TaskSlot B). IsRunnable (one_of w.root_ready None) o) (sym same_root) sound.runnable.once) in
           let over : is_complete slot.cell.phase ≡ false = going_on slot.cell.phase it.polled in
           let over' : is_complete slot'.cell.phase ≡ false = going_on slot'.cell.phase on.polled in
-          let held : Holds false w.index w.root slot.held.items slot.waiting (is_complete slot.cell.phase) w.names (driver_of w) w.home.timers s.requests.items s.sleepers.items =
-          subst (λ x. Holds (ends_poll x) w.index w.root slot.held.items slot.waiting (is_complete slot.cell.phase) w.names (driver_of w) w.home.timers s.requests.items s.sleepers.items) before (sound.rooted.root slot there) in
-          let holds : Holds (ends_poll (Some y)) w.index w.root slot.held.items slot'.waiting (is_complete slot'.cell.phase) w.names (driver_of w) w.home.timers s.requests.items s.sleepers.items =
-          holds_so (ends_poll (Some y)) w.index w.root slot.held.items slot.waiting slot'.waiting (is_complete slot.cell.phase) (is_complete slot'.cell.phase) w.names (driver_of w) w.home.timers s.requests.items s.sleepers.items it.waits over over'
-          (subst (λ n. Awaits (ends_poll (Some y)) w.index n slot.held.items slot'.waiting s.requests.items s.sleepers.items) same (on.awaits w.index slot.held.items s.requests.items s.sleepers.items)) held in
           let sits : Sits q w w.root_ready s slot slot' = record {
             there = there;
             keeps = on.keeps;
@@ -103,8 +78,8 @@ module _ {B : Type 0} where
             hand = on.hands;
             polls = λ n is. same_thing n t (sym is ∙ on.polls) ∙ same;
             complete = over' ∙ sym over;
-            holds = subst (λ x. Holds (ends_poll x) w.index w.root slot'.held.items slot'.waiting (is_complete slot'.cell.phase) w.names (driver_of w) w.home.timers s.requests.items s.sleepers.items) (sym own)
-                (subst (λ v. Holds (ends_poll (Some y)) w.index w.root v.items slot'.waiting (is_complete slot'.cell.phase) w.names (driver_of w) w.home.timers s.requests.items s.sleepers.items) (sym on.held) holds);
+            unpooled = on.unpooled;
+            stops = on.stops w.index s.requests.items s.sleepers.items;
           } in
           subst (λ n. Tasked q w w.root_ready None s (slice_set s.tasks.items n slot')) (sym same) (root_tasked t InPoll.Act q w w.root_ready s slot slot' sound sits)
 
@@ -119,8 +94,6 @@ module _ {B : Type 0} where
             body = on.body;
             poller = on.poller ∙ it.poller;
             cancelled = on.cancelled ∙ it.cancelled ∙ sym on.cleared;
-            held = ap (λ v. v.items) on.held ∙ old.held;
-            waits = on.wakes;
             told = on.told;
             untold = on.untold;
             there = on.waits;
@@ -133,6 +106,7 @@ module _ {B : Type 0} where
             genuine = λ r has. absurd (none_in r has);
             polls = λ n is same. apart (same_thing t n (sym on.polls ∙ is) ∙ same);
             guest = subst (λ o. HasGuest o y w.index w.root (slice_set s.tasks.items t slot')) (sym on.polls) (λ no. (slot', set_there s.tasks.items t slot' slot it.there, guest));
+            stops = stops_own (polls_in t y) y w.index t (slice_set s.tasks.items t slot') slot' s.requests.items s.sleepers.items (λ u is. same_thing u t (sym is ∙ on.polls)) (set_there s.tasks.items t slot' slot it.there) (on.stops w.index s.requests.items s.sleepers.items);
             rests = λ unpolled. absurd (false≢true (sym unpolled ∙ on.polled));
           })
 
@@ -142,6 +116,7 @@ module _ {B : Type 0} where
       let empty : w.hand ≡ None = sound.hand in
       record {
         keeps = on.keeps;
+        holder = on.holder;
         apart = λ u other. sym (ap (λ o. runnables_in u (option_to_list o)) empty);
         one = λ g home n one. none_polled g slot'.cell.phase (n + 0) on.polled (polled_none g slot.cell.phase (n + 0) it.polled (subst (λ o. HasOne g slot.cell.phase (n + runnables_in t (option_to_list o))) empty one));
         polls_apart = λ u other. number_apart t u (polls_in t y) on.polls other ∙ sym (ap (λ q. is_counted (polls_at q) u) sound.here ∙ number_apart t u (Some t) refl other);
@@ -174,14 +149,16 @@ module _ {B : Type 0} where
         cancelled = refl;
         cleared = refl;
         held = refl;
+        holder = refl;
         waits = waits;
-        wakes = ap waits_for_wakes waits;
         told = λ h. refl;
         untold = λ h. absurd (false≢true (sym h ∙ ap acts_next waits));
-        awaits = λ i held rs ss. subst (λ u. Awaits false i t held u rs ss) (sym waits) tt;
+        stops = λ i rs ss. tt;
         polls = refl;
         begins = refl;
         hands = refl;
+        joins = refl;
+        unpooled = refl;
         free = refl;
       }
 
@@ -209,7 +186,7 @@ module _ {B L : Type 0} (left : B → L) (spot : L → Option Said → Spot) whe
   -- of any other word, by the task
   abbrev pub move_by : ℕ → Plan → Common → Worker → Shared B → Views → Task → ScriptWord → Moved Things
   move_by t p all w s vs it x =
-      let m = act_asked t (me_at t w) all (desk_of (record w { place = Place.Poll t InPoll.Act })) it x (operation_asked p.config w.moments.sampled x) in
+      let m = act_asked w.index t (me_at t w) all (desk_of (record w { place = Place.Poll t InPoll.Act })) it x (operation_asked p.config w.moments.sampled x) in
       record { event = m.event; choice = m.choice; desk = m.desk; thing = things_with vs s }
 
   abbrev pub IsPlainWord : ScriptWord → Type 0
@@ -242,7 +219,7 @@ module _ {B L : Type 0} (left : B → L) (runs : L → Plan → Option ℕ → T
       let there : slice_get s1.tasks.items t ≡ Some m.slot' = ap (λ ts. slice_get ts t) m.tasks ∙ set_there s.tasks.items t m.slot' m.slot m.there in
       let items : s'.tasks.items ≡ slice_set s.tasks.items t slot' =
       turns.tasks m.slot' there ∙ ap (λ ts. slice_set ts t (change m.slot')) m.tasks ∙ set-set s.tasks.items t m.slot' (change m.slot') ∙ ap (λ x. slice_set s.tasks.items t (change x)) m.acts.slot in
-      let to : IsAfter q = on_in_poll t y stays.begins in
+      let to : IsAfter q = on_in_poll t y stays.begins stays.joins in
       let bal : Balances t q w None it.slot slot' = stays_balances t y w s slot' h.sound it stays' in
       record {
         items = items;
@@ -371,14 +348,16 @@ module _ {B L : Type 0} (left : B → L) (runs : L → Plan → Option ℕ → T
         cancelled = refl;
         cleared = refl;
         held = refl;
+        holder = ap (λ b. record (holder_of m.slot) { awaits = None; over = b }) wakes.complete ∙ ap (λ u. record (holder_of m.slot) { awaits = awaited_in u }) (sym it.waits);
         waits = refl;
-        wakes = refl;
         told = λ h. refl;
         untold = λ h. absurd (false≢true (sym h));
-        awaits = λ i held rs ss. tt;
+        stops = λ i rs ss. tt;
         polls = refl;
         begins = refl;
         hands = refl;
+        joins = refl;
+        unpooled = refl;
         free = refl;
       } in
       subst (λ z. StepsOf left runs holds spot w s z w' s') (sym event)

@@ -1,9 +1,10 @@
 -- What a polled body that acts needs.
-use Rattle.std.proofs.{Common.{◌≡◌, ℕ, ◌<◌, ◌≤◌, ◌^◌, arith, true, false, List, length, Option, Some, IsSome, Result, Ok, Err, refl, sym, ap, subst, ◌∙◌, slice_get, IfOk, OnErr}, lemmas.{List.{length-map, length-set}, Option.slice_get_within}}
+use Rattle.std.proofs.{Common.{◌≡◌, ℕ, ◌<◌, ◌≤◌, ◌^◌, arith, true, false, List, [], ◌∷◌, length, map, Option, Some, IsSome, Result, Ok, Err, refl, sym, ap, subst, ◌∙◌, slice_get, IfOk, OnErr}, lemmas.{List.{length-map, length-set}, Option.slice_get_within}}
+use Rattle.exec_driver.specs.Opens.{OpenState}
 use Rattle.exec_task.specs.{Phases.is_polled, Sight.Sight, declared.body.{Act.Act, Said.Said}}
 use Rattle.exec_machine.specs.{declared.state.Waiting.Waiting, Progress.Plan}
 use Rattle.exec_moves.specs.declared.place.{Place.Place, InPoll.InPoll}
-use Rattle.exec_steps.{specs.{declared.parts.{shared.Shared.Shared, task_slot.TaskSlot.TaskSlot, worker.Worker.Worker}, Acting.{HasActed, PerformsOne}, Hearing.{CanHear, held_once_come}, Polls.{MadeAct, OfSlot, sight_of}, Scripts.Plays, Sound.{SoundAt, is_told}, Spots.{Spot, spot_of}, View.{body_in, common_of, spot_by, task_seen}, Works.{Same, TurnsSlot}}, proofs.{Facts.same_thing, Here.{IsHere, polled_here}, Pending.in_poll, Performing.unacted}}
+use Rattle.exec_steps.{specs.{Records.numbers_held, declared.parts.{shared.Shared.Shared, task_slot.TaskSlot.TaskSlot, worker.Worker.Worker, record.Record.Record}, Acting.{HasActed, PerformsOne}, Hearing.{CanHear, held_once_come}, Phased.is_complete, Polls.{MadeAct, OfSlot, sight_of}, Scripts.Plays, Sound.{SoundAt, is_told}, Spots.{Spot, spot_of}, View.{body_in, common_of, spot_by, task_seen, account_seen, open_seen}, Works.{Same, TurnsSlot}}, proofs.{Facts.same_thing, Here.{IsHere, going_on, polled_here}, Pending.in_poll, Performing.unacted}}
 
 pub kept_any : {A E P : Type 0} (r : Result A E) → P → OnErr r P
 kept_any (Ok a) h = tt
@@ -45,6 +46,11 @@ module _ {B L : Type 0} (left : B → L) (spot : L → Option Said → Spot) (gi
 
 -- WHAT ITS ACT IS
 
+-- the accounts of the opens, as the machine has them and as a body sees them
+accounts_seen : (rs : List Record) (opens : List OpenState) → map (λ o. o.account) (map (open_seen rs) opens) ≡ map (λ o. account_seen o.account) opens
+accounts_seen rs [] = refl
+accounts_seen rs (o ∷ opens) = ap (λ xs. account_seen o.account ∷ xs) (accounts_seen rs opens)
+
 module _ {B L : Type 0} (left : B → L) (runs : L → Plan → Option ℕ → Type 0) (holds : L → Option Said → List ℕ) (spot : L → Option Said → Spot) (gives : L → Option Sight → Said → Act B → L → Option Sight → Type 0) where
   pub has_acted : Plays left runs holds spot gives → (t : ℕ) (w : Worker) (s s1 : Shared B) (a : Act B) → SoundAt (Place.Poll t InPoll.Act) w s → MadeAct left gives t w.moments.sampled s s1 a → PerformsOne left runs holds s → HasActed left runs holds spot gives t w s s1 a
   has_acted plays t w s s1 a sound m one =
@@ -53,6 +59,7 @@ module _ {B L : Type 0} (left : B → L) (runs : L → Plan → Option ℕ → T
       let polled : is_polled m.slot.cell.phase ≡ true = ap (λ (o : TaskSlot B). is_polled o.cell.phase) (sym is) ∙ here.polled in
       let waits : m.slot.waiting ≡ Waiting.Nothing = ap (λ (o : TaskSlot B). o.waiting) (sym is) ∙ here.waits in
       let body : body_in m.slot.cell.phase m.slot.body ≡ Some m.acts.body = in_poll m.slot.cell.phase m.slot.body polled ∙ m.acts.was in
+      let going : is_complete m.slot.cell.phase ≡ false = going_on m.slot.cell.phase polled in
       let hears : CanHear m.slot.told m.slot.waiting m.acts.said = subst (λ o. CanHear o m.slot.waiting m.acts.said) (sym m.acts.told) refl in
       let at_spot : spot (left m.acts.body) (Some m.acts.said) ≡ spot_of (task_seen left spot m.slot) = sym (ap (λ o. spot_by left spot o m.slot.told) body ∙ ap (spot (left m.acts.body)) m.acts.told) in
       let early : w.moments.sampled ≤ 2 ^ 62 = omega (arith, sound.time.not_after, sound.time.bounded) in
@@ -60,17 +67,18 @@ module _ {B L : Type 0} (left : B → L) (runs : L → Plan → Option ℕ → T
         sound = sound;
         made = m;
         asks = λ p vs fits.
-            let held : holds (left m.acts.body) (Some m.acts.said) ≡ m.slot.held.items = fits.holding m.acts.body m.acts.said body hears ∙ ap (λ u. held_once_come u m.slot.held.items) waits in
+            let held : holds (left m.acts.body) (Some m.acts.said) ≡ (numbers_held m.slot.held.items) = fits.holding m.acts.body m.acts.said body hears going ∙ ap (λ u. held_once_come u (numbers_held m.slot.held.items)) waits in
             let it = plays p (common_of left spot p vs s) (task_seen left spot m.slot) (sight_of w.moments.sampled (length s.tasks.items) s.stopped s.opens) m.sight (left m.acts.body) (left m.acts.body') m.acts.said a
-            (fits.runs_it m.acts.body m.acts.said body hears) refl refl
+            (fits.runs_it m.acts.body m.acts.said body hears going) refl refl
             (record {
               early = early;
               tasks = sym (length-map s.tasks.items (task_seen left spot));
               few = subst (λ n. n ≤ 2 ^ 32) (sym (length-map s.tasks.items (task_seen left spot))) sound.homes.few;
               stopped = refl;
+              opens = sym (accounts_seen s.requests.items s.opens);
             })
             m.acts.given at_spot held in
-            record { asks = it.asks; makes = it.makes; stands = it.stands; code = it.code; stays = it.stays; goes_on = it.goes_on };
+            record { asks = it.asks; makes = it.makes; stands = it.stands; covers = it.covers; code = it.code; goes_on = it.goes_on };
         one = (one.0, one.1, one.2 t m.slot m.there);
       }
 

@@ -7,7 +7,7 @@ use Rattle.exec_driver.specs.{Driving.Driving, Lists.{Lists, is_among, with_due}
 use Rattle.exec_task.specs.declared.body.Said.{Said}
 use Rattle.exec_machine.specs.declared.{config.Configuration.Configuration, event.Event.{Event, TheVariants.Serve}}
 use Rattle.exec_moves.specs.declared.place.{Service.Service, Place.Place, InService.InService}
-use Rattle.exec_steps.{specs.{declared.parts.{mail.Reply.Reply, shared.Shared.Shared, worker.Worker.Worker}, Due.IsWheelAt, Flown.operations, Ordered.{IsOrdered, went_round}, Phased.closes_at, Places.{is_armed_at, is_published_at, searches_at}, Sound.{SoundAt, IsAlike}, Spots.Spot, View.{Views, visible, own_of, desk_of, driver_of, seat_seen, things_with}, Works.Steps}, proofs.{Serving.{IsServed, Serves, Keeps, KeepsBy, is_calm, spares_same}, Draining.{advance_ordered, ahead_of, round_so}, Flown.landed_as, Going.{all_still, rooted_on}, Seeing.{makes, own_with, desk_with, visible_with, served, common_same, things_kept}}}
+use Rattle.exec_steps.{specs.{declared.parts.{mail.Reply.Reply, shared.Shared.Shared, worker.Worker.Worker}, Due.IsWheelAt, Flown.operations, Ordered.{IsOrdered, went_round}, Phased.closes_at, Places.{is_armed_at, is_published_at, passes_at, searches_at}, Sound.{HasBatch, SoundAt, IsAlike}, Spots.Spot, View.{Views, visible, own_of, desk_of, driver_of, seat_seen, things_with}, Works.Steps}, proofs.{Serving.{IsServed, Serves, SparesRecords, Keeps, KeepsBy, at_large, balances_still, calm, is_calm, spares_same}, Draining.{advance_ordered, ahead_of, round_so}, Flown.landed_as, Going.{all_still, rooted_on}, Seeing.{makes, own_with, desk_with, visible_with, served, common_same, things_kept}}}
 
 -- THE WHEEL
 
@@ -101,7 +101,7 @@ module _ {B L : Type 0} (left : B → L) (spot : L → Option Said → Spot) whe
       let d : Driving Reply Reply = with_wheel (driver_of w) wheel shape.1 in
       let is : driver_of w' ≡ d = driver ∙ shape.2 in
       let on : Advances (driver_of w).wheel shape.0 now = subst (λ x. Advances (driver_of w).wheel x now) (sym shape.3) (advances (driver_of w).wheel now) in
-      let serves : Serves q w w' s s = record { worker = subst (IsServed w) (sym same) refl; shared = refl; from = refl; to = ap is_calm there; armed = ap is_armed_at there; closes = ap closes_at there; searches = ap searches_at there; published = ap is_published_at there } in
+      let serves : Serves q w w' s s = record { worker = subst (IsServed w) (sym same) refl; shared = refl; from = refl; to = ap is_calm there; armed = ap is_armed_at there; closes = ap closes_at there; searches = ap searches_at there; published = ap is_published_at there; batch = λ h. subst (λ x. HasBatch x w.batch.values) (sym there) h } in
       let seen : visible w' ≡ visible w = ap visible same ∙ ap (λ (x : Driving Reply Reply). visible_with w.names.requests.items (visible w).taken x.ring) is in
       let due = sound.due in
       let flown = sound.flown in
@@ -119,6 +119,7 @@ module _ {B L : Type 0} (left : B → L) (spot : L → Option Said → Spot) whe
       now (driver_of w).lists none (ahead_of (driver_of w) due.punctual none) (round_so s.config w.moments (driver_of w).wheel due.wheel))) in
       let by : KeepsBy w1 d w.home.timers s.requests.items s.sleepers.items s = record {
         told = sound.told;
+        wide = sound.wide;
         named = record {
           requests = named.requests;
           timers = named.timers;
@@ -132,23 +133,26 @@ module _ {B L : Type 0} (left : B → L) (spot : L → Option Said → Spot) whe
         over = sound.over;
         quiet = λ h. absurd (false≢true (sym h));
         due = record { punctual = subst IsPunctual is punctual; told = λ h. absurd (false≢true (sym h)); wheel = wheel_at; timed = due.timed; asleep = due.asleep; order = order };
-        flown = record { ending = flown.ending; staging = flown.staging; telling = flown.telling; entries = flown.entries; permits = refl; plain = flown.plain; enrolling = flown.enrolling; polled = flown.polled; owning = flown.owning; landed = landed_as w.names (driver_of w) d s.requests.items (operations (driver_of w).ring) refl flown.landed; uncancelled = flown.uncancelled };
+        flown = record { ending = flown.ending; staging = flown.staging; telling = flown.telling; entries = flown.entries; gated = flown.gated; plain = flown.plain; enrolling = flown.enrolling; polled = flown.polled; owning = flown.owning; landed = landed_as w.names (driver_of w) d s.requests.items (operations (driver_of w).ring) refl flown.landed; uncancelled = flown.uncancelled };
         carried = sound.carried;
+        known = sound.known;
         rooted =
-            rooted_on s.requests.items s.requests.items (all_still s.requests.items) None w.index w.root w.names w.names (driver_of w) d w.home.timers s.tasks.items s.sleepers.items sound.rooted
-            refl refl refl (λ id h. h) (λ id o h. h);
-        owed = sound.tied.owed;
+            rooted_on s.requests.items s.requests.items (all_still s.requests.items) w.index w.names w.names (driver_of w) d w.home.timers w.home.deferred s.sleepers.items sound.rooted
+            refl refl (λ id h. h) (λ id o h. h) (λ id it h. (it, h, refl));
+        bare = (calm q refl).lets_in (driver_of w).requests w.home.timers sound.lets_go;
       } in
       let home : Worker = record w1 { home = record w.home { driver = w'.home.driver } } in
       let keeps : Keeps w' s =
       subst (λ x. KeepsBy x (driver_of x) x.home.timers s.requests.items s.sleepers.items s) (sym same)
       (subst (λ x. KeepsBy home x w.home.timers s.requests.items s.sleepers.items s) (sym is) (assumption by)) in
+      let spares : SparesRecords w.index s s = spares_same w.index s s sound.gates refl refl refl in
+      let left_same : w'.home.deferred.notes.wakes.items ≡ w.home.deferred.notes.wakes.items = ap (λ (x : Worker). x.home.deferred.notes.wakes.items) same in
       subst (λ x. Steps left spot w s x w' s) (sym event)
-      (served left spot q w w' s s Serve sound serves keeps (spares_same w.index s s refl refl)
+      (served left spot q w w' s s Serve sound serves keeps spares (balances_still q w w' s s sound.here serves spares (ap passes_at there) left_same refl refl)
       (λ p vs suits. record {
         moves = ap (λ x. makes Serve x (things_with vs s)) (sym (ap desk_of same ∙ ap (desk_with w (Place.Service (InService.Submit 0) v) w.put_off w.home.deferred) is))
-            ∙ ap (makes Serve (desk_of w')) (sym (things_kept vs w.index (visible w) (visible w') s s suits.seen (ap (λ y. y.wakes) seen) refl));
-        may = (refl, tt);
+            ∙ ap (makes Serve (desk_of w')) (sym (things_kept vs w.index (visible w) (visible w') s s suits.seen (ap (λ y. y.wakes) seen) refl spares));
+        may = (at_large q w s sound refl, tt);
         own = ap own_of same ∙ ap (own_with w (Place.Service (InService.Submit 0) v) w.names.ended.items w.names.untold.items) is;
         common = common_same left spot p vs w w' s suits (λ c. ap (λ y. seat_seen y c) seen);
       }))

@@ -1,14 +1,16 @@
 -- A STEP OF ANOTHER PARTY keeps what is sound of a worker: it leaves what the worker alone touches, and of what is shared
 -- what it relies on.
-use Rattle.std.proofs.{Common.{◌≡◌, ℕ, ◌-◌, ◌<◌, ◌≤◌, Bool, true, false, List, [], ◌∷◌, length, drop, Option, Some, None, sym, ap, subst, ◌∙◌, arith, inl, inr, slice_get, if◌then◌else◌, refl, ◌+◌, ◌⊎◌}, lemmas.{Bool.{false≢true, Decides.nat_tests}, List.length-drop, Option.slice_get_within}}
-use Rattle.exec_base.specs.declared.{slab.Id.Id, task_no.TaskNo.TaskNo}
-use Rattle.exec_waiters.specs.{States.{pending_count, waiter_at}, declared.waiter.Waiter.Waiter}
+use Rattle.std.proofs.{Common.{◌≡◌, ℕ, ◌-◌, ◌*◌, ◌^◌, ◌<◌, ◌≤◌, ◌&&◌, nat_lt, Bool, true, false, List, [], ◌∷◌, length, drop, Option, Some, None, sym, ap, subst, ◌∙◌, ⊎_elim, arith, inl, inr, slice_get, if◌then◌else◌, refl, ◌+◌, ◌⊎◌}, lemmas.{Bool.{cases_lt, false≢true, Decides.nat_tests}, List.length-drop, Nat.mod_below, Option.slice_get_within}}
+use Rattle.exec_base.specs.{Slab.IsPast, declared.slab.Id.Id}
+use Rattle.exec_request.specs.declared.request.Request.{Request as Asking}
+use Rattle.exec_waiters.specs.{Ids.user_data_of, States.{pending_count, waiter_at}, declared.waiter.Waiter.Waiter}
+use Rattle.exec_driver.specs.Steps.{bytes_left}
 use Rattle.exec_words.specs.{Head.is_spent, Queue.{Queue, claimed, released, room_of, tail_of}, declared.head.Head.Head}
 use Rattle.exec_task.specs.{Phases.is_polled, TaskSet.shard_at, declared.{runnable.Runnable.Runnable, drain.Drain.Drain}}
 use Rattle.exec_task.specs.TaskSet.{Set}
-use Rattle.exec_machine.specs.{declared.config.Configuration.Configuration, Tests.{has_ended, is_open}}
-use Rattle.exec_moves.specs.{Search.from_of, Seen.polls_at, declared.{handing.{AfterPop.AfterPop, AfterSend.AfterSend, AfterSignal.AfterSignal, InGlobal.InGlobal, InKick.InKick, InPop.InPop, InPush.InPush}, idling.{InLook.InLook, InScan.InScan}, place.{InClosing.InClosing, InMail.InMail, InPick.InPick, InPoll.InPoll, Place.Place}}}
-use Rattle.exec_steps.{specs.{declared.parts.{mail.Reply.Reply, record.Record.Record, seat.Seat.Seat as Chair, shared.Shared.Shared, task_slot.TaskSlot.TaskSlot, worker.Worker.Worker}, Calling.HoldsForAll, Carried.Carried, Due.IsDue, Phased.{HasPassed, IsPhased, IsPrepared, closes_at, closing_in, has_stopped, root_over, stage_of}, Places.{begins_at, is_armed_at, step_of_poll}, Records.number_in, Sound.{Aims, AreOwed, HasGuest, HasQueue, HasRunnable, IsGuest, IsHeld, IsSeated, MayClaim, SoundAt, root_in_hand, served_in}, Spares.{IsMailbox, Spares, SparesChair, Thins}, View.driver_of}, proofs.{Facts.by_number, Spared.{KeepsMine, asleep_apart, flown_apart, holds_apart, live_of, named_apart, over_apart, owes_apart, record_back, there_within, timed_apart}}}
+use Rattle.exec_machine.specs.{declared.{config.Configuration.Configuration, state.Waiting.Waiting}, Tests.{has_ended, is_open}}
+use Rattle.exec_moves.specs.{Search.from_of, Seen.polls_at, declared.{handing.{AfterCancels.AfterCancels, AfterPop.AfterPop, AfterSend.AfterSend, AfterSignal.AfterSignal, InGlobal.InGlobal, InKick.InKick, InPop.InPop, InPush.InPush}, idling.{InLook.InLook, InRingWait.InRingWait, InScan.InScan, Scan.Scan}, place.{InClosing.InClosing, InMail.InMail, InPick.InPick, InPoll.InPoll, InService.InService, Place.Place}}}
+use Rattle.exec_steps.{specs.{declared.parts.{mail.{Reply.Reply, Subject.Subject}, record.Record.Record, seat.Seat.Seat as Chair, shared.Shared.Shared, task_slot.TaskSlot.TaskSlot, worker.Worker.Worker}, Calling.HoldsForAll, Carried.{Carried, HasStretchFor, IsUnderWay}, Due.IsDue, Gates.{IsKnown, has_hint_at, may_ask_hint}, HoldPlaces.{cancels_at, heard_at, sends_cancel_at}, Phased.{HasPassed, IsPhased, IsPrepared, closes_at, closing_in, has_left, has_stopped, root_over, stage_of}, Places.{begins_at, is_armed_at, is_pooled_at, step_of_poll}, Records.number_in, Sound.{Aims, HasGuest, HasLetters, HasQueue, HasRunnable, IsGuest, IsHeld, IsSeated, MayClaim, SoundAt, Stops, StopsIn, root_in_hand, served_in}, Spares.{IsMailbox, Spares, SparesBy, SparesChair, SparesMore, SparesRecord, Thins}, View.driver_of}, proofs.{Dedicated.{by_length, chair_of_pool}, Facts.by_number, Spared.{KeepsMine, sleepers_stay, asleep_apart, flown_apart, heard_apart, letter_apart, live_of, mail_apart, named_apart, over_apart, record_back, rooted_apart, stops_apart, there_within, timed_apart}}}
 
 -- THE OWN RUN QUEUE, of which a thief takes values, or gives places free
 
@@ -82,38 +84,49 @@ queue_apart _ q q' t h = held_kept q q' t ∙ h
 
 -- OTHER RUN QUEUES, whose tails only grow
 
-claim_apart : (i from : ℕ) (h : Head) (tail : ℕ) (seats seats' : List Chair) → length seats' ≡ length seats
+claim_apart : (i from : ℕ) (h : Head) (tail : ℕ) (seats seats' : List Chair) → from < length seats
     → ((k : ℕ) (chair chair' : Chair) → slice_get seats k ≡ Some chair → slice_get seats' k ≡ Some chair' → tail_of chair.queue ≤ tail_of chair'.queue)
     → MayClaim i from h tail seats → MayClaim i from h tail seats'
-claim_apart i from h tail seats seats' many tails may =
+claim_apart i from h tail seats seats' inside tails may =
     record {
       other = may.other;
       unclaimed = may.unclaimed;
       some = may.some;
       most = may.most;
       behind = λ chair' there'.
-          let within : from < length seats' = slice_get_within seats' from chair' there' in
-          let inside : from < length seats = omega (arith, many, within) in
           let old : (chair : Chair) × (slice_get seats from ≡ Some chair) = there_within seats from inside in
           omega (arith, may.behind old.0 old.1, tails from old.0 chair' old.1 there');
     }
 
-pub aims_apart : (p : Place) (c : Configuration) (i : ℕ) (seats seats' : List Chair) → length seats' ≡ length seats
+-- a scan stays within the pool
+scan_within : (c : Configuration) (x : Scan) → x.start < c.workers → from_of c x < c.workers
+scan_within c x some = mod_below (x.start + x.passed) c.workers (omega (arith, some))
+
+pub aims_apart : (p : Place) (c : Configuration) (i : ℕ) (seats seats' : List Chair) → length seats ≤ length seats' → c.workers ≤ length seats
     → ((k : ℕ) (chair chair' : Chair) → slice_get seats k ≡ Some chair → slice_get seats' k ≡ Some chair' → tail_of chair.queue ≤ tail_of chair'.queue)
     → Aims p c i seats → Aims p c i seats'
-aims_apart (Place.Scan (InScan.ClaimHalf x h tail)) c i seats seats' many tails aims = (claim_apart i (from_of c x) h tail seats seats' many tails aims.0, aims.1)
-aims_apart (Place.Scan (InScan.LoadTheirHead x)) c i seats seats' many tails aims = aims
-aims_apart (Place.Scan (InScan.LoadTheirTail x h)) c i seats seats' many tails aims = aims
-aims_apart (Place.Look (InLook.LookAtHead j)) c i seats seats' many tails aims = aims
-aims_apart (Place.Look (InLook.LookAtTail j h)) c i seats seats' many tails aims = aims
-aims_apart (Place.Kick (InKick.ExchangeKickCount set) b) c i seats seats' many tails aims = aims
-aims_apart (Place.Global (InGlobal.AddGlobalCount set) b) c i seats seats' many tails aims = aims
-aims_apart (Place.Mail (InMail.Apply applied taken)) c i seats seats' many tails aims = aims
-aims_apart (Place.Closing InClosing.CloseQueue) c i seats seats' many tails aims = aims
-aims_apart (Place.Closing InClosing.OpenBarrier) c i seats seats' many tails aims = aims
-aims_apart (Place.Closing InClosing.Stop) c i seats seats' many tails aims = aims
-aims_apart (Place.Closing (InClosing.TellRoot j)) c i seats seats' many tails aims = aims
-aims_apart _ c i seats seats' many tails aims = aims
+aims_apart (Place.Scan (InScan.ClaimHalf x h tail)) c i seats seats' more many tails aims =
+    (claim_apart i (from_of c x) h tail seats seats' (omega (arith, scan_within c x aims.1.0, many)) tails aims.0, aims.1)
+aims_apart (Place.Signal x j b) c i seats seats' more many tails aims = (omega (arith, aims.0, more), aims.1)
+aims_apart (Place.Service (InService.Signal j b) v) c i seats seats' more many tails aims = omega (arith, aims, more)
+aims_apart (Place.Service (InService.Raise ring j b) v) c i seats seats' more many tails aims = omega (arith, aims, more)
+aims_apart (Place.Service x v) c i seats seats' more many tails aims = tt
+aims_apart (Place.Scan (InScan.LoadTheirHead x)) c i seats seats' more many tails aims = aims
+aims_apart (Place.Scan (InScan.LoadTheirTail x h)) c i seats seats' more many tails aims = aims
+aims_apart (Place.Look (InLook.LookAtHead j)) c i seats seats' more many tails aims = aims
+aims_apart (Place.Look (InLook.LookAtTail j h)) c i seats seats' more many tails aims = aims
+aims_apart (Place.Kick (InKick.ExchangeKickCount set) b) c i seats seats' more many tails aims = aims
+aims_apart (Place.Global (InGlobal.AddGlobalCount set) b) c i seats seats' more many tails aims = aims
+aims_apart (Place.Mail (InMail.Apply applied taken)) c i seats seats' more many tails aims = aims
+aims_apart (Place.Closing InClosing.CloseQueue) c i seats seats' more many tails aims = aims
+aims_apart (Place.Closing InClosing.OpenBarrier) c i seats seats' more many tails aims = aims
+aims_apart (Place.Closing InClosing.Stop) c i seats seats' more many tails aims = aims
+aims_apart (Place.Closing (InClosing.TellRoot j)) c i seats seats' more many tails aims = aims
+aims_apart (Place.Scan (InScan.MoveHalf from h)) c i seats seats' more many tails aims = aims
+aims_apart (Place.Scan (InScan.ReleaseHalf from h)) c i seats seats' more many tails aims = aims
+aims_apart (Place.RingWait (InRingWait.DisarmRing n) x) c i seats seats' more many tails aims = aims
+aims_apart (Place.ClaimWorker set b) c i seats seats' more many tails aims = aims
+aims_apart _ c i seats seats' more many tails aims = tt
 
 -- WHERE A CLOSING IS
 
@@ -129,7 +142,28 @@ closes_drain (Place.Closing InClosing.Close) h = absurd (false≢true h)
 closes_drain (Place.Closing x) h = refl
 closes_drain (Place.Pop x AfterPop.Discard) h = refl
 closes_drain (Place.Signal x j (AfterSignal.Send (AfterSend.Tell n))) h = refl
+closes_drain (Place.Signal x j (AfterSignal.Send (AfterSend.Cancels (AfterCancels.Visit drain)))) h = refl
+closes_drain (Place.SendCancel (AfterCancels.Visit drain)) h = refl
 closes_drain _ h = absurd (false≢true h)
+
+drains_pool : (p : Place) → is_drain (closing_in p) ≡ true → is_pooled_at p ≡ true
+drains_pool (Place.Closing (InClosing.Visit drain)) h = refl
+drains_pool (Place.Closing (InClosing.Clear t drain)) h = refl
+drains_pool (Place.Closing InClosing.LeaveBarrier) h = refl
+drains_pool (Place.Closing InClosing.CloseQueue) h = refl
+drains_pool (Place.Closing InClosing.OpenBarrier) h = refl
+drains_pool (Place.Closing InClosing.Stop) h = refl
+drains_pool (Place.Closing (InClosing.TellRoot j)) h = refl
+drains_pool (Place.Closing InClosing.Close) h = absurd (false≢true h)
+drains_pool (Place.Closing InClosing.CloseMailbox) h = absurd (false≢true h)
+drains_pool (Place.Closing InClosing.Orphan) h = absurd (false≢true h)
+drains_pool (Place.Closing InClosing.CloseSleeper) h = absurd (false≢true h)
+drains_pool (Place.Closing InClosing.End) h = absurd (false≢true h)
+drains_pool (Place.Pop x AfterPop.Discard) h = refl
+drains_pool (Place.Signal x j (AfterSignal.Send (AfterSend.Tell n))) h = refl
+drains_pool (Place.Signal x j (AfterSignal.Send (AfterSend.Cancels (AfterCancels.Visit drain)))) h = refl
+drains_pool (Place.SendCancel (AfterCancels.Visit drain)) h = refl
+drains_pool _ h = absurd (false≢true h)
 
 drain_says : (x : Option InClosing) (closes : Bool) → closes ≡ true → is_drain x ≡ true → (root_over closes x ≡ true) × (has_stopped closes x ≡ true)
 drain_says (Some (InClosing.Visit drain)) closes is h = (is, is)
@@ -155,6 +189,10 @@ prepared_apart (Some InClosing.LeaveBarrier) unreleased set set' many emptied h 
 prepared_apart _ unreleased set set' many emptied h = h
 
 module _ {B : Type 0} where
+  -- with as many workers or more
+  pub with_more : (j : ℕ) (s s' : Shared B) → Spares j s s' → SparesMore j s s'
+  with_more j s s' spares = let many : length s.seats.items ≤ length s'.seats.items = by_length spares.many in assumption (many, spares)
+
   pub holds_for_all : (p : Place) (w : Worker) (s : Shared B) → SoundAt p w s → HoldsForAll s
   holds_for_all p w s sound =
       record {
@@ -162,11 +200,12 @@ module _ {B : Type 0} where
         resting = sound.resting;
         owning = sound.flown.owning;
         closed = (sound.phased sound.seated.seat sound.seated.there).closed;
+        few = sound.known.few;
       }
 
   -- THE TASK THAT IS POLLED
 
-  guest_apart : (polls : Option ℕ) (x : InPoll) (i root : ℕ) (s s' : Shared B) → Spares i s s' → HasGuest polls x i root s.tasks.items → HasGuest polls x i root s'.tasks.items
+  guest_apart : (polls : Option ℕ) (x : InPoll) (i root : ℕ) (s s' : Shared B) → SparesMore i s s' → HasGuest polls x i root s.tasks.items → HasGuest polls x i root s'.tasks.items
   guest_apart None x i root s s' spares h = tt
   guest_apart (Some t) x i root s s' spares h = λ other.
       let was = h other in
@@ -174,14 +213,12 @@ module _ {B : Type 0} where
       let now = spares.polled t was.0 was.1 guest.polled guest.poller in
       let slot = was.0 in
       let sp = now.2 in
-      let still : IsGuest x i (record slot { cell = now.0.cell; cleared = now.0.cleared; fresh = now.0.fresh }) = record {
+      let still : IsGuest x i (record slot { cell = now.0.cell; cleared = now.0.cleared; fresh = now.0.fresh; output = now.0.output }) = record {
         ordinary = guest.ordinary;
         polled = sp.polled;
         body = guest.body;
         poller = guest.poller;
         cancelled = sp.cancelled guest.cancelled;
-        held = guest.held;
-        waits = guest.waits;
         told = guest.told;
         untold = guest.untold;
         there = guest.there;
@@ -190,15 +227,13 @@ module _ {B : Type 0} where
 
   -- ALL
 
-  module _ (p : Place) (w : Worker) (s s' : Shared B) (sound : SoundAt p w s) (spares : Spares w.index s s') where
+  module _ (p : Place) (w : Worker) (s s' : Shared B) (sound : SoundAt p w s) (spares : SparesMore w.index s s') where
     mine : KeepsMine w.index s.requests.items s'.requests.items s.sleepers.items s'.sleepers.items
     mine = record { records = spares.records; records_only = spares.records_only; sleepers = spares.sleepers; sleepers_only = spares.sleepers_only }
 
     -- the root's slot
     root_there : slice_get s'.tasks.items w.root ≡ Some sound.runnable.root
-    root_there =
-        subst (λ t. slice_get s'.tasks.items t ≡ Some sound.runnable.root) (sym sound.at_home)
-        (spares.root sound.runnable.root (subst (λ t. slice_get s.tasks.items t ≡ Some sound.runnable.root) sound.at_home sound.runnable.there) sound.runnable.home)
+    root_there = spares.root w.root sound.runnable.root sound.runnable.there sound.runnable.home
 
     root_back : (slot : TaskSlot B) → slice_get s'.tasks.items w.root ≡ Some slot → slice_get s.tasks.items w.root ≡ Some slot
     root_back slot there = sound.runnable.there ∙ sym root_there ∙ there
@@ -226,9 +261,10 @@ module _ {B : Type 0} where
     seated_apart =
         let was : sound.seated.seat ≡ own.was = cc (sound.seated.there, own.there) in
         record {
-          many = spares.many ∙ sound.seated.many ∙ sym (ap (λ c. c.workers) spares.config);
+          many = omega (arith, spares.many, sound.seated.many, ap (λ c. c.workers) spares.config);
           seat = own.is;
           there = own.here;
+          pool = own.spared.pool ∙ ap (λ (c : Chair). c.pool) (sym was) ∙ sound.seated.pool ∙ sym (ap (λ c. nat_lt w.index c.workers) spares.config);
           unarmed = λ h. own.spared.target ∙ ap (λ c. c.mailbox.waker.target) (sym was) ∙ sound.seated.unarmed h;
           mail = own.spared.mail (subst (λ c. IsMailbox c.mailbox) was sound.seated.mail);
         }
@@ -251,7 +287,7 @@ module _ {B : Type 0} where
         let was = sound.phased own.was own.there in
         let closes = closes_drain p drains in
         let facts = drain_says (closing_in p) (closes_at p) closes drains in
-        was.closed (by_number w.index 0 (λ other. was.by_other (omega (arith, other)) facts.0) (λ same. (was.by_zero same).0 ∙ facts.1))
+        was.closed (by_number w.index 0 (λ other. was.by_other (omega (arith, other)) (chair_of_pool p w s sound own.was own.there ∙ sound.pooled (drains_pool p drains)) facts.0) (λ same. (was.by_zero same).0 ∙ facts.1))
 
     phased_apart : HoldsForAll s' → IsPhased w.index (closes_at p) (closing_in p) w.home.closing w.root w.names.unreleased (stage_of own.is s') s'.tasks.items
     phased_apart all =
@@ -262,25 +298,18 @@ module _ {B : Type 0} where
           opened = ap is_open chair.phase ∙ was.opened;
           ended = λ h. was.ended (sym (ap has_ended chair.phase) ∙ h);
           root = λ slot there. was.root slot (root_back slot there);
-          pool = chair.pool ∙ was.pool;
-          left = chair.left ∙ was.left;
+          left = chair.left ∙ was.left ∙ ap (λ b. b && has_left (closes_at p) (closing_in p)) (sym chair.pool);
           shut = chair.closed ∙ was.shut;
           by_zero = λ zero_is.
               let still = spares.by_zero zero_is in
               let old = was.by_zero zero_is in
               (still.0 ∙ old.0, still.1 ∙ old.1);
-          by_other = λ other over. spares.stopped (was.by_other other over);
+          by_other = λ other of_pool over. spares.stopped (was.by_other other (sym chair.pool ∙ of_pool) over);
           closed = all.closed;
           prepared = prepared_apart (closing_in p) w.names.unreleased s.set s'.set spares.shards (λ drains. spares.emptied (set_shut drains)) was.prepared;
         }
 
-    owed_apart : (wakes : List TaskNo) → AreOwed w.index w.root wakes s.tasks.items s.requests.items s.sleepers.items → AreOwed w.index w.root wakes s'.tasks.items s'.requests.items s'.sleepers.items
-    owed_apart [] owed = tt
-    owed_apart (n ∷ []) owed =
-        (owed.0, λ slot there. owes_apart w.index s.requests.items s'.requests.items s.sleepers.items s'.sleepers.items mine w.root slot.waiting (owed.1 slot (root_back slot there)))
-    owed_apart (n ∷ (m ∷ ns)) owed = absurd owed
-
-    due_apart : IsDue (served_in p) w.index w.moments s.config w.names (driver_of w) w.home.timers s'.requests.items s'.sleepers.items
+    due_apart : IsDue (served_in p) w.home.closing w.index w.moments s.config w.names (driver_of w) w.home.timers s'.requests.items s'.sleepers.items
     due_apart =
         let due = sound.due in
         record {
@@ -288,9 +317,18 @@ module _ {B : Type 0} where
           told = due.told;
           wheel = due.wheel;
           timed = timed_apart w.index s.requests.items s'.requests.items s.sleepers.items s'.sleepers.items mine w.names (driver_of w) w.home.timers sound.named due.timed;
-          asleep = asleep_apart w.index s.requests.items s'.requests.items s.sleepers.items s'.sleepers.items mine w.names (driver_of w) w.home.timers sound.named due.asleep;
+          asleep = asleep_apart w.index s.requests.items s'.requests.items s.sleepers.items s'.sleepers.items mine w.names (driver_of w) w.home.timers sound.named due.asleep (sleepers_stay s.sleepers.items s'.sleepers.items spares.endure_too);
           order = due.order;
         }
+
+    request_back : (id : Id) (it : Waiter Reply Reply) (r : Record) → waiter_at (driver_of w).requests id ≡ Some it → slice_get s'.requests.items (number_in w.names.requests.items id) ≡ Some r
+        → (x : Record) × (slice_get s.requests.items (number_in w.names.requests.items id) ≡ Some x) × SparesRecord x r
+    request_back id it r live there =
+        record_back w.index s.requests.items s'.requests.items s.sleepers.items s'.sleepers.items mine w.names (driver_of w) w.home.timers sound.named id r (live_of (driver_of w).requests id it live) there
+
+    stretch_apart : (q : Asking) → HasStretchFor q s.store → HasStretchFor q s'.store
+    stretch_apart (Asking.WriteAt x) h = λ writes. spares.stretch x.file x.offset (bytes_left x.write) (h writes)
+    stretch_apart q h = tt
 
     carried_apart : Carried w s'
     carried_apart =
@@ -298,15 +336,70 @@ module _ {B : Type 0} where
         record {
           slots = c.slots;
           whole = c.whole;
-          target = λ id it r live there. c.target id it r live (request_back id it r live there);
-          carried = λ id it r live there. c.carried id it r live (request_back id it r live there);
+          target = λ id it r live there.
+              let old = request_back id it r live there in
+              ap (λ (x : Record). x.shown.operation.target) old.2.kept ∙ c.target id it old.0 live old.1;
+          carried = λ id it r live there.
+              let old = request_back id it r live there in
+              subst (λ x. IsUnderWay x (user_data_of id) it.request (driver_of w).ring) (sym (ap (λ (x : Record). x.shown.phase) old.2.kept)) (c.carried id it old.0 live old.1);
           nobody = c.nobody;
-          room = λ socket. spares.room socket (c.room socket);
+          room = spares.room c.room;
+          stretch = λ id it live. stretch_apart it.request (c.stretch id it live);
         }
-      where
-        request_back : (id : Id) (it : Waiter Reply Reply) (r : Record) → waiter_at (driver_of w).requests id ≡ Some it → slice_get s'.requests.items (number_in w.names.requests.items id) ≡ Some r → slice_get s.requests.items (number_in w.names.requests.items id) ≡ Some r
-        request_back id it r live there =
-            record_back w.index s.requests.items s'.requests.items s.sleepers.items s'.sleepers.items mine w.names (driver_of w) w.home.timers sound.named id r (live_of (driver_of w).requests id it live) there
+
+    as_many_records : length s.requests.items ≤ length s'.requests.items
+    as_many_records =
+        ⊎_elim
+        (λ (less : length s'.requests.items < length s.requests.items).
+        let x = there_within s.requests.items (length s'.requests.items) less in
+        let now = spares.endure (length s'.requests.items) x.0 x.1 in
+        let within = slice_get_within s'.requests.items (length s'.requests.items) now.0 now.1 in
+        absurd (omega (arith, within)))
+        (λ (most : length s.requests.items ≤ length s'.requests.items). most)
+        (cases_lt (length s'.requests.items) (length s.requests.items))
+
+    known_apart : HoldsForAll s' → IsKnown w.index w.names.requests.items (driver_of w).requests s'.opens s'.requests.items
+    known_apart all =
+        record {
+          past = λ k r there own.
+              let old = spares.records_only k r there own in
+              subst (λ (x : Record). (x.id.0.generation < 2 ^ 64) × IsPast (driver_of w).requests x.id.0) (sym old.2.kept) (sound.known.past k old.0 old.1 (sym (ap (λ (x : Record). x.shown.worker) old.2.kept) ∙ own));
+          counted = λ id past. (let below = sound.known.counted id past in omega (arith, below, as_many_records));
+          few = all.few;
+          hints = λ id it r live there asks unrefused gone.
+              let old = request_back id it r live there in
+              let target : r.shown.operation.target ≡ old.0.shown.operation.target = ap (λ (x : Record). x.shown.operation.target) old.2.kept in
+              let was = sound.known.hints id it old.0 live old.1 (sym (ap (λ (x : Record). may_ask_hint x.shown.operation.kind) old.2.kept) ∙ asks) (sym (ap (λ (x : Record). x.shown.operation.unrefused) old.2.kept) ∙ unrefused) gone in
+              spares.hints r.shown.operation.target (ap (has_hint_at s.opens) target ∙ was);
+        }
+
+    letters_apart : HasLetters (sends_cancel_at p) (cancels_at p) w.index s.config.workers w.letters s'.requests.items s'.sleepers.items
+    letters_apart =
+        let l = sound.letters in
+        record {
+          some = l.some;
+          none = l.none;
+          requests = λ h has. letter_apart s.requests.items s'.requests.items s.sleepers.items s'.sleepers.items spares.endure spares.endure_too s.config.workers w.index (Subject.Request h.number) h.worker (l.requests h has);
+          timer = λ h is. letter_apart s.requests.items s'.requests.items s.sleepers.items s'.sleepers.items spares.endure spares.endure_too s.config.workers w.index (Subject.Timer h.number) h.worker (l.timer h is);
+        }
+
+    stops_still : (x : InPoll) (u : Waiting) → StopsIn x w.index u s.requests.items s.sleepers.items → StopsIn x w.index u s'.requests.items s'.sleepers.items
+    stops_still x u h = stops_apart s.requests.items s'.requests.items s.sleepers.items s'.sleepers.items spares.endure spares.endure_too x w.index mine u h
+
+    -- what the task that is polled waits for stays
+    stops_apart_at : (polls : Option ℕ) (x : InPoll) → HasGuest polls x w.index w.root s.tasks.items → Stops polls x w.index s.tasks.items s.requests.items s.sleepers.items → Stops polls x w.index s'.tasks.items s'.requests.items s'.sleepers.items
+    stops_apart_at None x guest stops = tt
+    stops_apart_at (Some t) x guest stops = λ slot' there'.
+        by_number t w.root
+        (λ other.
+        let was = guest other in
+        let now = spares.polled t was.0 was.1 was.2.polled was.2.poller in
+        let is : now.0 ≡ slot' = cc (now.1, there') in
+        let waits : slot'.waiting ≡ was.0.waiting = ap (λ (y : TaskSlot B). y.waiting) (sym is) ∙ ap (λ (y : TaskSlot B). y.waiting) now.2.kept in
+        subst (λ u. StopsIn x w.index u s'.requests.items s'.sleepers.items) (sym waits) (stops_still x was.0.waiting (stops was.0 was.1)))
+        (λ same.
+        let back = root_back slot' (subst (λ n. slice_get s'.tasks.items n ≡ Some slot') same there') in
+        stops_still x slot'.waiting (stops slot' (subst (λ n. slice_get s.tasks.items n ≡ Some slot') (sym same) back)))
 
     -- What is sound of a worker stays so.
     pub apart : HoldsForAll s' → SoundAt p w s'
@@ -314,15 +407,18 @@ module _ {B : Type 0} where
         record {
           here = sound.here;
           config = rw spares.config sound.config;
-          gates = rw spares.opens sound.gates;
-          index = rw spares.config sound.index;
+          gates = spares.gates sound.gates;
+          known = known_apart all;
           workers = rw spares.config sound.workers;
-          at_home = sound.at_home;
-          role = sound.role;
+          role = rw spares.config sound.role;
+          pooled = sound.pooled;
+          serves = sound.serves;
+          calm = sound.calm;
           homes = all.homes;
           shards = rw spares.config (spares.shards ∙ sound.shards);
           time = rw spares.clock sound.time;
           told = sound.told;
+          wide = sound.wide;
           named = named_apart w.index s.requests.items s'.requests.items s.sleepers.items s'.sleepers.items mine w.names (driver_of w) w.home.timers sound.named;
           runnable = runnable_apart;
           seated = seated_apart;
@@ -334,22 +430,24 @@ module _ {B : Type 0} where
           genuine = λ r has. held_apart r (sound.genuine r has);
           stolen = λ r has. spares.genuine r (sound.stolen r has);
           searching = sound.searching;
-          aims = rw spares.config (aims_apart p s.config w.index s.seats.items s'.seats.items spares.many spares.tails sound.aims);
+          aims = rw spares.config (aims_apart p s.config w.index s.seats.items s'.seats.items spares.many sound.seated.many spares.tails sound.aims);
           guest = guest_apart (polls_at p) (step_of_poll p) w.index w.root s s' spares sound.guest;
           resting = all.resting;
           left = sound.left;
           over = over_apart w.index s.requests.items s'.requests.items s.sleepers.items s'.sleepers.items mine w.names.ended.items w.names.unreleased (pending_count (driver_of w).requests) sound.over;
           batch = sound.batch;
-          batch_place = sound.batch_place;
+          mine = rw spares.config (λ m has. mail_apart s.requests.items s'.requests.items s.sleepers.items s'.sleepers.items spares.endure spares.endure_too s.config.workers w.index m (sound.mine m has));
+          batch_place = of_chair (λ chair. chair.mailbox.inbox.closed ≡ false → 2 * chair.made + 1 ≤ w.batch.places)
+              (λ opened. subst (λ n. 2 * n + 1 ≤ w.batch.places) (sym own.spared.made) (sound.batch_place own.was own.there (sym own.spared.closed ∙ opened)));
+          letters = rw spares.config letters_apart;
           quiet = sound.quiet;
           due = rw spares.config due_apart;
           flown = flown_apart w.index s.requests.items s'.requests.items s.sleepers.items s'.sleepers.items mine w.names (driver_of w) w.home.timers sound.named (served_in p) all.owning sound.flown;
           carried = carried_apart;
-          rooted = record {
-            root = λ slot there.
-                holds_apart w.index s.requests.items s'.requests.items s.sleepers.items s'.sleepers.items mine w.names (driver_of w) w.home.timers sound.named _ w.root slot.held.items slot.waiting _
-                (sound.rooted.root slot (root_back slot there));
-          };
+          rooted = rooted_apart w.index s.requests.items s'.requests.items s.sleepers.items s'.sleepers.items mine w.names (driver_of w) w.home.timers sound.named w.home.deferred sound.rooted;
+          stops = stops_apart_at (polls_at p) (step_of_poll p) sound.guest sound.stops;
+          hears = heard_apart w.index s.requests.items s'.requests.items s.sleepers.items s'.sleepers.items mine (heard_at p) sound.hears;
+          lets_go = sound.lets_go;
           phased = of_chair (λ chair. IsPhased w.index (closes_at p) (closing_in p) w.home.closing w.root w.names.unreleased (stage_of chair s') s'.tasks.items) (phased_apart all);
-          tied = record { stands = λ slot there. sound.tied.stands slot (root_back slot there); owed = owed_apart w.home.deferred.notes.wakes.items sound.tied.owed };
+          tied = record { stands = λ slot there. sound.tied.stands slot (root_back slot there) };
         }

@@ -2,9 +2,9 @@
 use Rattle.std.proofs.{Common.{◌≡◌, ℕ, zero, suc, ◌+◌, ◌<◌, ◌≤◌, ◌==◌, inl, inr, Bool, true, false, Contains, List, [], ◌∷◌, ◌++◌, length, Option, None, Some, refl, sym, ap, subst, ◌∙◌, arith, option_to_list, slice_get, option_map, if◌then◌else◌}, lemmas.{Bool.eq-eqb, List.{length-append, map-append, Elements.{Contains-append_cases, Contains-append_left, Contains-append_right}}, Option.slice_get_within}}
 use Rattle.exec_words.specs.Global.{Global, spare_places}
 use Rattle.exec_task.specs.declared.{body.Said.Said, runnable.Runnable.Runnable}
-use Rattle.exec_machine.specs.{declared.event.Event.{Event, TheVariants.Turn}, Choice.Choice.Plain}
-use Rattle.exec_moves.specs.{declared.{handing.{AfterPush.AfterPush, InGlobal.InGlobal}, place.{InPick.InPick, InPoll.InPoll, Place.Place}}, Global.appended_if, Parts.after_push, Push.in_hand, Thing.set_global}
-use Rattle.exec_steps.{specs.{declared.parts.{seat.Seat.Seat as Chair, shared.Shared.Shared, task_slot.TaskSlot.TaskSlot, worker.Worker.Worker}, Places.{begins_at, hands_on_at, is_armed_at, searches_at}, Phased.{closes_at, closing_in}, Sound.{Aims, HasBatch, HasQueue, IsSearching, SoundAt}, Spots.Spot, View.{desk_of, tasks_of, things_with}, Whole.{HasOne, HasWhole, IsGenuine, IsWhole, Profile, may_let_go, runnables_in, stock, with_worker}, Works.Steps}, proofs.{Facts.{by_number, not_same, or_right}, Flagging.none_of, Onces.{has_at_most, has_fewer}, Pushing.{among_none, ordinary}, Queued.hands_of, Queueing.{Around, Carries, Reaches, as_many, if_either, poses, rehanded, whole_handed}, Thieves.in_both}}
+use Rattle.exec_machine.specs.{declared.event.Event.{Event, TheVariants.Turn}, Choice.Choice.Plain, Progress.Plan}
+use Rattle.exec_moves.specs.{declared.{handing.{AfterPush.AfterPush, InGlobal.InGlobal}, place.Place.Place}, Global.appended_if, Parts.after_push, Push.in_hand, State.{Moved, Things}, Thing.set_global}
+use Rattle.exec_steps.{specs.{declared.parts.{seat.Seat.Seat as Chair, shared.Shared.Shared, task_slot.TaskSlot.TaskSlot, worker.Worker.Worker}, Sound.SoundAt, Spots.Spot, Tests.after_push_of, View.{Views, common_of, desk_of, own_of, tasks_of, things_with}, Whole.{HasOne, HasWhole, IsGenuine, IsWhole, Profile, may_let_go, runnables_in, stock, with_worker}, Works.{Steps, Suits}}, proofs.{PushLeads.{ArrivesAt, CarriesNone, push_reaches}, Handed.{IsPushFor, PushNext, push_seen}, Facts.{by_number, not_same, or_right}, Flagging.none_of, Onces.{has_at_most, has_fewer}, Pushing.{among_none, ordinary}, Queued.hands_of, Queueing.{Reaches, as_many, poses, rehanded, whole_handed}, Thieves.in_both}}
 
 -- WHERE EACH OF THESE IS BELOW A NUMBER, and none is there twice, they are so few
 
@@ -113,9 +113,9 @@ hand_seen None = refl
 hand_seen (Some r) = refl
 
 module _ {B L : Type 0} (left : B → L) (spot : L → Option Said → Spot) (b : AfterPush) (w w' : Worker) (s s' : Shared B) (e : Event) where
-  pub appended : SoundAt (Place.Global InGlobal.Append b) w s → HasWhole w s → e ≡ Turn → w' ≡ record w { place = (if s.global.closed then after_push b (desk_of w) else Place.Global InGlobal.LoadGlobalSet b); hand = None; loot = record w.loot { values = [] } }
+  pub appended : SoundAt (Place.Global InGlobal.Append b) w s → HasWhole w s → PushNext left spot b w s → e ≡ Turn → w' ≡ record w { place = (if s.global.closed then after_push_of b w else Place.Global InGlobal.LoadGlobalSet b); hand = None; loot = record w.loot { values = [] } }
       → s' ≡ record s { global = record s.global { values = (if s.global.closed then s.global.values else s.global.values ++ (w.loot.values ++ option_to_list w.hand)) } } → Steps left spot w s e w' s'
-  appended sound has turn goes global = by s.global.closed refl goes global
+  appended sound has following turn goes global = by s.global.closed refl goes global
     where
       q : Place
       q = Place.Global InGlobal.Append b
@@ -124,7 +124,7 @@ module _ {B L : Type 0} (left : B → L) (spot : L → Option Said → Spot) (b 
       all = w.loot.values ++ option_to_list w.hand
 
       next : Bool → Place
-      next gone = if gone then after_push b (desk_of w) else Place.Global InGlobal.LoadGlobalSet b
+      next gone = if gone then after_push_of b w else Place.Global InGlobal.LoadGlobalSet b
 
       v : Bool → Worker
       v gone = record w { place = next gone; hand = None; loot = record w.loot { values = [] } }
@@ -132,34 +132,38 @@ module _ {B L : Type 0} (left : B → L) (spot : L → Option Said → Spot) (b 
       g : Bool → Global Runnable
       g gone = record s.global { values = (if gone then s.global.values else s.global.values ++ all) }
 
-      around : (p : Place) → is_armed_at p ≡ false → Aims p s.config w.index s.seats.items → ((chair : Chair) → slice_get s.seats.items w.index ≡ Some chair → HasQueue p chair.queue) → HasBatch p w.batch.values → closes_at p ≡ false → closing_in p ≡ None → Around p w s s
-      around p armed aims queue batch closes closing =
-          record { seated = rw armed sound.seated; queue = queue; aims = aims; batch = batch; phased = rw (closes, closing) sound.phased }
+      arrives_at : ArrivesAt w s s
+      arrives_at p armed queue aims batch lets_go phased =
+          record { seated = rw armed sound.seated; queue = λ chair there. queue chair.queue (sound.queue chair there); aims = aims; batch = batch; batch_place = sound.batch_place; lets_go = lets_go; phased = phased }
 
-      carries : (gone : Bool) (p : Place) → begins_at p ≡ None → hands_on_at p ≡ false → IsSearching (searches_at p) w.searching → Carries p w (v gone) s
-      carries gone p begins hands searching =
+      carries : (gone : Bool) → CarriesNone w (v gone) s
+      carries gone p begins hands loot searching pooled serves left_then told =
           record {
             runnable = rw begins sound.runnable;
             hand = rw (begins, hands) refl;
-            loot = record { places = sound.loot.places; few = omega arith; none = λ is. refl };
+            loot = record { places = sound.loot.places; few = omega arith; none = λ is_none. refl };
             genuine = λ r among. among_none r among;
             stolen = λ r among. among_none r among;
-            searching = searching;
+            searching = rw sound.searching searching;
+            pooled = pooled;
+            serves = serves;
+            calm = sound.calm;
+            left = left_then;
+            told = told;
           }
 
-      to_push : (gone : Bool) (a : AfterPush) → b ≡ a → Reaches q (after_push a (desk_of w)) w (v gone) s s
-      to_push gone (AfterPush.Act t) is =
-          subst (λ z. Reaches (Place.Global InGlobal.Append z) (Place.Poll t InPoll.Act) w (v gone) s s) (sym is)
-          (record { same = refl; quiet = λ h. refl; around = around (Place.Poll t InPoll.Act) refl tt sound.queue sound.batch refl refl; carries = carries gone (Place.Poll t InPoll.Act) refl refl sound.searching })
-      to_push gone AfterPush.Pick is =
-          subst (λ z. Reaches (Place.Global InGlobal.Append z) (if w.picks == 0 then Place.TakeRootFlag else Place.Pick InPick.CountDown) w (v gone) s s) (sym is)
-          (if_either (λ z. Reaches (Place.Global InGlobal.Append AfterPush.Pick) z w (v gone) s s) (w.picks == 0) Place.TakeRootFlag (Place.Pick InPick.CountDown)
-          (record { same = refl; quiet = λ h. refl; around = around Place.TakeRootFlag refl tt sound.queue sound.batch refl refl; carries = carries gone Place.TakeRootFlag refl refl tt })
-          (record { same = refl; quiet = λ h. refl; around = around (Place.Pick InPick.CountDown) refl tt sound.queue sound.batch refl refl; carries = carries gone (Place.Pick InPick.CountDown) refl refl tt }))
+      is : IsPushFor b q
+      is = record { callbacks = refl; closes = refl; closing = refl; spare = refl; bare = refl; held = λ x h. h; batch = λ ms h. h }
 
       to : (gone : Bool) → Reaches q (next gone) w (v gone) s s
-      to true = to_push true b refl
-      to false = record { same = refl; quiet = λ h. refl; around = around (Place.Global InGlobal.LoadGlobalSet b) refl tt sound.queue sound.batch refl refl; carries = carries false (Place.Global InGlobal.LoadGlobalSet b) refl refl sound.searching }
+      to true = push_reaches q w (v true) s s arrives_at (carries true) b sound following.comes is refl refl refl refl
+      to false =
+          record {
+            same = refl;
+            quiet = λ h. sound.quiet h;
+            around = record { seated = sound.seated; queue = sound.queue; aims = tt; batch = sound.batch; batch_place = sound.batch_place; lets_go = sound.lets_go; phased = sound.phased };
+            carries = carries false (Place.Global InGlobal.LoadGlobalSet b) refl refl refl refl sound.pooled sound.serves sound.left sound.told;
+          }
 
       -- what stands in the queue then, as it is seen
       shows : (gone : Bool) → appended_if gone (tasks_of s.global.values) (tasks_of w.loot.values ++ in_hand (option_map (λ r. r.task.0) w.hand)) ≡ tasks_of (g gone).values
@@ -170,10 +174,16 @@ module _ {B L : Type 0} (left : B → L) (spot : L → Option Said → Spot) (b 
           ∙ ap (λ xs. tasks_of s.global.values ++ xs) (sym (map-append number w.loot.values (option_to_list w.hand)))
           ∙ sym (map-append number s.global.values all)
 
+      -- what it leads to there
+      seen : (gone : Bool) (p : Plan) (vs : Views) → Suits p vs w s → ◌≡◌ {A = Moved Things} (record { event = Turn; choice = Plain; desk = record (desk_of w) { place = (if gone then after_push p.config w.index (own_of w) (common_of left spot p vs s) b (desk_of w) else Place.Global InGlobal.LoadGlobalSet b); hand = None; loot = [] }; thing = set_global (things_with vs s) (appended_if gone (tasks_of s.global.values) (tasks_of w.loot.values ++ in_hand (option_map (λ r. r.task.0) w.hand))) })
+          (record { event = Turn; choice = Plain; desk = desk_of (v gone); thing = set_global (things_with vs s) (tasks_of (g gone).values) })
+      seen gone p vs suits =
+          rw (push_seen left spot p vs q w s sound suits.config b (following.seen p vs suits)) (ap (λ ts. record { event = Turn; choice = Plain; desk = desk_of (v gone); thing = set_global (things_with vs s) ts }) (shows gone))
+
       done : (gone : Bool) → s.global.closed ≡ gone → ((others : Profile) → IsWhole (with_worker others w) s → IsWhole (with_worker others (v gone)) (record s { global = g gone })) → Steps left spot w s e (v gone) (record s { global = g gone })
       done gone is whole =
           rehanded left spot q w (v gone) s (g gone) e sound turn (record { same = refl; read = sound.time.read; asleep = sound.time.asleep }) refl refl refl (to gone) whole
-          (λ p vs suits. rw is (ap (λ ts. record { event = Turn; choice = Plain; desk = desk_of (v gone); thing = set_global (things_with vs s) ts }) (shows gone)))
+          (λ p vs suits. rw is (seen gone p vs suits))
 
       by : (gone : Bool) → s.global.closed ≡ gone → w' ≡ v gone → s' ≡ record s { global = g gone } → Steps left spot w s e w' s'
       by true is goes global =
@@ -181,7 +191,7 @@ module _ {B L : Type 0} (left : B → L) (spot : L → Option Said → Spot) (b 
           subst (λ z. Steps left spot w s e w' z) (sym global)
           (subst (λ z. Steps left spot w s e z (record s { global = g true })) (sym goes)
           (done true is (λ others before.
-          whole_handed others w (v true) s (g true) refl refl (poses q w (v true) s sound (to true).same refl refl)
+          whole_handed others w (v true) s (g true) refl refl (poses q w (v true) s sound (to true).same refl refl (record { batch = refl; letters = refl; left = refl }))
           (λ t slot found home one. has_fewer (may_let_go s) slot.cell.phase ((others.runnables t + runnables_in t (hands_of w)) + stock t s) ((others.runnables t + runnables_in t (hands_of (v true))) + stock t s) (or_right s.set.closed s.global.closed is) (fewer t (others.runnables t)) one)
           (λ t more. fewer t (others.runnables t)) before.queued_there before)))
       by false is goes global =
@@ -195,6 +205,6 @@ module _ {B L : Type 0} (left : B → L) (spot : L → Option Said → Spot) (b 
           subst (λ z. Steps left spot w s e w' z) (sym global)
           (subst (λ z. Steps left spot w s e z (record s { global = g false })) (sym goes)
           (done false is (λ others before.
-          whole_handed others w (v false) s (g false) refl refl (poses q w (v false) s sound (to false).same refl refl)
+          whole_handed others w (v false) s (g false) refl refl (poses q w (v false) s sound (to false).same refl refl (record { batch = refl; letters = refl; left = refl }))
           (λ t slot found home one. subst (HasOne (may_let_go s) slot.cell.phase) (moved t (others.runnables t)) one)
           (λ t more. as_many _ _ (moved t (others.runnables t))) genuine before)))

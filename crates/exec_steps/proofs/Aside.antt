@@ -5,12 +5,18 @@ use Rattle.exec_task.specs.declared.runnable.Runnable.{Runnable}
 use Rattle.exec_task.specs.declared.body.Said.{Said}
 use Rattle.exec_machine.specs.{declared.{event.Event.{Event, TheVariants.Turn}, state.Next.Next}, Choice.Choice.Plain, Progress.Plan}
 use Rattle.exec_moves.specs.{declared.place.Place.Place, Move.move_at, Seen.{next_at, polls_at, serves_at}, State.Moved}
-use Rattle.exec_steps.{specs.{declared.parts.{seat.Seat.Seat as Chair, shared.Shared.Shared, task_slot.TaskSlot.TaskSlot, worker.Worker.Worker}, Kinds.kind_of, Places.{claims_at, clears_at, drops_at, has_count_at, is_published_at, removes_at}, Spares.{Spares, SparesChair, SparesPolled, Thins}, Whole.{Profile, IsGenuine, IsWhole, claimed_count, duties_of, may_let_go, queued, runnables_in, stock, with_worker}, Sound.{SoundAt, has_wakes_at}, Spots.Spot, View.{Views, common_of, desk_of, own_of, things_with}, Works.{Beside, Goes, Makes, Steps, Suits}}, proofs.{Facts.{by_number, set_elsewhere, set_there}, PoolKept.{KeepsGates, gates_same, pool_seats}, Turning.{GoesOn, Keeps, Lands, Shares, arrives, by_place, fits_here, turn_alike, turned}}}
+use Rattle.exec_steps.{specs.{Holding.{IsHolding, box_of, holder_of, nap_of, thing_of}, declared.parts.{record.Record.Record, sleeping.SleeperRecord.SleeperRecord, seat.Seat.Seat as Chair, shared.Shared.Shared, task_slot.TaskSlot.TaskSlot, worker.Worker.Worker}, Kinds.{kind_of, lowered}, Places.{claims_at, clears_at, drops_at, has_count_at, is_pooled_at, is_published_at, removes_at}, Spares.{Spares, SparesChair, SparesPolled, SparesRecord, SparesSleeper, Thins}, Whole.{claimed_count, duties_of, hands_of, IsGenuine, IsWhole, may_let_go, Profile, queued, runnables_in, stock, with_worker}, Sound.{SoundAt, has_wakes_at}, Spots.Spot, View.{Views, common_of, desk_of, own_of, things_with}, Works.{Beside, Goes, Makes, Steps, Suits}}, proofs.{Facts.{by_number, set_elsewhere, set_there}, PoolKept.{KeepsGates, gates_same, pool_seats}, Spared.{records_endure, sleepers_endure}, Turning.{GoesOn, Keeps, Lands, Shares, arrives, by_place, fits_here, turn_alike, turned}}}
 
 -- SEATS
 
 pub spared : (chair : Chair) → SparesChair chair chair
-spared chair = record { phase = refl; pool = refl; left = refl; closed = refl; target = refl; mail = λ h. h; queue = inl refl }
+spared chair = record { phase = refl; pool = refl; left = refl; closed = refl; target = refl; mail = λ h. h; made = refl; queue = inl refl }
+
+pub record_spared : (r : Record) → SparesRecord r r
+record_spared r = record { kept = refl; waiter = λ t h. h; forwarding = inl refl; observed = inl refl }
+
+pub sleeper_spared : (z : SleeperRecord) → SparesSleeper z z
+sleeper_spared z = record { kept = refl; forwarding = inl refl }
 
 -- those of others are spared, and no tail falls
 pub record SparesSeats (i : ℕ) (seats seats' : List Chair) : Type 0 where
@@ -112,6 +118,15 @@ length_same (x ∷ xs) (y ∷ ys) same =
 
 -- BALANCES
 
+-- what it has in hand to tell is as before
+pub record SameTold (w w' : Worker) : Type 0 where
+  pub batch : w'.batch ≡ w.batch
+  pub letters : w'.letters ≡ w.letters
+  pub left : w'.home.deferred ≡ w.home.deferred
+
+pub hands_same : (others : Profile) (w w' : Worker) → w'.index ≡ w.index → SameTold w w' → hands_of (with_worker others w') ≡ hands_of (with_worker others w)
+hands_same others w w' index told = rw (index, told.batch, told.letters, told.left) refl
+
 -- a worker has what it had
 pub record SameProfile (w w' : Worker) : Type 0 where
   pub hand : w'.hand ≡ w.hand
@@ -123,12 +138,15 @@ pub record SameProfile (w w' : Worker) : Type 0 where
   pub index : w'.index ≡ w.index
   pub published : is_published_at w'.place ≡ is_published_at w.place
   pub drops : drops_at w'.place ≡ drops_at w.place
+  pub told : SameTold w w'
 
 pub profile_same : (x : Profile) (w w' : Worker) → SameProfile w w' → with_worker x w' ≡ with_worker x w
 profile_same x w w' same =
     let clears : clears_at w'.place ≡ clears_at w.place = ap (λ d. d.clears) same.drops in
     let removes : removes_at w'.place ≡ removes_at w.place = ap (λ d. d.removes) same.drops in
-    rw (same.hand, same.loot, same.polls, same.claims, same.searching, same.counts, same.index, same.published, clears, removes) refl
+    let passes : (drops_at w'.place).passes ≡ (drops_at w.place).passes = ap (λ d. d.passes) same.drops in
+    let joins : (drops_at w'.place).joins ≡ (drops_at w.place).joins = ap (λ d. d.joins) same.drops in
+    rw (same.hand, same.loot, same.polls, same.claims, same.searching, same.counts, same.index, same.published, clears, removes, passes, joins, same.told.batch, same.told.letters, same.told.left) refl
 
 module _ {B : Type 0} where
   pub spares_turn : (i j : ℕ) (s s' : Shared B) → j ≢ i → Shares s s' → SparesSeats i s.seats.items s'.seats.items → Spares j s s'
@@ -137,17 +155,21 @@ module _ {B : Type 0} where
       let done : Spares j s s1 = record {
         config = refl;
         clock = refl;
-        opens = refl;
+        gates = λ h. h;
+        hints = λ file h. h;
         many = seats.many;
         chair = λ chair there. seats.chair j chair other there;
         tails = seats.tails;
-        records = λ k r there mine. there;
-        records_only = λ k r there mine. there;
-        sleepers = λ k z there mine. there;
-        sleepers_only = λ k z there mine. there;
-        root = λ slot there home. there;
+        records = λ k r there mine. (r, there, record_spared r);
+        records_only = λ k r there mine. (r, there, record_spared r);
+        sleepers = λ k z there mine. (z, there, sleeper_spared z);
+        sleepers_only = λ k z there mine. (z, there, sleeper_spared z);
+        endure = records_endure s.requests.items s.requests.items refl;
+        endure_too = sleepers_endure s.sleepers.items s.sleepers.items refl;
+        root = λ t slot there home. there;
         polled = λ t slot there polled mine. (slot, there, record { polled = polled; number = refl; cancelled = λ h. h; kept = refl });
-        room = λ socket h. h;
+        room = λ h. h;
+        stretch = λ file offset n h. h;
         stopped = λ h. h;
         closed = λ h. h;
         by_zero = λ h. (refl, refl);
@@ -157,14 +179,19 @@ module _ {B : Type 0} where
       } in
       subst (λ z. Spares j s z) (sym shares) done
 
+  -- what tasks hold, with these seats
+  abbrev pub HoldsIn : Profile → Shared B → List Chair → Type 0
+  HoldsIn x s seats = IsHolding (hands_of x) s.config.workers (map holder_of s.tasks.items) (map thing_of s.requests.items) (map nap_of s.sleepers.items) (map box_of seats)
+
   -- with the same queues, idle set and global queue
-  pub whole_same : (x : Profile) (s s' : Shared B) → Shares s s' → KeepsGates s.seats.items s'.seats.items → map queue_of_chair s'.seats.items ≡ map queue_of_chair s.seats.items → s'.idle ≡ s.idle → s'.global ≡ s.global → IsWhole x s → IsWhole x s'
-  whole_same x s s' shares gates queues idle global whole =
+  pub whole_boxed : (x : Profile) (s s' : Shared B) → Shares s s' → KeepsGates s.seats.items s'.seats.items → map queue_of_chair s'.seats.items ≡ map queue_of_chair s.seats.items → HoldsIn x s s'.seats.items → s'.idle ≡ s.idle → s'.global ≡ s.global → IsWhole x s → IsWhole x s'
+  whole_boxed x s s' shares gates queues holding idle global whole =
       let many : length s'.seats.items ≡ length s.seats.items = length_same s.seats.items s'.seats.items queues in
       let tasks : s'.tasks.items ≡ s.tasks.items = ap (λ (z : Shared B). z.tasks.items) shares in
       let set : s'.set ≡ s.set = ap (λ (z : Shared B). z.set) shares in
       let stocks : (t : ℕ) → stock t s' ≡ stock t s = λ t. rw (stock_same t s.seats.items s'.seats.items queues, global) refl in
-      let count : claimed_count x s' ≡ claimed_count x s = rw (many, idle) refl in
+      let config : s'.config ≡ s.config = ap (λ (z : Shared B). z.config) shares in
+      let count : claimed_count x s' ≡ claimed_count x s = rw (config, idle) refl in
       let gone : may_let_go s' ≡ may_let_go s = rw (ap (λ (z : Shared B). z.set) shares, global) refl in
       record {
         runnables = λ t slot there home. rw (stocks t, gone) (whole.runnables t slot (ap (λ ts. slice_get ts t) (sym tasks) ∙ there) home);
@@ -173,7 +200,7 @@ module _ {B : Type 0} where
             let was = queue_back s.seats.items s'.seats.items j chair queues there in
             rw was.2 (whole.claims j was.0 was.1);
         counts = rw (count, idle) whole.counts;
-        bits = λ j h. rw (many) (whole.bits j (rw (← idle) h));
+        bits = λ j h. rw config (whole.bits j (rw (← idle) h));
         set = rw idle whole.set;
         queued_here = λ j chair r there has.
             let was = queue_back s.seats.items s'.seats.items j chair queues there in
@@ -181,20 +208,40 @@ module _ {B : Type 0} where
         queued_there = λ r has. rw tasks (whole.queued_there r (rw (← global) has));
         places = rw (tasks, global) whole.places;
         made = λ t more. rw (stocks t) (whole.made t (subst (λ ts. length ts ≤ t) tasks more));
+        unclaimed = λ j more. whole.unclaimed j (subst (λ n. n ≤ j) many more);
+        in_pool = λ j chair there. let was = gates.back j chair there in rw config (was.2.pool ∙ whole.in_pool j was.0 was.1);
         pool = rw (tasks, set) (pool_seats (duties_of x) s.tasks.items s.set s.seats.items s'.seats.items gates whole.pool);
+        gates = rw (ap (λ (z : Shared B). z.opens) shares, ap (λ (z : Shared B). z.requests) shares) whole.gates;
+        holding = rw (config, tasks, ap (λ (z : Shared B). z.requests) shares, ap (λ (z : Shared B). z.sleepers) shares) holding;
+      }
+
+  pub whole_same : (x : Profile) (s s' : Shared B) → Shares s s' → KeepsGates s.seats.items s'.seats.items → map queue_of_chair s'.seats.items ≡ map queue_of_chair s.seats.items → map box_of s'.seats.items ≡ map box_of s.seats.items → s'.idle ≡ s.idle → s'.global ≡ s.global → IsWhole x s → IsWhole x s'
+  whole_same x s s' shares gates queues boxes idle global whole = whole_boxed x s s' shares gates queues (rw boxes whole.holding) idle global whole
+
+  -- a step that leaves all balances but of messages
+  pub beside_boxed : (w w' : Worker) (s s' : Shared B) → SameProfile w w' → Shares s s' → SparesSeats w.index s.seats.items s'.seats.items → KeepsGates s.seats.items s'.seats.items → map queue_of_chair s'.seats.items ≡ map queue_of_chair s.seats.items
+      → ((others : Profile) → IsWhole (with_worker others w) s → HoldsIn (with_worker others w) s s'.seats.items) → s'.idle ≡ s.idle → s'.global ≡ s.global → Beside w s w' s'
+  beside_boxed w w' s s' same shares seats gates queues holds idle global =
+      record {
+        spares = λ j other. spares_turn w.index j s s' other shares seats;
+        whole = λ others whole. rw (profile_same others w w' same) (whole_boxed (with_worker others w) s s' shares gates queues (holds others whole) idle global whole);
       }
 
   -- a step that leaves all balances
-  pub beside_calm : (w w' : Worker) (s s' : Shared B) → SameProfile w w' → Shares s s' → SparesSeats w.index s.seats.items s'.seats.items → KeepsGates s.seats.items s'.seats.items → map queue_of_chair s'.seats.items ≡ map queue_of_chair s.seats.items → s'.idle ≡ s.idle → s'.global ≡ s.global → Beside w s w' s'
-  beside_calm w w' s s' same shares seats gates queues idle global =
+  pub beside_calm : (w w' : Worker) (s s' : Shared B) → SameProfile w w' → Shares s s' → SparesSeats w.index s.seats.items s'.seats.items → KeepsGates s.seats.items s'.seats.items → map queue_of_chair s'.seats.items ≡ map queue_of_chair s.seats.items → map box_of s'.seats.items ≡ map box_of s.seats.items → s'.idle ≡ s.idle → s'.global ≡ s.global → Beside w s w' s'
+  beside_calm w w' s s' same shares seats gates queues boxes idle global =
       record {
         spares = λ j other. spares_turn w.index j s s' other shares seats;
-        whole = λ others whole. rw (profile_same others w w' same) (whole_same (with_worker others w) s s' shares gates queues idle global whole);
+        whole = λ others whole. rw (profile_same others w w' same) (whole_same (with_worker others w) s s' shares gates queues boxes idle global whole);
       }
 
+-- who goes on has the same to tell
+pub told_on : (w w' : Worker) (clock : ℕ) → GoesOn w w' clock → SameTold w w'
+told_on w w' clock on = record { batch = ap (λ (v : Worker). v.batch) on.same; letters = ap (λ (v : Worker). v.letters) on.same; left = ap (λ (v : Worker). v.home.deferred) on.same }
+
 -- a place of the same kind, with the hands as they were
-pub profile_alike : (q q' : Place) (w w' : Worker) → w.place ≡ q → w'.place ≡ q' → kind_of q' ≡ kind_of q → Keeps w w' → w'.index ≡ w.index → SameProfile w w'
-profile_alike q q' w w' here there same keeps index =
+pub profile_alike : (q q' : Place) (w w' : Worker) → w.place ≡ q → w'.place ≡ q' → kind_of q' ≡ lowered w.role (is_pooled_at q') (kind_of q) → Keeps w w' → w'.index ≡ w.index → SameTold w w' → SameProfile w w'
+profile_alike q q' w w' here there same keeps index told =
     record {
       hand = keeps.hand;
       loot = keeps.loot;
@@ -205,6 +252,7 @@ profile_alike q q' w w' here there same keeps index =
       index = index;
       published = rw (here, there) (ap (λ k. k.published) same);
       drops = ap drops_at there ∙ ap (λ k. k.drops) same ∙ sym (ap drops_at here);
+      told = told;
     }
 
 module _ {B L : Type 0} (left : B → L) (spot : L → Option Said → Spot) where
@@ -216,8 +264,8 @@ module _ {B L : Type 0} (left : B → L) (spot : L → Option Said → Spot) whe
   went q w w' s e m sound makes on keeps event choice lands free unserved quiet moves =
       let to : Lands q w'.place w s = subst (λ x. Lands q x w s) (sym (ap (λ d. d.place) makes.desk)) lands in
       turned left spot q w w' s s e sound (makes.event ∙ event) on refl refl (λ vs. refl)
-      (turn_alike w.workers q w'.place to.same free unserved) (arrives q w'.place w w' s s sound to.same (λ h. sound.quiet quiet) keeps (fits_here q w'.place w s sound to))
-      (beside_calm w w' s s (profile_alike q w'.place w w' sound.here refl to.same keeps (ap (λ x. x.index) on.same)) refl (seats_same w.index s.seats.items s.seats.items refl) (gates_same s.seats.items s.seats.items refl) refl refl refl)
+      (turn_alike w.workers w.role q w'.place to.same free unserved) (arrives q w'.place w w' s s sound to.same (λ h. sound.quiet quiet) keeps (fits_here q w'.place w s sound to))
+      (beside_calm w w' s s (profile_alike q w'.place w w' sound.here refl to.same keeps (ap (λ x. x.index) on.same) (told_on w w' s.clock on)) refl (seats_same w.index s.seats.items s.seats.items refl) (gates_same s.seats.items s.seats.items refl) refl refl refl refl)
       (λ p vs suits. moves p vs suits ∙ rw (event, choice, ← makes.desk) refl)
 
   -- and nothing else of the worker does

@@ -97,7 +97,11 @@ module _ {B L : Type 0} (left : B → L) (spot : L → Option Said → Spot) (c 
         queued_there = whole.queued_there;
         places = whole.places;
         made = λ t more. let none = whole.made t more in (fewer t others none.0, none.1);
+        unclaimed = whole.unclaimed;
+        in_pool = whole.in_pool;
         pool = whole.pool;
+        gates = whole.gates;
+        holding = whole.holding;
       }
     where
       fewer : (t : ℕ) (others : Profile) → (others.runnables t + runnables_in t (option_to_list c.hand)) + stock t s ≡ 0 → (others.runnables t + 0) + stock t s ≡ 0
@@ -117,7 +121,11 @@ module _ {B L : Type 0} (left : B → L) (spot : L → Option Said → Spot) (c 
         queued_there = λ r among. elim (Contains-append_cases s.global.values (option_to_list c.hand) r among) [ inl there ↦ whole.queued_there r there | inr mine ↦ sound.genuine r mine ];
         places = whole.places;
         made = λ t more. let none = whole.made t more in (sym (moved t) ∙ none.0, none.1);
+        unclaimed = whole.unclaimed;
+        in_pool = whole.in_pool;
         pool = whole.pool;
+        gates = whole.gates;
+        holding = whole.holding;
       }
 
   -- what stands in the queue then, as it is seen

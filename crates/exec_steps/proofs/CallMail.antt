@@ -7,12 +7,13 @@ use Rattle.exec_machine.specs.declared.step.Action.TheVariants as action
 use Rattle.exec_moves.specs.{Call.{after_posting, calls_at}, Thing.{mailbox_of, set_mailbox}, declared.handing.CallPlace.CallPlace}
 use Rattle.exec_moves.specs.declared.handing.CallPlace.TheVariants as call
 use Rattle.exec_moves.specs.declared.handing.InSignal.TheVariants as signals
-use Rattle.exec_steps.{specs.{declared.parts.{caller.Caller.Caller, seat.Seat.Seat as Chair, shared.Shared.Shared, task_slot.TaskSlot.TaskSlot}, Calling.{CallSound, CallSuits, CallWorks, WakesByCall, call_of, desk_of_caller, is_free, place_by_mail, with_call}, Pooled.{asks_in, chair_posted, event_posted}, Spares.IsMailbox, Spots.Spot, View.{Views, Visible, common_of, seat_seen, seats_seen, task_seen, things_with}}, proofs.{CallSignals.{beside, still_sound}, CallWakes.free_call, Outsiders.{Leads, leads_either, to_return}, Facts.both_true, Posting.{Arrival, IsArrival, arrival, asks_as, asks_by, chair_by, choice_by, event_as, event_by, inbox_seen, mailbox_by, posted_as, posted_shows, posted_spares, posting_as, root_message_as, seat_as, seat_by}, Seats.{chair_set, seat_there as seen_there}, Showing.own_word_seen, Slots.task_there, Spared.there_within, Turning.set_found}}
+use Rattle.exec_steps.{specs.{declared.parts.{caller.Caller.Caller, seat.Seat.Seat as Chair, shared.Shared.Shared, task_slot.TaskSlot.TaskSlot}, Calling.{CallSound, CallSuits, CallWorks, WakesByCall, with_caller, call_of, desk_of_caller, is_free, place_by_mail, with_call}, Holding.{holder_of, nap_of, thing_of}, Pooled.{asks_in, chair_posted, event_posted}, Spares.IsMailbox, Spots.Spot, View.{Views, Visible, common_of, seat_seen, seats_seen, task_seen, things_with}, Whole.{IsWhole, Profile, hands_of}}, proofs.{Aside.HoldsIn, Dedicated.home_within as root_within, RootMail.holding_posted, CallSignals.{beside, still_sound}, CallWakes.free_call, Outsiders.{Leads, leads_either, to_return}, Facts.both_true, Posting.{Arrival, IsArrival, arrival, asks_as, asks_by, chair_by, choice_by, event_as, event_by, inbox_seen, mailbox_by, posted_as, posted_shows, posted_spares, posting_as, root_message_as, seat_as, seat_by}, Seats.{chair_set, seat_there as seen_there}, Showing.own_word_seen, Slots.task_there, Spared.there_within, Turning.set_found}}
 
 same_queue : (a : Arrival) (chair : Chair) → (chair_by a chair).queue ≡ chair.queue
 same_queue Arrival.Shut chair = refl
 same_queue Arrival.LeftOut chair = refl
 same_queue Arrival.First chair = refl
+same_queue Arrival.More chair = refl
 
 goes_by : (home : ℕ) (asks : Bool) → after_posting home asks ≡ (if asks then call.Signal signals.SetLatch home else call.Return)
 goes_by home true = refl
@@ -20,14 +21,7 @@ goes_by home false = refl
 
 -- who has the root is a worker
 pub home_within : {B : Type 0} (c : Caller) (t home : ℕ) (s : Shared B) (slot : TaskSlot B) → CallSound c s → slice_get s.tasks.items t ≡ Some slot → slot.home ≡ Some home → home < length s.seats.items
-home_within c t home s slot sound there rooted = by (nat_lt t s.config.workers) refl (sym rooted ∙ sound.homes.home t slot there)
-  where
-    by : (b : Bool) → nat_lt t s.config.workers ≡ b → Some home ≡ (if b then Some t else None) → home < length s.seats.items
-    by true is same =
-        let less : t < s.config.workers = grind (arith, nat_tests, is) in
-        let it : home ≡ t = cc in
-        omega (arith, less, it, sound.many)
-    by false is same = absurd (cc)
+home_within c t home s slot sound there rooted = root_within s.config.workers (length s.seats.items) t home s.tasks.items slot sound.homes there rooted
 
 module _ {B L : Type 0} (left : B → L) (spot : L → Option Said → Spot) (c : Caller) (t home : ℕ) (s s' : Shared B) (slot : TaskSlot B) (chair : Chair) (sound : CallSound c s) (free : is_free c.place ≡ true) (there : slice_get s.tasks.items t ≡ Some slot) (rooted : slot.home ≡ Some home) (seated : slice_get s.seats.items home ≡ Some chair) (kept : s' ≡ record s { seats = s'.seats }) where
   here : c.place ≡ call.Nothing
@@ -36,14 +30,14 @@ module _ {B L : Type 0} (left : B → L) (spot : L → Option Said → Spot) (c 
   within : t < length s.tasks.items
   within = slice_get_within s.tasks.items t slot there
 
-  few : home < s.config.workers
-  few = let inside = slice_get_within s.seats.items home chair seated in omega (arith, inside, sound.many)
+  few : home < length s.seats.items
+  few = slice_get_within s.seats.items home chair seated
 
   abbrev next : Bool → CallPlace
   next asks = if asks then call.Signal signals.SetLatch home else call.Return
 
-  leads : (asks : Bool) → Leads false s.config.workers (next asks)
-  leads asks = leads_either false s.config.workers asks (call.Signal signals.SetLatch home) call.Return (λ h. record { going = refl; empty = refl; counts = refl; aims = few }) (to_return s.config.workers)
+  leads : (asks : Bool) → Leads false (length s.seats.items) (next asks)
+  leads asks = leads_either false (length s.seats.items) asks (call.Signal signals.SetLatch home) call.Return (λ h. record { going = refl; empty = refl; counts = refl; aims = few }) (to_return (length s.seats.items))
 
   halved : (asks : Bool) → call_of (next asks) ≡ half.HalfDone
   halved true = refl
@@ -52,7 +46,7 @@ module _ {B L : Type 0} (left : B → L) (spot : L → Option Said → Spot) (c 
   -- what the machine has of the seat and the task
   module _ (p : Plan) (vs : Views) (suits_workers : length vs.workers ≡ length s.seats.items) where
     viewed : (v : Visible) × (slice_get vs.workers home ≡ Some v)
-    viewed = there_within vs.workers home (omega (arith, few, suits_workers, sound.many))
+    viewed = there_within vs.workers home (omega (arith, few, suits_workers))
 
     seat : seat_of (common_of left spot p vs s) home ≡ seat_seen viewed.0 chair
     seat = get_or_from_slice_get (seats_seen vs.workers s.seats.items) home (seat_seen viewed.0 chair) no_seat (seen_there vs.workers s.seats.items home viewed.0 chair viewed.1 seated)
@@ -65,6 +59,7 @@ module _ {B L : Type 0} (left : B → L) (spot : L → Option Said → Spot) (c 
     may e Arrival.Shut is event = rw (event, home_seen) (ap (λ x. x.mailbox_closed) seat ∙ is, tt)
     may e Arrival.LeftOut is event =
         rw (event, home_seen) (refl, (eq-eqb home home refl, (ap (λ x. not x.mailbox_closed) seat ∙ ap not is.0, (ap has_root_message seat ∙ root_message_as viewed.0 chair is, (refl, tt)))))
+    may e Arrival.More is event = rw (event, home_seen) (refl, (eq-eqb home home refl, (ap (λ x. not x.mailbox_closed) seat ∙ ap not is.0, (refl, (refl, tt)))))
     may e Arrival.First is event = rw (event, home_seen) (refl, (eq-eqb home home refl, (ap (λ x. not x.mailbox_closed) seat ∙ ap not is.0, (refl, (refl, tt)))))
 
     -- what becomes of the seats
@@ -82,6 +77,8 @@ module _ {B L : Type 0} (left : B → L) (spot : L → Option Said → Spot) (c 
         ap (λ seats. record (common_of left spot p vs s) { seats = seats; callers = slice_set vs.calls j half.HalfDone }) (seats_then Arrival.Shut is set ∙ unseen) ∙ rw event refl
     seen e j Arrival.LeftOut is event set =
         ap (λ seats. record (common_of left spot p vs s) { seats = seats; callers = slice_set vs.calls j half.HalfDone }) (seats_then Arrival.LeftOut is set ∙ unseen) ∙ rw event refl
+    seen e j Arrival.More is event set =
+        ap (λ seats. record (common_of left spot p vs s) { seats = seats; callers = slice_set vs.calls j half.HalfDone }) (seats_then Arrival.More is set) ∙ rw (event, seat) refl
     seen e j Arrival.First is event set =
         ap (λ seats. record (common_of left spot p vs s) { seats = seats; callers = slice_set vs.calls j half.HalfDone }) (seats_then Arrival.First is set) ∙ rw (event, seat) refl
 
@@ -113,12 +110,14 @@ module _ {B L : Type 0} (left : B → L) (spot : L → Option Said → Spot) (c 
 
   pub root_woken : (c' : Caller) (e : Event) → IsMailbox chair.mailbox → e ≡ event_posted home chair.mailbox → c' ≡ record c { place = place_by_mail home chair.mailbox } → s'.seats.items ≡ slice_set s.seats.items home (chair_posted chair) → WakesByCall left spot t c s e c' s'
   root_woken c' e mail event goes set =
-      let at = arrival chair.mailbox mail in
+      let at = arrival chair.mailbox in
       let a = at.0 in
       let asks = asks_in chair.mailbox in
       let set_now : s'.seats.items ≡ slice_set s.seats.items home (chair_by a chair) = set ∙ ap (slice_set s.seats.items home) (posted_as a chair at.1) in
+      let holds : (others : Profile) → IsWhole (with_caller others c) s → HoldsIn (with_caller others c) s s'.seats.items = λ others whole.
+      holding_posted a (hands_of (with_caller others c)) s.config.workers (map holder_of s.tasks.items) (map thing_of s.requests.items) (map nap_of s.sleepers.items) s.seats.items s'.seats.items home chair at.1 seated set_now whole.holding in
       subst (λ y. WakesByCall left spot t c s e y s') (sym goes) (
         works e a at.1 (event ∙ event_as home a chair.mailbox at.1) set_now asks (asks_as a chair.mailbox at.1),
-        still_sound left spot c c' s s' e sound home chair (chair_by a chair) (posted_spares a chair at.1) (same_queue a chair) kept seated set_now (next asks) (rw here refl) (rw here refl) (leads asks),
-        beside left spot c c' s s' e sound home chair (chair_by a chair) (posted_spares a chair at.1) (same_queue a chair) kept seated set_now (next asks) (rw here refl) (rw here refl) (leads asks),
+        still_sound left spot c c' s s' e sound home chair (chair_by a chair) (posted_spares a chair at.1) (same_queue a chair) kept seated set_now (next asks) (rw here refl) (rw here refl) (leads asks) holds,
+        beside left spot c c' s s' e sound home chair (chair_by a chair) (posted_spares a chair at.1) (same_queue a chair) kept seated set_now (next asks) (rw here refl) (rw here refl) (leads asks) holds,
       )

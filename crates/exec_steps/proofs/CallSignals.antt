@@ -8,11 +8,11 @@ use Rattle.exec_machine.specs.declared.step.Action.TheVariants as action
 use Rattle.exec_moves.specs.{Claim.{is_ring, latched, rousing}, MoveOfCaller.call_on, declared.handing.CallPlace.CallPlace}
 use Rattle.exec_moves.specs.declared.handing.CallPlace.TheVariants as call
 use Rattle.exec_moves.specs.declared.handing.InSignal.TheVariants as signals
-use Rattle.exec_steps.{specs.{declared.parts.{caller.Caller.Caller, seat.Seat.Seat as Chair, shared.Shared.Shared}, Calling.{CallBeside, CallSound, CallSteps, CallSuits, CallWorks, call_of, desk_of_caller, hands_on_in, has_count_in, is_free, place_by_word, with_call, with_caller}, Phased.TurnsChair, Places.one_if, Pooled.{OfChair, chair_latched, chair_raised, event_rousing}, Sound.IsInHand, Spares.SparesChair, Spots.Spot, View.{Views, Visible, common_of, seat_seen, seats_seen, things_with}, Whole.{Profile, runnables_in}}, proofs.{Aside.{queue_of_chair, queues_set, seats_other, whole_same}, Outsiders.{Leads, beside_shares, call_turned, leads_either, may_be_gone_on, sound_shares, still_called, to_return}, PoolKept.{gate_spared, gates_set}, Rousing.wake_shows, Seats.{chair_set, seat_there as seen_there}, Showing.{own_word_seen, seats_kept, word_shows}, Spared.there_within, Turning.Shares}}
+use Rattle.exec_steps.{specs.{Holding.box_of, declared.parts.{caller.Caller.Caller, seat.Seat.Seat as Chair, shared.Shared.Shared}, Calling.{CallBeside, CallSound, CallSteps, CallSuits, CallWorks, call_of, desk_of_caller, hands_on_in, has_count_in, is_free, place_by_word, with_call, with_caller}, Phased.TurnsChair, Places.one_if, Pooled.{OfChair, chair_latched, chair_raised, event_rousing}, Sound.IsInHand, Spares.SparesChair, Spots.Spot, View.{Views, Visible, common_of, seat_seen, seats_seen, things_with}, Whole.{IsWhole, Profile, runnables_in}}, proofs.{Aside.{queue_of_chair, queues_set, HoldsIn, seats_other, whole_boxed}, Outsiders.{Leads, beside_shares, call_turned, leads_either, may_be_gone_on, sound_shares, still_called, to_return}, PoolKept.{gate_spared, gates_set}, Rousing.wake_shows, Seats.{chair_set, seat_there as seen_there}, Showing.{map_kept, own_word_seen, seats_kept, word_shows}, Spared.there_within, Turning.Shares}}
 
 module _ {B L : Type 0} (left : B → L) (spot : L → Option Said → Spot) (c c' : Caller) (s s' : Shared B) (e : Event) (sound : CallSound c s) (k : ℕ) where
   module _ (its its' : Chair) (spares : SparesChair its its') (same : its'.queue ≡ its.queue) (kept : s' ≡ record s { seats = s'.seats }) (there : slice_get s.seats.items k ≡ Some its) (set : s'.seats.items ≡ slice_set s.seats.items k its') (next : CallPlace)
-      (uncounted : has_count_in c.place ≡ false) (empty : hands_on_in c.place ≡ false) (leads : Leads false s.config.workers next) where
+      (uncounted : has_count_in c.place ≡ false) (empty : hands_on_in c.place ≡ false) (leads : Leads false (length s.seats.items) next) (holds : (others : Profile) → IsWhole (with_caller others c) s → HoldsIn (with_caller others c) s s'.seats.items) where
     shares : Shares s s'
     shares = subst (λ (z : Shared B). z ≡ record s { seats = z.seats; idle = z.idle; global = z.global }) (sym kept) refl
 
@@ -31,7 +31,7 @@ module _ {B L : Type 0} (left : B → L) (spot : L → Option Said → Spot) (c 
         beside_shares c (record c { place = next }) s s' shares (λ i. seats_other i k s.seats.items s'.seats.items its its' set there grows spares)
         (λ others whole.
         rw (profile others)
-        (whole_same (with_caller others c) s s' shares (gates_set k s.seats.items s'.seats.items its its' set there (gate_spared its its' spares)) (ap (map queue_of_chair) set ∙ queues_set s.seats.items k its its' there same) (ap (λ (z : Shared B). z.idle) kept) (ap (λ (z : Shared B). z.global) kept) whole))
+        (whole_boxed (with_caller others c) s s' shares (gates_set k s.seats.items s'.seats.items its its' set there (gate_spared its its' spares)) (ap (map queue_of_chair) set ∙ queues_set s.seats.items k its its' there same) (holds others whole) (ap (λ (z : Shared B). z.idle) kept) (ap (λ (z : Shared B). z.global) kept) whole))
 
     -- nothing of the seat is to be seen by the machine
     seat_turned : is_free c.place ≡ false → e ≡ Turn → c' ≡ record c { place = next } → ((v : Visible) → seat_seen v its' ≡ seat_seen v its)
@@ -41,7 +41,7 @@ module _ {B L : Type 0} (left : B → L) (spot : L → Option Said → Spot) (c 
         (call_turned left spot c (record c { place = next }) s s' e going leads.going event shares (ap (λ (z : Shared B). z.global.closed) kept) (λ vs. ap (seats_seen vs) set ∙ seats_kept vs s.seats.items k its its' there shows) still_sound beside moves)
 
     -- or that its worker was roused
-    seat_roused : is_free c.place ≡ false → e ≡ Rouse k → c' ≡ record c { place = next } → is_awake its.rest ≡ false → ((v : Visible) → seat_seen v its' ≡ record (seat_seen v its) { rest = Rest.Awake }) → k < s.config.workers
+    seat_roused : is_free c.place ≡ false → e ≡ Rouse k → c' ≡ record c { place = next } → is_awake its.rest ≡ false → ((v : Visible) → seat_seen v its' ≡ record (seat_seen v its) { rest = Rest.Awake }) → k < length s.seats.items
         → ((p : Plan) (vs : Views) → length vs.workers ≡ length s.seats.items → call_on (common_of left spot p vs s) (desk_of_caller c) (things_with vs s) c.place ≡ record { event = rousing (common_of left spot p vs s) k; choice = Plain; desk = record (desk_of_caller c) { place = next }; thing = things_with vs s' })
         → CallSteps left spot c s e c' s'
     seat_roused going event goes asleep shows few moves = subst (λ y. CallSteps left spot c s e y s') (sym goes) (works, still_sound, beside)
@@ -49,7 +49,7 @@ module _ {B L : Type 0} (left : B → L) (spot : L → Option Said → Spot) (c 
         works : (p : Plan) (vs : Views) (j : ℕ) → CallSuits p vs j c s → CallWorks left spot p vs (action.GoOn j) j c s e (record c { place = next }) s'
         works p vs j suits =
             let cs = common_of left spot p vs s in
-            let viewed = there_within vs.workers k (omega (arith, few, suits.workers, sound.many)) in
+            let viewed = there_within vs.workers k (omega (arith, few, suits.workers)) in
             let v : Visible = viewed.0 in
             let seat : seat_of cs k ≡ seat_seen v its = get_or_from_slice_get (seats_seen vs.workers s.seats.items) k (seat_seen v its) no_seat (seen_there vs.workers s.seats.items k v its viewed.1 there) in
             let rest : is_awake (seat_of cs k).rest ≡ false = rw seat asleep in
@@ -73,14 +73,14 @@ module _ {B L : Type 0} (left : B → L) (spot : L → Option Said → Spot) (c 
 
   pub call_latch_set : c.place ≡ call.Signal signals.SetLatch k → e ≡ Turn → OfChair k s (λ chair. c' ≡ record c { place = place_by_word k chair.mailbox.waker }) → TurnsChair k chair_latched s s' → s' ≡ record s { seats = s'.seats } → CallSteps left spot c s e c' s'
   call_latch_set here event goes chair kept =
-      seat_turned its (chair_latched its) spares refl kept there (chair its there) next (rw here refl) (rw here refl) leads (rw here refl) event (goes its there) (λ v. refl)
+      seat_turned its (chair_latched its) spares refl kept there (chair its there) next (rw here refl) (rw here refl) leads (λ others whole. rw (ap (map box_of) (chair its there) ∙ map_kept box_of s.seats.items k (chair_latched its) its there refl) whole.holding) (rw here refl) event (goes its there) (λ v. refl)
       (λ p vs many. latch_moves its here there (chair its there) kept p vs)
     where
-      few : k < s.config.workers
+      few : k < length s.seats.items
       few = rw here at sound.aims
 
       found : (seat : Chair) × (slice_get s.seats.items k ≡ Some seat)
-      found = there_within s.seats.items k (omega (arith, few, sound.many))
+      found = there_within s.seats.items k few
 
       its : Chair
       its = found.0
@@ -95,20 +95,20 @@ module _ {B L : Type 0} (left : B → L) (spot : L → Option Said → Spot) (c 
       next = place_by_word k word
 
       spares : SparesChair its (chair_latched its)
-      spares = record { phase = refl; pool = refl; left = refl; closed = refl; target = refl; mail = λ h. record { mail = h.mail; empty = h.empty; place = h.place }; queue = inl refl }
+      spares = record { phase = refl; pool = refl; left = refl; closed = refl; target = refl; mail = λ h. assumption h; made = refl; queue = inl refl }
 
-      leads : Leads false s.config.workers next
-      leads = leads_either false s.config.workers (asks_signal word) (call.Signal (signals.Raise (is_ring word.target)) k) call.Return
-          (λ asks. record { going = refl; empty = refl; counts = refl; aims = few }) (to_return s.config.workers)
+      leads : Leads false (length s.seats.items) next
+      leads = leads_either false (length s.seats.items) (asks_signal word) (call.Signal (signals.Raise (is_ring word.target)) k) call.Return
+          (λ asks. record { going = refl; empty = refl; counts = refl; aims = few }) (to_return (length s.seats.items))
 
   pub call_wait_ended : (ring : Bool) → c.place ≡ call.Signal (signals.Raise ring) k → OfChair k s (λ chair. e ≡ event_rousing k chair.rest) → c' ≡ record c { place = call.Return } → TurnsChair k (chair_raised ring) s s' → s' ≡ record s { seats = s'.seats } → CallSteps left spot c s e c' s'
   call_wait_ended ring here event goes chair kept = by (is_awake its.rest) refl
     where
-      few : k < s.config.workers
+      few : k < length s.seats.items
       few = rw here at sound.aims
 
       found : (seat : Chair) × (slice_get s.seats.items k ≡ Some seat)
-      found = there_within s.seats.items k (omega (arith, few, sound.many))
+      found = there_within s.seats.items k few
 
       its : Chair
       its = found.0
@@ -123,17 +123,17 @@ module _ {B L : Type 0} (left : B → L) (spot : L → Option Said → Spot) (c 
       set = chair its there
 
       spares : SparesChair its its'
-      spares = record { phase = refl; pool = refl; left = refl; closed = refl; target = refl; mail = λ h. h; queue = inl refl }
+      spares = record { phase = refl; pool = refl; left = refl; closed = refl; target = refl; mail = λ h. h; made = refl; queue = inl refl }
 
-      leads : Leads false s.config.workers call.Return
-      leads = to_return s.config.workers
+      leads : Leads false (length s.seats.items) call.Return
+      leads = to_return (length s.seats.items)
 
       awake : (rest : Rest) → is_awake rest ≡ true → rest ≡ Rest.Awake
       awake Rest.Awake h = refl
       awake _ h = absurd (false≢true h)
 
       viewed : (vs : Views) → length vs.workers ≡ length s.seats.items → (v : Visible) × (slice_get vs.workers k ≡ Some v)
-      viewed vs many = there_within vs.workers k (omega (arith, few, many, sound.many))
+      viewed vs many = there_within vs.workers k (omega (arith, few, many))
 
       -- what the machine makes of it
       moves : (p : Plan) (vs : Views) → length vs.workers ≡ length s.seats.items → call_on (common_of left spot p vs s) (desk_of_caller c) (things_with vs s) c.place ≡ record { event = rousing (common_of left spot p vs s) k; choice = Plain; desk = record (desk_of_caller c) { place = call.Return }; thing = things_with vs s' }
@@ -146,11 +146,11 @@ module _ {B L : Type 0} (left : B → L) (spot : L → Option Said → Spot) (c 
           let up : its.rest ≡ Rest.Awake = awake its.rest is in
           let turn : e ≡ Turn = event its there ∙ rw is refl in
           let shows : (v : Visible) → seat_seen v its' ≡ seat_seen v its = λ v. ap (λ r. record (seat_seen v its) { rest = r }) (sym up) in
-          seat_turned its its' spares refl kept there set call.Return (rw here refl) (rw here refl) leads (rw here refl) turn goes shows
+          seat_turned its its' spares refl kept there set call.Return (rw here refl) (rw here refl) leads (λ others whole. rw (ap (map box_of) set ∙ map_kept box_of s.seats.items k its' its there refl) whole.holding) (rw here refl) turn goes shows
           (λ p vs many.
           let v = viewed vs many in
           let seat : seat_of (common_of left spot p vs s) k ≡ seat_seen v.0 its = get_or_from_slice_get (seats_seen vs.workers s.seats.items) k (seat_seen v.0 its) no_seat (seen_there vs.workers s.seats.items k v.0 its v.1 there) in
           let still : rousing (common_of left spot p vs s) k ≡ Turn = rw (seat, is) refl in
           moves p vs many ∙ ap (λ x. record { event = x; choice = Plain; desk = record (desk_of_caller c) { place = call.Return }; thing = things_with vs s' }) still)
       by false is =
-          seat_roused its its' spares refl kept there set call.Return (rw here refl) (rw here refl) leads (rw here refl) (event its there ∙ rw is refl) goes is (λ v. refl) few moves
+          seat_roused its its' spares refl kept there set call.Return (rw here refl) (rw here refl) leads (λ others whole. rw (ap (map box_of) set ∙ map_kept box_of s.seats.items k its' its there refl) whole.holding) (rw here refl) (event its there ∙ rw is refl) goes is (λ v. refl) few moves

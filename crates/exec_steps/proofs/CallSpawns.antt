@@ -7,7 +7,7 @@ use Rattle.exec_machine.specs.declared.step.Action.TheVariants as action
 use Rattle.exec_moves.specs.{Call.{CallDesk, calls_at, queues}, Cells.shard_of, MoveOfCaller.call_spawn, Pop.shard_count, Send.next_task, State.Things, Thing.set_shard, declared.handing.CallPlace.CallPlace}
 use Rattle.exec_moves.specs.declared.handing.CallPlace.TheVariants as call
 use Rattle.exec_moves.specs.declared.handing.InGlobal.TheVariants as global
-use Rattle.exec_steps.{specs.{declared.parts.{caller.Caller.Caller, shared.Shared.Shared, task_slot.TaskSlot.TaskSlot}, Calling.{CallBeside, CallSound, CallSuits, CallWorks, HasCallWhole, HoldsForAll, SpawnsByCall, StillPerformsWith, call_of, desk_of_caller, has_count_in, is_free, with_call, with_caller}, Drained.in_set, Pooled.MakesTask, Scripts.Begins, Spots.Spot, View.{Views, common_of, task_seen, things_with}, Whole.{IsGenuine, Profile, duties_of, runnables_in}}, proofs.{Aside.seats_same, CallWakes.free_call, Facts.{by_not, by_not_not, same_thing}, Outsiders.{beside_shares, hears_same, sound_shares, whole_idled}, PopLeads.some_shards, SpawnJoins.{HasOneMore, Joins, found_again, genuine_joined, genuine_new, homes_joined, none_yet, resting_joined, shards_same, spares_joined, whole_joined}, SpawnSteps.{performs_joined, shards_show, tasks_seen}, Stirs.only}}
+use Rattle.exec_steps.{specs.{declared.parts.{caller.Caller.Caller, shared.Shared.Shared, task_slot.TaskSlot.TaskSlot}, Calling.{CallBeside, CallSound, CallSuits, CallWorks, HasCallWhole, HoldsForAll, SpawnsByCall, StillPerformsWith, call_of, desk_of_caller, has_count_in, is_free, with_call, with_caller}, Drained.in_set, Pooled.MakesTask, Scripts.Begins, Spots.Spot, View.{Views, common_of, task_seen, things_with}, Whole.{IsGenuine, Profile, duties_of, runnables_in}}, proofs.{Aside.seats_same, CallWakes.free_call, Facts.{by_not, by_not_not, same_thing}, Outsiders.{beside_shares, hears_same, sound_shares, whole_idled}, PopLeads.some_shards, SpawnJoins.{HasOneMore, Joins, genuine_joined, genuine_new, homes_joined, none_yet, resting_joined, shards_same, spares_joined, whole_joined}, SpawnLists.found_again, SpawnSteps.{performs_joined, shards_show, tasks_seen}, Stirs.only}}
 
 open_call : (c : Configuration) (s : Common) (d : CallDesk) (x : Things) (k : ℕ) → s.set_closed ≡ false
     → call_spawn c s d x k ≡ (let n = shard_of c (next_task s) in record { event = Event.Spawn (next_task s) k; choice = Plain; desk = queues (next_task s); thing = set_shard n x (slice_index_or x.shards n [] ++ next_task s ∷ []) })
@@ -90,7 +90,7 @@ module _ {B L : Type 0} (left : B → L) (spot : L → Option Said → Spot) (c 
     still_sound =
         let done : CallSound c1 (record s { tasks = s'.tasks; set = s'.set; global = record s.global { places = s'.global.places } }) = record {
           config = sound.config;
-          homes = homes_joined body r s s' it s.config.workers sound.homes;
+          homes = homes_joined body r s s' it s.config.workers (length s.seats.items) sound.homes;
           many = sound.many;
           shards = shards_same body r s s' it ∙ sound.shards;
           hand = refl;
@@ -102,17 +102,18 @@ module _ {B L : Type 0} (left : B → L) (spot : L → Option Said → Spot) (c 
     one_more : (x : Profile) → HasOneMore r (with_caller x c) (with_caller x c1)
     one_more x =
         subst (λ y. HasOneMore r (with_caller x y) (with_caller x c1)) (ap (λ o. record c { place = call.Nothing; hand = o }) (sym none) ∙ ap (λ q. record c { place = q }) (sym here))
-        (record { runnables = λ n. omega arith; polls = refl; claims = refl; counts = refl; published = refl; duties = refl })
+        (record { runnables = λ n. omega arith; polls = refl; claims = refl; counts = refl; published = refl; duties = refl; hands = refl })
 
     beside : CallBeside c s c1 s'
     beside =
         record {
           spares = spares_joined body r s s' it;
           for_all = λ all. subst HoldsForAll (sym it.kept) (record {
-            homes = homes_joined body r s s' it s.config.workers all.homes;
-            resting = resting_joined body r s s' it s.config.workers all.resting;
+            homes = homes_joined body r s s' it s.config.workers (length s.seats.items) all.homes;
+            resting = resting_joined body r s s' it all.resting;
             owning = all.owning;
             closed = λ h. closed_same ∙ all.closed h;
+            few = all.few;
           });
           whole = λ x whole. whole_joined body r s s' it (with_caller x c) (with_caller x c1) (one_more x) whole;
           hears = λ t slot slot' found found'.

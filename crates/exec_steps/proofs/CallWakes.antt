@@ -8,7 +8,7 @@ use Rattle.exec_machine.specs.declared.step.Action.TheVariants as action
 use Rattle.exec_moves.specs.{Call.{calls_at, queues}, declared.handing.CallPlace.CallPlace}
 use Rattle.exec_moves.specs.declared.handing.CallPlace.TheVariants as call
 use Rattle.exec_moves.specs.declared.handing.InGlobal.TheVariants as global
-use Rattle.exec_steps.{specs.{declared.parts.{caller.Caller.Caller, shared.Shared.Shared, task_slot.TaskSlot.TaskSlot}, Calling.{CallAims, CallBeside, CallSound, CallSuits, CallWorks, HoldsForAll, WakesByCall, call_of, desk_of_caller, hands_on_in, has_count_in, is_free, with_call, with_caller, with_woken}, Hearing.Hears, Phased.is_complete, Places.one_if, Pooled.woken_slot, Sound.{IsInHand, IsResting}, Spares.Spares, Spots.Spot, View.{Views, common_of, phase_seen, task_seen, things_with}, Whole.{HasOne, IsGenuine, IsQueuedOnce, IsWhole, Profile, claimed_count, duties_of, may_let_go, runnables_in, stock}, Works.TurnsSlot}, proofs.{Onces.once_queued, Outsiders.{no_other, hears_same}, Facts.{both_true, by_number, not_same, same_thing, set_elsewhere, set_there}, PoolKept.{Redoes, pool_slot}, Showing.map_set, SlotTasks.{Keeps, genuine_set, homes_set, resting_set}, Slots.{spares_slot, task_there}}}
+use Rattle.exec_steps.{specs.{declared.parts.{caller.Caller.Caller, shared.Shared.Shared, task_slot.TaskSlot.TaskSlot}, Calling.{CallAims, CallBeside, CallSound, CallSuits, CallWorks, HoldsForAll, WakesByCall, call_of, desk_of_caller, hands_on_in, has_count_in, is_free, with_call, with_caller, with_woken}, Hearing.Hears, Holding.holder_of, Phased.is_complete, Places.one_if, Pooled.woken_slot, Sound.{IsInHand, IsResting}, Spares.Spares, Spots.Spot, View.{Views, common_of, phase_seen, task_seen, things_with}, Whole.{HasOne, IsGenuine, IsQueuedOnce, IsWhole, Profile, claimed_count, duties_of, may_let_go, runnables_in, stock}, Works.TurnsSlot}, proofs.{Onces.once_queued, Outsiders.{no_other, hears_same}, Facts.{both_true, by_number, not_same, same_thing, set_elsewhere, set_there}, PoolKept.{Redoes, pool_slot}, Showing.{map_kept, map_set}, SlotTasks.{Keeps, genuine_set, homes_set, resting_set}, Slots.{spares_slot, task_there}}}
 
 module _ {B : Type 0} where
   -- THE PHASE
@@ -62,20 +62,19 @@ module _ {B : Type 0} where
 
     for_all : HoldsForAll s → HoldsForAll s'
     for_all all =
-        let rests : s.config.workers ≤ t → is_polled (woken slot.cell.phase) ≡ false → IsResting (woken_slot slot) = λ after unpolled.
-        let old = all.resting t slot there after (sym (polled_woken slot.cell.phase) ∙ unpolled) in
+        let rests : (woken_slot slot).home ≡ None → is_polled (woken slot.cell.phase) ≡ false → IsResting (woken_slot slot) = λ home unpolled.
+        let old = all.resting t slot there home (sym (polled_woken slot.cell.phase) ∙ unpolled) in
         record {
           uncleared = λ going. old.uncleared (sym (complete_woken slot.cell.phase) ∙ going);
-          held = old.held;
-          waits = old.waits;
           told = rw (complete_woken slot.cell.phase) old.told;
           untold = old.untold;
         } in
         subst HoldsForAll (sym kept) (record {
-          homes = rw items (homes_set s.config.workers s.tasks.items t slot (woken_slot slot) there keeps all.homes);
-          resting = rw items (resting_set s.config.workers s.tasks.items t slot (woken_slot slot) there rests all.resting);
+          homes = rw items (homes_set s.config.workers (length s.seats.items) s.tasks.items t slot (woken_slot slot) there keeps all.homes);
+          resting = rw items (resting_set s.tasks.items t slot (woken_slot slot) there rests all.resting);
           owning = all.owning;
           closed = all.closed;
+          few = all.few;
         })
 
     -- the same body, which can be told what it could
@@ -88,11 +87,11 @@ module _ {B : Type 0} where
         subst (Hears o) (is_new k o' found' same) (subst (λ y. Hears y (woken_slot slot)) old (hears_woken slot.cell.phase refl)))
       where
         hears_woken : (p : Phase B) → slot.cell.phase ≡ p → Hears slot (woken_slot slot)
-        hears_woken (Phase.Idle b) is = record { home = refl; body = rw is refl; told = λ answer can. (can, refl) }
-        hears_woken (Phase.Queued b) is = record { home = refl; body = rw is refl; told = λ answer can. (can, refl) }
-        hears_woken Phase.Running is = record { home = refl; body = rw is refl; told = λ answer can. (can, refl) }
-        hears_woken Phase.Notified is = record { home = refl; body = rw is refl; told = λ answer can. (can, refl) }
-        hears_woken Phase.Complete is = record { home = refl; body = rw is refl; told = λ answer can. (can, refl) }
+        hears_woken (Phase.Idle b) is = record { home = refl; body = rw is refl; going = λ h. sym (complete_woken slot.cell.phase) ∙ h; told = λ answer can. (can, refl) }
+        hears_woken (Phase.Queued b) is = record { home = refl; body = rw is refl; going = λ h. sym (complete_woken slot.cell.phase) ∙ h; told = λ answer can. (can, refl) }
+        hears_woken Phase.Running is = record { home = refl; body = rw is refl; going = λ h. sym (complete_woken slot.cell.phase) ∙ h; told = λ answer can. (can, refl) }
+        hears_woken Phase.Notified is = record { home = refl; body = rw is refl; going = λ h. sym (complete_woken slot.cell.phase) ∙ h; told = λ answer can. (can, refl) }
+        hears_woken Phase.Complete is = record { home = refl; body = rw is refl; going = λ h. sym (complete_woken slot.cell.phase) ∙ h; told = λ answer can. (can, refl) }
 
     -- THE BALANCES, where the hand was empty
 
@@ -109,6 +108,10 @@ module _ {B : Type 0} where
 
     no_more_in : (a b c d : ℕ) → (a + b) + c ≡ 0 → d ≡ 0 → (a + d) + c ≡ 0
     no_more_in a b c d was_none none = omega (arith, was_none, none)
+
+    -- it holds what it held, and waits for the same
+    holder_woken : holder_of (woken_slot slot) ≡ holder_of slot
+    holder_woken = ap (λ b. record (holder_of slot) { over = b }) (complete_woken slot.cell.phase)
 
     redoes_woken : (others : Profile) → IsWhole (with_caller others c) s → Redoes t 0 (duties_of others) (duties_of others) slot (woken_slot slot) s.seats.items
     redoes_woken others whole =
@@ -168,6 +171,10 @@ module _ {B : Type 0} where
               let was_none : (others.runnables u + runnables_in u (option_to_list c.hand)) + stock u s ≡ 0 = (whole.made u beyond).0 in
               let none_now : runnables_in u (option_to_list c'.hand) ≡ 0 = ap (λ o. runnables_in u (option_to_list o)) hand ∙ none_else u apart (is_idle slot.cell.phase) in
               (no_more_in (others.runnables u) (runnables_in u (option_to_list c.hand)) (stock u s) (runnables_in u (option_to_list c'.hand)) was_none none_now, (whole.made u beyond).1);
+          unclaimed = whole.unclaimed;
+          in_pool = whole.in_pool;
+          gates = whole.gates;
+          holding = rw (ap (map holder_of) items ∙ map_kept holder_of s.tasks.items t (woken_slot slot) slot there holder_woken) whole.holding;
           pool = pool_slot t 0 (duties_of others) (duties_of others) s.tasks.items s'.tasks.items s.set s.seats.items slot (woken_slot slot) there items (redoes_woken others whole) whole.pool;
         })
 
@@ -243,11 +250,11 @@ module _ {B L : Type 0} (left : B → L) (spot : L → Option Said → Spot) whe
           hears = hears c t s s' slot sound there ordinary turns.kept items;
         }
 
-    still_sound : (c1 : Caller) → IsInHand None (hands_on_in c1.place) c1.hand → ((r : Runnable) → Contains (option_to_list c1.hand) r → IsGenuine s'.tasks.items r) → CallAims c1.place s.config.workers → CallSound c1 s'
+    still_sound : (c1 : Caller) → IsInHand None (hands_on_in c1.place) c1.hand → ((r : Runnable) → Contains (option_to_list c1.hand) r → IsGenuine s'.tasks.items r) → CallAims c1.place (length s.seats.items) → CallSound c1 s'
     still_sound c1 hand genuine aims =
         subst (CallSound c1) (sym turns.kept) (record {
           config = sound.config;
-          homes = rw items (homes_set s.config.workers s.tasks.items t slot (woken_slot slot) there (record { home = refl; number = refl; owner = refl }) sound.homes);
+          homes = rw items (homes_set s.config.workers (length s.seats.items) s.tasks.items t slot (woken_slot slot) there (record { home = refl; number = refl; owner = refl }) sound.homes);
           many = sound.many;
           shards = sound.shards;
           hand = hand;

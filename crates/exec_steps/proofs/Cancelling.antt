@@ -1,14 +1,14 @@
 -- A deadline that has come cancels its request, which the kernel has.
-use Rattle.std.proofs.{Common.{◌⊎◌, ⊎_elim, ◌++◌, ◌||◌, ◌≡◌, ◌≢◌, ℕ, ◌+◌, ◌-◌, Bool, true, false, List, [], ◌∷◌, map, Option, Some, None, refl, sym, ap, subst, ◌∙◌, arith, inl, inr, slice_set, if◌then◌else◌}, lemmas.{Bool.false≢true, List.{append-nil, map-append}}}
-use Rattle.exec_base.specs.declared.{slab.Id.Id, error.Error.TheVariants.Timeout}
+use Rattle.std.proofs.{Common.{◌⊎◌, ⊎_elim, ◌++◌, ◌||◌, ◌≡◌, ◌≢◌, ℕ, ◌+◌, ◌-◌, ◌==◌, Bool, true, false, List, [], ◌∷◌, map, Option, Some, None, refl, sym, ap, subst, ◌∙◌, arith, inl, inr, is_some, slice_set, if◌then◌else◌}, lemmas.{Bool.false≢true, List.{append-nil, map-append}}}
+use Rattle.exec_base.specs.{Slab.value_at, declared.{slab.Id.Id, error.Error.TheVariants.Timeout}}
 use Rattle.exec_outcomes.specs.declared.outcome.Outcome.TheVariants.{Failure}
-use Rattle.exec_request.specs.States.{asks_cancel}
-use Rattle.exec_waiters.specs.{Events.{cancelled as cancelled_of, told_by_finish}, States.{tick_in, flying_count}, Told.{Tells, nothing_told}, declared.{waiter.Waiter.Waiter, waiter_id.WaiterId.WaiterId}}
+use Rattle.exec_request.specs.{Requests.{asked_of, deadline_of}, States.asks_cancel}
+use Rattle.exec_waiters.{specs.{Events.{cancelled as cancelled_of, told_by_finish}, States.{needs_permit, takes_tick, tick_in, flying_count, waiter_at}, Told.{Tells, nothing_told}, declared.{waiter.{Entry.TheVariants.Pending, Waiter.Waiter}, waiter_id.WaiterId.WaiterId}}, proofs.Changes.entry_of}
 use Rattle.exec_driver.{specs.{Driving.Driving, Lists.{first_of, is_among, is_same, after_due}, Punctual.IsPunctual, Steps.{cancelled_from, cancelling, ended, told_by_cancel, timed_out}}, proofs.Names.same_tells}
 use Rattle.exec_task.specs.declared.body.Said.{Said}
-use Rattle.exec_machine.specs.{declared.event.Event.{Event, TheVariants.Expire}, Deadlines.{expired, outcome_at_expiry}, Same.same_end, World.{Common, request_of}}
-use Rattle.exec_moves.specs.{Move.move_submit, Callback.told_if_ended, Submit.{due_next, first_due, submits, Due.Expires}, declared.place.{Service.Service, Place.Place, InService.InService}}
-use Rattle.exec_steps.{specs.{declared.parts.{mail.Reply.Reply, names.Names.Names, record.Record.Record, shared.Shared.Shared, worker.Worker.Worker}, Due.IsWheelAt, Flown.HasFlown, Records.number_in, Serving.changed_at, Sound.{IsAlike, IsSubmitted, served_in}, Spots.Spot, Submitting.{IsDueIn, IsInOrder}, View.{Views, visible, with_view, own_of, desk_of, driver_of, common_of, seat_seen, things_with, numbers_of}, Works.Steps}, proofs.{Serving.{serves_to, IsServed, OthersKept, keeps_home, Serves, SparesRecords, Keeps, KeepsBy, spares_one}, Calling.request_seen, Carries.carried_still, Changing.{OneGoesOn, flying_after, keeps_one}, Going.GoesOn, Seeing.{makes, shows, served, common_changed, common_same, things_kept}, Staging.stages_again, Watching.{Watched, flown_watched, submitted_watched, watched}, Timed.keeps_untold, Expiring.{HasExpired, comes_to_due, due_first, expires, flies_not_queued, move_expire, same_change, told_first, unticked_start, unticked_tick}, Expired.expiry_ends, Resolving.unticked_at, Orders.{alike_unticked, eased, eases_written, part_after, part_self}}}
+use Rattle.exec_machine.specs.{declared.{event.Event.{Event, TheVariants.Expire}, state.RequestPhase.RequestPhase}, Deadlines.{expired, outcome_at_expiry}, Same.same_end, Tests.{is_kept, is_staged}, World.{Common, request_of}}
+use Rattle.exec_moves.specs.{Move.move_submit, Told.told_if_ended, Submit.{due_next, first_due, submits, Due.Expires}, declared.place.{Service.Service, Place.Place, InService.InService}}
+use Rattle.exec_steps.{specs.{declared.parts.{mail.Reply.Reply, names.Names.Names, record.Record.Record, shared.Shared.Shared, worker.Worker.Worker}, Due.IsWheelAt, Flown.{HasFlown, operations}, Holding.{nap_of, thing_of}, Places.passes_at, Records.number_in, Serving.changed_at, Sound.{IsAlike, IsSubmitted, served_in}, Spots.Spot, Submitting.{IsDueIn, IsInOrder}, View.{Views, visible, with_view, own_of, desk_of, driver_of, common_of, seat_seen, things_with, numbers_of}, Works.Steps}, proofs.{Enrolled.timed_kept, Serving.{at_large, balances_still, serves_to, IsServed, OthersKept, keeps_home, Serves, SparesRecords, Keeps, KeepsBy, spares_one}, Recorded.request_seen, Facts.by_name, Flown.landed_on, Known.known_written, Lined.{map_changed, opens_same}, Marking.{known_then, mark_if, mark_kept, marked, plain_kept, was_marked}, Slotted.{awaited_written, slots_written}, Carries.carried_still, Changing.{OneGoesOn, all_go_one, changes_one, flying_after, keeps_one}, Going.{GoesOn, owning_on}, Seeing.{makes, shows, served, common_changed, common_same, things_kept}, Staging.stages_again, Timed.keeps_untold, Expiring.{HasExpired, comes_to_due, due_first, expires, flies_not_queued, move_expire, same_change, told_first, unticked_start, unticked_tick}, Expired.expiry_ends, Resolving.unticked_at, Orders.{alike_unticked, eased, eases_written, part_after, part_self}}}
 
 -- THE LIST
 
@@ -50,22 +50,88 @@ module _ {B : Type 0} (w : Worker) (s : Shared B) (new : IsDueIn w s) (id : Wait
   alike_cancelled =
       let a = (due_first w s new id first).alike in
       let going : true ≡ true → (due_first w s new id first).it.in_flight ≡ true = λ h. flies in
-      assumption (going, a)
+      let dated : false ≡ true → is_some (deadline_of (due_first w s new id first).it.request) ≡ true = λ h. absurd (false≢true h) in
+      let alone : true ≡ true → is_kept (asked_of (due_first w s new id first).it.request).kind ≡ false = λ h. timed_kept (due_first w s new id first).it.request (due_first w s new id first).dated in
+      assumption (going, dated, alone, a)
 
-  watched_cancelled : Watched w.names (driver_of w) cancelled_driver s.requests.items cancelled_records id.0 (due_first w s new id first).r cancels
-  watched_cancelled =
-      let d = driver_of w in
-      let who = due_first w s new id first in
-      let x = tick_in who.it.state in
-      watched w.names d cancelled_driver s.requests.items id.0 who.it cancelled_waiter who.r cancels who.live who.there who.named refl who.alike.open_still refl refl refl (λ h. absurd (false≢true h)) (λ t is. absurd (cc)) alike_cancelled refl refl
-      (unticked_start d.wheel x) (unticked_tick d.wheel x) (alike_unticked d.wheel x) refl
-      (λ other among. ⊎_elim (λ before. inl before) (λ same. inr (same, untold_by who.r.shown.cancel_staged who.r.shown.cancelled (who.alike.cancelled ∙ who.unasked) who.alike.told_once)) (among_last other id d.lists.cancels among))
+  cancels_on : GoesOn (due_first w s new id first).r (cancels (due_first w s new id first).r)
+  cancels_on = record { same = refl; over = refl; ended = λ h. refl }
 
   submitted_cancelled : IsSubmitted w.index w.names.staged.items w.names.untold.items (driver_of w).ring cancelled_records
-  submitted_cancelled = submitted_watched w.index w.names w.names.held (driver_of w) cancelled_driver w.home.timers s.requests.items cancelled_records s.sleepers.items id.0 (due_first w s new id first).r cancels watched_cancelled new.submits.sound.named.submitted
+  submitted_cancelled =
+      let rs = s.requests.items in
+      let k = number_in w.names.requests.items id.0 in
+      let sub = new.submits.sound.named.submitted in
+      record {
+        tagged = sub.tagged;
+        cancels = sub.cancels;
+        known = known_then cancels rs k w.names.staged.items sub.known;
+        own = λ j x h found. let old = was_marked cancels rs k j x found in ap (λ y. y.shown.worker) old.2 ∙ mark_kept ℕ (λ x. x.shown.worker) cancels (λ x. refl) (k == j) old.0 ∙ sub.own j old.0 h old.1;
+        all = λ j x found mine staged.
+            let old = was_marked cancels rs k j x found in
+            sub.all j old.0 old.1 (sym (mark_kept ℕ (λ x. x.shown.worker) cancels (λ x. refl) (k == j) old.0) ∙ sym (ap (λ y. y.shown.worker) old.2) ∙ mine)
+            (sym (ap is_staged (mark_kept RequestPhase (λ x. x.shown.phase) cancels (λ x. refl) (k == j) old.0)) ∙ sym (ap (λ y. is_staged y.shown.phase) old.2) ∙ staged);
+      }
 
   flown_cancelled : HasFlown (served_in (Place.Service (InService.Submit new.submits.gate) new.submits.service)) w.index w.names cancelled_driver cancelled_records
-  flown_cancelled = flown_watched w.index w.names w.names.held (driver_of w) cancelled_driver w.home.timers s.requests.items cancelled_records s.sleepers.items id.0 (due_first w s new id first).r cancels watched_cancelled (served_in (Place.Service (InService.Submit new.submits.gate) new.submits.service)) new.submits.sound.flown
+  flown_cancelled =
+      let d = driver_of w in
+      let d' = cancelled_driver in
+      let rs = s.requests.items in
+      let k = number_in w.names.requests.items id.0 in
+      let who = due_first w s new id first in
+      let it = who.it in
+      let it' = cancelled_waiter in
+      let flown = new.submits.sound.flown in
+      let changed = changes_one d.requests id.0 it it' who.live in
+      let all = all_go_one rs k cancels who.r who.there cancels_on in
+      record {
+        ending = flown.ending;
+        staging = flown.staging;
+        telling = flown.telling;
+        entries = flown.entries;
+        gated = λ other x live needs.
+            by_name other.0 id.0 (λ apart. flown.gated other x (sym (changed.others other.0 apart) ∙ live) needs)
+            (λ eq.
+            let is_it : x ≡ it' = cc (live, eq, changed.is_at) in
+            flown.gated other it (ap (waiter_at d.requests) eq ∙ who.live) (ap needs_permit (sym is_it) ∙ needs));
+        plain = plain_kept cancels rs k (λ r p. record { bounded = p.bounded; moved = p.moved; deadline = p.deadline }) w.index (λ r. refl) flown.plain;
+        landed = landed_on w.names w.names d d' rs cancelled_records (operations d.ring) flown.landed
+            (λ other x r given live flying found landed.
+            let j = number_in w.names.requests.items other in
+            let phase = mark_kept RequestPhase (λ x. x.shown.phase) cancels (λ x. refl) (k == j) r in
+            by_name other id.0
+            (λ apart. record { it' = x; r' = mark_if cancels (k == j) r; live = changed.others other apart ∙ live; flies = refl; same = refl; number = refl; there = marked cancels rs k j r found; phase = phase })
+            (λ same.
+            let both : x ≡ it = cc (live, who.live, same) in
+            record {
+              it' = it';
+              r' = mark_if cancels (k == j) r;
+              live = ap (waiter_at d'.requests) same ∙ changed.is_at;
+              flies = ap (λ y. y.in_flight) (sym both);
+              same = ap (λ y. y.request) (sym both);
+              number = refl;
+              there = marked cancels rs k j r found;
+              phase = phase;
+            }));
+        polled = flown.polled;
+        owning = owning_on rs cancelled_records all flown.owning;
+        enrolling = λ other x live takes some.
+            by_name other.0 id.0 (λ apart. flown.enrolling other x (sym (changed.others other.0 apart) ∙ live) takes some)
+            (λ eq.
+            let is_it : x ≡ it' = cc (live, eq, changed.is_at) in
+            absurd (false≢true (ap (λ y. takes_tick y.state) (sym is_it) ∙ takes)));
+        uncancelled = λ other x among found mine.
+            let j = number_in w.names.requests.items other.0 in
+            let old = was_marked cancels rs k j x found in
+            let mine_then = sym (mark_kept ℕ (λ y. y.shown.worker) cancels (λ y. refl) (k == j) old.0) ∙ sym (ap (λ y. y.shown.worker) old.2) ∙ mine in
+            ap (λ y. y.shown.cancel_staged) old.2 ∙ mark_kept Bool (λ x. x.shown.cancel_staged) cancels (λ x. refl) (k == j) old.0
+            ∙ ⊎_elim (λ before. flown.uncancelled other old.0 before old.1 mine_then)
+            (λ same.
+            let both : old.0 ≡ who.r = cc (old.1, who.there, ap (number_in w.names.requests.items) same) in
+            ap (λ y. y.shown.cancel_staged) both ∙ untold_by who.r.shown.cancel_staged who.r.shown.cancelled (who.alike.cancelled ∙ who.unasked) who.alike.told_once)
+            (among_last other id d.lists.cancels among);
+      }
 
   keeps_cancelled : IsPunctual cancelled_driver
       → KeepsBy (record w { place = Place.Service (InService.Submit new.submits.gate) new.submits.service }) cancelled_driver w.home.timers cancelled_records s.sleepers.items s
@@ -95,6 +161,8 @@ module _ {B : Type 0} (w : Worker) (s : Shared B) (new : IsDueIn w s) (id : Wait
       (eased (eases_written d.requests id.0 it cancelled_waiter who.live (λ t is. absurd (cc)) (λ none. refl)) (alike_unticked d.wheel (tick_in it.state)) (part_self d.lists.enrolments) (part_after id d.lists.due) sound.due.order)
       (unticked_at s.config w.moments.start w.moments.sampled d.wheel (tick_in it.state) wheel) refl submitted_cancelled flown_cancelled
       (carried_still w.names.requests.items d.requests d.ring s.requests.items s.store sound.carried id.0 it cancelled_waiter who.live refl (number_in w.names.requests.items id.0) cancels (λ r there. refl) (λ r there. refl))
+      refl
+      (known_written w.index w.names.requests.items d.requests s.opens s.opens s.requests.items (number_in w.names.requests.items id.0) cancels (λ y. record { id = refl; worker = refl; kind = refl; target = refl; unrefused = λ h. h }) (λ file h. h) id.0 it cancelled_waiter who.r refl who.live who.there (inl (λ h. inl h)) sound.known)
 
 -- A STEP
 
@@ -135,35 +203,40 @@ module _ {B L : Type 0} (left : B → L) (spot : L → Option Said → Spot) whe
       let untold : KeepsBy w1 d' w.home.timers rs' s.sleepers.items s = keeps_untold w0 d' w.home.timers rs' s.sleepers.items s deferred tells kept in
       let keeps : Keeps w' s' = keeps_home w1 w' s s' rs' d' same2 by.shared driver records untold in
       let serves : Serves q w w' s s' = serves_to q q w w' s s' (subst (IsServed w) (sym same) refl) (subst (OthersKept s) (sym by.shared) refl) there (stages_again gate v) in
-      let show = shows q w w' s s' d' serves driver in
+      let show = shows q w w' s s' d' serves driver (ap (λ (x : Worker). x.home.timers) same) in
       let seen : visible w' ≡ visible w = show.seen in
-      let spares : SparesRecords w.index s s' = spares_one w.index s s' k who.r cancels records (ap (λ (y : Shared B). y.sleepers.items) by.shared) who.there who.worker (λ y. refl) in
+      let spares : SparesRecords w.index s s' = spares_one w.index s s' k who.r cancels (opens_same s.opens s'.opens s.requests.items sound.gates (ap (λ (y : Shared B). y.opens) by.shared)) (record { at = refl; over = λ h. h; sent = refl; forwarded = λ h. h }) records (ap (λ (y : Shared B). y.sleepers.items) by.shared) who.there who.worker (λ y. refl) in
       let wakes : deferred.notes.wakes.items ≡ w.home.deferred.notes.wakes.items = tells.notes.wakes_added ∙ append-nil w.home.deferred.notes.wakes.items in
       let outputs : deferred.outputs.items ≡ w.home.deferred.outputs.items = tells.outputs_added ∙ append-nil w.home.deferred.outputs.items in
+      let completions : deferred.notes.completions.items ≡ w.home.deferred.notes.completions.items = tells.notes.completions_added ∙ append-nil w.home.deferred.notes.completions.items in
+      let results : deferred.results.items ≡ w.home.deferred.results.items = tells.results_added ∙ append-nil w.home.deferred.results.items in
+      let was = entry_of (value_at d.requests id.0) it who.live in
+      let slots = slots_written w.names.requests.items d.requests id.0 (Pending it) (Pending it') was in
+      let awaited = awaited_written w.names.requests.items d.requests id.0 (Pending it) (Pending it') was refl in
       let flying : flying_count d'.requests ≡ flying_count d.requests =
       let n = flying_after d.requests id.0 it it' who.live in
       omega (arith, n) in
       let numbers : numbers_of w.names.requests.items (d.lists.cancels ++ id ∷ []) ≡ numbers_of w.names.requests.items d.lists.cancels ++ k ∷ [] = map-append (λ (x : WaiterId). number_in w.names.requests.items x.0) d.lists.cancels (id ∷ []) in
       subst (λ x. Steps left spot w s x w' s') (sym (by.event ∙ ap (Expire k) ends))
-      (served left spot q w w' s s' (Expire k None) sound serves keeps spares
+      (served left spot q w w' s s' (Expire k None) sound serves keeps spares (balances_still q w w' s s' sound.here serves spares (ap passes_at there) (ap (λ (x : Worker). x.home.deferred.notes.wakes.items) same ∙ wakes) (ap (map thing_of) records ∙ map_changed thing_of rs k who.r cancels who.there refl) (ap (λ (y : Shared B). map nap_of y.sleepers.items) by.shared))
       (λ p vs suits.
       let cp = p.config in
       let all = common_of left spot p vs s in
       let request : request_of all k ≡ who.r.shown = request_seen rs k who.r who.there in
       let found : first_due cp w.index (own_of w0) all ≡ Some k = subst (λ x. first_due x w.index (own_of w0) all ≡ Some k) suits.config (order id first) in
       let due : due_next cp w.index gate (own_of w0) all (desk_of w0) ≡ Expires k = comes_to_due cp w.index gate k (own_of w0) all (desk_of w0) found in
-      let desk : desk_of w' ≡ desk_of w0 = show.desk ∙ rw (there, ap (λ x. x.put_off) same, wakes, outputs) refl in
+      let desk : desk_of w' ≡ desk_of w0 = show.desk ∙ rw (there, ap (λ x. x.put_off) same, wakes, outputs, completions, results, slots, awaited) refl in
       record {
         moves =
             ap (move_submit cp w.index (own_of w0) all (desk_of w0) (things_with vs s) gate v) due
             ∙ ap (move_expire (desk_of w0) (things_with vs s) gate v k) request
-            ∙ ap (λ o. makes (Expire k o) (submits v gate (told_if_ended o who.r.shown (desk_of w0))) (things_with vs s)) ends
+            ∙ ap (λ o. makes (Expire k o) (submits v gate (told_if_ended o k who.r.shown (desk_of w0))) (things_with vs s)) ends
             ∙ ap (λ x. makes (Expire k None) x (things_with vs s)) (sym desk)
-            ∙ ap (makes (Expire k None) (desk_of w')) (sym (things_kept vs w.index (visible w) (visible w') s s' suits.seen (ap (λ y. y.wakes) seen) serves.shared));
-        may = (refl, (told_first cp (own_of w0) w.index all.requests k found, (ap (same_end None) (ap outcome_at_expiry request ∙ ends), tt)));
+            ∙ ap (makes (Expire k None) (desk_of w')) (sym (things_kept vs w.index (visible w) (visible w') s s' suits.seen (ap (λ y. y.wakes) seen) serves.shared spares));
+        may = (at_large q w s sound refl, (told_first cp (own_of w0) w.index all.requests k found, (ap (same_end None) (ap outcome_at_expiry request ∙ ends), tt)));
         own = show.own ∙ rw (there, ap (λ x. x.names.ended) same, ap (λ x. x.names.untold) same, numbers, flying) refl;
         common =
-            common_changed left spot p (with_view vs w.index (visible w')) s s' k who.r cancels by.shared records who.there (λ x. refl)
+            common_changed left spot p (with_view vs w.index (visible w')) s s' k who.r cancels by.shared records who.there refl
             ∙ ap (λ (x : Common). record x { requests = slice_set (map (λ r. r.shown) rs) k (cancels who.r).shown }) (common_same left spot p vs w w' s suits (λ c'. ap (λ y. seat_seen y c') seen))
             ∙ ap (λ x. record all { requests = slice_set (map (λ r. r.shown) rs) k (record x { timer = None; cancelled = true }) }) (sym request);
       }))

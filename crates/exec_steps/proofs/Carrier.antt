@@ -1,11 +1,11 @@
 -- What keeps what the kernel has, where entries go into the submission queue and the kernel takes them in.
 use Rattle.std.{proofs.{Common.{◌≡◌, ◌≢◌, ℕ, ◌+◌, ◌-◌, ◌==◌, ◌&&◌, Bool, true, false, cond, List, [], ◌∷◌, ◌++◌, filter, Option, Some, None, refl, sym, ap, subst, ◌∙◌, arith, slice_get, sum_by, if◌then◌else◌}, lemmas.{Bool.{false≢true, eq-eqb}, List.{append-nil, append_assoc, Elements.filter-append}}}, specs.{List.fold, Option.option_map}}
 use Rattle.exec_base.specs.{Slab.{Slab}, declared.slab.Id.Id}
-use Rattle.exec_request.specs.{Requests.window_by, declared.{request.Request.Request as Asking, window.Opcode.Opcode}}
+use Rattle.exec_request.specs.{Requests.window_by, Syncing.is_syncing, declared.{request.Request.Request as Asking, window.{Opcode.Opcode, Window.Window}}}
 use Rattle.exec_ring.specs.{Kernels.{is_of, taken_as, taken_in, all_taken}, Rings.RingState, declared.{completion.Submission.Submission, store.Store.Store}}
 use Rattle.exec_waiters.specs.{Ids.user_data_of, States.waiter_at, declared.waiter.{Entry.Entry, Waiter.Waiter}}
 use Rattle.exec_machine.specs.{declared.state.{Request.Request, RequestPhase.RequestPhase}, Tests.is_staged}
-use Rattle.exec_steps.{specs.{declared.parts.{mail.Reply.Reply, record.Record.Record}, Carried.{IsCarried, IsUnderWay, IsWhole, may_send, sends_to, those_of, unlanded}, Records.number_in, Serving.{changed_at, changed_in, flies, flown_in, is_one_of}}, proofs.{Carrying.sum_changed, Flying.{flies_if, get_flown}}}
+use Rattle.exec_steps.{specs.{declared.parts.{mail.Reply.Reply, record.Record.Record}, Carried.{IsCarried, IsUnderWay, IsWhole, may_move, moves_by, those_of, unlanded}, Records.number_in, Serving.{changed_at, changed_in, flies, flown_in, is_one_of}}, proofs.{Carrying.sum_changed, Flying.{flies_if, get_flown}}}
 
 -- WHAT THE KERNEL TAKES IN
 
@@ -14,14 +14,18 @@ operates Opcode.Cancel = false
 operates Opcode.Wake = false
 operates _ = true
 
-whole_operates : (q : Asking) → IsWhole q → operates (window_by true q).kind ≡ true
-whole_operates (Asking.Send s) whole = refl
-whole_operates (Asking.Poll p) whole = refl
-whole_operates (Asking.Recv x) whole = absurd whole
-whole_operates (Asking.ReadAt x) whole = absurd whole
-whole_operates (Asking.WriteAt x) whole = absurd whole
-whole_operates (Asking.Sync x) whole = absurd whole
-whole_operates (Asking.Connect x) whole = absurd whole
+either_operates : (b : Bool) (u v : Window) → operates u.kind ≡ true → operates v.kind ≡ true → operates (if b then u else v).kind ≡ true
+either_operates true u v h k = h
+either_operates false u v h k = k
+
+whole_operates : (q : Asking) → operates (window_by true q).kind ≡ true
+whole_operates (Asking.Send s) = refl
+whole_operates (Asking.Poll p) = refl
+whole_operates (Asking.Recv x) = refl
+whole_operates (Asking.ReadAt x) = refl
+whole_operates (Asking.WriteAt x) = either_operates (is_syncing x.state) _ _ refl refl
+whole_operates (Asking.Sync x) = refl
+whole_operates (Asking.Connect x) = refl
 
 poll_taken : (s : RingState) (e : Submission) (raised last : Bool) → s.raised ≡ raised → s.last ≡ last → (taken_as Opcode.Wake s e).flying ≡ s.flying
 poll_taken s e true true is last = rw (is, last) refl
@@ -98,7 +102,7 @@ operation_then false r = refl
 under_entered : (p : RequestPhase) (u : ℕ) (q : Asking) (r r' : RingState) → IsWhole q → those_of u r'.flying ≡ those_of u r.flying ++ filter (λ e. operates e.window.kind) (those_of u r.staged) → r'.staged ≡ [] → IsUnderWay p u q r → IsUnderWay (entered_phase p) u q r'
 under_entered RequestPhase.Staged u q r r' whole fly staged h =
     let lone = h.1 in
-    let takes : operates lone.e.window.kind ≡ true = ap (λ w. operates w.kind) (sym lone.window) ∙ whole_operates q whole in (
+    let takes : operates lone.e.window.kind ≡ true = ap (λ w. operates w.kind) (sym lone.window) ∙ whole_operates q in (
       record {
         e = lone.e;
         lone = fly ∙ ap (λ xs. xs ++ filter (λ e. operates e.window.kind) (those_of u r.staged)) h.0 ∙ ap (filter (λ e. operates e.window.kind)) lone.lone ∙ ap (λ b. cond b (lone.e ∷ []) []) takes;
@@ -125,20 +129,20 @@ unlanded_by r p is = ap (λ x. unlanded x r.operation) (flown_phase r p is) ∙ 
     same (RequestPhase.Landed n) = refl
     same (RequestPhase.Resolved o) = refl
 
-sends_on : (socket : ℕ) (r : Record) → may_send socket (flies r) ≡ may_send socket r
-sends_on socket r =
-    ap (λ o. if sends_to socket o then unlanded (flies r).shown.phase o else 0) (operation_then true r)
-    ∙ ap (λ n. if sends_to socket r.shown.operation then n else 0) (unlanded_by r.shown r.shown.phase refl)
+sends_on : (out : Bool) (socket : ℕ) (r : Record) → may_move out socket (flies r) ≡ may_move out socket r
+sends_on out socket r =
+    ap (λ o. if moves_by out socket o then unlanded (flies r).shown.phase o else 0) (operation_then true r)
+    ∙ ap (λ n. if moves_by out socket r.shown.operation then n else 0) (unlanded_by r.shown r.shown.phase refl)
 
-sum_flown : (socket : ℕ) (ks : List ℕ) (rs : List Record) → sum_by (may_send socket) (flown_in ks rs) ≡ sum_by (may_send socket) rs
-sum_flown socket [] rs = refl
-sum_flown socket (k ∷ ks) rs = by (slice_get (flown_in ks rs) k) refl ∙ sum_flown socket ks rs
+sum_flown : (out : Bool) (socket : ℕ) (ks : List ℕ) (rs : List Record) → sum_by (may_move out socket) (flown_in ks rs) ≡ sum_by (may_move out socket) rs
+sum_flown out socket [] rs = refl
+sum_flown out socket (k ∷ ks) rs = by (slice_get (flown_in ks rs) k) refl ∙ sum_flown out socket ks rs
   where
-    by : (o : Option Record) → slice_get (flown_in ks rs) k ≡ o → sum_by (may_send socket) (changed_at (flown_in ks rs) k flies) ≡ sum_by (may_send socket) (flown_in ks rs)
-    by None none = ap (λ o. sum_by (may_send socket) (changed_in (flown_in ks rs) k flies o)) none
+    by : (o : Option Record) → slice_get (flown_in ks rs) k ≡ o → sum_by (may_move out socket) (changed_at (flown_in ks rs) k flies) ≡ sum_by (may_move out socket) (flown_in ks rs)
+    by None none = ap (λ o. sum_by (may_move out socket) (changed_in (flown_in ks rs) k flies o)) none
     by (Some r) there =
-        let sum = sum_changed (may_send socket) (flown_in ks rs) k r flies there in
-        let same = sends_on socket r in
+        let sum = sum_changed (may_move out socket) (flown_in ks rs) k r flies there in
+        let same = sends_on out socket r in
         omega (arith, sum, same)
 
 module _ (numbers : List ℕ) (s : Slab (Entry Reply Reply)) (ring : RingState) (rs : List Record) (st : Store) (carried : IsCarried numbers s ring rs st) where
@@ -171,5 +175,6 @@ module _ (numbers : List ℕ) (s : Slab (Entry Reply Reply)) (ring : RingState) 
         nobody = λ u small free.
             let none = carried.nobody u small free in
             (those_taken u ring ∙ rw (none.0, none.1) refl, ap (those_of u) staged);
-        room = λ socket. rw (sum_flown socket ks rs) (carried.room socket);
+        room = λ out socket. rw (sum_flown out socket ks rs) (carried.room out socket);
+        stretch = carried.stretch;
       }

@@ -6,7 +6,7 @@ use Rattle.exec_request.specs.Requests.{target_of}
 use Rattle.exec_ring.specs.{Rings.RingState, Stores.socket_of, declared.store.Store.Store}
 use Rattle.exec_waiters.specs.{Ids.{user_data_of, index_in}, States.waiter_at, declared.waiter.{Entry.{Entry, TheVariants.Pending}, Waiter.Waiter}}
 use Rattle.exec_machine.specs.declared.state.RequestPhase.{RequestPhase}
-use Rattle.exec_steps.{specs.{declared.parts.{mail.Reply.Reply, record.Record.Record}, Carried.{IsCarried, IsUnderWay, IsWhole, may_send, sends_to, those_of, unlanded}, Records.number_in, Serving.changed_at}, proofs.{Facts.{by_name, same_number, not_same}, Carrying.sum_changed, Changing.changes_one, Marking.{mark_if, was_marked}}}
+use Rattle.exec_steps.{specs.{declared.parts.{mail.Reply.Reply, record.Record.Record}, Carried.{HasStretchFor, IsCarried, IsUnderWay, IsWhole, may_move, moves_by, room_for, those_of, unlanded}, Records.number_in, Serving.changed_at}, proofs.{Facts.{by_name, same_number, not_same}, Carrying.sum_changed, Changing.changes_one, Marking.{mark_if, was_marked}}}
 
 nothing : (b : Bool) → let none : ℕ = 0 in (if b then none else none) ≡ none
 nothing true = refl
@@ -39,21 +39,22 @@ module _ (numbers : List ℕ) (s : Slab (Entry Reply Reply)) (ring : RingState) 
             let same : r.shown.phase ≡ old.0.shown.phase = ap (λ z. z.shown.phase) old.2 ∙ mark_phase f (k == number_in numbers id) old.0 (λ is. phase old.0 (at (number_in numbers id) old.0 is old.1)) in
             subst (λ p. IsUnderWay p (user_data_of id) it.request ring) (sym same) (carried.carried id it old.0 live old.1);
         nobody = carried.nobody;
-        room = λ socket. room_by socket (slice_get rs k) refl;
+        room = λ out socket. room_by out socket (slice_get rs k) refl;
+        stretch = carried.stretch;
       }
     where
       at : (j : ℕ) (r : Record) → (k == j) ≡ true → slice_get rs j ≡ Some r → slice_get rs k ≡ Some r
       at j r is there = ap (slice_get rs) (same_number k j is) ∙ there
 
-      sends : (socket : ℕ) (r : Record) → slice_get rs k ≡ Some r → may_send socket (f r) ≡ may_send socket r
-      sends socket r there = rw (operation r there, phase r there) refl
+      sends : (out : Bool) (socket : ℕ) (r : Record) → slice_get rs k ≡ Some r → may_move out socket (f r) ≡ may_move out socket r
+      sends out socket r there = rw (operation r there, phase r there) refl
 
-      room_by : (socket : ℕ) (o : Option Record) → slice_get rs k ≡ o → sum_by (may_send socket) (changed_at rs k f) ≤ (socket_of st socket).sent_room
-      room_by socket None none = rw none (carried.room socket)
-      room_by socket (Some r) there =
-          let sum = sum_changed (may_send socket) rs k r f there in
-          let same = sends socket r there in
-          let room = carried.room socket in
+      room_by : (out : Bool) (socket : ℕ) (o : Option Record) → slice_get rs k ≡ o → sum_by (may_move out socket) (changed_at rs k f) ≤ room_for out (socket_of st socket)
+      room_by out socket None none = rw none (carried.room out socket)
+      room_by out socket (Some r) there =
+          let sum = sum_changed (may_move out socket) rs k r f there in
+          let same = sends out socket r there in
+          let room = carried.room out socket in
           omega (arith, sum, same, room)
 
   -- what waits there keeps its request
@@ -66,6 +67,7 @@ module _ (numbers : List ℕ) (s : Slab (Entry Reply Reply)) (ring : RingState) 
         carried = λ other x r at there. subst (λ q. IsUnderWay r.shown.phase (user_data_of other) q ring) (sym (was other x at).2) (carried.carried other (was other x at).0 r (was other x at).1 there);
         nobody = λ u small free. carried.nobody u small (λ other x at named. (let now = becomes other x at in free other now.0 now.1 named));
         room = carried.room;
+        stretch = λ other x at. subst (λ q. HasStretchFor q st) (sym (was other x at).2) (carried.stretch other (was other x at).0 (was other x at).1);
       }
     where
       was : (other : Id) (x : Waiter Reply Reply) → waiter_at (written s id (Pending it')) other ≡ Some x → (y : Waiter Reply Reply) × (waiter_at s other ≡ Some y) × (x.request ≡ y.request)
@@ -94,6 +96,7 @@ module _ (numbers : List ℕ) (s : Slab (Entry Reply Reply)) (ring : RingState) 
         carried = λ id it r at there. carried.carried id it r (sym (same id) ∙ at) there;
         nobody = λ u small free. carried.nobody u small (λ id it at named. free id it (same id ∙ at) named);
         room = carried.room;
+        stretch = λ id it at. carried.stretch id it (sym (same id) ∙ at);
       }
 
   -- a request of which the ring has nothing is over
@@ -127,11 +130,12 @@ module _ (numbers : List ℕ) (s : Slab (Entry Reply Reply)) (ring : RingState) 
           target = λ other x y at found. carried.target other x y (before other x at) (stood other x y at found);
           carried = λ other x y at found. carried.carried other x y (before other x at) (stood other x y at found);
           nobody = λ v small free. nobody_by v (user_data_of id == v) refl small free;
-          room = λ socket.
-              let sum = sum_changed (may_send socket) rs (number_in numbers id) r f there in
-              let now : may_send socket (f r) ≡ 0 = ap (λ p. if sends_to socket (f r).shown.operation then unlanded p (f r).shown.operation else 0) over ∙ nothing (sends_to socket (f r).shown.operation) in
-              let room = carried.room socket in
+          room = λ out socket.
+              let sum = sum_changed (may_move out socket) rs (number_in numbers id) r f there in
+              let now : may_move out socket (f r) ≡ 0 = ap (λ p. if moves_by out socket (f r).shown.operation then unlanded p (f r).shown.operation else 0) over ∙ nothing (moves_by out socket (f r).shown.operation) in
+              let room = carried.room out socket in
               omega (arith, sum, now, room);
+          stretch = λ other x at. carried.stretch other x (before other x at);
         }
 
 -- a waiter that keeps its request, and a record whose operation and phase stay

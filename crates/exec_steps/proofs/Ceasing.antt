@@ -2,12 +2,12 @@
 use Rattle.std.proofs.{Common.{◌≡◌, ℕ, ◌+◌, ◌<◌, ◌≤◌, ◌==◌, ◌&&◌, ◌||◌, Bool, true, false, not, List, [], ◌∷◌, ◌++◌, length, Option, None, refl, sym, ap, subst, ◌∙◌, arith, nat_lt, if◌then◌else◌}, lemmas.{Bool.false≢true, List.length-append}}
 use Rattle.exec_ring.specs.{Kernels.{all_taken, entered as entered_ring}, Rings.RingState, declared.completion.Submission.Submission}
 use Rattle.exec_waiters.specs.{Ids.index_in, States.{pending_count, flying_count}, Told.is_untold, declared.waiter_id.WaiterId.WaiterId}
-use Rattle.exec_driver.specs.{Driving.{Driving, has_pending, may_stage_one, is_full as is_ring_full}, Steps.{wake_entry, poll_staged}}
+use Rattle.exec_driver.specs.{Driving.{Driving, has_pending, may_stage_one, is_full as is_ring_full}, Steps.{wake_entry, lowest_gate, poll_staged}}
 use Rattle.exec_task.specs.declared.body.Said.{Said}
 use Rattle.exec_machine.specs.{declared.{config.Configuration.Configuration, event.Event.{Event, TheVariants.{Serve, Busy}}, state.MailMessage.MailMessage}, Choice.Choice.Plain, Progress.Plan, Ranges.ring_size}
 use Rattle.exec_moves.specs.{Callback.{has_requests, has_callbacks, is_full}, Load.has_submissions, Serve.{Ring, enter, enters, after_staging}, Move.{move_at, move_submit}, Seen.serves_at, State.Desk, Submit.{stage_next, staging_due, request_due, with_poll, Due.{Ends, Flushes}}, Thing.{ring_of, set_wake_poll, with_ring}, declared.place.{InService.InService, Service.Service, Place.Place, Reaping.Reaping}}
 use Rattle.exec_steps.proofs.Keeping.{SameButRing, keeps_ring, same_ring}
-use Rattle.exec_steps.{specs.{declared.parts.{mail.Reply.Reply, shared.Shared.Shared, worker.{PutOff.PutOff, Worker.Worker}}, Carried.those_of, Due.{IsWheelAt, may_be_due}, Flown.{IsPolled, is_poll, operations, polls_in}, Places.one_if, Rooted.IsRooted, Raises.{Enters, TakesRaises}, Serving.{AreTagged, EntersRing, cancels_in, enters_after, with_staging_ended}, Sound.{tellers, SoundAt, IsSubmitted, served_in}, Spots.Spot, Submitting.{IsIdle, EndsStaging, with_wake_poll, must_flush, after_flush}, Tests.{has_open_requests, is_anything_told}, View.{Views, visible, own_of, desk_of, driver_of, common_of, seat_seen, things_with}, Works.{Suits, Steps}}, proofs.{Serving.{serves_to, IsServed, Follows, Serves, Keeps, KeepsBy, spares_same}, Conveying.control_entry, Entered.{MovesBy, entered, led_to, ring_seen}, Leading.told_seen, Raising.{flush_taken, lists_taken, sound_taken, still_lists}, Seeing.{makes, own_with, desk_with, visible_with, served, common_same, ring_again, things_kept}, Staging.{staging_next, flush_seen, stages_again, idle_at, suits_at}, Standing.{requests_seen, submissions_seen}}}
+use Rattle.exec_steps.{specs.{declared.parts.{mail.Reply.Reply, shared.Shared.Shared, worker.{PutOff.PutOff, Worker.Worker}}, Carried.those_of, Due.{IsWheelAt, may_be_due}, Flown.{IsPolled, is_poll, operations, polls_in}, Places.{one_if, passes_at}, Rooted.IsRooted, Raises.{Enters, TakesRaises}, Serving.{AreTagged, EntersRing, cancels_in, enters_after, with_staging_ended}, Sound.{tellers, SoundAt, IsSubmitted, served_in}, Spots.Spot, Submitting.{IsIdle, EndsStaging, with_wake_poll, must_flush, after_flush}, Tests.{has_open_requests, is_anything_told}, View.{Views, visible, own_of, desk_of, driver_of, common_of, seat_seen, things_with}, Works.{Suits, Steps}}, proofs.{Serving.{at_large, balances_still, SparesRecords, serves_to, IsServed, Follows, Serves, Keeps, KeepsBy, spares_same}, Conveying.control_entry, Entered.{MovesBy, entered, led_to, ring_seen}, Raising.{driver_is, flush_taken, lists_taken, sound_taken, still_lists}, Seeing.{makes, own_with, desk_with, visible_with, served, common_same, ring_again, things_kept}, Staging.{staging_next, flush_seen, stages_again, idle_at, suits_at}, Standing.{requests_seen, submissions_seen}, Untold.{ToldOnDesk, told_there}}}
 
 -- THE WAKE POLL
 
@@ -56,19 +56,19 @@ abbrev pub after_by : Bool → InService
 after_by b = if b then InService.EnterLast else InService.Reap Reaping.Last
 
 follows_by : (gate : ℕ) (v : Service) (b : Bool) → Follows (Place.Service (InService.Submit gate) v) (Place.Service (after_by b) v)
-follows_by gate v true = record { from = refl; to = refl; serves = refl; armed = refl; closes = refl; wakes = refl; permits = refl; moment = λ m. refl; searches = refl; published = refl }
-follows_by gate v false = record { from = refl; to = refl; serves = refl; armed = refl; closes = refl; wakes = refl; permits = refl; moment = λ m. refl; searches = refl; published = refl }
+follows_by gate v true = record { from = refl; to = refl; serves = refl; armed = refl; closes = refl; wakes = refl; moment = λ m. refl; searches = refl; published = refl; bare = refl; batch = λ ms h. h }
+follows_by gate v false = record { from = refl; to = refl; serves = refl; armed = refl; closes = refl; wakes = refl; moment = λ m. refl; searches = refl; published = refl; bare = refl; batch = λ ms h. h }
 
 module _ {B L : Type 0} (left : B → L) (spot : L → Option Said → Spot) where
   -- the machine enters then, or doesn't, as the worker does
   pub enters_seen : (v : Service) (gate : ℕ) (w : Worker) (s : Shared B) (x : Desk) (p : Plan) (vs : Views) → SoundAt (Place.Service (InService.Submit gate) v) w s → Suits p vs w s
-      → x.wakes ≡ (desk_of w).wakes → x.outputs ≡ (desk_of w).outputs
+      → ToldOnDesk x w.home.deferred
       → enters p.config w.index v (own_of w) (common_of left spot p vs s) x ≡ enters_after v w
-  enters_seen v gate w s x p vs sound suits wakes outputs =
+  enters_seen v gate w s x p vs sound suits on =
       let me = own_of w in
       let c = p.config in
       let requests = requests_seen w.index w.names (driver_of w) w.home.timers s.requests.items s.sleepers.items sound.named in
-      let told = told_seen me x w.home.deferred (tellers (driver_of w).requests w.home.timers) sound.told wakes outputs in
+      let told = told_there me x w.home.deferred _ sound.told on in
       let submissions = submissions_seen c w (sound.sized ∙ ap ring_size suits.config) in
       ap (λ b. b && (not v.defer || has_callbacks me x || has_submissions c me)) (sym requests)
       ∙ ap (λ b. has_open_requests w && (not v.defer || b || has_submissions c me)) told
@@ -80,10 +80,10 @@ module _ {B L : Type 0} (left : B → L) (spot : L → Option Said → Spot) whe
 
   -- what is on the desk once the staging has ended
   pub ended_seen : (v : Service) (gate : ℕ) (w : Worker) (s : Shared B) (x : Desk) (p : Plan) (vs : Views) → SoundAt (Place.Service (InService.Submit gate) v) w s → Suits p vs w s
-      → x.wakes ≡ (desk_of w).wakes → x.outputs ≡ (desk_of w).outputs
+      → ToldOnDesk x w.home.deferred
       → after_staging p.config w.index v (own_of w) (common_of left spot p vs s) x ≡ record x { place = Place.Service (after_by (enters_after v w)) v; may_put_off = v.defer; put_off = has_open_requests w && not (enters_after v w) }
-  ended_seen v gate w s x p vs sound suits wakes outputs =
-      let by = enters_seen v gate w s x p vs sound suits wakes outputs in
+  ended_seen v gate w s x p vs sound suits on =
+      let by = enters_seen v gate w s x p vs sound suits on in
       ap (λ b. record x { place = Place.Service (after_by b) v; may_put_off = v.defer; put_off = has_requests w.index (common_of left spot p vs s) && not b }) by
       ∙ ap (λ b. record x { place = Place.Service (after_by (enters_after v w)) v; may_put_off = v.defer; put_off = b && not (enters_after v w) }) (requests_open v gate w s p vs sound)
 
@@ -163,8 +163,9 @@ module _ {B L : Type 0} (left : B → L) (spot : L → Option Said → Spot) whe
       ap visible same ∙ ap (λ (x : Driving Reply Reply). visible_with w.names.requests.items (visible w).taken x.ring) ends.driver ∙ busy_same d.armed (is_ring_full d) d w.names.requests.items (visible w).taken in
       let w0 : Worker = record w { place = q } in
       let idle0 : IsIdle v w0 s = idle_at v w s idle in
+      let spares : SparesRecords w.index s s = spares_same w.index s s sound.gates refl refl refl in
       subst (λ x. Steps left spot w s x w' s) (sym event)
-      (served left spot q w w' s s Serve sound serves keeps (spares_same w.index s s refl refl)
+      (served left spot q w w' s s Serve sound serves keeps spares (balances_still q w w' s s sound.here serves spares (ap passes_at (ap (λ x. x.place) same) ∙ by_passes b) (ap (λ (v : Worker). v.home.deferred.notes.wakes.items) same) refl refl)
       (λ p vs suits.
       let c = p.config in
       let all = common_of left spot p vs s in
@@ -176,19 +177,18 @@ module _ {B L : Type 0} (left : B → L) (spot : L → Option Said → Spot) whe
       let f = is_ring_full d in
       let full : is_full (ring_size c) (desk_of w0) ≡ f = ap (λ n. not (nat_lt (length d.ring.staged) n)) (sym sized) in
       let x : Desk = if a || f then desk_of w0 else (record (desk_of w0) { entries = length d.ring.staged + 1; polled = true }) in
-      let wakes : x.wakes ≡ (desk_of w0).wakes = wakes_there (a || f) (desk_of w0) (length d.ring.staged + 1) in
-      let outputs : x.outputs ≡ (desk_of w0).outputs = outputs_there (a || f) (desk_of w0) (length d.ring.staged + 1) in
+      let on : ToldOnDesk x w.home.deferred = on_there (a || f) (desk_of w0) (length d.ring.staged + 1) (record { wakes = refl; outputs = refl; completions = refl; results = refl }) in
       record {
         moves =
             ap (move_submit c w.index (own_of w0) all (desk_of w0) (things_with vs s) idle.gate v) (staging_next left spot v w0 s idle0 p vs suits0 ∙ due)
             ∙ ap (makes Serve (after_staging c w.index v (own_of w0) all (with_poll (ring_size c) (desk_of w0)))) (ring_again (things_with vs s) w.index all)
             ∙ ap (λ y. makes Serve (after_staging c w.index v (own_of w0) all y) (things_with vs s)) (with_poll_seen (ring_size c) w0 a f refl full)
             ∙ ap (λ y. makes Serve y (things_with vs s))
-            (ended_seen left spot v idle.gate w0 s x p vs idle0.sound suits0 wakes outputs
+            (ended_seen left spot v idle.gate w0 s x p vs idle0.sound suits0 on
             ∙ desk_there (a || f) w q' o (length d.ring.staged + 1)
             ∙ sym (ap desk_of same ∙ ap (desk_with w q' o w.home.deferred) ends.driver ∙ poll_seen w q' o d a f))
-            ∙ ap (makes Serve (desk_of w')) (sym (things_kept vs w.index (visible w) (visible w') s s suits.seen (ap (λ y. y.wakes) seen) refl));
-        may = (refl, tt);
+            ∙ ap (makes Serve (desk_of w')) (sym (things_kept vs w.index (visible w) (visible w') s s suits.seen (ap (λ y. y.wakes) seen) refl spares));
+        may = (at_large q w s sound refl, tt);
         own = ap own_of same ∙ ap (own_with w q' w.names.ended.items w.names.untold.items) ends.driver ∙ own_polled a f w q' ∙ rw (served_by b) refl;
         common = common_same left spot p vs w w' s suits (λ c'. ap (λ y. seat_seen y c') seen);
       }))
@@ -197,13 +197,13 @@ module _ {B L : Type 0} (left : B → L) (spot : L → Option Said → Spot) whe
       served_by true = refl
       served_by false = refl
 
-      wakes_there : (b : Bool) (x : Desk) (n : ℕ) → (if b then x else (record x { entries = n; polled = true })).wakes ≡ x.wakes
-      wakes_there true x n = refl
-      wakes_there false x n = refl
+      by_passes : (b : Bool) → passes_at (Place.Service (after_by b) v) ≡ None
+      by_passes true = refl
+      by_passes false = refl
 
-      outputs_there : (b : Bool) (x : Desk) (n : ℕ) → (if b then x else (record x { entries = n; polled = true })).outputs ≡ x.outputs
-      outputs_there true x n = refl
-      outputs_there false x n = refl
+      on_there : (b : Bool) (x : Desk) (n : ℕ) → ToldOnDesk x w.home.deferred → ToldOnDesk (if b then x else (record x { entries = n; polled = true })) w.home.deferred
+      on_there true x n on = on
+      on_there false x n on = record { wakes = on.wakes; outputs = on.outputs; completions = on.completions; results = on.results }
 
       desk_there : (b : Bool) (u : Worker) (r : Place) (o : PutOff) (n : ℕ)
           → record (if b then desk_of (record u { place = Place.Service (InService.Submit idle.gate) v }) else (record (desk_of (record u { place = Place.Service (InService.Submit idle.gate) v })) { entries = n; polled = true })) { place = r; may_put_off = o.defer; put_off = o.«enter» }
@@ -225,6 +225,7 @@ module _ {B : Type 0} where
         lists = still_lists q w w1 s s1 idle.sound takes idle.lists;
         due = ap (λ l. l.due) lists ∙ idle.due;
         enrolments = ap (λ l. l.enrolments) lists ∙ idle.enrolments;
+        ungated = ap (λ (x : Driving Reply Reply). lowest_gate idle.gate x.requests x.lists.gated None) (driver_is q w w1 s s1 idle.sound takes) ∙ idle.ungated;
       }
 
   -- with a worker that has the same driver but for its ring and landings
@@ -279,17 +280,17 @@ module _ {B L : Type 0} (left : B → L) (spot : L → Option Said → Spot) whe
           ap (λ y. record w1 { place = y; put_off = w.put_off }) (sym place) ∙ ap (λ o. record w1 { place = w1.place; put_off = o }) (sym off) in
           subst (λ x. EntersRing it.mid it.rested e x s') (sym (ap (λ (x : Worker). record x { place = w.place; put_off = w.put_off }) same ∙ back)) it.enters
 
-      steps : Follows q w'.place → w' ≡ record w1 { place = w'.place; put_off = w'.put_off } → MovesBy left spot q it.mid w' it.rested → Steps left spot w s e w' s'
-      steps on same moves =
+      steps : Follows q w'.place → passes_at w'.place ≡ None → w' ≡ record w1 { place = w'.place; put_off = w'.put_off } → MovesBy left spot q it.mid w' it.rested → Steps left spot w s e w' s'
+      steps on passes same moves =
           let there : Enters w s e (record w' { place = w.place; put_off = w.put_off }) s' = record { mid = it.mid; rested = it.rested; takes = it.takes; enters = enters_there same } in
-          entered left spot q w w' s s' e idle.sound on (λ h. idle.due) there moves
+          entered left spot q w w' s s' e idle.sound on (λ h. idle.due) passes there moves
 
       went_in : (driver_of it.mid).ring.busy ≡ false → w' ≡ w1 → Steps left spot w s e w' s'
       went_in free same =
           let m = it.mid in
           let there : w'.place ≡ q = ap (λ x. x.place) same ∙ place ∙ idle.sound.here in
           let put : w'.put_off ≡ m.put_off = ap (λ x. x.put_off) same ∙ ap (λ x. x.put_off) it.enters.worker in
-          steps (subst (Follows q) (sym there) (stages_again idle.gate v)) (subst (λ x. x ≡ record w1 { place = x.place; put_off = x.put_off }) (sym same) refl)
+          steps (subst (Follows q) (sym there) (stages_again idle.gate v)) (ap passes_at there) (subst (λ x. x ≡ record w1 { place = x.place; put_off = x.put_off }) (sym same) refl)
           (λ p vs suits ring.
           let i = m.index in
           let x = things_with vs it.rested in
@@ -300,6 +301,10 @@ module _ {B L : Type 0} (left : B → L) (spot : L → Option Said → Spot) whe
           ∙ ap (λ o. with_ring i x (led_to w'.place o (enter (own_of m) (desk_of m) (ring_by m false)))) (sym put)
           ∙ ap (λ b. with_ring i x (led_to w'.place w'.put_off (enter (own_of m) (desk_of m) (ring_by m b)))) (sym free))
 
+      passes_by : (b : Bool) → passes_at (Place.Service (after_by b) v) ≡ None
+      passes_by true = refl
+      passes_by false = refl
+
       put_aside : (driver_of it.mid).ring.busy ≡ true → w' ≡ with_staging_ended v w1 → Steps left spot w s e w' s'
       put_aside busy same =
           let m = it.mid in
@@ -308,7 +313,7 @@ module _ {B L : Type 0} (left : B → L) (spot : L → Option Said → Spot) whe
           let there : w'.place ≡ Place.Service (after_by b) v = ap (λ x. x.place) same ∙ ap (λ c. Place.Service (after_by c) v) like.0 in
           let defer : w'.put_off.defer ≡ v.defer = ap (λ x. x.put_off.defer) same in
           let put : w'.put_off.«enter» ≡ (has_open_requests m && not b) = ap (λ x. x.put_off.«enter») same ∙ ap (λ c. has_open_requests w1 && not c) like.0 ∙ ap (λ c. c && not b) like.1 in
-          steps (subst (Follows q) (sym there) (follows_by idle.gate v b)) (subst (λ x. x ≡ record w1 { place = x.place; put_off = x.put_off }) (sym same) refl)
+          steps (subst (Follows q) (sym there) (follows_by idle.gate v b)) (ap passes_at there ∙ passes_by b) (subst (λ x. x ≡ record w1 { place = x.place; put_off = x.put_off }) (sym same) refl)
           (λ p vs suits ring.
           let i = m.index in
           let x = things_with vs it.rested in
@@ -317,7 +322,7 @@ module _ {B L : Type 0} (left : B → L) (spot : L → Option Said → Spot) whe
           flushes_next v m it.rested idle1 (flush_taken q w m s it.rested idle.sound it.takes ∙ full) p vs suits ring
           ∙ ap (λ a. with_ring i x (stage_next p.config i v idle.gate (own_of m) all (desk_of m) (ring_by m a) Flushes)) busy
           ∙ ap (λ y. record { event = Busy; choice = Plain; desk = y; thing = set_wake_poll i x (visible m).wakes })
-          (ended_seen left spot v idle.gate m it.rested (record (desk_of m) { place = q }) p vs idle1.sound suits refl refl
+          (ended_seen left spot v idle.gate m it.rested (record (desk_of m) { place = q }) p vs idle1.sound suits (record { wakes = refl; outputs = refl; completions = refl; results = refl })
           ∙ ap (λ y. record (desk_of m) { place = y; may_put_off = v.defer; put_off = has_open_requests m && not b }) (sym there)
           ∙ ap (λ y. record (desk_of m) { place = w'.place; may_put_off = y; put_off = has_open_requests m && not b }) (sym defer)
           ∙ ap (λ y. record (desk_of m) { place = w'.place; may_put_off = w'.put_off.defer; put_off = y }) (sym put))

@@ -3,11 +3,11 @@ use Rattle.std.proofs.{Common.{◌≡◌, ◌≢◌, ℕ, ◌+◌, ◌==◌, Boo
 use Rattle.exec_base.{specs.{Slab.{Slab, value_at, written, live_count}, declared.slab.{Id.Id, Slot.TheVariants.Live}}, proofs.Slots.{Updates-write, count-set, IsLiveAt-from_value, live_within}}
 use Rattle.exec_time.specs.declared.timers.Sleeper.{Sleeper as Sleeping}
 use Rattle.exec_request.specs.declared.output.RequestOutput.{RequestOutput}
-use Rattle.exec_waiters.{specs.{States.{waiter_at, pending_count, flying_count, is_flying}, declared.waiter.{Entry.{Entry, TheVariants.{Pending, Ready}}, Waiter.Waiter}}, proofs.Changes.{entry_of, one_if}}
+use Rattle.exec_waiters.{specs.{States.{waiter_at, pending_count, flying_count, is_flying, is_held_by}, declared.waiter.{Entry.{Entry, TheVariants.{Pending, Ready}}, Waiter.Waiter}}, proofs.Changes.{entry_of, one_if}}
 use Rattle.exec_driver.{specs.{Driving.Driving, Punctual.IsPunctual}, proofs.Counting.{OneChanged, pending_is, flying_is, one_written}}
 use Rattle.exec_machine.specs.Tests.{is_resolved}
 use Rattle.exec_moves.specs.declared.place.Place.{Place}
-use Rattle.exec_steps.{specs.{declared.parts.{mail.Reply.Reply, names.Names.Names, record.Record.Record, shared.Shared.Shared, sleeping.SleeperRecord.SleeperRecord, worker.{PutOff.PutOff, Worker.Worker}}, Carried.IsCarried, Due.{AreTimed, IsWheelAt, may_be_due, wheel_moment}, Flown.HasFlown, Ordered.{IsOrdered, went_round}, Records.number_in, Rooted.IsRooted, Serving.changed_at, Sound.{SoundAt, IsNamed, IsAlike, IsSubmitted, served_in}, View.driver_of}, proofs.{Facts.{by_name, same_number}, Going.{GoesOn, AllGoOn, still, same_worker, same_id, over_on, owed_on, rooted_on}, Marking.{mark_if, marked, was_marked}, Serving.{Follows, KeepsBy, calm}}}
+use Rattle.exec_steps.{specs.{declared.parts.{mail.Reply.Reply, names.Names.Names, record.Record.Record, shared.Shared.Shared, sleeping.SleeperRecord.SleeperRecord, worker.{PutOff.PutOff, Worker.Worker}}, Carried.IsCarried, Due.{AreTimed, IsWheelAt, may_be_due, wheel_moment}, Flown.HasFlown, Gates.IsKnown, Ordered.{IsOrdered, went_round}, Records.number_in, Serving.changed_at, Sound.{HasWidth, IsTold, SoundAt, IsNamed, IsAlike, IsSubmitted, served_in, tellers}, View.driver_of}, proofs.{Facts.{by_name, same_number}, Going.{GoesOn, AllGoOn, still, same_worker, same_id, over_on, rooted_on}, HeldCounts.held_written, Marking.{mark_if, marked, was_marked}, Serving.{Follows, KeepsBy, calm, kept}}}
 
 -- THE RECORDS
 
@@ -82,6 +82,21 @@ module _ {S F : Type 0} (s : Slab (Entry S F)) (id : Id) (it it' : Waiter S F) (
 
   pub flying_after : flying_count (written s id (Pending it')) + one_if it.in_flight ≡ flying_count s + one_if it'.in_flight
   flying_after = rw (flying_is (written s id (Pending it')), flying_is s) (changes_one.numbers is_flying refl)
+
+  -- who waits for another was there, and who waits for this is the same
+  pub watched_before : it'.observer ≡ it.observer → (other : Id) (x : Waiter S F) → waiter_at (written s id (Pending it')) other ≡ Some x → (y : Waiter S F) × (waiter_at s other ≡ Some y) × (x.observer ≡ y.observer)
+  watched_before watched other x h =
+      by_name other id
+      (λ apart. (x, sym (changes_one.others other apart) ∙ h, refl))
+      (λ same.
+      let is : x ≡ it' = cc (h, same, changes_one.is_at) in
+      (it, ap (waiter_at s) same ∙ at, ap (λ y. y.observer) is ∙ watched))
+
+-- as much may be told
+pub tellers_still : (s : Slab (Entry Reply Reply)) (id : Id) (it it' : Waiter Reply Reply) → waiter_at s id ≡ Some it → it'.observer ≡ it.observer → (zs : Slab (Sleeping Reply)) → tellers (written s id (Pending it')) zs ≡ tellers s zs
+tellers_still s id it it' at watched zs =
+    let held = held_written s id (Pending it) (Pending it') (entry_of (value_at s id) it at) in
+    omega (arith, held, ap (λ o. one_if (is_held_by o)) watched, pending_still s id it it' at)
 
 -- THE NAMES
 
@@ -183,14 +198,16 @@ module _ {B : Type 0} (q q' : Place) (o : PutOff) (v : Names) (w : Worker) (s : 
       → IsPunctual d' → (may_be_due (served_in q') ≡ false → d'.lists.due ≡ [])
       → IsOrdered (went_round s.config w.moments) w.names.requests.items d'.requests d'.wheel d'.lists.enrolments d'.lists.due → IsWheelAt s.config w.moments.start (wheel_moment (served_in q) w.moments) d'.wheel → d'.ring.size ≡ (driver_of w).ring.size
       → IsSubmitted w.index v.staged.items v.untold.items d'.ring records_then → HasFlown (served_in q') w.index names_then d' records_then → IsCarried w.names.requests.items d'.requests d'.ring records_then s.store
-      → KeepsBy (record w { place = q'; put_off = o; names = names_then }) d' w.home.timers records_then s.sleepers.items s
-  keeps_one sound to one punctual told order wheel size submitted flown carried =
+      → it'.observer ≡ it.observer → IsKnown w.index w.names.requests.items d'.requests s.opens records_then → KeepsBy (record w { place = q'; put_off = o; names = names_then }) d' w.home.timers records_then s.sleepers.items s
+  keeps_one sound to one punctual told order wheel size submitted flown carried watched known =
       let d = driver_of w in
       let rs = s.requests.items in
       let all = all_go_one rs (number_in w.names.requests.items id) f r one.there one.on in
       let due = sound.due in
+      let tell : tellers d'.requests w.home.timers ≡ tellers d.requests w.home.timers = ap (λ x. tellers x w.home.timers) one.slab ∙ tellers_still d.requests id it it' one.at watched w.home.timers in
       record {
-        told = rw (one.slab, pending_still d.requests id it it' one.at, live_still d.requests id it it' one.at) sound.told;
+        told = subst (λ n. IsTold w.names.ended.items w.home.deferred (n + 64)) (sym tell) (kept q w s sound (calm q to.from)).told;
+        wide = subst (λ n. HasWidth w.home.deferred (n + 64)) (sym tell) sound.wide;
         named = named_one w.index w.names names_then d d' w.home.timers rs s.sleepers.items id it it' r f one sound.named submitted;
         sized = size ∙ sound.sized;
         over = rw (one.slab, pending_still d.requests id it it' one.at) (over_on rs records_then all w.index w.names.ended.items w.names.unreleased (pending_count d.requests) sound.over);
@@ -200,16 +217,16 @@ module _ {B : Type 0} (q q' : Place) (o : PutOff) (v : Names) (w : Worker) (s : 
           told = told;
           wheel = subst (λ m. IsWheelAt s.config w.moments.start m d'.wheel) (sym (to.moment w.moments)) wheel;
           timed = timed_one w.index w.names names_then d d' w.home.timers rs s.sleepers.items id it it' r f one sound.named due.timed;
-          asleep = record { alike = due.asleep.alike; there = due.asleep.there; named = due.asleep.named };
+          asleep = record { alike = due.asleep.alike; there = due.asleep.there; named = due.asleep.named; lets_go = due.asleep.lets_go; counted = due.asleep.counted; names = due.asleep.names };
           order = order;
         };
         flown = flown;
         carried = carried;
+        known = known;
         rooted =
-            rooted_on rs records_then all None w.index w.root w.names names_then d d' w.home.timers s.tasks.items s.sleepers.items
-            (subst (λ x. IsRooted x w.index w.root w.names d w.home.timers s.tasks.items rs s.sleepers.items) ((calm q to.from).stands w.root) sound.rooted)
-            refl refl refl
+            rooted_on rs records_then all w.index w.names names_then d d' w.home.timers w.home.deferred s.sleepers.items sound.rooted refl refl
             (λ other h. subst (λ x. IsSome (value_at x other)) (sym one.slab) (some_after d.requests id it it' one.at other h))
-            (λ other told h. ready_before d.requests id it it' one.at other told (subst (λ x. value_at x other ≡ Some (Ready told)) one.slab h));
-        owed = owed_on rs records_then all w.index w.root w.home.deferred.notes.wakes.items s.tasks.items s.sleepers.items sound.tied.owed;
+            (λ other told h. ready_before d.requests id it it' one.at other told (subst (λ x. value_at x other ≡ Some (Ready told)) one.slab h))
+            (λ other x h. watched_before d.requests id it it' one.at watched other x (subst (λ y. waiter_at y other ≡ Some x) one.slab h));
+        bare = λ h. (calm q to.from).lets_in d.requests w.home.timers sound.lets_go (sym to.bare ∙ h);
       }

@@ -6,7 +6,7 @@ use Rattle.exec_request.specs.{Requests.{target_of, window_by}, declared.{reques
 use Rattle.exec_ring.specs.{Kernels.{is_of, with_entry}, Rings.RingState, declared.{completion.Submission.Submission, store.Store.Store}}
 use Rattle.exec_waiters.specs.{Ids.{user_data_of, index_in}, States.waiter_at, declared.waiter.{Entry.{Entry, TheVariants.Pending}, Waiter.Waiter}}
 use Rattle.exec_machine.specs.{declared.state.RequestPhase.RequestPhase, Same.same_kind}
-use Rattle.exec_steps.{specs.{declared.parts.{mail.Reply.Reply, record.Record.Record}, Carried.{IsCarried, IsUnderWay, IsWhole, may_send, sends_to, those_of, unlanded}, Records.number_in, Serving.changed_at}, proofs.{Facts.{by_name, same_number}, Carrying.{index_told, sum_changed}, Changing.changes_one, Marking.{mark_if, marked, was_marked}}}
+use Rattle.exec_steps.{specs.{declared.parts.{mail.Reply.Reply, record.Record.Record}, Carried.{HasStretchFor, IsCarried, is_moved_by, IsUnderWay, IsWhole, may_move, moves_by, those_of, unlanded}, Records.number_in, Serving.changed_at}, proofs.{Facts.{by_name, same_number}, Carrying.{index_told, sum_changed}, Changing.changes_one, Judging.is_of_bytes, Marking.{mark_if, marked, was_marked}}}
 
 -- one more entry in the submission queue is none of another request
 other_entry : (w : Window) (u v : ℕ) (r : RingState) → (u ≡ v → ⊥) → those_of v (with_entry r w u).staged ≡ those_of v r.staged
@@ -31,29 +31,32 @@ under_same (RequestPhase.Resolved o) v q r r' flying staged h = (flying ∙ h.0,
 pub control_entry : (e : Submission) (v : ℕ) (r : RingState) → (index_in e.user_data < 4294967295 → ⊥) → index_in v < 4294967295 → those_of v (with_entry r e.window e.user_data).staged ≡ those_of v r.staged
 control_entry e v r control small = other_entry e.window e.user_data v r (λ same. control (subst (λ x. index_in x < 4294967295) (sym same) small))
 
-sends_kind : (k : Kind) (b : Bool) → (same_kind k Kind.Send && b) ≡ true → k ≡ Kind.Send
-sends_kind Kind.Send b h = refl
-sends_kind _ b h = absurd (false≢true h)
+moves_kind : (out : Bool) (k : Kind) (b : Bool) → (is_moved_by out k && b) ≡ true → is_of_bytes k ≡ true
+moves_kind true Kind.Send b h = refl
+moves_kind true _ b h = absurd (false≢true h)
+moves_kind false Kind.Recv b h = refl
+moves_kind false Kind.Fill b h = refl
+moves_kind false _ b h = absurd (false≢true h)
 
 -- what a result has taken of the room is taken
-judged_room : (socket : ℕ) (r r' : Record) (given : OpResult) → r.shown.phase ≡ RequestPhase.Landed given → r'.shown.phase ≡ RequestPhase.Queued → r'.shown.operation ≡ record r.shown.operation { moved = r'.shown.operation.moved; switched = r'.shown.operation.switched; unrefused = r'.shown.operation.unrefused }
-    → (r.shown.operation.kind ≡ Kind.Send → r'.shown.operation.moved ≡ r.shown.operation.moved + bytes_of given) → may_send socket r' ≤ may_send socket r
-judged_room socket r r' given landed queued operation moved = by (sends_to socket r.shown.operation) refl
+judged_room : (out : Bool) (socket : ℕ) (r r' : Record) (given : OpResult) → r.shown.phase ≡ RequestPhase.Landed given → r'.shown.phase ≡ RequestPhase.Queued → r'.shown.operation ≡ record r.shown.operation { moved = r'.shown.operation.moved; switched = r'.shown.operation.switched; unrefused = r'.shown.operation.unrefused }
+    → (is_of_bytes r.shown.operation.kind ≡ true → r'.shown.operation.moved ≡ r.shown.operation.moved + bytes_of given) → may_move out socket r' ≤ may_move out socket r
+judged_room out socket r r' given landed queued operation moved = by (moves_by out socket r.shown.operation) refl
   where
-    same : sends_to socket r'.shown.operation ≡ sends_to socket r.shown.operation
-    same = ap (sends_to socket) operation
+    same : moves_by out socket r'.shown.operation ≡ moves_by out socket r.shown.operation
+    same = ap (moves_by out socket) operation
 
-    by : (b : Bool) → sends_to socket r.shown.operation ≡ b → may_send socket r' ≤ may_send socket r
+    by : (b : Bool) → moves_by out socket r.shown.operation ≡ b → may_move out socket r' ≤ may_move out socket r
     by false is =
-        let before : may_send socket r ≡ 0 = ap (λ b. if b then unlanded r.shown.phase r.shown.operation else 0) is in
-        let after : may_send socket r' ≡ 0 = ap (λ b. if b then unlanded r'.shown.phase r'.shown.operation else 0) (same ∙ is) in
+        let before : may_move out socket r ≡ 0 = ap (λ b. if b then unlanded r.shown.phase r.shown.operation else 0) is in
+        let after : may_move out socket r' ≡ 0 = ap (λ b. if b then unlanded r'.shown.phase r'.shown.operation else 0) (same ∙ is) in
         omega (arith, before, after)
     by true is =
         let o = r.shown.operation in
-        let more = moved (sends_kind o.kind (o.target == socket) is) in
+        let more = moved (moves_kind out o.kind (o.target == socket) is) in
         let length : r'.shown.operation.length ≡ o.length = ap (λ x. x.length) operation in
-        let before : may_send socket r ≡ (o.length - o.moved) - bytes_of given = ap (λ b. if b then unlanded r.shown.phase o else 0) is ∙ ap (λ p. unlanded p o) landed in
-        let after : may_send socket r' ≡ r'.shown.operation.length - r'.shown.operation.moved = ap (λ b. if b then unlanded r'.shown.phase r'.shown.operation else 0) (same ∙ is) ∙ ap (λ p. unlanded p r'.shown.operation) queued in
+        let before : may_move out socket r ≡ (o.length - o.moved) - bytes_of given = ap (λ b. if b then unlanded r.shown.phase o else 0) is ∙ ap (λ p. unlanded p o) landed in
+        let after : may_move out socket r' ≡ r'.shown.operation.length - r'.shown.operation.moved = ap (λ b. if b then unlanded r'.shown.phase r'.shown.operation else 0) (same ∙ is) ∙ ap (λ p. unlanded p r'.shown.operation) queued in
         omega (arith, before, after, more, length)
 
 module _ (numbers : List ℕ) (s : Slab (Entry Reply Reply)) (ring : RingState) (rs : List Record) (st : Store) (carried : IsCarried numbers s ring rs st) where
@@ -71,6 +74,7 @@ module _ (numbers : List ℕ) (s : Slab (Entry Reply Reply)) (ring : RingState) 
             let none = carried.nobody v small free in
             (flying v small ∙ none.0, staged v small ∙ none.1);
         room = carried.room;
+        stretch = carried.stretch;
       }
 
   -- an entry of no request goes into the submission queue
@@ -81,7 +85,7 @@ module _ (numbers : List ℕ) (s : Slab (Entry Reply Reply)) (ring : RingState) 
   -- One request goes on: of its own operations the ring has then what its phase says, and of the others what it had.
   module _ (id : Id) (it it' : Waiter Reply Reply) (r : Record) (f : Record → Record) (ring' : RingState) (live : waiter_at s id ≡ Some it) (there : slice_get rs (number_in numbers id) ≡ Some r)
       (flying : (v : ℕ) → (user_data_of id ≡ v → ⊥) → those_of v ring'.flying ≡ those_of v ring.flying) (staged : (v : ℕ) → (user_data_of id ≡ v → ⊥) → those_of v ring'.staged ≡ those_of v ring.staged)
-      (under : IsUnderWay (f r).shown.phase (user_data_of id) it'.request ring') (whole : IsWhole it'.request) (target : (f r).shown.operation.target ≡ target_of it'.request) (room : (socket : ℕ) → may_send socket (f r) ≤ may_send socket r)
+      (under : IsUnderWay (f r).shown.phase (user_data_of id) it'.request ring') (whole : IsWhole it'.request) (target : (f r).shown.operation.target ≡ target_of it'.request) (room : (out : Bool) (socket : ℕ) → may_move out socket (f r) ≤ may_move out socket r) (stretch : HasStretchFor it'.request st)
       (apart : (other : Id) (x : Waiter Reply Reply) → waiter_at s other ≡ Some x → other ≢ id → number_in numbers id ≡ number_in numbers other → ⊥) where
     -- what waits there then: another, as before, or this one
     data Then (other : Id) (x : Waiter Reply Reply) : Type 0 where
@@ -134,6 +138,10 @@ module _ (numbers : List ℕ) (s : Slab (Entry Reply Reply)) (ring : RingState) 
         let here : y ≡ f r = this_record y (ap (λ i. slice_get (changed_at rs (number_in numbers id) f) (number_in numbers i)) (sym eq) ∙ found) in
         ap (λ z. z.shown.operation.target) here ∙ target ∙ ap (λ z. target_of z.request) (sym is)
 
+    stretch_then : (other : Id) (x : Waiter Reply Reply) → Then other x → HasStretchFor x.request st
+    stretch_then other x (Other differs at) = carried.stretch other x at
+    stretch_then other x (This eq is) = subst (λ y. HasStretchFor y.request st) (sym is) stretch
+
     under_then : (other : Id) (x : Waiter Reply Reply) (y : Record) → Then other x → slice_get (changed_at rs (number_in numbers id) f) (number_in numbers other) ≡ Some y → IsUnderWay y.shown.phase (user_data_of other) x.request ring'
     under_then other x y (Other differs at) found =
         under_same y.shown.phase (user_data_of other) x.request ring ring' (flying (user_data_of other) (data_apart other x at differs)) (staged (user_data_of other) (data_apart other x at differs))
@@ -156,19 +164,20 @@ module _ (numbers : List ℕ) (s : Slab (Entry Reply Reply)) (ring : RingState) 
               let now = becomes_some id it live in
               let differs = free id now.0 now.1 in
               (flying v differs ∙ none.0, staged v differs ∙ none.1);
-          room = λ socket.
-              let sum = sum_changed (may_send socket) rs (number_in numbers id) r f there in
-              let less = room socket in
-              let most = carried.room socket in
+          room = λ out socket.
+              let sum = sum_changed (may_move out socket) rs (number_in numbers id) r f there in
+              let less = room out socket in
+              let most = carried.room out socket in
               omega (arith, sum, less, most);
+          stretch = λ other x at. stretch_then other x (then_by other x at);
         }
 
   -- the operation of a request that was queued goes in
   pub carried_staged : (id : Id) (it it' : Waiter Reply Reply) (r : Record) (f : Record → Record) (w : Window) → waiter_at s id ≡ Some it → slice_get rs (number_in numbers id) ≡ Some r → r.shown.phase ≡ RequestPhase.Queued → (f r).shown.phase ≡ RequestPhase.Staged
-      → (f r).shown.operation ≡ record r.shown.operation { hinted = (f r).shown.operation.hinted } → IsWhole it'.request → target_of it'.request ≡ target_of it.request → window_by true it'.request ≡ w
+      → (f r).shown.operation ≡ record r.shown.operation { hinted = (f r).shown.operation.hinted } → IsWhole it'.request → HasStretchFor it'.request st → target_of it'.request ≡ target_of it.request → window_by true it'.request ≡ w
       → ((other : Id) (x : Waiter Reply Reply) → waiter_at s other ≡ Some x → other ≢ id → number_in numbers id ≡ number_in numbers other → ⊥)
       → IsCarried numbers (written s id (Pending it')) (with_entry ring w (user_data_of id)) (changed_at rs (number_in numbers id) f) st
-  carried_staged id it it' r f w live there queued staged operation whole target window apart =
+  carried_staged id it it' r f w live there queued staged operation whole stretch target window apart =
       let u = user_data_of id in
       let none : (those_of u ring.flying ≡ []) × (those_of u ring.staged ≡ []) = subst (λ p. IsUnderWay p u it.request ring) queued (carried.carried id it r live there) in
       let e : Submission = record { window = w; user_data = u } in
@@ -177,24 +186,24 @@ module _ (numbers : List ℕ) (s : Slab (Entry Reply Reply)) (ring : RingState) 
       let so : IsUnderWay RequestPhase.Staged u it'.request (with_entry ring w u) = (none.0, record { e = e; lone = lone; window = window }) in
       carried_one id it it' r f (with_entry ring w u) live there (λ v differs. refl) (λ v differs. other_entry w u v ring differs) (subst (λ p. IsUnderWay p u it'.request (with_entry ring w u)) (sym staged) so) whole
       (ap (λ o. o.target) operation ∙ carried.target id it r live there ∙ sym target)
-      (λ socket.
-      let same : may_send socket (f r) ≡ may_send socket r =
-      ap (λ p. if sends_to socket (f r).shown.operation then unlanded p (f r).shown.operation else 0) staged
-      ∙ ap (λ o. if sends_to socket o then unlanded RequestPhase.Staged o else 0) operation
-      ∙ sym (ap (λ p. if sends_to socket r.shown.operation then unlanded p r.shown.operation else 0) queued) in
+      (λ out socket.
+      let same : may_move out socket (f r) ≡ may_move out socket r =
+      ap (λ p. if moves_by out socket (f r).shown.operation then unlanded p (f r).shown.operation else 0) staged
+      ∙ ap (λ o. if moves_by out socket o then unlanded RequestPhase.Staged o else 0) operation
+      ∙ sym (ap (λ p. if moves_by out socket r.shown.operation then unlanded p r.shown.operation else 0) queued) in
       omega (arith, same))
-      apart
+      stretch apart
 
   -- a result of it was judged, and it goes on
   pub carried_judged : (id : Id) (it it' : Waiter Reply Reply) (r : Record) (f : Record → Record) (given : OpResult) → waiter_at s id ≡ Some it → slice_get rs (number_in numbers id) ≡ Some r → r.shown.phase ≡ RequestPhase.Landed given → (f r).shown.phase ≡ RequestPhase.Queued
-      → (f r).shown.operation ≡ record r.shown.operation { moved = (f r).shown.operation.moved; switched = (f r).shown.operation.switched; unrefused = (f r).shown.operation.unrefused } → (r.shown.operation.kind ≡ Kind.Send → (f r).shown.operation.moved ≡ r.shown.operation.moved + bytes_of given)
-      → IsWhole it'.request → target_of it'.request ≡ target_of it.request
+      → (f r).shown.operation ≡ record r.shown.operation { moved = (f r).shown.operation.moved; switched = (f r).shown.operation.switched; unrefused = (f r).shown.operation.unrefused } → (is_of_bytes r.shown.operation.kind ≡ true → (f r).shown.operation.moved ≡ r.shown.operation.moved + bytes_of given)
+      → IsWhole it'.request → HasStretchFor it'.request st → target_of it'.request ≡ target_of it.request
       → ((other : Id) (x : Waiter Reply Reply) → waiter_at s other ≡ Some x → other ≢ id → number_in numbers id ≡ number_in numbers other → ⊥)
       → IsCarried numbers (written s id (Pending it')) ring (changed_at rs (number_in numbers id) f) st
-  carried_judged id it it' r f given live there landed queued operation moved whole target apart =
+  carried_judged id it it' r f given live there landed queued operation moved whole stretch target apart =
       let u = user_data_of id in
       let none : (those_of u ring.flying ≡ []) × (those_of u ring.staged ≡ []) = subst (λ p. IsUnderWay p u it.request ring) landed (carried.carried id it r live there) in
       carried_one id it it' r f ring live there (λ v differs. refl) (λ v differs. refl) (subst (λ p. IsUnderWay p u it'.request ring) (sym queued) none) whole
       (ap (λ o. o.target) operation ∙ carried.target id it r live there ∙ sym target)
-      (λ socket. judged_room socket r (f r) given landed queued operation moved)
-      apart
+      (λ out socket. judged_room out socket r (f r) given landed queued operation moved)
+      stretch apart

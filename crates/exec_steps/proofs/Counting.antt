@@ -2,7 +2,7 @@
 use Rattle.std.{proofs.{Common.{◌≡◌, ◌≢◌, ℕ, zero, suc, ◌+◌, ◌^◌, ◌<◌, ◌≤◌, ◌==◌, ◌&&◌, Bool, true, false, not, ◌⊎◌, inl, inr, List, length, sum_by, Some, refl, sym, ap, subst, ◌∙◌, arith, slice_set, if◌then◌else◌}, lemmas.{Bool.{eq-eqb, false≢true}, List.{get_or-set_other, get_or-set_same, length-set, Quantifiers.position-Some, Sums.sum_by-cons}}}, specs.List.range_with_len}
 use Rattle.exec_words.specs.Idle.{Idle, is_in, lowest_of}
 use Rattle.exec_moves.specs.{declared.place.Place.Place, Seen.polls_at}
-use Rattle.exec_steps.{specs.{declared.parts.{shared.Shared.Shared, worker.Worker.Worker}, Places.{claims_at, drops_at, has_count_at, is_published_at, one_if}, Whole.{Profile, HasWhole, IsWhole, claimed_count, with_worker}}, proofs.{Facts.{by_number, not_same}, PoolKept.pool_of}}
+use Rattle.exec_steps.{specs.{Gates.HaveGates, declared.parts.{shared.Shared.Shared, worker.Worker.Worker}, Places.{claims_at, drops_at, has_count_at, is_published_at, one_if}, Whole.{Profile, HasWhole, IsWhole, claimed_count, with_worker}}, proofs.{Aside.{SameTold, hands_same}, Facts.{by_number, not_same}, PoolKept.{drops_same, pool_of}}}
 
 -- SUMS OVER NUMBERS
 
@@ -28,6 +28,13 @@ sum_one f g i a (suc n) from to same =
     let at_f : f a ≡ f i = ap f is in
     let at_g : g a ≡ g i = ap g is in
     omega (arith, of_f, of_g, rest, at_f, at_g))
+
+-- where the term of a number behind them changed
+pub sum_past : (f g : ℕ → ℕ) (i a n : ℕ) → a + n ≤ i → ((j : ℕ) → j ≢ i → g j ≡ f j) → sum_by g (range_with_len a n) ≡ sum_by f (range_with_len a n)
+sum_past f g i a zero past same = refl
+sum_past f g i a (suc n) past same =
+    let rest = sum_past f g i (a + 1) n (omega (arith, past)) same in
+    sum_by-cons g a (range_with_len (a + 1) n) ∙ omega (arith, same a (λ is. omega (arith, past, is)), rest) ∙ sym (sum_by-cons f a (range_with_len (a + 1) n))
 
 -- of at most one each
 pub sum_few : (f : ℕ → ℕ) (a n : ℕ) → ((j : ℕ) → f j ≤ 1) → sum_by f (range_with_len a n) ≤ n
@@ -76,6 +83,7 @@ pub record SameHands (w w' : Worker) : Type 0 where
   pub claims : claims_at w'.place ≡ claims_at w.place
   pub index : w'.index ≡ w.index
   pub drops : drops_at w'.place ≡ drops_at w.place
+  pub told : SameTold w w'
 
 pub at_most : (b : Bool) → one_if b ≤ 1
 at_most true = omega arith
@@ -99,15 +107,15 @@ module _ {B : Type 0} where
   -- the count is the same with what the worker holds then, and who is in the set has published its bit
   pub record Counts (z z' : Stance) (w : Worker) (s : Shared B) (x : Idle) : Type 0 where
     pub sized : length x.published ≡ length s.idle.published
-    pub counts : (others : Profile) → IsWhole (with_worker others w) s → x.count + (own_counts z + claimed_of (length s.seats.items) others w.index z.published s.idle.published) ≡ s.idle.count + (own_counts z' + claimed_of (length s.seats.items) others w.index z'.published x.published)
-    pub bits : (others : Profile) → IsWhole (with_worker others w) s → (j : ℕ) → is_in x.published j ≡ true → (shown_by others w.index z'.published j ≡ true) × (j < length s.seats.items)
+    pub counts : (others : Profile) → IsWhole (with_worker others w) s → x.count + (own_counts z + claimed_of (s.config.workers) others w.index z.published s.idle.published) ≡ s.idle.count + (own_counts z' + claimed_of (s.config.workers) others w.index z'.published x.published)
+    pub bits : (others : Profile) → IsWhole (with_worker others w) s → (j : ℕ) → is_in x.published j ≡ true → (shown_by others w.index z'.published j ≡ true) × (j < s.config.workers)
 
   pub whole_counted : (others : Profile) (z z' : Stance) (w w' : Worker) (s : Shared B) (x : Idle) → SameHands w w' → Stands z w → Stands z' w' → Counts z z' w s x → IsWhole (with_worker others w) s → IsWhole (with_worker others w') (record s { idle = x })
   whole_counted others z z' w w' s x same here there counts whole =
       let own : own_counts z ≡ one_if w.searching + one_if (has_count_at w.place) = rw (here.searching, here.counted) refl in
       let own' : own_counts z' ≡ one_if w'.searching + one_if (has_count_at w'.place) = rw (there.searching, there.counted) refl in
-      let claimed : claimed_of (length s.seats.items) others w.index z.published s.idle.published ≡ claimed_count (with_worker others w) s = rw here.published refl in
-      let claimed' : claimed_of (length s.seats.items) others w.index z'.published x.published ≡ claimed_count (with_worker others w') (record s { idle = x }) = rw (there.published, same.index) refl in
+      let claimed : claimed_of (s.config.workers) others w.index z.published s.idle.published ≡ claimed_count (with_worker others w) s = rw here.published refl in
+      let claimed' : claimed_of (s.config.workers) others w.index z'.published x.published ≡ claimed_count (with_worker others w') (record s { idle = x }) = rw (there.published, same.index) refl in
       record {
         runnables = λ t slot there home. rw (same.hand, same.loot) (whole.runnables t slot there home);
         polls = λ t slot there home. rw same.polls (whole.polls t slot there home);
@@ -119,7 +127,11 @@ module _ {B : Type 0} where
         queued_there = whole.queued_there;
         places = whole.places;
         made = λ t more. rw (same.hand, same.loot, same.polls) (whole.made t more);
+        unclaimed = λ j more. rw same.claims (whole.unclaimed j more);
+        in_pool = whole.in_pool;
         pool = pool_of others w w' s.tasks.items s.set s.seats.items same.index same.polls same.drops whole.pool;
+        gates = subst (λ f. HaveGates f s.opens s.requests.items) (sym (drops_same others w w' same.index same.drops)) whole.gates;
+        holding = rw (hands_same others w w' same.index same.told) whole.holding;
       }
 
   -- who holds a count can return it
@@ -129,10 +141,10 @@ module _ {B : Type 0} where
       omega (arith, has.whole.counts, some, own)
 
   -- and one more fits
-  pub count_fits : (w : Worker) (s : Shared B) → HasWhole w s → length s.seats.items ≤ 64 → s.idle.count + 1 < 2 ^ 64
+  pub count_fits : (w : Worker) (s : Shared B) → HasWhole w s → s.config.workers ≤ 64 → s.idle.count + 1 < 2 ^ 64
   count_fits w s has many =
       let x = with_worker has.others w in
-      let claimed : claimed_count x s ≤ length s.seats.items = sum_few (λ j. one_if (x.published j && not (is_in s.idle.published j))) 0 (length s.seats.items) (λ j. at_most (x.published j && not (is_in s.idle.published j))) in
+      let claimed : claimed_count x s ≤ s.config.workers = sum_few (λ j. one_if (x.published j && not (is_in s.idle.published j))) 0 (s.config.workers) (λ j. at_most (x.published j && not (is_in s.idle.published j))) in
       omega (arith, has.whole.counts, has.few, claimed, at_most w.searching, at_most (has_count_at w.place), many)
 
   -- WHERE THE COUNT ALONE CHANGES
@@ -150,20 +162,36 @@ module _ {B : Type 0} where
   pub counts_same : (z : Stance) (w : Worker) (s : Shared B) → Stands z w → Counts z z w s s.idle
   counts_same z w s here = counts_alone z z.searching z.counted w s s.idle here refl refl
 
+  -- a dedicated worker is not in the set, whatever its place says
+  pub counts_apart : (z : Stance) (b : Bool) (w : Worker) (s : Shared B) → s.config.workers ≤ w.index → Counts z (record z { published = b }) w s s.idle
+  counts_apart z b w s past =
+      let n = s.config.workers in
+      let i = w.index in
+      let set = s.idle.published in
+      record {
+        sized = refl;
+        counts = λ others whole.
+            let same : (j : ℕ) → j ≢ i → is_claimed others i b set j ≡ is_claimed others i z.published set j = λ j other. rw (beside others i j z.published b other) refl in
+            omega (arith, sum_past (is_claimed others i z.published set) (is_claimed others i b set) i 0 n (omega (arith, past)) same);
+        bits = λ others whole j h.
+            let was = whole.bits j h in
+            (beside others i j (is_published_at w.place) b (λ same. omega (arith, was.1, past, same)) ∙ was.0, was.1);
+      }
+
   -- WHERE ONE BIT CHANGES
 
   -- the same bits in the set of those who show so
-  bits_beside : (z : Stance) (w : Worker) (s : Shared B) (others : Profile) (i : ℕ) (b b' : Bool) → Stands z w → IsWhole (with_worker others w) s → (j : ℕ) → j ≢ i → (i ≡ w.index ⊎ b' ≡ z.published) → is_in (slice_set s.idle.published i b) j ≡ true → (shown_by others w.index b' j ≡ true) × (j < length s.seats.items)
+  bits_beside : (z : Stance) (w : Worker) (s : Shared B) (others : Profile) (i : ℕ) (b b' : Bool) → Stands z w → IsWhole (with_worker others w) s → (j : ℕ) → j ≢ i → (i ≡ w.index ⊎ b' ≡ z.published) → is_in (slice_set s.idle.published i b) j ≡ true → (shown_by others w.index b' j ≡ true) × (j < s.config.workers)
   bits_beside z w s others i b b' here whole j other by h =
       let was = whole.bits j (sym (set_beside s.idle.published i j b other) ∙ h) in
       let shown : shown_by others w.index z.published j ≡ true = rw (← here.published) was.0 in
-      elim by as (λ x. (shown_by others w.index b' j ≡ true) × (j < length s.seats.items)) [
+      elim by as (λ x. (shown_by others w.index b' j ≡ true) × (j < s.config.workers)) [
         | inl is ↦ (beside others w.index j z.published b' (λ same. other (same ∙ sym is)) ∙ shown, was.1)
         | inr is ↦ (rw is shown, was.1)
       ]
 
   -- a worker publishes its bit
-  pub counts_published : (z : Stance) (w : Worker) (s : Shared B) (x : Idle) → Stands z w → z.published ≡ false → w.index < length s.seats.items → w.index < 64 → x ≡ record s.idle { published = slice_set s.idle.published w.index true } → Counts z (record z { published = true }) w s x
+  pub counts_published : (z : Stance) (w : Worker) (s : Shared B) (x : Idle) → Stands z w → z.published ≡ false → w.index < s.config.workers → w.index < 64 → x ≡ record s.idle { published = slice_set s.idle.published w.index true } → Counts z (record z { published = true }) w s x
   counts_published z w s x here out there few is = subst (Counts z (record z { published = true }) w s) (sym is) done
     where
       i : ℕ
@@ -179,7 +207,7 @@ module _ {B : Type 0} where
       x1 = record s.idle { published = slice_set s.idle.published w.index true }
 
       n : ℕ
-      n = length s.seats.items
+      n = s.config.workers
 
       within : (others : Profile) → IsWhole (with_worker others w) s → i < length set
       within others whole = omega (arith, whole.set, few)
@@ -201,7 +229,7 @@ module _ {B : Type 0} where
       }
 
   -- and withdraws it: where the bit was gone, it holds its claimer's count
-  pub counts_withdrawn : (z : Stance) (searching counted : Bool) (w : Worker) (s : Shared B) (x : Idle) → Stands z w → z.published ≡ true → w.index < length s.seats.items → w.index < 64 → x ≡ record s.idle { published = slice_set s.idle.published w.index false }
+  pub counts_withdrawn : (z : Stance) (searching counted : Bool) (w : Worker) (s : Shared B) (x : Idle) → Stands z w → z.published ≡ true → w.index < s.config.workers → w.index < 64 → x ≡ record s.idle { published = slice_set s.idle.published w.index false }
       → one_if searching + one_if counted ≡ own_counts z + one_if (not (is_in s.idle.published w.index)) → Counts z (record { searching = searching; counted = counted; published = false }) w s x
   counts_withdrawn z searching counted w s x here shown there few is own = subst (Counts z z' w s) (sym is) done
     where
@@ -221,7 +249,7 @@ module _ {B : Type 0} where
       x1 = record s.idle { published = slice_set s.idle.published w.index false }
 
       n : ℕ
-      n = length s.seats.items
+      n = s.config.workers
 
       balance : (others : Profile) → claimed_of n others i false set' + one_if (not (is_in set i)) ≡ claimed_of n others i z.published set
       balance others =
@@ -243,7 +271,7 @@ module _ {B : Type 0} where
       }
 
   -- A claim takes the bit of a worker, and hands a count over to it.
-  pub claimed_there : (z : Stance) (w : Worker) (s : Shared B) → Stands z w → HasWhole w s → (k : ℕ) → lowest_of s.idle.published ≡ Some k → k < length s.seats.items
+  pub claimed_there : (z : Stance) (w : Worker) (s : Shared B) → Stands z w → HasWhole w s → (k : ℕ) → lowest_of s.idle.published ≡ Some k → k < s.config.workers
   claimed_there z w s here has k lowest =
       let found = position-Some (λ b. b) s.idle.published k false lowest in
       (has.whole.bits k found.1).1
@@ -264,7 +292,7 @@ module _ {B : Type 0} where
       x1 = record s.idle { published = slice_set s.idle.published k false }
 
       n : ℕ
-      n = length s.seats.items
+      n = s.config.workers
 
       found : (k < length s.idle.published) × (is_in s.idle.published k ≡ true)
       found = let it = position-Some (λ b. b) s.idle.published k false lowest in (it.0, it.1)

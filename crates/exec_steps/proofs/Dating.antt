@@ -6,20 +6,8 @@ use Rattle.exec_driver.specs.{Lists.first_of, Steps.{tick_for, ended_by}}
 use Rattle.exec_task.specs.declared.body.Said.{Said}
 use Rattle.exec_machine.specs.declared.event.Event.{Event}
 use Rattle.exec_moves.specs.declared.place.{Place.Place, InService.InService}
+pub use Rattle.exec_steps.proofs.LeafRecords.{found_is, set_changes}
 use Rattle.exec_steps.{specs.{declared.parts.{record.Record.Record, shared.Shared.Shared, worker.Worker.Worker}, Due.IsWheelAt, Records.number_in, Serving.{IsOnWheel, changed_at, changed_in}, Spots.Spot, Submitting.IsNewIn, View.{driver_of, own_of}, Works.Steps}, proofs.{Enrolled.{HasEnrolled, new_first}, Enrolling.{enrolled_at, ended_not}, Late.enrol_ends, Resolving.slab_after, Timing.enrol_stays}}
-
-same_record : (x y : Record) → x.id ≡ y.id → x.shown ≡ y.shown → x ≡ y
-same_record x y id shown = ap (λ i. record x { id = i }) id ∙ ap (λ r. record y { shown = r }) shown
-
--- a record that was set as the function gives it
-pub set_changes : (rs : List Record) (k j : ℕ) (r old x : Record) (f : Record → Record) → j ≡ k → slice_get rs k ≡ Some r → old ≡ get_or rs j old → x.id ≡ old.id → x.shown ≡ (f old).shown → (f r).id ≡ r.id → slice_set rs j x ≡ changed_at rs k f
-set_changes rs k j r old x f number there found id shown name =
-    let was : old ≡ r = found ∙ ap (λ n. get_or rs n old) number ∙ get_or_from_slice_get rs k r old there in
-    let is : x ≡ f r = same_record x (f r) (id ∙ ap (λ y. y.id) was ∙ sym name) (shown ∙ ap (λ y. (f y).shown) was) in
-    ap (λ n. slice_set rs n x) number ∙ ap (λ y. slice_set rs k y) is ∙ ap (changed_in rs k f) (sym there)
-
-pub found_is : (rs : List Record) (k j : ℕ) (r old : Record) → j ≡ k → slice_get rs k ≡ Some r → old ≡ get_or rs j old → old ≡ r
-found_is rs k j r old number there found = found ∙ ap (λ n. get_or rs n old) number ∙ get_or_from_slice_get rs k r old there
 
 pub room_by : (ended others unreleased most : ℕ) → ended + others ≡ unreleased → 0 < others → unreleased ≤ most → ended < most
 room_by ended others unreleased most counted some fits = omega (arith, counted, some, fits)
@@ -35,7 +23,7 @@ module _ {B : Type 0} (w : Worker) (s : Shared B) (new : IsNewIn w s) (id : Wait
   new_room =
       let who = new_first w s new id first in
       let sound = new.submits.sound in
-      let pending = one_pending _ (pending_count (driver_of w).requests) (slab_after (driver_of w).requests id.0 who.it (Err Timeout) None who.alike.near who.live).pending in
+      let pending = one_pending _ (pending_count (driver_of w).requests) (slab_after (driver_of w).requests id.0 who.it (Err Timeout) None who.small who.live).pending in
       room_by (length w.names.ended.items) (pending_count (driver_of w).requests) w.names.unreleased (deque_capacity w.names.ended) sound.over.counted pending sound.flown.ending
 
   pub new_timed : (j : ℕ) (old : Record) (told : Option Error) → j ≡ number_in w.names.requests.items id.0 → old ≡ get_or s.requests.items j old

@@ -1,13 +1,27 @@
 -- The enrolment of a deadline is a step.
-use Rattle.std.{proofs.{Common.{◌≡◌, ◌≢◌, ℕ, ◌^◌, ◌<◌, ◌&&◌, Bool, true, false, not, Option, Some, None, refl, sym, ap, ◌∙◌, slice_get, is_some}, lemmas.Bool.false≢true}, specs.{Prelude.unwrap_or, VecDeque.deque_capacity}}
+use Rattle.std.{proofs.{Common.{◌≡◌, ◌≢◌, ℕ, ◌+◌, ◌^◌, ◌<◌, ◌&&◌, arith, Bool, true, false, not, Option, Some, None, refl, sym, ap, ◌∙◌, slice_get, is_some, if◌then◌else◌}, lemmas.Bool.false≢true}, specs.{Prelude.unwrap_or, VecDeque.deque_capacity}}
 use Rattle.exec_base.specs.{Slab.value_at, declared.error.Error.Error}
-use Rattle.exec_request.specs.Requests.{deadline_of}
+use Rattle.exec_outcomes.specs.Accounts.{is_durable}
+use Rattle.exec_request.specs.{Requests.{asked_of, deadline_of}, declared.request.Request.Request as Asking}
 use Rattle.exec_waiters.{specs.{States.{waiter_at, takes_tick}, declared.{waiter.Waiter.Waiter, waiter_id.WaiterId.WaiterId}}, proofs.Changes.entry_of}
 use Rattle.exec_driver.specs.{Driving.{request_at, is_unenrolled}, Lists.first_of, Punctual.IsPunctual, Steps.EnrolsAs}
-use Rattle.exec_machine.specs.{declared.{event.Event.{Event, TheVariants.Enrol}, state.RequestPhase.RequestPhase}, Deadlines.enrolled, Requests.joined_if}
-use Rattle.exec_steps.{specs.{declared.parts.{mail.Reply.Reply, record.Record.Record, shared.Shared.Shared, worker.Worker.Worker}, Records.number_in, Serving.{changed_at, first_tick, outcome_of_error}, Sound.IsAlike, Submitting.IsNewIn, View.driver_of}, proofs.{Facts.some_of, Staging.among_first, Starting.queued_phase}}
+use Rattle.exec_machine.specs.{declared.{event.Event.{Event, TheVariants.Enrol}, state.RequestPhase.RequestPhase}, Deadlines.enrolled, Requests.joined_if, Tests.is_kept}
+use Rattle.exec_steps.{specs.{declared.parts.{mail.Reply.Reply, record.Record.Record, shared.Shared.Shared, worker.Worker.Worker}, Records.number_in, Serving.{changed_at, first_tick, outcome_of_error}, Sound.IsAlike, Submitting.IsNewIn, View.driver_of}, proofs.{Facts.some_of, Known.low_there, ReapKinds.{durable_kept, kept_alone}, Staging.among_first, Starting.queued_phase}}
 
 -- THE FIRST NEW DEADLINE
+
+-- what has a deadline is no write and no sync, so it needs no permit
+pub timed_kept : (q : Asking) → is_some (deadline_of q) ≡ true → is_kept (asked_of q).kind ≡ false
+timed_kept (Asking.Send s) h = refl
+timed_kept (Asking.Recv r) h = kept_alone (Asking.Recv r)
+timed_kept (Asking.ReadAt r) h = absurd (false≢true h)
+timed_kept (Asking.WriteAt w) h = absurd (false≢true h)
+timed_kept (Asking.Sync s) h = absurd (false≢true h)
+timed_kept (Asking.Connect c) h = refl
+timed_kept (Asking.Poll p) h = refl
+
+pub timed_free : (q : Asking) → is_some (deadline_of q) ≡ true → is_durable (asked_of q).kind ≡ false
+timed_free q h = durable_kept (asked_of q).kind (timed_kept q h)
 
 new_parts : (a b c : Bool) → (not a && b && c) ≡ true → (a ≡ false) × (b ≡ true) × (c ≡ true)
 new_parts true b c h = absurd (false≢true h)
@@ -30,6 +44,7 @@ pub record NewAt {B : Type 0} (w : Worker) (s : Shared B) (id : WaiterId) : Type
   pub asked : deadline_of it.request ≡ Some deadline
   pub told : r.shown.operation.deadline ≡ Some deadline
   pub queued : r.shown.phase ≡ RequestPhase.Queued
+  pub small : id.0.generation < 2 ^ 64
 
 module _ {B : Type 0} (w : Worker) (s : Shared B) (new : IsNewIn w s) (id : WaiterId) (first : first_of (driver_of w).lists.enrolments ≡ Some id) where
   new_by : (o : Option (Waiter Reply Reply)) → request_at (driver_of w) id ≡ o → NewAt w s id
@@ -40,7 +55,6 @@ module _ {B : Type 0} (w : Worker) (s : Shared B) (new : IsNewIn w s) (id : Wait
       let parts = new_parts it.in_flight (takes_tick it.state) (is_some (deadline_of it.request)) waits in
       let r = sound.named.requests id.0 (rw (entry_of (value_at (driver_of w).requests id.0) it live) refl) in
       let a = sound.named.alike id.0 it r.0 live r.1 in
-      let p = sound.flown.plain (number_in w.names.requests.items id.0) r.0 r.1 r.3 in
       let d = some_of (deadline_of it.request) parts.2 in
       record {
         it = it;
@@ -55,7 +69,8 @@ module _ {B : Type 0} (w : Worker) (s : Shared B) (new : IsNewIn w s) (id : Wait
         takes = parts.1;
         asked = d.1;
         told = a.deadline ∙ d.1;
-        queued = queued_phase r.0.shown.phase (a.flying ∙ parts.0) a.open_still p.ungated;
+        queued = queued_phase r.0.shown.phase (a.flying ∙ parts.0) a.open_still (a.permit ∙ ap (λ b. b && not it.permit) (timed_free it.request parts.2));
+        small = let low = low_there w.index w.names.requests.items (driver_of w).requests s.opens s.requests.items sound.known id.0 (rw (entry_of (value_at (driver_of w).requests id.0) it live) refl) in omega (arith, low);
       }
 
   pub new_first : NewAt w s id

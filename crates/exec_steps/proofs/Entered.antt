@@ -7,7 +7,7 @@ use Rattle.exec_driver.specs.Driving.{Driving}
 use Rattle.exec_task.specs.declared.body.Said.{Said}
 use Rattle.exec_machine.specs.{declared.{event.Event.{Event, TheVariants.{Enter, Busy}}, state.Request.Request}, Choice.Choice.Plain, World.{Own, Seat, Common, seat_of}, Progress.Plan, Requests.flown}
 use Rattle.exec_moves.specs.{declared.idling.{Stay.Stay, InRingWait.InRingWait}, declared.place.{Service.Service, Place.Place, InService.InService, Reaping.Reaping}, State.{Desk, Things, Moved, wake_poll_of, taken_in as poll_taken}, Thing.{ring_of, set_wake_poll, with_ring}, Move.move_at, Seen.{polls_at, next_at, serves_at}, Serve.{Ring, at_place, enter}}
-use Rattle.exec_steps.{specs.{declared.parts.{mail.Reply.Reply, shared.Shared.Shared, worker.{PutOff.PutOff, Worker.Worker}}, Carried.IsCarried, Raises.Enters, Records.number_in, Serving.{EntersRing, flown_in}, Sound.{SoundAt, IsNamed, IsSubmitted, served_in}, Due.{IsWheelAt, may_be_due}, Flown.{IsPolled, operations}, Rooted.IsRooted, Spots.Spot, View.{Views, visible, with_view, own_of, desk_of, driver_of, common_of, seat_seen, open_seen, number_told, things_with, trailing, wake_poll_in}, Works.{Suits, Steps}}, proofs.{Seats.own_seat, Carrier.carried_entered, Conveying.carried_ring, Serving.{calm, Follows, Serves, SparesRecords, Keeps, KeepsBy, keeps_all, serves_to, spares_same}, Flying.all_flown, Keys.{same_opens, flown_names}, Raising.{lists_taken, none_waits, poll_shows, poll_shown, raised_first, seats_set, sound_taken}, Seeing.{Sees, common_same, served, shows}, Shown.{desk_with, own_with, visible_with}, WokenEntered.{all_acknowledged, enter_polled, enter_shown}, Entering.{submitted_busy, submitted_free, named_beside, named_free, all_go, timed_flown, flown_entered, others_flown, others_were}, Going.{over_on, owed_on, rooted_on}}}
+use Rattle.exec_steps.{specs.{declared.parts.{mail.Reply.Reply, shared.Shared.Shared, worker.{PutOff.PutOff, Worker.Worker}}, Carried.IsCarried, Raises.Enters, Records.number_in, Serving.{EntersRing, flown_in}, Sound.{SoundAt, IsNamed, IsSubmitted, served_in}, Due.{IsWheelAt, may_be_due}, Flown.{IsPolled, operations}, Holding.{nap_of, thing_of}, Places.passes_at, Spots.Spot, View.{Views, visible, with_view, own_of, desk_of, driver_of, common_of, seat_seen, numbers_of_passing, open_seen, number_told, things_with, trailing, wake_poll_in}, Works.{Suits, Steps}}, proofs.{Spared.sleepers_endure, Seats.own_seat, Carrier.carried_entered, Conveying.carried_ring, Lined.{KeepsLines, gates_seen_same, lines_flown, opens_same, passing_same, was_sent}, Serving.{balances_still, calm, kept, Follows, Serves, SparesRecords, Keeps, KeepsBy, keeps_all, nap_sent, serves_to, spares_same}, Flying.all_flown, Keys.{same_opens, flown_names}, Raising.{lists_taken, none_waits, poll_shows, poll_shown, raised_first, seats_set, sound_taken}, Seeing.{Sees, common_same, served, shows}, Shown.{desk_with, own_with, visible_with}, WokenEntered.{all_acknowledged, enter_polled, enter_shown}, Entering.{submitted_busy, submitted_free, named_beside, named_free, all_go, timed_flown, flown_entered, others_flown, others_were, known_flown, things_flown}, Going.{over_on, rooted_on}}}
 
 -- the ring that a worker shows, where no wake waits at its seat
 abbrev pub ring_seen : Worker → Ring
@@ -32,7 +32,7 @@ module _ {B : Type 0} (w w' : Worker) (s s' : Shared B) (e : Event) (it : Enters
   entered_serves q to =
       serves_to q w'.place w w' s s'
       (subst (λ v. v ≡ record w { place = v.place; home = record w.home { driver = v.home.driver; timers = v.home.timers; deferred = v.home.deferred }; names = record w.names { ended = v.names.ended; staged = v.names.staged; untold = v.names.untold }; put_off = v.put_off }) (sym shape) refl)
-      (subst (λ t. t ≡ record s { requests = t.requests; sleepers = t.sleepers }) (sym it.shared) refl) refl to
+      (subst (λ (t : Shared B). t ≡ record s { requests = t.requests; sleepers = t.sleepers; opens = t.opens }) (sym it.shared) refl) refl to
 
   -- what holds again, with another ring and these that fly
   keeps_entered : (q : Place) (r : RingState) (ks : List ℕ) → SoundAt q w s → Follows q w'.place → (may_be_due (served_in w'.place) ≡ false → (driver_of w).lists.due ≡ [])
@@ -50,21 +50,22 @@ module _ {B : Type 0} (w w' : Worker) (s s' : Shared B) (e : Event) (it : Enters
       let due = sound.due in
       let timed = timed_flown w.index w.names w1.names ks s.requests.items refl due.timed in
       let keeps : KeepsBy w1 d' w.home.timers flown s.sleepers.items s = record {
-        told = sound.told;
+        told = (kept q w s sound (calm q to.from)).told;
+        wide = sound.wide;
         named = subst (λ rs. IsNamed w.index w1.names d' w.home.timers rs s.sleepers.items) records (subst (λ v. IsNamed w.index v.names d' w.home.timers s'.requests.items s.sleepers.items) worker named);
         sized = sized ∙ sound.sized;
         over = over_on s.requests.items flown go w.index w.names.ended.items w.names.unreleased (pending_count (driver_of w).requests) sound.over;
         quiet = λ h. sound.quiet (sym to.wakes ∙ h);
-        due = record { punctual = record { ahead = due.punctual.ahead }; told = told; wheel = subst (λ m. IsWheelAt s.config w.moments.start m (driver_of w).wheel) (sym (to.moment w.moments)) due.wheel; timed = timed; asleep = record { alike = due.asleep.alike; there = due.asleep.there; named = due.asleep.named }; order = due.order };
+        due = record { punctual = record { ahead = due.punctual.ahead }; told = told; wheel = subst (λ m. IsWheelAt s.config w.moments.start m (driver_of w).wheel) (sym (to.moment w.moments)) due.wheel; timed = timed; asleep = record { alike = due.asleep.alike; there = due.asleep.there; named = due.asleep.named; lets_go = due.asleep.lets_go; counted = due.asleep.counted; names = due.asleep.names }; order = due.order };
         flown =
             flown_entered (served_in q) (served_in w'.place) w.index w.names w1.names (driver_of w) r (driver_of w').landings ks s.requests.items
-            sound.flown to.permits refl refl refl it.staged_room it.untold_room sized polled same entries;
+            sound.flown refl refl refl it.staged_room it.untold_room sized polled same entries;
         carried = carried;
+        known = known_flown w.index w.names.requests.items (driver_of w).requests s.opens s.requests.items ks sound.known;
         rooted =
-            rooted_on s.requests.items flown go None w.index w.root w.names w1.names (driver_of w) d' w.home.timers s.tasks.items s.sleepers.items
-            (subst (λ x. IsRooted x w.index w.root w.names (driver_of w) w.home.timers s.tasks.items s.requests.items s.sleepers.items) ((calm q to.from).stands w.root) sound.rooted)
-            refl refl refl (λ id h. h) (λ id o h. h);
-        owed = owed_on s.requests.items flown go w.index w.root w.home.deferred.notes.wakes.items s.tasks.items s.sleepers.items sound.tied.owed;
+            rooted_on s.requests.items flown go w.index w.names w1.names (driver_of w) d' w.home.timers w.home.deferred s.sleepers.items sound.rooted
+            refl refl (λ id h. h) (λ id o h. h) (λ id x h. (x, h, refl));
+        bare = λ h. (calm q to.from).lets_in (driver_of w).requests w.home.timers sound.lets_go (sym to.bare ∙ h);
       } in
       keeps_all w w' s s' flown d' worker it.shared driver records keeps
 
@@ -82,9 +83,9 @@ module _ {B L : Type 0} (left : B → L) (spot : L → Option Said → Spot) whe
       → common_of left spot p vs s' ≡ record (common_of left spot p vs s) { requests = map (λ r. r.shown) s'.requests.items; opens = map (open_seen s'.requests.items) s.opens }
   common_by p vs s s' same = ap (common_of left spot p vs) same
 
-  busy_entered : (q : Place) (w w' : Worker) (s s' : Shared B) (e : Event) → (sound : SoundAt q w s) → sound.seated.seat.raised ≡ 0 → Follows q w'.place → (may_be_due (served_in w'.place) ≡ false → (driver_of w).lists.due ≡ [])
+  busy_entered : (q : Place) (w w' : Worker) (s s' : Shared B) (e : Event) → (sound : SoundAt q w s) → sound.seated.seat.raised ≡ 0 → Follows q w'.place → (may_be_due (served_in w'.place) ≡ false → (driver_of w).lists.due ≡ []) → passes_at w'.place ≡ passes_at q
       → EntersRing w s e (record w' { place = w.place; put_off = w.put_off }) s' → MovesBy left spot q w w' s → (driver_of w).ring.busy ≡ true → Steps left spot w s e w' s'
-  busy_entered q w w' s s' e sound waits on told it moves busy =
+  busy_entered q w w' s s' e sound waits on told passes it moves busy =
       let from = calm q on.from in
       let to = calm w'.place on.to in
       let i = w.index in
@@ -98,7 +99,7 @@ module _ {B L : Type 0} (left : B → L) (spot : L → Option Said → Spot) whe
       let records : s'.requests.items ≡ s.requests.items = it.records ∙ ap (λ b. if b then s.requests.items else flown_in w.names.staged.items s.requests.items) busy in
       let driver : driver_of w' ≡ d' = it.driver ∙ ap (λ x. record (driver_of w) { ring = x; landings = (driver_of w').landings }) ring in
       let serves = entered_serves w w' s s' e it q on in
-      let show = shows q w w' s s' d' serves driver in
+      let show = shows q w w' s s' d' serves driver (ap (λ (v : Worker). v.home.timers) worker) in
       let named : IsNamed i w'.names d' w.home.timers s'.requests.items s.sleepers.items =
       subst (λ rs. IsNamed i w'.names d' w.home.timers rs s.sleepers.items) (sym records)
       (named_beside i w.names (driver_of w) w.home.timers s.requests.items s.sleepers.items sound.named w'.names r' (driver_of w').landings (ap (λ v. v.names.requests.items) worker) (ap (λ v. v.names.timers.items) worker)
@@ -108,10 +109,11 @@ module _ {B L : Type 0} (left : B → L) (spot : L → Option Said → Spot) whe
       let keeps : Keeps w' s' =
       keeps_entered w w' s s' e it q r' [] sound on told ring refl sound.flown.polled refl (subst (λ n. n ≤ length r.staged) (sym (ap (λ (ks : List ℕ). length ks + length w'.names.untold.items) staged ∙ ap (λ (ks : List ℕ). length w.names.staged.items + length ks) untold)) sound.flown.entries) records named
       (carried_ring w.names.requests.items (driver_of w).requests r s.requests.items s.store sound.carried r' (λ v small. refl) (λ v small. refl)) in
-      let spares : SparesRecords i s s' = spares_same i s s' records (ap (λ (x : Shared B). x.sleepers.items) it.shared) in
+      let opens : s'.opens ≡ s.opens = ap (λ (x : Shared B). x.opens) it.shared in
+      let spares : SparesRecords i s s' = spares_same i s s' sound.gates records (ap (λ (x : Shared B). x.sleepers.items) it.shared) opens in
       let seen : visible w' ≡ record (visible w) { busy = false } = show.seen in
       subst (λ x. Steps left spot w s x w' s') (sym (it.event ∙ ap (λ b. if b then Busy else Enter) busy))
-      (served left spot q w w' s s' Busy sound serves keeps spares
+      (served left spot q w w' s s' Busy sound serves keeps spares (balances_still q w w' s s' sound.here serves spares passes (ap (λ (v : Worker). v.home.deferred.notes.wakes.items) worker) (ap (map thing_of) records) (ap (λ (x : Shared B). map nap_of x.sleepers.items) it.shared))
       (λ p vs suits.
       let chair = sound.seated.seat in
       let there = sound.seated.there in
@@ -122,7 +124,7 @@ module _ {B L : Type 0} (left : B → L) (spot : L → Option Said → Spot) whe
       let vs' = with_view vs i (visible w') in
       let desk : desk_of w' ≡ record (desk_of w) { place = w'.place; may_put_off = w'.put_off.defer; put_off = w'.put_off.«enter» } = show.desk ∙ ap (λ (v : Worker). desk_with w w'.place w'.put_off v.home.deferred d') worker in
       let things : things_with vs' s' ≡ set_wake_poll i x (visible w).wakes =
-      ap (things_with vs') it.shared ∙ poll_shows vs i s chair there waits (visible w') ∙ ap (λ v. set_wake_poll i x v.wakes) seen in
+      ap (things_with vs') it.shared ∙ ap (λ gs. record (things_with vs' s) { gates = gs; answers = numbers_of_passing was_sent 0 s'.requests.items }) (gates_seen_same s.requests.items s'.requests.items s.opens s.opens spares.lines (opens_same s.opens s.opens s.requests.items sound.gates refl)) ∙ ap (λ ns. record (things_with vs' s) { answers = ns }) (passing_same was_sent s.requests.items s'.requests.items spares.lines.sent) ∙ poll_shows vs i s chair there waits (visible w') ∙ ap (λ v. set_wake_poll i x v.wakes) seen in
       let enters : enter me (desk_of w) (ring_seen w) ≡ record { event = Busy; choice = Plain; desk = desk_of w; thing = record (ring_seen w) { busy = false } } =
       rw busy refl in
       subst (λ v. Sees left spot q v w' s s' Busy p vs) (sym here) (record {
@@ -131,7 +133,7 @@ module _ {B L : Type 0} (left : B → L) (spot : L → Option Said → Spot) whe
             ∙ ap (λ m. with_ring i x (led_to w'.place w'.put_off m)) enters
             ∙ ap (λ y. record { event = Busy; choice = Plain; desk = y; thing = set_wake_poll i x (visible w).wakes }) (sym desk)
             ∙ ap (λ y. record { event = Busy; choice = Plain; desk = desk_of w'; thing = y }) (sym things);
-        may = (rw (sound.here, from.polls, from.free, from.owes w.workers) refl, (ap (λ y. y.busy) (own_seat left spot p vs w s chair suits there) ∙ busy, tt));
+        may = (rw (sound.here, from.polls, from.free, from.owes w.workers, sound.letters.none from.cancels) refl, (ap (λ y. y.busy) (own_seat left spot p vs w s chair suits there) ∙ busy, tt));
         own =
             show.own ∙ ap (λ (v : Worker). own_with w w'.place v.names.ended.items w'.names.untold.items d') worker ∙ ap (λ ks. own_with w w'.place w.names.ended.items ks d') untold
             ∙ rw (on.serves, to.polls, to.free, to.owes w.workers, sound.here, from.polls, from.free, from.owes w.workers) refl;
@@ -144,9 +146,9 @@ module _ {B L : Type 0} (left : B → L) (spot : L → Option Said → Spot) whe
             (ap (λ v. seat_seen v chair) seen ∙ ap (λ (y : Seat). record y { busy = false }) (sym (own_seat left spot p vs w s chair suits there))));
       })))
 
-  free_entered : (q : Place) (w w' : Worker) (s s' : Shared B) (e : Event) → (sound : SoundAt q w s) → sound.seated.seat.raised ≡ 0 → Follows q w'.place → (may_be_due (served_in w'.place) ≡ false → (driver_of w).lists.due ≡ [])
+  free_entered : (q : Place) (w w' : Worker) (s s' : Shared B) (e : Event) → (sound : SoundAt q w s) → sound.seated.seat.raised ≡ 0 → Follows q w'.place → (may_be_due (served_in w'.place) ≡ false → (driver_of w).lists.due ≡ []) → passes_at w'.place ≡ passes_at q
       → EntersRing w s e (record w' { place = w.place; put_off = w.put_off }) s' → MovesBy left spot q w w' s → (driver_of w).ring.busy ≡ false → Steps left spot w s e w' s'
-  free_entered q w w' s s' e sound waits on told it moves busy =
+  free_entered q w w' s s' e sound waits on told passes it moves busy =
       let from = calm q on.from in
       let to = calm w'.place on.to in
       let i = w.index in
@@ -163,7 +165,7 @@ module _ {B L : Type 0} (left : B → L) (spot : L → Option Said → Spot) whe
       let records : s'.requests.items ≡ flown_now = it.records ∙ ap (λ b. if b then s.requests.items else flown_in w.names.staged.items s.requests.items) busy in
       let driver : driver_of w' ≡ d' = it.driver ∙ ap (λ x. record (driver_of w) { ring = x; landings = (driver_of w').landings }) ring in
       let serves = entered_serves w w' s s' e it q on in
-      let show = shows q w w' s s' d' serves driver in
+      let show = shows q w w' s s' d' serves driver (ap (λ (v : Worker). v.home.timers) worker) in
       let named : IsNamed i w'.names d' w.home.timers s'.requests.items s.sleepers.items =
       subst (λ rs. IsNamed i w'.names d' w.home.timers rs s.sleepers.items) (sym records)
       (named_free i w.names (driver_of w) w.home.timers s.requests.items s.sleepers.items sound.named w'.names r' (driver_of w').landings (ap (λ v. v.names.requests.items) worker) (ap (λ v. v.names.timers.items) worker)
@@ -184,6 +186,10 @@ module _ {B L : Type 0} (left : B → L) (spot : L → Option Said → Spot) whe
         records_only = λ k x there other. others_were i w.names (driver_of w) w.home.timers s.requests.items s.sleepers.items sound.named k x (ap (λ rs. slice_get rs k) (sym records) ∙ there) other;
         sleepers = λ k z there other. ap (λ (y : Shared B). slice_get y.sleepers.items k) it.shared ∙ there;
         sleepers_only = λ k z there other. ap (λ (y : Shared B). slice_get y.sleepers.items k) (sym it.shared) ∙ there;
+        lines = subst (KeepsLines s.requests.items) (sym records) (lines_flown w.names.staged.items s.requests.items);
+        naps = sleepers_endure s.sleepers.items s'.sleepers.items (ap (λ (y : Shared B). y.sleepers.items) it.shared);
+        opens = opens_same s.opens s'.opens s.requests.items sound.gates (ap (λ (x : Shared B). x.opens) it.shared);
+        sent = ap (λ (x : Shared B). map nap_sent x.sleepers.items) it.shared;
       } in
       let seen : visible w' ≡ record (visible w) { wakes = poll_taken (driver_of w).armed (visible w).wakes } =
       show.seen
@@ -191,7 +197,7 @@ module _ {B L : Type 0} (left : B → L) (spot : L → Option Said → Spot) whe
       ∙ ap (λ cs. record (visible w) { landed = map (number_told w.names.requests.items) cs; wakes = wake_poll_in r' }) taken.landed
       ∙ ap (λ y. record (visible w) { wakes = y }) (enter_shown r (driver_of w).armed sound.flown.polled sub.tagged) in
       subst (λ x. Steps left spot w s x w' s') (sym (it.event ∙ ap (λ b. if b then Busy else Enter) busy))
-      (served left spot q w w' s s' Enter sound serves keeps spares
+      (served left spot q w w' s s' Enter sound serves keeps spares (balances_still q w w' s s' sound.here serves spares passes (ap (λ (v : Worker). v.home.deferred.notes.wakes.items) worker) (ap (map thing_of) records ∙ things_flown w.names.staged.items s.requests.items) (ap (λ (x : Shared B). map nap_of x.sleepers.items) it.shared))
       (λ p vs suits.
       let chair = sound.seated.seat in
       let there = sound.seated.there in
@@ -205,7 +211,7 @@ module _ {B L : Type 0} (left : B → L) (spot : L → Option Said → Spot) whe
       ∙ ap (λ es. record (desk_of w) { place = w'.place; may_put_off = w'.put_off.defer; put_off = w'.put_off.«enter»; entries = length es; others = trailing 0 (completions r') }) taken.staged
       ∙ ap (λ n. record (desk_of w) { place = w'.place; may_put_off = w'.put_off.defer; put_off = w'.put_off.«enter»; entries = 0; others = n }) (taken.others ∙ ap (λ n. trailing 0 (completions r) + n) sub.cancels) in
       let things : things_with vs' s' ≡ set_wake_poll i x (poll_taken (driver_of w).armed (visible w).wakes) =
-      ap (things_with vs') it.shared ∙ poll_shows vs i s chair there waits (visible w') ∙ ap (λ v. set_wake_poll i x v.wakes) seen in
+      ap (things_with vs') it.shared ∙ ap (λ gs. record (things_with vs' s) { gates = gs; answers = numbers_of_passing was_sent 0 s'.requests.items }) (gates_seen_same s.requests.items s'.requests.items s.opens s.opens spares.lines (opens_same s.opens s.opens s.requests.items sound.gates refl)) ∙ ap (λ ns. record (things_with vs' s) { answers = ns }) (passing_same was_sent s.requests.items s'.requests.items spares.lines.sent) ∙ poll_shows vs i s chair there waits (visible w') ∙ ap (λ v. set_wake_poll i x v.wakes) seen in
       let enters : enter me (desk_of w) (ring_seen w)
       ≡ record { event = Enter; choice = Plain; desk = record (desk_of w) { entries = 0; others = (desk_of w).others + length w.names.untold.items }; thing = record (ring_seen w) { wakes = poll_taken (driver_of w).armed (visible w).wakes } } =
       rw busy refl in
@@ -215,7 +221,7 @@ module _ {B L : Type 0} (left : B → L) (spot : L → Option Said → Spot) whe
             ∙ ap (λ m. with_ring i x (led_to w'.place w'.put_off m)) enters
             ∙ ap (λ y. record { event = Enter; choice = Plain; desk = y; thing = set_wake_poll i x (poll_taken (driver_of w).armed (visible w).wakes) }) (sym desk)
             ∙ ap (λ y. record { event = Enter; choice = Plain; desk = desk_of w'; thing = y }) (sym things);
-        may = (rw (sound.here, from.polls, from.free, from.owes w.workers) refl, (ap (λ y. not y.busy) (own_seat left spot p vs w s chair suits there) ∙ ap not busy, tt));
+        may = (rw (sound.here, from.polls, from.free, from.owes w.workers, sound.letters.none from.cancels) refl, (ap (λ y. not y.busy) (own_seat left spot p vs w s chair suits there) ∙ ap not busy, tt));
         own =
             show.own ∙ ap (λ (v : Worker). own_with w w'.place v.names.ended.items w'.names.untold.items d') worker ∙ ap (λ ks. own_with w w'.place w.names.ended.items ks d') untold
             ∙ rw (on.serves, to.polls, to.free, to.owes w.workers, sound.here, from.polls, from.free, from.owes w.workers) refl;
@@ -228,17 +234,17 @@ module _ {B L : Type 0} (left : B → L) (spot : L → Option Said → Spot) whe
       })))
 
   -- once no wake waits at the seat
-  entered_then : (q : Place) (w w' : Worker) (s s' : Shared B) (e : Event) → (sound : SoundAt q w s) → sound.seated.seat.raised ≡ 0 → Follows q w'.place → (may_be_due (served_in w'.place) ≡ false → (driver_of w).lists.due ≡ [])
+  entered_then : (q : Place) (w w' : Worker) (s s' : Shared B) (e : Event) → (sound : SoundAt q w s) → sound.seated.seat.raised ≡ 0 → Follows q w'.place → (may_be_due (served_in w'.place) ≡ false → (driver_of w).lists.due ≡ []) → passes_at w'.place ≡ passes_at q
       → EntersRing w s e (record w' { place = w.place; put_off = w.put_off }) s' → MovesBy left spot q w w' s → Steps left spot w s e w' s'
-  entered_then q w w' s s' e sound waits on told it moves =
+  entered_then q w w' s s' e sound waits on told passes it moves =
       elim ((driver_of w).ring.busy) as (λ b. (driver_of w).ring.busy ≡ b → Steps left spot w s e w' s') [
-        | true ↦ busy_entered q w w' s s' e sound waits on told it moves
-        | false ↦ free_entered q w w' s s' e sound waits on told it moves
+        | true ↦ busy_entered q w w' s s' e sound waits on told passes it moves
+        | false ↦ free_entered q w w' s s' e sound waits on told passes it moves
       ] refl
 
-  pub entered : (q : Place) (w w' : Worker) (s s' : Shared B) (e : Event) → SoundAt q w s → Follows q w'.place → (may_be_due (served_in w'.place) ≡ false → (driver_of w).lists.due ≡ [])
+  pub entered : (q : Place) (w w' : Worker) (s s' : Shared B) (e : Event) → SoundAt q w s → Follows q w'.place → (may_be_due (served_in w'.place) ≡ false → (driver_of w).lists.due ≡ []) → passes_at w'.place ≡ passes_at q
       → (it : Enters w s e (record w' { place = w.place; put_off = w.put_off }) s') → MovesBy left spot q it.mid w' it.rested → Steps left spot w s e w' s'
-  entered q w w' s s' e sound on told it moves =
+  entered q w w' s s' e sound on told passes it moves =
       let w1 = it.mid in
       let s1 = it.rested in
       let holds = sound_taken q w w1 s s1 sound it.takes in
@@ -246,7 +252,7 @@ module _ {B L : Type 0} (left : B → L) (spot : L → Option Said → Spot) whe
       let place : w.place ≡ w1.place = ap (λ x. x.place) (sym it.takes.worker) in
       let put : w.put_off ≡ w1.put_off = ap (λ x. x.put_off) (sym it.takes.worker) in
       raised_first q w w1 s s1 sound it.takes left spot w' s' e
-      (entered_then q w1 w' s1 s' e holds (none_waits q w w1 s s1 sound it.takes holds) on (λ h. ap (λ l. l.due) lists ∙ told h)
+      (entered_then q w1 w' s1 s' e holds (none_waits q w w1 s s1 sound it.takes holds) on (λ h. ap (λ l. l.due) lists ∙ told h) passes
       (subst (λ y. EntersRing w1 s1 e (record w' { place = y; put_off = w1.put_off }) s') place (subst (λ o. EntersRing w1 s1 e (record w' { place = w.place; put_off = o }) s') put it.enters)) moves)
 
   -- where nothing is put off, nor was
@@ -259,7 +265,7 @@ module _ {B L : Type 0} (left : B → L) (spot : L → Option Said → Spot) whe
 
   -- THE LAST ENTER OF A SERVICE
   follows_last : (v : Service) → Follows (Place.Service InService.EnterLast v) (Place.Service (InService.Reap Reaping.Last) v)
-  follows_last v = record { from = refl; to = refl; serves = refl; armed = refl; closes = refl; wakes = refl; permits = refl; moment = λ m. refl; searches = refl; published = refl }
+  follows_last v = record { from = refl; to = refl; serves = refl; armed = refl; closes = refl; wakes = refl; moment = λ m. refl; searches = refl; published = refl; bare = refl; batch = λ ms h. h }
 
   enter_there : (me : Own) (d : Desk) (p : Place) (i : ℕ) (x : Things) (y : Ring) → with_ring i x (at_place p (enter me d y)) ≡ with_ring i x (led_to p (record { defer = d.may_put_off; «enter» = d.put_off }) (enter me d y))
   enter_there me d p i x y = by y.busy refl
@@ -274,7 +280,7 @@ module _ {B L : Type 0} (left : B → L) (spot : L → Option Said → Spot) whe
       let q : Place = Place.Service InService.EnterLast v in
       let same : w'.put_off ≡ w.put_off = without_putting_off w w' s s' e it in
       let mid_put : w'.put_off ≡ it.mid.put_off = ap (λ x. x.put_off) it.enters.worker in
-      entered q w w' s s' e sound (subst (λ p. Follows q p) (sym there) (follows_last v)) (λ h. sound.due.told refl) (with_put_off w w' s s' e it same)
+      entered q w w' s s' e sound (subst (λ p. Follows q p) (sym there) (follows_last v)) (λ h. sound.due.told refl) (ap passes_at there) (with_put_off w w' s s' e it same)
       (λ p vs suits ring.
       ap (λ y. with_ring it.mid.index (things_with vs it.rested) (at_place (Place.Service (InService.Reap Reaping.Last) v) (enter (own_of it.mid) (desk_of it.mid) y))) ring
       ∙ enter_there (own_of it.mid) (desk_of it.mid) (Place.Service (InService.Reap Reaping.Last) v) it.mid.index (things_with vs it.rested) (ring_seen it.mid)
@@ -283,7 +289,7 @@ module _ {B L : Type 0} (left : B → L) (spot : L → Option Said → Spot) whe
 
   -- THE ENTER OF A FULL RING, BEFORE A WAIT
   follows_full : (y : Stay) → Follows (Place.RingWait InRingWait.EnterFullRing y) (Place.RingWait InRingWait.TestRing y)
-  follows_full y = record { from = refl; to = refl; serves = refl; armed = refl; closes = refl; wakes = refl; permits = refl; moment = λ m. refl; searches = refl; published = refl }
+  follows_full y = record { from = refl; to = refl; serves = refl; armed = refl; closes = refl; wakes = refl; moment = λ m. refl; searches = refl; published = refl; bare = refl; batch = λ ms h. h }
 
   enter_from : (me : Own) (d : Desk) (p : Place) (i : ℕ) (x : Things) (y : Ring) → with_ring i x (enter me (record d { place = p }) y) ≡ with_ring i x (led_to p (record { defer = d.may_put_off; «enter» = d.put_off }) (enter me d y))
   enter_from me d p i x y = by y.busy refl
@@ -298,7 +304,7 @@ module _ {B L : Type 0} (left : B → L) (spot : L → Option Said → Spot) whe
       let q : Place = Place.RingWait InRingWait.EnterFullRing y in
       let same : w'.put_off ≡ w.put_off = without_putting_off w w' s s' e it in
       let mid_put : w'.put_off ≡ it.mid.put_off = ap (λ x. x.put_off) it.enters.worker in
-      entered q w w' s s' e sound (subst (λ p. Follows q p) (sym there) (follows_full y)) (λ h. sound.due.told refl) (with_put_off w w' s s' e it same)
+      entered q w w' s s' e sound (subst (λ p. Follows q p) (sym there) (follows_full y)) (λ h. sound.due.told refl) (ap passes_at there) (with_put_off w w' s s' e it same)
       (λ p vs suits ring.
       ap (λ z. with_ring it.mid.index (things_with vs it.rested) (enter (own_of it.mid) (record (desk_of it.mid) { place = Place.RingWait InRingWait.TestRing y }) z)) ring
       ∙ enter_from (own_of it.mid) (desk_of it.mid) (Place.RingWait InRingWait.TestRing y) it.mid.index (things_with vs it.rested) (ring_seen it.mid)

@@ -1,14 +1,14 @@
 -- What an enter is to the machine.
-use Rattle.std.{proofs.{Common.{◌≡◌, ◌≢◌, ℕ, ◌+◌, ◌≤◌, ◌==◌, ◌&&◌, Bool, true, false, List, [], length, Option, Some, None, refl, sym, ap, subst, ◌∙◌, slice_get, if◌then◌else◌}, lemmas.Bool.{false≢true, eq-eqb}}, specs.{Option.option_map, Vec.vec_capacity}}
+use Rattle.std.{proofs.{Common.{◌≡◌, ◌≢◌, ℕ, ◌+◌, ◌≤◌, ◌==◌, ◌&&◌, Bool, true, false, List, [], ◌∷◌, length, map, Option, Some, None, inl, refl, sym, ap, subst, ◌∙◌, slice_get, if◌then◌else◌}, lemmas.Bool.{false≢true, eq-eqb}}, specs.{Option.option_map, Vec.vec_capacity}}
 use Rattle.exec_base.specs.Slab.{Slab}
 use Rattle.exec_outcomes.specs.declared.outcome.OpResult.{OpResult}
 use Rattle.exec_time.specs.declared.timers.Sleeper.{Sleeper as Sleeping}
 use Rattle.exec_ring.specs.{Kernels.Landing, Rings.RingState}
-use Rattle.exec_waiters.specs.{States.waiter_at, declared.waiter.Waiter.Waiter}
-use Rattle.exec_driver.specs.Driving.{Driving}
-use Rattle.exec_machine.specs.{declared.state.{Request.Request, RequestPhase.RequestPhase}, Requests.flown, Tests.{is_staged, is_in_flight, is_resolved}}
+use Rattle.exec_waiters.specs.{States.{needs_permit, waiter_at}, declared.waiter.{Entry.Entry, Waiter.Waiter}}
+use Rattle.exec_driver.specs.{Driving.Driving, Opens.OpenState}
+use Rattle.exec_machine.specs.{declared.state.{Request.Request, RequestPhase.RequestPhase}, Requests.flown, Tests.{is_gated, is_staged, is_in_flight, is_resolved}}
 use Rattle.exec_moves.specs.declared.place.InService.{InService}
-use Rattle.exec_steps.{specs.{declared.parts.{mail.Reply.Reply, names.Names.Names, record.Record.Record, sleeping.SleeperRecord.SleeperRecord}, Due.AreTimed, Flown.{IsPlain, IsPolled, HasFlown, operations, passes_permit}, Records.number_in, Serving.{flies, flown_in, is_one_of}, Sound.{IsNamed, IsAlike, IsSubmitted}}, proofs.{Facts.and_right, Flown.landed_on, Going.{GoesOn, AllGoOn, still, same_worker, same_id}, Flying.{flies_if, worker_kept, get_flown}}}
+use Rattle.exec_steps.{specs.{declared.parts.{mail.Reply.Reply, names.Names.Names, record.Record.Record, sleeping.SleeperRecord.SleeperRecord}, Due.AreTimed, Flown.{IsPlain, IsPolled, HasFlown, operations}, Gates.{IsKnown, at_gate}, Holding.thing_of, Records.number_in, Serving.{changed_at, changed_in, flies, flown_in, is_one_of}, Sound.{IsNamed, IsAlike, IsSubmitted}}, proofs.{Lined.{length_map, lines_flown}, Facts.and_right, Flown.landed_on, Going.{GoesOn, AllGoOn, still, same_worker, same_id, thing_on, things_changed}, Known.known_on, Flying.{flies_if, worker_kept, get_flown}}}
 
 -- A REQUEST THAT FLIES
 
@@ -20,10 +20,14 @@ staged_stands : (p : RequestPhase) → is_staged p ≡ true → is_resolved p �
 staged_stands RequestPhase.Staged h = refl
 staged_stands _ h = absurd (false≢true h)
 
+staged_ungated : (p : RequestPhase) → is_staged p ≡ true → is_gated p ≡ false
+staged_ungated RequestPhase.Staged h = refl
+staged_ungated _ h = absurd (false≢true h)
+
 alike_by : (start tick : ℕ) (b : Bool) (it : Waiter Reply Reply) (r : Request) → (b ≡ true → is_staged r.phase ≡ true) → IsAlike start tick it r → IsAlike start tick it (if b then (record r { phase = RequestPhase.Flying }) else r)
 alike_by start tick true it r staged a =
     let flying = sym (staged_flies r.phase (staged refl)) ∙ a.flying in
-    let permit : false ≡ true → it.permit ≡ false = λ h. absurd (false≢true h) in
+    let permit : false ≡ needs_permit it = sym (staged_ungated r.phase (staged refl)) ∙ a.permit in
     assumption (flying, permit, a)
 alike_by start tick false it r staged a = a
 
@@ -84,7 +88,7 @@ landed_flies false r n landed = refl
 
 -- nor does what flies change but by that
 plain_by : (b : Bool) (r : Request) → IsPlain r → IsPlain (if b then (record r { phase = RequestPhase.Flying }) else r)
-plain_by true r p = record { bounded = p.bounded; moved = p.moved; first_part = p.first_part; unhinted = p.unhinted; ungated = refl; deadline = p.deadline }
+plain_by true r p = record { bounded = p.bounded; moved = p.moved; deadline = p.deadline }
 plain_by false r p = p
 
 plain_flies : (b : Bool) (r : Record) → IsPlain r.shown → IsPlain (flies_if b r).shown
@@ -134,6 +138,47 @@ all_go ks rs =
       becomes = λ k r there. record { r' = flies_if (is_one_of k ks) r; there = flies_there ks rs k r there; on = goes_flies (is_one_of k ks) r };
     }
 
+-- what is seen of them by who holds them
+one_thing : (k : ℕ) (xs : List Record) → map thing_of (changed_at xs k flies) ≡ map thing_of xs
+one_thing k xs = by (slice_get xs k) refl
+  where
+    by : (o : Option Record) → slice_get xs k ≡ o → map thing_of (changed_at xs k flies) ≡ map thing_of xs
+    by None none = ap (λ o. map thing_of (changed_in xs k flies o)) none
+    by (Some r) there = things_changed xs k r flies there (thing_on r (flies r) (goes_flies true r))
+
+pub things_flown : (ks : List ℕ) (rs : List Record) → map thing_of (flown_in ks rs) ≡ map thing_of rs
+things_flown [] rs = refl
+things_flown (k ∷ ks) rs = one_thing k (flown_in ks rs) ∙ things_flown ks rs
+
+operation_by : (b : Bool) (r : Request) → (if b then (record r { phase = RequestPhase.Flying }) else r).operation ≡ r.operation
+operation_by true r = refl
+operation_by false r = refl
+
+operation_flies : (b : Bool) (r : Record) → (flies_if b r).shown.operation ≡ r.shown.operation
+operation_flies true r = operation_by ((r.shown.worker == r.shown.worker) && is_staged r.shown.phase) r.shown
+operation_flies false r = refl
+
+-- what its records say that its driver has forgotten
+pub known_flown : (i : ℕ) (numbers : List ℕ) (requests : Slab (Entry Reply Reply)) (opens : List OpenState) (rs : List Record) (ks : List ℕ) → IsKnown i numbers requests opens rs → IsKnown i numbers requests opens (flown_in ks rs)
+known_flown i numbers requests opens rs ks known =
+    known_on i numbers numbers requests requests opens opens rs (flown_in ks rs) (λ id small past. past) (λ id past. past) (sym (length_map at_gate (flown_in ks rs)) ∙ ap length (lines_flown ks rs).at ∙ length_map at_gate rs)
+    (λ k x there mine.
+    let old = was ks rs k x there in
+    let b = is_one_of k ks in
+    (old.0, old.1, sym (worker_flies b old.0) ∙ sym (ap (λ y. y.shown.worker) old.2) ∙ mine, ap (λ y. y.id) old.2 ∙ id_flies b old.0))
+    (λ file none. none)
+    (λ id it x live there.
+    let old = was ks rs (number_in numbers id) x there in
+    let same : x.shown.operation ≡ old.0.shown.operation = ap (λ y. y.shown.operation) old.2 ∙ operation_flies (is_one_of (number_in numbers id) ks) old.0 in
+    inl (record {
+      it = it;
+      r = old.0;
+      live = live;
+      there = old.1;
+      asks = record { driver = λ h. inl h; kind = ap (λ o. o.kind) same; target = ap (λ o. o.target) same; unrefused = λ h. ap (λ o. o.unrefused) (sym same) ∙ h };
+    }))
+    known
+
 pub timed_flown : (i : ℕ) (n n' : Names) (ks : List ℕ) (rs : List Record) → n'.requests ≡ n.requests → AreTimed i n rs → AreTimed i n' (flown_in ks rs)
 timed_flown i n n' ks rs same timed k x there mine =
     let old = was ks rs k x there in
@@ -148,18 +193,18 @@ timed_flown i n n' ks rs same timed k x there mine =
 
 -- what has landed, with another ring in which the same has
 pub flown_entered : (x x' : Option InService) (i : ℕ) (n n' : Names) (d : Driving Reply Reply) (ring : RingState) (l : List Landing) (ks : List ℕ) (rs : List Record)
-    → HasFlown x i n d rs → passes_permit x' ≡ false → n'.requests ≡ n.requests → n'.ended ≡ n.ended → n'.unreleased ≡ n.unreleased
+    → HasFlown x i n d rs → n'.requests ≡ n.requests → n'.ended ≡ n.ended → n'.unreleased ≡ n.unreleased
     → vec_capacity n'.staged ≡ vec_capacity n.staged → vec_capacity n'.untold ≡ vec_capacity n.untold
     → ring.size ≡ d.ring.size → IsPolled ring d.armed → operations ring ≡ operations d.ring → length n'.staged.items + length n'.untold.items ≤ length ring.staged
     → HasFlown x' i n' (record d { ring = ring; landings = l }) (flown_in ks rs)
-flown_entered x x' i n n' d ring l ks rs flown permits requests ended unreleased staged untold size polled same entries =
+flown_entered x x' i n n' d ring l ks rs flown requests ended unreleased staged untold size polled same entries =
     let d' : Driving Reply Reply = record d { ring = ring; landings = l } in
     record {
       ending = rw (ended, unreleased) flown.ending;
       staging = rw (staged, size) flown.staging;
       telling = rw (untold, size) flown.telling;
       entries = entries;
-      permits = permits;
+      gated = flown.gated;
       enrolling = flown.enrolling;
       polled = polled;
       owning = λ k y there unresolved.

@@ -1,13 +1,13 @@
 -- The request whose deadline has come first.
-use Rattle.std.{proofs.{Common.{◌≡◌, ◌≢◌, ℕ, suc, ◌<◌, Bool, true, false, List, [], ◌∷◌, length, Option, Some, None, refl, sym, ap, subst, ◌∙◌, slice_get, slice_set, is_some, if◌then◌else◌, Err}, lemmas.Bool.false≢true}, specs.VecDeque.deque_capacity}
+use Rattle.std.{proofs.{Common.{◌≡◌, ◌≢◌, ℕ, suc, ◌+◌, ◌<◌, ◌^◌, ◌&&◌, not, arith, Bool, true, false, List, [], ◌∷◌, length, Option, Some, None, refl, sym, ap, subst, ◌∙◌, slice_get, slice_set, is_some, if◌then◌else◌, Err}, lemmas.Bool.false≢true}, specs.VecDeque.deque_capacity}
 use Rattle.exec_base.specs.{Slab.value_at, declared.error.Error.TheVariants.Timeout}
 use Rattle.exec_time.specs.Wheel.{Wheel, removed}
-use Rattle.exec_request.specs.{States.asks_cancel, declared.results.WaiterState.{WaiterState, TheVariants.{Active, CancelRequested}}}
+use Rattle.exec_request.specs.{Requests.deadline_of, States.asks_cancel, declared.results.WaiterState.{WaiterState, TheVariants.{Active, CancelRequested}}}
 use Rattle.exec_waiters.{specs.{States.{waiter_at, tick_in, pending_count}, Told.Tells, declared.{waiter.Waiter.Waiter, waiter_id.WaiterId.WaiterId}}, proofs.Changes.entry_of}
 use Rattle.exec_driver.specs.{Driving.{request_at, is_enrolled}, Lists.first_of, Punctual.IsPunctual, Steps.{expired as expired_at, told_by_cancel, unscheduled}}
 use Rattle.exec_machine.specs.{declared.{event.Event.{Event, TheVariants.Expire}, state.{RequestPhase.RequestPhase, Request.Request}, config.Configuration.Configuration}, World.{Own, Common}, Deadlines.{outcome_at_expiry, expired, is_first_due}, Requests.joined_if, Tests.{is_in_flight, is_queued, is_gated}}
-use Rattle.exec_moves.specs.{declared.place.Service.Service, Callback.told_if_ended, Serve.first_numbered, State.{Desk, Moved, Things}, Submit.{due_next, first_due, submits, Due.Expires}}
-use Rattle.exec_steps.{specs.{declared.parts.{mail.Reply.Reply, record.Record.Record, shared.Shared.Shared, worker.Worker.Worker}, Records.number_in, Serving.{changed_at, changed_in}, Sound.IsAlike, Submitting.IsDueIn, View.driver_of}, proofs.{Facts.some_of, Dating.{one_pending, room_by}, Resolving.slab_after, Seeing.makes, Staging.among_first}}
+use Rattle.exec_moves.specs.{declared.place.Service.Service, Told.told_if_ended, Serve.first_numbered, State.{Desk, Moved, Things}, Submit.{due_next, first_due, submits, Due.Expires}}
+use Rattle.exec_steps.{specs.{declared.parts.{mail.Reply.Reply, record.Record.Record, shared.Shared.Shared, worker.Worker.Worker}, Records.number_in, Serving.{changed_at, changed_in}, Sound.IsAlike, Submitting.IsDueIn, View.driver_of}, proofs.{Facts.some_of, Dating.{one_pending, room_by}, Enrolled.timed_free, Known.low_there, Resolving.slab_after, Seeing.makes, Staging.among_first}}
 
 -- nobody asked for the cancel of what stands on the wheel
 unasked_by : (x : WaiterState) (t : ℕ) → tick_in x ≡ Some t → asks_cancel x ≡ false
@@ -27,6 +27,8 @@ pub record DueAt {B : Type 0} (w : Worker) (s : Shared B) (id : WaiterId) : Type
   pub enrolled : tick_in it.state ≡ Some tick
   pub unasked : asks_cancel it.state ≡ false
   pub ungated : is_gated r.shown.phase ≡ false
+  pub dated : is_some (deadline_of it.request) ≡ true
+  pub small : id.0.generation < 2 ^ 64
 
 module _ {B : Type 0} (w : Worker) (s : Shared B) (due : IsDueIn w s) (id : WaiterId) (first : first_of (driver_of w).lists.due ≡ Some id) where
   due_by : (o : Option (Waiter Reply Reply)) → request_at (driver_of w) id ≡ o → DueAt w s id
@@ -47,7 +49,9 @@ module _ {B : Type 0} (w : Worker) (s : Shared B) (due : IsDueIn w s) (id : Wait
         alike = a;
         enrolled = tick.1;
         unasked = unasked_by it.state tick.0 tick.1;
-        ungated = (sound.flown.plain (number_in w.names.requests.items id.0) r.0 r.1 r.3).ungated;
+        ungated = a.permit ∙ ap (λ b. b && not it.permit) (timed_free it.request (a.dated (ap is_some tick.1)));
+        dated = a.dated (ap is_some tick.1);
+        small = let low = low_there w.index w.names.requests.items (driver_of w).requests s.opens s.requests.items sound.known id.0 (rw (entry_of (value_at (driver_of w).requests id.0) it live) refl) in omega (arith, low);
       }
 
   pub due_first : DueAt w s id
@@ -57,7 +61,7 @@ module _ {B : Type 0} (w : Worker) (s : Shared B) (due : IsDueIn w s) (id : Wait
   due_room =
       let sound = due.submits.sound in
       let who = due_first in
-      let pending = one_pending _ (pending_count (driver_of w).requests) (slab_after (driver_of w).requests id.0 who.it (Err Timeout) None who.alike.near who.live).pending in
+      let pending = one_pending _ (pending_count (driver_of w).requests) (slab_after (driver_of w).requests id.0 who.it (Err Timeout) None who.small who.live).pending in
       room_by (length w.names.ended.items) (pending_count (driver_of w).requests) w.names.unreleased (deque_capacity w.names.ended) sound.over.counted pending sound.flown.ending
 
 -- what an expiry does to a request
@@ -127,4 +131,4 @@ comes_to_due c i gate k me s d first = rw first refl
 
 -- the move, by what comes of it
 abbrev pub move_expire : Desk → Things → ℕ → Service → ℕ → Request → Moved Things
-move_expire d x gate v k r = makes (Expire k (outcome_at_expiry r)) (submits v gate (told_if_ended (outcome_at_expiry r) r d)) x
+move_expire d x gate v k r = makes (Expire k (outcome_at_expiry r)) (submits v gate (told_if_ended (outcome_at_expiry r) k r d)) x

@@ -30,6 +30,11 @@ pub and_right : (a b : Bool) → (a && b) ≡ true → b ≡ true
 and_right true b h = h
 and_right false b h = absurd (false≢true h)
 
+pub and_parts : (a b : Bool) → (a && b) ≡ true → (a ≡ true) × (b ≡ true)
+and_parts true true h = (refl, refl)
+and_parts true false h = absurd (false≢true h)
+and_parts false b h = absurd (false≢true h)
+
 pub both_true : (a b : Bool) → a ≡ true → b ≡ true → (a && b) ≡ true
 both_true true b h other = other
 both_true false b h other = h

@@ -4,7 +4,7 @@ use Rattle.exec_base.specs.declared.task_no.TaskNo.{TaskNo}
 use Rattle.exec_task.specs.{Phases.{is_polled, is_idle as is_cell_idle, runnable_of, woken as cell_woken}, Sight.Sight, declared.{body.{Act.Act, Said.Said}, runnable.Runnable.Runnable, task.Phase.Phase}}
 use Rattle.exec_machine.specs.{Choice.{Choice.Pays, Payer.ByAct}, declared.{config.Configuration.Configuration, event.Event.{Event, TheVariants.Wake}, state.Waiting.Waiting}, Progress.Plan, Tasks.is_woken_here, Tests.is_idle, World.{Common, Task, task_of}}
 use Rattle.exec_moves.specs.{declared.place.{InPoll.InPoll, Place.Place}, Callback.flagged_by, Move.move_wake, Seen.polls_at, Send.wake_own_root, State.{Desk, Moved, Things, goes}}
-use Rattle.exec_steps.{specs.{declared.parts.{shared.Shared.Shared, task_slot.TaskSlot.TaskSlot, worker.Worker.Worker}, Phased.is_complete, Places.{claims_at, clears_at, has_count_at, is_published_at, polled_in, removes_at}, Pooled.woken_slot, Rooted.{Holds, ends_poll}, Sound.{HasGuest, IsRunnable, SoundAt, Stands, is_told, one_of}, Spots.Spot, View.{Views, common_of, desk_of, driver_of, own_of, things_with}, Whole.{is_number as is_counted, runnables_in}, Works.Beside}, proofs.{Acting.me_at, Cells.{complete_woken, polled_woken}, Facts.{same_thing, set_elsewhere, set_there}, Polling.on_in_poll, PoolKept.unremoved, Slots.{Balances, before_in_poll, spares_slot, whole_slot}, SlotTasks.{Keeps, Tasked, homes_set, none_in, resting_set, sound_tasked}, Stirs.{IsWake, Stirs}}}
+use Rattle.exec_steps.{specs.{Holding.holder_of, declared.parts.{shared.Shared.Shared, task_slot.TaskSlot.TaskSlot, worker.Worker.Worker}, Phased.is_complete, Places.{claims_at, clears_at, has_count_at, is_published_at, polled_in, removes_at}, Pooled.woken_slot, Sound.{IsRunnable, SoundAt, Stands, is_told, one_of}, Spots.Spot, View.{Views, common_of, desk_of, own_of, things_with}, Whole.{is_number as is_counted, runnables_in}, Works.Beside}, proofs.{Acting.me_at, Cells.{complete_woken, polled_woken}, Facts.{same_thing, set_elsewhere, set_there}, Polling.on_in_poll, PoolKept.unremoved, Slots.{Balances, spares_slot, whole_slot}, SlotTasks.{Keeps, Tasked, homes_set, none_in, resting_set, sound_tasked}, Stirs.{IsWake, Stirs}}}
 
 -- whether the flag is set then
 pub flag_set : (b : Bool) (r : Runnable) (f : Option Runnable) → is_some (if b then Some r else f) ≡ (is_some f || b)
@@ -18,11 +18,11 @@ own_root_move : (c : Configuration) (i : ℕ) (s : Common) (d : Desk) (x : Thing
 own_root_move c i s d x t u home is = rw is refl
 
 module _ {B : Type 0} where
-  in_flag : (f : Option Runnable) (slot : TaskSlot B) → IsRunnable (one_of f None) slot → IsRunnable f slot
+  pub in_flag : (f : Option Runnable) (slot : TaskSlot B) → IsRunnable (one_of f None) slot → IsRunnable f slot
   in_flag None slot h = h
   in_flag (Some r) slot h = h
 
-  of_flag : (f : Option Runnable) (slot : TaskSlot B) → IsRunnable f slot → IsRunnable (one_of f None) slot
+  pub of_flag : (f : Option Runnable) (slot : TaskSlot B) → IsRunnable f slot → IsRunnable (one_of f None) slot
   of_flag None slot h = h
   of_flag (Some r) slot h = h
 
@@ -54,13 +54,12 @@ module _ {B : Type 0} where
       let found : slice_get (slice_set tasks w.root slot') w.root ≡ Some slot' = set_there tasks w.root slot' slot there in
       let same : sound.runnable.root ≡ slot = same_thing sound.runnable.root slot (sym sound.runnable.there ∙ there) in
       let is : (o : TaskSlot B) → slice_get (slice_set tasks w.root slot') w.root ≡ Some o → slot' ≡ o = λ o at_root. same_thing slot' o (sym found ∙ at_root) in
-      let few : w.root < s.config.workers = rw sound.at_home sound.index in
       let run : IsRunnable w.root_ready slot = in_flag w.root_ready slot (subst (λ (o : TaskSlot B). IsRunnable (one_of w.root_ready None) o) same sound.runnable.once) in
-      let held = sound.rooted.root slot there in
-      let holds : Holds (ends_poll x) w.index w.root slot'.held.items slot'.waiting (is_complete slot'.cell.phase) w.names (driver_of w) w.home.timers s.requests.items s.sleepers.items =
-      subst (λ b. Holds (ends_poll x) w.index w.root slot.held.items slot.waiting b w.names (driver_of w) w.home.timers s.requests.items s.sleepers.items) (sym (complete_woken slot.cell.phase)) held in
+      let home : slot.home ≡ Some w.index = sym (ap (λ (o : TaskSlot B). o.home) same) ∙ sound.runnable.home in
       record {
-        homes = homes_set s.config.workers tasks w.root slot slot' there (record { home = refl; number = refl; owner = refl }) sound.homes;
+        pooled = λ h. absurd (false≢true h);
+        serves = sound.serves;
+        homes = homes_set s.config.workers (length s.seats.items) tasks w.root slot slot' there (record { home = refl; number = refl; owner = refl }) sound.homes;
         runnable = record {
           root = slot';
           there = found;
@@ -72,8 +71,8 @@ module _ {B : Type 0} where
         hand = refl;
         genuine = λ r has. absurd (none_in r has);
         guest = λ apart. let it = sound.guest apart in (it.0, set_elsewhere tasks w.root t slot' apart ∙ it.1, it.2);
-        resting = resting_set s.config.workers tasks w.root slot slot' there (λ within unpolled. absurd (omega (arith, few, within))) sound.resting;
-        rooted = record { root = λ o at_root. subst (λ (y : TaskSlot B). Holds (ends_poll x) w.index w.root y.held.items y.waiting (is_complete y.cell.phase) w.names (driver_of w) w.home.timers s.requests.items s.sleepers.items) (is o at_root) holds };
+        resting = resting_set tasks w.root slot slot' there (λ none unpolled. let never : None ≡ Some w.index = sym none ∙ home in absurd (cc)) sound.resting;
+        stops = λ o found_t. tt;
         going = λ o at_root. subst (λ (y : TaskSlot B). is_complete y.cell.phase ≡ false) (is o at_root) (complete_woken slot.cell.phase ∙ (sound.phased sound.seated.seat sound.seated.there).root slot there);
         stands = λ o at_root. subst (Stands x w.index) (is o at_root) (stands_woken x w.index slot (sound.tied.stands slot there));
       }
@@ -92,6 +91,7 @@ module _ {B : Type 0} where
       let ordinary : slot.home ≡ None → ⊥ = λ none. let never : Some w.index ≡ None = sym home ∙ none in absurd (cc) in
       let bal : Balances w.root q w None slot (woken_slot slot) = record {
         keeps = keeps;
+        holder = ap (λ b. record (holder_of slot) { over = b }) (complete_woken slot.cell.phase);
         apart = λ k other. sym (ap (λ o. runnables_in k (option_to_list o)) sound.hand);
         one = λ g none. absurd (ordinary none);
         polls_apart = λ k other. sym (ap (λ p. is_counted (polls_at p) k) sound.here);
@@ -100,13 +100,13 @@ module _ {B : Type 0} where
         removes = λ u is. absurd (unremoved (removes_at q) refl u is);
       } in
       record {
-        sound = sound_tasked t InPoll.Act q w f None s s' sound (on_in_poll t InPoll.Act refl) (subst (Tasked q w f None s) (sym items) (root_woken t w s slot sound there));
+        sound = sound_tasked t InPoll.Act q w f None s s' sound (on_in_poll t InPoll.Act refl refl) (subst (Tasked q w f None s) (sym items) (root_woken t w s slot sound there));
         beside = record {
           spares = λ j other.
               spares_slot w.index j w.root s s' slot (woken_slot slot) other there items keeps (λ is. other (same_thing j w.index (sym is ∙ home)))
               (λ polled mine. record { polled = polled_woken slot.cell.phase ∙ polled; number = refl; cancelled = λ e. e; kept = refl }) sound.homes;
           whole = λ others whole.
-              whole_slot w.root q w f None s s' slot (woken_slot slot) others (sound.loot.none refl) (ap claims_at sound.here) (ap has_count_at sound.here) (ap is_published_at sound.here) (ap clears_at sound.here) (before_in_poll t InPoll.Act w s sound) (on_in_poll t InPoll.Act refl) there items bal whole;
+              whole_slot w.root q w f None s s' slot (woken_slot slot) others (sound.loot.none refl) (ap claims_at sound.here) (ap has_count_at sound.here) (ap is_published_at sound.here) (ap clears_at sound.here) (λ none. absurd (ordinary none)) (on_in_poll t InPoll.Act refl refl) there items bal whole;
         };
       }
 

@@ -62,8 +62,8 @@ landed_as n d d' rs cs same are =
     landed_on n n d d' rs rs cs are
     (λ id it r given at flies there landed. record { it' = it; r' = r; live = ap (λ s. waiter_at s id) same ∙ at; flies = refl; same = refl; number = refl; there = there; phase = refl })
 
--- A mark of a record, as released or as one that has paid.
-module _ (f : Record → Record) (marks : (r : Record) → f r ≡ record r { shown = record r.shown { wakes_paid = (f r).shown.wakes_paid; released = (f r).shown.released } }) where
+-- A mark of a record, as released, as one that has paid, or whose end was sent elsewhere.
+module _ (f : Record → Record) (marks : (r : Record) → f r ≡ record r { shown = record r.shown { wakes_paid = (f r).shown.wakes_paid; released = (f r).shown.released }; sent = (f r).sent }) where
   phase_kept : (b : Bool) (r : Record) → (mark_if f b r).shown.phase ≡ r.shown.phase
   phase_kept true r = ap (λ y. y.shown.phase) (marks r)
   phase_kept false r = refl
@@ -90,7 +90,7 @@ module _ (f : Record → Record) (marks : (r : Record) → f r ≡ record r { sh
         staging = rw staged flown.staging;
         telling = rw untold flown.telling;
         entries = rw (staged, untold) flown.entries;
-        permits = flown.permits;
+        gated = flown.gated;
         enrolling = flown.enrolling;
         polled = flown.polled;
         owning = λ k y there unresolved.

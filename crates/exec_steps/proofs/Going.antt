@@ -1,13 +1,13 @@
 -- Requests that go on: none ends, nor begins, nor is let go of. What that leaves as it was.
-use Rattle.std.proofs.Common.{◌≡◌, ℕ, Bool, true, false, List, [], ◌∷◌, Option, Some, IsSome, refl, sym, ap, ◌∙◌, slice_get}
-use Rattle.exec_base.specs.{Slab.{Slab, value_at}, declared.{slab.Id.Id, task_no.TaskNo.TaskNo}}
+use Rattle.std.proofs.{Common.{◌≡◌, ℕ, ◌+◌, ◌≤◌, ◌&&◌, ◌||◌, Bool, true, false, not, Contains, List, [], ◌∷◌, map, Option, Some, None, IsSome, refl, sym, ap, subst, ◌∙◌, slice_get}, Math.Seq.map-set_same, lemmas.{Bool.false≢true, Option.get_or_from_slice_get}}
+use Rattle.exec_base.specs.{Slab.{Slab, value_at}, declared.slab.Id.Id}
+use Rattle.exec_outcomes.specs.declared.outcome.Outcome.{Outcome}
 use Rattle.exec_time.specs.declared.timers.Sleeper.{Sleeper as Sleeping}
 use Rattle.exec_request.specs.declared.output.RequestOutput.{RequestOutput}
-use Rattle.exec_waiters.specs.declared.waiter.Entry.TheVariants.{Ready}
+use Rattle.exec_waiters.specs.{States.waiter_at, declared.{deferred.{Answer.Answer, Deferred.Deferred}, waiter.{Entry.TheVariants.{Ready}, Waiter.Waiter}}}
 use Rattle.exec_driver.specs.Driving.{Driving}
-use Rattle.exec_machine.specs.{declared.state.Waiting.Waiting, Tests.is_resolved}
-use Rattle.exec_moves.specs.declared.place.InPoll.{InPoll}
-use Rattle.exec_steps.specs.{declared.parts.{mail.Reply.Reply, names.Names.Names, record.Record.Record, sleeping.SleeperRecord.SleeperRecord, task_slot.TaskSlot.TaskSlot}, Records.number_in, Rooted.{Awaits, Holds, IsRooted}, Sound.{AreOver, AreOwed, OwesWake, RequestOwes}}
+use Rattle.exec_machine.specs.{declared.state.RequestPhase.{RequestPhase, TheVariants.Resolved}, Tests.{is_applied, is_resolved}}
+use Rattle.exec_steps.specs.{declared.parts.{mail.Reply.Reply, names.Names.Names, record.Record.Record, sleeping.SleeperRecord.SleeperRecord}, Holding.{IsAnswerOf, Thing, thing_of}, Places.one_if, Records.{number_in, outcome_in}, Rooted.{IsKept, IsReplyFor, IsResult, IsRooted, Pays, StandsAt, Watches, goes_elsewhere, results_of}, Serving.{changed_at, changed_in, flies, flown_in}, Sound.AreOver}
 
 -- of a request how far its operation came, its deadline and its cancel may change
 pub record GoesOn (r r' : Record) : Type 0 where
@@ -52,6 +52,18 @@ same_waiter r r' on = ap (λ x. x.shown.waiter) on.same
 pub same_paid : (r r' : Record) → GoesOn r r' → r'.shown.wakes_paid ≡ r.shown.wakes_paid
 same_paid r r' on = ap (λ x. x.shown.wakes_paid) on.same
 
+outcome_open : (p : RequestPhase) → is_resolved p ≡ false → outcome_in p ≡ None
+outcome_open (Resolved outcome) h = absurd (false≢true (sym h))
+outcome_open _ h = refl
+
+-- it ends no more than before
+pub thing_on : (r r' : Record) → GoesOn r r' → thing_of r' ≡ thing_of r
+thing_on r r' on = ap (λ x. record (thing_of x) { ended = outcome_in r'.shown.phase }) on.same ∙ ap (λ o. record (thing_of r) { ended = o }) (by (is_resolved r.shown.phase) refl)
+  where
+    by : (b : Bool) → is_resolved r.shown.phase ≡ b → outcome_in r'.shown.phase ≡ outcome_in r.shown.phase
+    by true is = ap outcome_in (on.ended is)
+    by false is = outcome_open r'.shown.phase (on.over ∙ is) ∙ sym (outcome_open r.shown.phase is)
+
 module _ (rs rs' : List Record) (all : AllGoOn rs rs') where
   pub owning_on : ((k : ℕ) (r : Record) → slice_get rs k ≡ Some r → is_resolved r.shown.phase ≡ false → r.shown.released ≡ false)
       → (k : ℕ) (x : Record) → slice_get rs' k ≡ Some x → is_resolved x.shown.phase ≡ false → x.shown.released ≡ false
@@ -71,94 +83,77 @@ module _ (rs rs' : List Record) (all : AllGoOn rs rs') where
         counted = over.counted;
       }
 
-  -- WHAT IS OWED
-  owes_on : (i t : ℕ) (r r' : Record) → GoesOn r r' → RequestOwes i t r → RequestOwes i t r'
-  owes_on i t r r' on owes =
-      record { worker = same_worker r r' on ∙ owes.worker; waiter = same_waiter r r' on ∙ owes.waiter; unpaid = same_paid r r' on ∙ owes.unpaid; over = on.over ∙ owes.over }
+  -- WHAT IS TOLD ELSEWHERE
 
-  wake_on : (i t : ℕ) (what : Waiting) (zs : List SleeperRecord) → OwesWake i t what rs zs → OwesWake i t what rs' zs
-  wake_on i t (Waiting.Request n) zs owes =
-      let new = all.becomes n owes.0 owes.1 in
-      (new.r', new.there, owes_on i t owes.0 new.r' new.on owes.2)
-  wake_on i t (Waiting.Timer n) zs owes = owes
-  wake_on i t _ zs owes = absurd owes
+  pub elsewhere_same : (r r' : Record) → GoesOn r r' → goes_elsewhere r' ≡ goes_elsewhere r
+  elsewhere_same r r' on =
+      ap (λ f. is_applied f && (is_resolved r'.shown.phase || not r'.shown.observed)) (ap (λ x. x.shown.forwarding) on.same)
+      ∙ ap (λ b. is_applied r.shown.forwarding && (b || not r'.shown.observed)) on.over
+      ∙ ap (λ b. is_applied r.shown.forwarding && (is_resolved r.shown.phase || not b)) (same_observed r r' on)
 
-  pub owed_on : {B : Type 0} (i t : ℕ) (ws : List TaskNo) (tasks : List (TaskSlot B)) (zs : List SleeperRecord) → AreOwed i t ws tasks rs zs → AreOwed i t ws tasks rs' zs
-  owed_on i t [] tasks zs owed = tt
-  owed_on i t (n ∷ []) tasks zs owed = (owed.0, λ slot there. wake_on i t slot.waiting zs (owed.1 slot there))
-  owed_on i t (n ∷ (m ∷ ns)) tasks zs owed = absurd owed
+  reply_on : (i : ℕ) (reply : Reply) (k : ℕ) (r r' : Record) → GoesOn r r' → IsReplyFor k reply r → IsReplyFor k reply r'
+  reply_on i reply k r r' on h = record { of = h.of; task = same_waiter r r' on ∙ h.task }
 
-  -- WHAT THE ROOT HOLDS
-  awaits_on : (ends : Bool) (i t : ℕ) (held : List ℕ) (what : Waiting) (zs : List SleeperRecord) → Awaits ends i t held what rs zs → Awaits ends i t held what rs' zs
-  awaits_on ends i t held (Waiting.Request k) zs waits =
-      let new = all.becomes k waits.0 waits.1 in
-      let old = waits.2 in (
-        new.r',
-        new.there,
-        record {
-          newest = old.newest;
-          waiter = same_waiter waits.0 new.r' new.on ∙ old.waiter;
-          unpaid = λ h. same_paid waits.0 new.r' new.on ∙ old.unpaid (sym new.on.over ∙ h);
-          open_still = λ h. new.on.over ∙ old.open_still h;
-        },
-      )
-  awaits_on ends i t held (Waiting.Timer k) zs waits = waits
-  awaits_on ends i t held Waiting.Nothing zs waits = tt
-  awaits_on ends i t held Waiting.Wake zs waits = tt
-  awaits_on ends i t held Waiting.Woken zs waits = tt
-  awaits_on ends i t held Waiting.Yielded zs waits = tt
-
-  -- where at the driver what is there stays there, and no output comes
-  pub holds_on : (ends : Bool) (i t : ℕ) (held : List ℕ) (what : Waiting) (done : Bool) (n n' : Names) (d d' : Driving Reply Reply) (zs : Slab (Sleeping Reply)) (sleepers : List SleeperRecord)
-      → Holds ends i t held what done n d zs rs sleepers
-      → n'.held ≡ n.held → n'.requests ≡ n.requests → n'.timers ≡ n.timers
+  -- Where at the driver what is there stays there, no output comes, and who waits stays.
+  pub rooted_on : (i : ℕ) (n n' : Names) (d d' : Driving Reply Reply) (zs : Slab (Sleeping Reply)) (left : Deferred Reply Reply) (sleepers : List SleeperRecord)
+      → IsRooted i n d zs left rs sleepers
+      → n'.requests ≡ n.requests → n'.timers ≡ n.timers
       → ((id : Id) → IsSome (value_at d.requests id) → IsSome (value_at d'.requests id))
       → ((id : Id) (told : RequestOutput) → value_at d'.requests id ≡ Some (Ready told) → value_at d.requests id ≡ Some (Ready told))
-      → Holds ends i t held what done n' d' zs rs' sleepers
-  holds_on ends i t held what done n n' d d' zs sleepers holds count requests timers stays ready =
+      → ((id : Id) (it' : Waiter Reply Reply) → waiter_at d'.requests id ≡ Some it' → (it : Waiter Reply Reply) × (waiter_at d.requests id ≡ Some it) × (it'.observer ≡ it.observer))
+      → IsRooted i n' d' zs left rs' sleepers
+  rooted_on i n n' d d' zs left sleepers rooted requests timers stays ready waits =
       record {
-        counted = count ∙ holds.counted;
-        held = λ j k at.
-            let old = holds.held j k at in
-            let new = all.becomes k old.0 old.1 in
-            let it = old.2 in
-            let id = same_id old.0 new.r' new.on in (
-              new.r',
-              new.there,
-              record {
-                worker = same_worker old.0 new.r' new.on ∙ it.worker;
-                observed = same_observed old.0 new.r' new.on ∙ it.observed;
-                unsent = ap (λ x. x.shown.forwarding) new.on.same ∙ it.unsent;
-                named = rw (requests, id) it.named;
-                live = rw id (stays old.0.id.0 it.live);
-                unpaid = λ h. same_paid old.0 new.r' new.on ∙ it.unpaid (sym new.on.over ∙ h);
-              },
-            );
-        once = holds.once;
-        all = λ k x there mine seen.
-            let old = all.was k x there in
-            holds.all k old.r old.there (sym (same_worker old.r x old.on) ∙ mine) (sym (same_observed old.r x old.on) ∙ seen);
-        awaited = λ k x u there mine unresolved seen waits.
-            let old = all.was k x there in
-            holds.awaited k old.r u old.there (sym (same_worker old.r x old.on) ∙ mine) (sym old.on.over ∙ unresolved) (sym (same_observed old.r x old.on) ∙ seen) (sym (same_waiter old.r x old.on) ∙ waits);
         kept = λ id told x at there.
-            let old = all.was (number_in n.requests.items id) x (rw (← requests) there) in
-            let was = holds.kept id told old.r (ready id told at) old.there in
+            let old = all.was (number_in n.requests.items id) x (subst (λ v. slice_get rs' (number_in v.items id) ≡ Some x) requests there) in
+            let was = rooted.kept id told old.r (ready id told at) old.there in
             record {
               over = old.on.ended (ap is_resolved was.over) ∙ was.over;
               observed = same_observed old.r x old.on ∙ was.observed;
+              unapplied = ap (λ y. is_applied y.shown.forwarding) old.on.same ∙ was.unapplied;
             };
-        waits = awaits_on ends i t held what sleepers holds.waits;
-        sleeping = λ id it at. rw timers (holds.sleeping id it at);
-        asleep = holds.asleep;
-        over = holds.over;
+        ready = λ k x there mine over seen unapplied.
+            let old = all.was k x there in
+            let is = rooted.ready k old.r old.there (sym (same_worker old.r x old.on) ∙ mine) (sym old.on.over ∙ over) (sym (same_observed old.r x old.on) ∙ seen) (sym (ap (λ y. is_applied y.shown.forwarding) old.on.same) ∙ unapplied) in
+            let name = same_id old.r x old.on in
+            record {
+              named = ap (λ v. number_in v.items x.id.0) requests ∙ ap (λ y. number_in n.requests.items y.0) name ∙ is.named;
+              live = subst (λ y. IsSome (value_at d'.requests y.0)) (sym name) (stays old.r.id.0 is.live);
+            };
+        replies = λ id it' reply x at forwarded there.
+            let old = all.was (number_in n.requests.items id) x (subst (λ v. slice_get rs' (number_in v.items id) ≡ Some x) requests there) in
+            let it = waits id it' at in
+            subst (λ v. IsReplyFor (number_in v.items id) reply x) (sym requests)
+            (reply_on i reply (number_in n.requests.items id) old.r x old.on (rooted.replies id it.0 reply old.r it.1 (sym it.2 ∙ forwarded) old.there));
+        watches = λ id it z at there. subst (λ v. Watches (number_in v.items id) it.observer z) (sym timers) (rooted.watches id it z at (subst (λ v. slice_get sleepers (number_in v.items id) ≡ Some z) timers there));
+        pays = λ k x there mine.
+            let old = all.was k x there in
+            let was = rooted.pays k old.r old.there (sym (same_worker old.r x old.on) ∙ mine) in
+            record {
+              unpaid = λ going seen. same_paid old.r x old.on ∙ was.unpaid (sym old.on.over ∙ going) (sym (same_observed old.r x old.on) ∙ seen);
+              once = λ unapplied. subst (λ m. m ≤ 1) (sym (same_paid old.r x old.on)) (was.once (sym (ap (λ y. is_applied y.shown.forwarding) old.on.same) ∙ unapplied));
+            };
+        sleeper_pays = rooted.sleeper_pays;
+        results = λ a among.
+            let it = rooted.results a among in
+            let new = all.becomes it.k it.r it.there in
+            record {
+              k = it.k;
+              r = new.r';
+              there = new.there;
+              worker = same_worker it.r new.r' new.on ∙ it.worker;
+              reply = reply_on i a.sender it.k it.r new.r' new.on it.reply;
+              answer = subst (IsAnswerOf a.result) (sym (thing_on it.r new.r' new.on)) it.answer;
+              paid = subst (λ m. m ≤ 1) (sym (same_paid it.r new.r' new.on)) it.paid;
+            };
+        completions = rooted.completions;
+        sent = λ k x there mine.
+            let old = all.was k x there in
+            ap (λ y. results_of k left + one_if y.sent) old.on.same ∙ rooted.sent k old.r old.there (sym (same_worker old.r x old.on) ∙ mine) ∙ ap one_if (sym (elsewhere_same old.r x old.on));
+        sleeper_sent = rooted.sleeper_sent;
       }
 
-  pub rooted_on : {B : Type 0} (x : Option InPoll) (i t : ℕ) (n n' : Names) (d d' : Driving Reply Reply) (zs : Slab (Sleeping Reply)) (tasks : List (TaskSlot B)) (sleepers : List SleeperRecord)
-      → IsRooted x i t n d zs tasks rs sleepers
-      → n'.held ≡ n.held → n'.requests ≡ n.requests → n'.timers ≡ n.timers
-      → ((id : Id) → IsSome (value_at d.requests id) → IsSome (value_at d'.requests id))
-      → ((id : Id) (told : RequestOutput) → value_at d'.requests id ≡ Some (Ready told) → value_at d.requests id ≡ Some (Ready told))
-      → IsRooted x i t n' d' zs tasks rs' sleepers
-  rooted_on x i t n n' d d' zs tasks sleepers rooted count requests timers stays ready =
-      record { root = λ slot there. holds_on _ i t slot.held.items slot.waiting _ n n' d d' zs sleepers (rooted.root slot there) count requests timers stays ready }
+-- WHAT IS SEEN OF REQUESTS by who holds them
+
+pub things_changed : (rs : List Record) (k : ℕ) (r : Record) (f : Record → Record) → slice_get rs k ≡ Some r → thing_of (f r) ≡ thing_of r → map thing_of (changed_at rs k f) ≡ map thing_of rs
+things_changed rs k r f there same = ap (λ o. map thing_of (changed_in rs k f o)) there ∙ map-set_same thing_of rs k (f r) r (same ∙ ap thing_of (sym (get_or_from_slice_get rs k r r there)))

@@ -1,10 +1,10 @@
 -- A new task is in the hand: the look whether the own run queue takes it.
-use Rattle.std.proofs.Common.{◌≡◌, ◌≢◌, ◌⊎◌, inr, ⊎_elim, ℕ, ◌==◌, Bool, true, false, Contains, List, Option, Some, None, refl, sym, ap, subst, ◌∙◌, slice_get, option_to_list, if◌then◌else◌}
+use Rattle.std.proofs.{Common.{◌≡◌, ◌≢◌, ◌⊎◌, inr, ⊎_elim, ℕ, ◌==◌, Bool, true, false, Contains, List, Option, Some, None, refl, sym, ap, subst, ◌∙◌, slice_get, option_to_list, if◌then◌else◌}, lemmas.Bool.false≢true}
 use Rattle.exec_words.specs.Queue.{tail_of}
 use Rattle.exec_task.specs.declared.{body.Said.Said, runnable.Runnable.Runnable}
 use Rattle.exec_machine.specs.{declared.{event.Event.{Event, TheVariants.Turn}, state.Next.Next}, Choice.Choice.Plain}
 use Rattle.exec_moves.specs.{declared.{handing.{AfterPush.AfterPush, InGlobal.InGlobal, InPush.InPush}, place.{InPoll.InPoll, Place.Place}}, Poll.load_spawn_head, Seen.polls_at, State.{Moved, queue_of, turns}}
-use Rattle.exec_steps.{specs.{declared.parts.{shared.Shared.Shared, task_slot.TaskSlot.TaskSlot, worker.Worker.Worker}, Phased.is_complete, Places.{claims_at, drops_at, hands_on_at, has_count_at, is_published_at, in_poll_of, no_drops, polled_in, step_of_poll}, Rooted.{Holds, IsRooted, ends_poll}, Sound.{HasGuest, IsGuest, IsHeld, IsInHand, SoundAt, Stands}, Spots.Spot, View.{desk_of, driver_of, things_of, things_with}, Whole.IsGenuine, Works.{Goes, Makes, Steps}}, proofs.{Aside.{SameProfile, beside_calm, seats_same}, Facts.same_thing, PoolKept.gates_same, SlotTasks.{IsAfter, Tasked, sound_tasked}, Turning.{Arrives, IsTurn, by_place, queue_back_again, turned}}}
+use Rattle.exec_steps.{specs.{declared.parts.{shared.Shared.Shared, task_slot.TaskSlot.TaskSlot, worker.Worker.Worker}, Places.{claims_at, drops_at, hands_on_at, has_count_at, is_pooled_at, is_published_at, in_poll_of, no_drops, polled_in, step_of_poll}, Sound.{HasGuest, IsGuest, IsHeld, IsInHand, Serves, SoundAt, Stands, Stops}, Spots.Spot, View.{desk_of, driver_of, things_of, things_with}, Whole.IsGenuine, Works.{Goes, Makes, Steps}}, proofs.{Aside.{SameProfile, beside_calm, seats_same}, Facts.same_thing, PoolKept.gates_same, SlotTasks.{IsAfter, Tasked, sound_tasked}, Turning.{Arrives, IsTurn, by_place, queue_back_again, turned}}}
 
 -- where a runnable in the hand is queued, for an act of task t
 record IsHandingOn (t : ℕ) (q : Place) : Type 0 where
@@ -12,16 +12,18 @@ record IsHandingOn (t : ℕ) (q : Place) : Type 0 where
   polls : polls_at q ≡ Some t
   step : step_of_poll q ≡ InPoll.Act
   hands : hands_on_at q ≡ true
+  unpooled : is_pooled_at q ≡ false
   turn : (n : ℕ) → IsTurn n (Place.Poll t InPoll.LoadSpawnHead) q
   drops : drops_at q ≡ no_drops
 
 to_queue : (t : ℕ) → IsHandingOn t (Place.Push InPush.LoadPushHead (AfterPush.Act t))
 to_queue t =
     record {
-      after = record { open_still = refl; closing = refl; served = refl; unarmed = refl; calls = refl; begins = refl; queue = λ x h. h; searching = λ b h. h; aims = λ c i seats. tt; batch = λ ms h. h; claims = refl; counts = refl; published = refl; clears = refl };
+      after = record { open_still = refl; closing = refl; served = refl; unarmed = refl; calls = refl; begins = refl; queue = λ x h. h; searching = λ b h. h; aims = λ c i seats. tt; batch = λ ms h. absurd (false≢true h); spare = refl; cancels = refl; sends_cancel = refl; heard = refl; bare = refl; claims = refl; counts = refl; published = refl; clears = refl; passes = refl; joins = refl };
       polls = refl;
       step = refl;
       hands = refl;
+      unpooled = refl;
       turn = λ n. record { polls = refl; free = refl; free_then = refl; unserved = refl; owes = refl };
       drops = refl;
     }
@@ -29,17 +31,14 @@ to_queue t =
 to_global : (t : ℕ) → IsHandingOn t (Place.Global InGlobal.Append (AfterPush.Act t))
 to_global t =
     record {
-      after = record { open_still = refl; closing = refl; served = refl; unarmed = refl; calls = refl; begins = refl; queue = λ x h. h; searching = λ b h. h; aims = λ c i seats. tt; batch = λ ms h. h; claims = refl; counts = refl; published = refl; clears = refl };
+      after = record { open_still = refl; closing = refl; served = refl; unarmed = refl; calls = refl; begins = refl; queue = λ x h. h; searching = λ b h. h; aims = λ c i seats. tt; batch = λ ms h. absurd (false≢true h); spare = refl; cancels = refl; sends_cancel = refl; heard = refl; bare = refl; claims = refl; counts = refl; published = refl; clears = refl; passes = refl; joins = refl };
       polls = refl;
       step = refl;
       hands = refl;
+      unpooled = refl;
       turn = λ n. record { polls = refl; free = refl; free_then = refl; unserved = refl; owes = refl };
       drops = refl;
     }
-
-unended : (b : Bool) → ends_poll (if b then Some InPoll.LoadSpawnHead else None) ≡ ends_poll (if b then Some InPoll.Act else None)
-unended true = refl
-unended false = refl
 
 module _ {B : Type 0} where
   acts_there : (i : ℕ) (slot : TaskSlot B) (b : Bool) → Stands (if b then Some InPoll.LoadSpawnHead else None) i slot → Stands (if b then Some InPoll.Act else None) i slot
@@ -52,19 +51,17 @@ module _ {B : Type 0} where
       let guest : HasGuest (Some t) InPoll.Act w.index w.root s.tasks.items = λ apart.
       let it = sound.guest apart in
       let g = it.2 in
-      (it.0, it.1, record { ordinary = g.ordinary; polled = g.polled; body = g.body; poller = g.poller; cancelled = g.cancelled; held = g.held; waits = g.waits; told = g.told; untold = g.untold; there = g.there }) in
+      (it.0, it.1, record { ordinary = g.ordinary; polled = g.polled; body = g.body; poller = g.poller; cancelled = g.cancelled; told = g.told; untold = g.untold; there = g.there }) in
       record {
+        pooled = λ is. absurd (false≢true (sym to.unpooled ∙ is));
+        serves = subst (λ o. Serves o w.root w.role) (sym to.polls) sound.serves;
         homes = sound.homes;
         runnable = sound.runnable;
         hand = subst (λ b. IsInHand None b w.hand) (sym to.hands) sound.hand;
         genuine = λ r has. ⊎_elim (λ never. let no : None ≡ Some w.root = never in absurd (cc)) (λ h. h) (sound.genuine r has);
         guest = subst (λ o. HasGuest o (step_of_poll q) w.index w.root s.tasks.items) (sym to.polls) (subst (λ x. HasGuest (Some t) x w.index w.root s.tasks.items) (sym to.step) guest);
         resting = sound.resting;
-        rooted = record {
-          root = λ slot there.
-              subst (λ b. Holds b w.index w.root slot.held.items slot.waiting (is_complete slot.cell.phase) w.names (driver_of w) w.home.timers s.requests.items s.sleepers.items)
-              (unended (t == w.root) ∙ ap ends_poll (sym own)) (sound.rooted.root slot there);
-        };
+        stops = subst (λ x. Stops (polls_at q) x w.index s.tasks.items s.requests.items s.sleepers.items) (sym to.step) (subst (λ o. Stops o InPoll.Act w.index s.tasks.items s.requests.items s.sleepers.items) (sym to.polls) (λ slot there. tt));
         going = λ slot there. (sound.phased sound.seated.seat sound.seated.there).root slot there;
         stands = λ slot there. subst (λ x. Stands x w.index slot) (sym own) (acts_there w.index slot (t == w.root) (sound.tied.stands slot there));
       }
@@ -81,8 +78,8 @@ module _ {B L : Type 0} (left : B → L) (spot : L → Option Said → Spot) whe
       (subst (λ v. Arrives v.place w v s s) (sym (goes ∙ ap (λ x. record w { place = x }) place)) arrives)
       (beside_calm w w' s s
       (subst (SameProfile w) (sym (goes ∙ ap (λ x. record w { place = x }) place))
-      (record { hand = refl; loot = refl; polls = to.polls ∙ sym (ap polls_at sound.here); claims = to.after.claims ∙ sym (ap claims_at sound.here); searching = refl; counts = to.after.counts ∙ sym (ap has_count_at sound.here); index = refl; published = to.after.published ∙ sym (ap is_published_at sound.here); drops = to.drops ∙ sym (ap drops_at sound.here) }))
-      refl (seats_same w.index s.seats.items s.seats.items refl) (gates_same s.seats.items s.seats.items refl) refl refl refl)
+      (record { hand = refl; loot = refl; polls = to.polls ∙ sym (ap polls_at sound.here); claims = to.after.claims ∙ sym (ap claims_at sound.here); searching = refl; counts = to.after.counts ∙ sym (ap has_count_at sound.here); index = refl; published = to.after.published ∙ sym (ap is_published_at sound.here); drops = to.drops ∙ sym (ap drops_at sound.here); told = record { batch = refl; letters = refl; left = refl } }))
+      refl (seats_same w.index s.seats.items s.seats.items refl) (gates_same s.seats.items s.seats.items refl) refl refl refl refl)
       (λ p vs suits.
       ap (λ x. record { event = Turn; choice = Plain; desk = m.desk; thing = x }) (queue_back_again w.index (things_with vs s))
       ∙ ap (λ d. record { event = Turn; choice = Plain; desk = d; thing = things_with vs s }) (sym makes.desk))

@@ -75,10 +75,6 @@ module _ {B : Type 0} where
   unflagged_there None o slot polled run = refl
   unflagged_there (Some r) o slot polled run = absurd (false≢true (sym (ap is_polled run.1.1) ∙ polled))
 
-  -- no request joins a gate yet
-  pub never_joins : (t k : ℕ) (w : Worker) (s : Shared B) → SoundAt (Place.Poll t (InPoll.JoinGate k)) w s → ⊥
-  never_joins t k w s sound = (polled_here (InPoll.JoinGate k) t w s sound refl).waits
-
 -- what stands within a list
 pub found_within : {A : Type 0} (xs : List A) (i : ℕ) → i < length xs → (x : A) × (slice_get xs i ≡ Some x)
 found_within [] i few = absurd (omega (arith, few))

@@ -8,8 +8,7 @@ use Rattle.exec_waiters.{specs.{States.{waiter_at, tick_in, needs_permit}, decla
 use Rattle.exec_driver.specs.{Driving.{Driving, request_at, is_gated as waits_gated}, Lists.is_among, Placed.ListsRequests, Steps.lowest_gate}
 use Rattle.exec_machine.specs.{declared.{config.Configuration.Configuration, state.Request.Request}, Deadlines.{is_due, is_first_due}, Tests.{is_gated, is_resolved}, World.{Own, Common}}
 use Rattle.exec_moves.specs.{declared.place.InService.InService, Serve.first_numbered, State.Desk, Submit.{first_due, next_gate, waits_at, due_next, staging_due}}
-use Rattle.exec_steps.{specs.{declared.parts.{mail.Reply.Reply, names.Names.Names, record.Record.Record, shared.Shared.Shared, sleeping.SleeperRecord.SleeperRecord, worker.{Worker.Worker, Moments.Moments}}, Due.{IsDue, wheel_moment}, Flown.{HasFlown, longest, IsUpTo}, Records.number_in, Sound.IsNamed, Submitting.IsGatedIn, View.driver_of}, proofs.{Facts.{same_self, same_number}, Calling.request_seen}}
-pub use Rattle.exec_steps.proofs.Results.{plain_kind}
+use Rattle.exec_steps.{specs.{declared.parts.{mail.Reply.Reply, names.Names.Names, record.Record.Record, shared.Shared.Shared, sleeping.SleeperRecord.SleeperRecord, worker.{Worker.Worker, Moments.Moments}}, Due.{IsDue, wheel_moment}, Flown.HasFlown, Records.number_in, Sound.IsNamed}, proofs.{Facts.{same_self, same_number}, Recorded.request_seen}}
 
 -- LISTS
 
@@ -21,7 +20,7 @@ pub first_none : {X : Type 0} (test : ℕ → X → Bool) (n : ℕ) (xs : List X
 first_none test n [] h = refl
 first_none test n (x ∷ xs) h = rw (h 0 n x refl (omega arith)) (first_none test (suc n) xs (λ k m y there is. h (suc k) m y there (omega (arith, is))))
 
-none_any : {X : Type 0} (test : X → Bool) (xs : List X) → ((k : ℕ) (x : X) → slice_get xs k ≡ Some x → test x ≡ false) → list_any test xs ≡ false
+pub none_any : {X : Type 0} (test : X → Bool) (xs : List X) → ((k : ℕ) (x : X) → slice_get xs k ≡ Some x → test x ≡ false) → list_any test xs ≡ false
 none_any test [] h = refl
 none_any test (x ∷ xs) h = rw (h 0 x refl) (none_any test xs (λ k y there. h (suc k) y there))
 
@@ -41,8 +40,8 @@ due_by i moment r false t is timer h = rw is refl
 due_by i moment r true None is timer h = rw (is, timer) refl
 due_by i moment r true (Some m) is timer h = rw (is, timer) (h refl m refl)
 
-module _ (x : Option InService) (i : ℕ) (m : Moments) (c : Configuration) (n : Names) (d : Driving Reply Reply) (zs : Slab (Sleeping Reply)) (rs : List Record) (ss : List SleeperRecord)
-    (due : IsDue x i m c n d zs rs ss) (named : IsNamed i n d zs rs ss) (some : 0 < c.tick) (begun : m.start ≤ wheel_moment x m) where
+module _ {closing : Bool} (x : Option InService) (i : ℕ) (m : Moments) (c : Configuration) (n : Names) (d : Driving Reply Reply) (zs : Slab (Sleeping Reply)) (rs : List Record) (ss : List SleeperRecord)
+    (due : IsDue x closing i m c n d zs rs ss) (named : IsNamed i n d zs rs ss) (some : 0 < c.tick) (begun : m.start ≤ wheel_moment x m) where
   -- a request of the worker with a deadline is at its driver
   pub record StandsTimed (k : ℕ) (r : Record) (t : ℕ) : Type 0 where
     pub it : Waiter Reply Reply
@@ -99,59 +98,7 @@ module _ (x : Option InService) (i : ℕ) (m : Moments) (c : Configuration) (n :
       let same : j ≡ k = omega (arith, is) in
       rw (same, request_seen rs k f.0 f.1, sampled, undue none k f.0 f.1) refl))
 
--- GATES
-
-ungated_by : (i file : ℕ) (r : Request) (b : Bool) → (r.worker == i) ≡ b → (b ≡ true → is_gated r.phase ≡ false) → waits_at i file r ≡ false
-ungated_by i file r true is h = rw (is, h refl) refl
-ungated_by i file r false is h = rw is refl
-
-pub none_gated : (x : Option InService) (i gate : ℕ) (n : Names) (d : Driving Reply Reply) (rs : List Record) (s : Common) → s.requests ≡ map (λ r. r.shown) rs → HasFlown x i n d rs → next_gate i gate s ≡ None
-none_gated x i gate n d rs s shown flown =
-    first_none (λ file o. nat_le gate file && list_any (waits_at i file) s.requests) 0 s.opens
-    (λ k j o there is.
-    let none : list_any (waits_at i j) s.requests ≡ false =
-    rw shown
-    (none_any (waits_at i j) (map (λ r. r.shown) rs)
-    (λ q y at.
-    let f = shown_at rs q y at in
-    rw f.2 (ungated_by i j f.0.shown (f.0.shown.worker == i) refl (λ mine. (flown.plain q f.0 f.1 (same_number f.0.shown.worker i mine)).ungated)))) in
-    rw none (and_false (nat_le gate j)))
-
--- no request of the driver waits at a gate either
-gated_needs : (a b c : Bool) → b ≡ false → (not a && b && not c) ≡ true → ⊥
-gated_needs true b c none h = false≢true h
-gated_needs false b c none h = false≢true (sym (ap (λ x. x && not c) none) ∙ h)
-
-first_among : (id : WaiterId) (ids : List WaiterId) → is_among id (id ∷ ids) ≡ true
-first_among id ids = rw (same_self id) refl
-
-pub unlisted : (x : Option InService) (i : ℕ) (n : Names) (d : Driving Reply Reply) (zs : Slab (Sleeping Reply)) (rs : List Record) (ss : List SleeperRecord) → IsNamed i n d zs rs ss → HasFlown x i n d rs → ListsRequests d → d.lists.gated ≡ []
-unlisted x i n d zs rs ss named flown lists = by d.lists.gated refl
-  where
-    by : (ids : List WaiterId) → d.lists.gated ≡ ids → ids ≡ []
-    by [] is = refl
-    by (id ∷ ids) is =
-        let waits = lists.gated id (rw is (first_among id ids)) in
-        let at : (o : Option (Waiter Reply Reply)) → request_at d id ≡ o → ⊥ = λ o.
-        elim o as (λ o. request_at d id ≡ o → ⊥) [
-          | None ↦ λ gone. false≢true (ap waits_gated (sym gone) ∙ waits)
-          | Some w ↦ λ live.
-              let r = named.requests id.0 (rw (entry_of _ w live) refl) in
-              let alike = named.alike id.0 w r.0 live r.1 in
-              let plain = flown.plain (number_in n.requests.items id.0) r.0 r.1 r.3 in
-              let durable : is_durable (asked_of w.request).kind ≡ false = ap (λ a. is_durable a.kind) (sym alike.asked) ∙ plain_kind r.0.shown.operation.kind r.0.shown.operation.length plain.bounded in
-              gated_needs w.in_flight (needs_permit w) (asks_cancel w.state) (rw durable refl) (ap waits_gated (sym live) ∙ waits)
-        ] in
-        absurd (at (request_at d id) refl)
-
 -- THE MIDDLE OF A SERVICE
 
 pub comes_to_staging : (c : Configuration) (i gate : ℕ) (me : Own) (s : Common) (d : Desk) → first_due c i me s ≡ None → slice_get me.unenrolled 0 ≡ None → next_gate i gate s ≡ None → due_next c i gate me s d ≡ staging_due c me d
 comes_to_staging c i gate me s d none new gated = rw (none, new, gated) refl
-
-pub no_gate : (gate file : ℕ) (d : Driving Reply Reply) → d.lists.gated ≡ [] → Some file ≡ lowest_gate gate d.requests d.lists.gated None → ⊥
-no_gate gate file d none is = let no : Some file ≡ None = is ∙ ap (λ ids. lowest_gate gate d.requests ids None) none in absurd (cc)
-
-pub never_gated : {B : Type 0} (w : Worker) (s : Shared B) → IsGatedIn w s → ⊥
-never_gated w s it =
-    it.gated (unlisted _ w.index w.names (driver_of w) w.home.timers s.requests.items s.sleepers.items it.submits.sound.named it.submits.sound.flown it.submits.lists)

@@ -4,7 +4,7 @@ use Rattle.exec_ring.specs.declared.completion.Submission.{Submission}
 use Rattle.exec_waiters.specs.Ids.{index_in}
 use Rattle.exec_driver.specs.Driving.{Driving}
 use Rattle.exec_moves.specs.declared.place.Place.{Place}
-use Rattle.exec_steps.{specs.{declared.parts.{mail.Reply.Reply, shared.Shared.Shared, worker.{PutOff.PutOff, Worker.Worker}}, Carried.those_of, Due.{IsWheelAt, may_be_due}, Flown.{IsPolled, is_poll, operations, polls_in}, Places.one_if, Rooted.IsRooted, Serving.{AreTagged, cancels_in}, Sound.{SoundAt, IsSubmitted, served_in}, View.driver_of}, proofs.{Conveying.carried_ring, Flown.landed_as, Going.{all_still, rooted_on}, Serving.{calm, Follows, KeepsBy}}}
+use Rattle.exec_steps.{specs.{declared.parts.{mail.Reply.Reply, shared.Shared.Shared, worker.{PutOff.PutOff, Worker.Worker}}, Carried.those_of, Due.{IsWheelAt, may_be_due}, Flown.{IsPolled, is_poll, operations, polls_in}, Places.one_if, Serving.{AreTagged, cancels_in}, Sound.{SoundAt, IsSubmitted, served_in}, View.driver_of}, proofs.{Conveying.carried_ring, Flown.landed_as, Serving.{calm, kept, Follows, KeepsBy}}}
 
 -- an entry that is no wake poll
 pub polls_same : (es : List Submission) (e : Submission) → is_poll e.window.kind ≡ false → polls_in (es ++ e ∷ []) ≡ polls_in es
@@ -40,7 +40,8 @@ module _ {B : Type 0} where
       let d1 : Driving Reply Reply = record d' { requests = d.requests; lists = d.lists; wheel = d.wheel } in
       let shape : d1 ≡ d' = rw (← like.requests, ← like.lists, ← like.wheel) refl in
       subst (λ x. KeepsBy (record w { place = q'; put_off = o }) x w.home.timers rs s.sleepers.items s) shape (record {
-        told = sound.told;
+        told = (kept q w s sound (calm q to.from)).told;
+        wide = sound.wide;
         named = record { requests = named.requests; timers = named.timers; alike = named.alike; over = named.over; submitted = submitted; slots = named.slots; beds = named.beds };
         sized = like.size ∙ sound.sized;
         over = sound.over;
@@ -51,7 +52,7 @@ module _ {B : Type 0} where
           staging = rw like.size flown.staging;
           telling = rw like.size flown.telling;
           entries = omega (arith, flown.entries, like.entries);
-          permits = to.permits;
+          gated = λ id it live needs. flown.gated id it live needs;
           enrolling = flown.enrolling;
           polled = like.polled flown.polled;
           owning = flown.owning;
@@ -60,11 +61,9 @@ module _ {B : Type 0} where
           uncancelled = flown.uncancelled;
         };
         carried = carried_ring w.names.requests.items d.requests d.ring rs s.store sound.carried d1.ring (λ v small. ap (those_of v) like.flies) like.stages;
-        rooted =
-            rooted_on rs rs (all_still rs) None w.index w.root w.names w.names d d1 w.home.timers s.tasks.items s.sleepers.items
-            (subst (λ x. IsRooted x w.index w.root w.names d w.home.timers s.tasks.items rs s.sleepers.items) ((calm q to.from).stands w.root) sound.rooted)
-            refl refl refl (λ id h. h) (λ id told h. h);
-        owed = sound.tied.owed;
+        known = sound.known;
+        rooted = record { kept = sound.rooted.kept; ready = λ k x there mine over seen unapplied. let it = sound.rooted.ready k x there mine over seen unapplied in record { named = it.named; live = it.live }; replies = sound.rooted.replies; watches = sound.rooted.watches; pays = sound.rooted.pays; sleeper_pays = sound.rooted.sleeper_pays; results = sound.rooted.results; completions = sound.rooted.completions; sent = sound.rooted.sent; sleeper_sent = sound.rooted.sleeper_sent };
+        bare = λ h. (calm q to.from).lets_in (driver_of w).requests w.home.timers sound.lets_go (sym to.bare ∙ h);
       })
 
 pub same_ring : (d : Driving Reply Reply) → SameButRing d d

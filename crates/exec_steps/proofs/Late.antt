@@ -1,14 +1,14 @@
 -- A deadline that has passed, or is beyond the wheel, ends its request.
-use Rattle.std.{proofs.{Common.{◌≡◌, ◌≢◌, ℕ, ◌+◌, ◌-◌, ◌*◌, ◌^◌, ◌<◌, ◌≤◌, ◌==◌, Bool, true, false, not, ◌∷◌, ◌++◌, length, map, filter, Option, Some, None, IsSome, IfSome, refl, sym, ap, subst, ◌∙◌, arith, slice_get, slice_set, drop, if◌then◌else◌, Result, Ok, Err}, lemmas.Bool.{false≢true, eq-eqb}}, specs.Option.option_map}
+use Rattle.std.{proofs.{Common.{◌≡◌, ◌≢◌, ℕ, ◌+◌, ◌-◌, ◌*◌, ◌^◌, ◌<◌, ◌≤◌, ◌==◌, ◌&&◌, Bool, true, false, not, [], ◌∷◌, ◌++◌, length, map, filter, is_some, Option, Some, None, IsSome, IfSome, refl, sym, ap, subst, ◌∙◌, arith, slice_get, slice_set, drop, if◌then◌else◌, Result, Ok, Err}, lemmas.Bool.{false≢true, eq-eqb}}, specs.Option.option_map}
 use Rattle.exec_base.specs.{Slab.value_at, declared.{error.{Error.Error, Cause.Cause}, slab.Id.Id}}
-use Rattle.exec_outcomes.specs.declared.outcome.Outcome.{Outcome, TheVariants.Failure}
-use Rattle.exec_request.specs.{Requests.{asked_of, output_of}, declared.{output.RequestOutput.RequestOutput, request.Request.Request as Asking}}
-use Rattle.exec_waiters.{specs.{Events.{finished, output_told, told_by_finish, waker_in}, States.{tick_in, flying_count}, Told.{Tells, Told, tasks_of}, declared.{waiter.Waiter.Waiter, waiter_id.WaiterId.WaiterId, observer.Observer.{Observer, TheVariants.{Local, Orphaned}}}}, proofs.Changes.entry_of}
+use Rattle.exec_outcomes.specs.{Accounts.is_durable, declared.outcome.Outcome.{Outcome, TheVariants.Failure}}
+use Rattle.exec_request.specs.{Requests.{deadline_of, output_of}, declared.request.Request.Request as Asking}
+use Rattle.exec_waiters.{specs.{Events.{finished, told_by_finish, waker_in}, States.{tick_in, flying_count}, Told.{Tells, Told, tasks_of}, declared.{waiter.Waiter.Waiter, waiter_id.WaiterId.WaiterId, observer.Observer.{Observer, TheVariants.{Local, Orphaned}}}}, proofs.Changes.entry_of}
 use Rattle.exec_driver.specs.{Driving.{Driving, request_at, is_queued, is_unenrolled, is_cancelled}, Lists.{first_of, rest_of, is_among, after_enrolment, without, withdrawn}, Punctual.IsPunctual, Steps.{enrolled_by, told_by_enrolment, tick_for, ended_by, unscheduled}}
 use Rattle.exec_task.specs.declared.body.Said.{Said}
-use Rattle.exec_machine.specs.{declared.event.Event.{Event, TheVariants.Enrol}, Deadlines.outcome_at_enrol, Same.{is_none, is_number, same_end, same_cause, same_error}, Tests.is_queued as is_phase_queued, World.{Common, request_of}, Requests.resolved}
-use Rattle.exec_moves.specs.{Move.move_submit, Callback.{told_of_end, waker_of}, State.Desk, Submit.{due_next, first_due, submits, Due.Enrols}, declared.place.{Service.Service, Place.Place, InService.InService}}
-use Rattle.exec_steps.{specs.{declared.parts.{mail.Reply.Reply, record.Record.Record, shared.Shared.Shared, worker.Worker.Worker}, Due.IsWheelAt, Flown.{IsUpTo, longest}, Records.number_in, Serving.{changed_at, outcome_of_error}, Spots.Spot, Submitting.IsNewIn, View.{Views, visible, with_view, own_of, desk_of, driver_of, common_of, seat_seen, things_with, numbers_of}, Works.Steps, Rooted.{IsNear, outcome_told}}, proofs.{Serving.{serves_to, IsServed, OthersKept, keeps_home, Serves, SparesRecords, Keeps, KeepsBy, calm, kept, spares_one}, Facts.both_true, Calling.request_seen, Enrolled.{HasEnrolled, new_first}, Enrolling.enrol_same, Idling.none_due, Seeing.{makes, shows, served, common_changed, common_same, things_kept, desk_with}, Staging.{split_first, stages_again}, Ends.{desk_ended, flying_ended, later_in, numbers_without, without_first}, Orders.alike_unticked, Ousting.keeps_ended, Over.OneEnds, Resolving.{slab_after, told_once, unticked_at}, Starting.{fills, reads, writes_bytes}, Timed.{comes_to_new, move_enrol, unset}}}
+use Rattle.exec_machine.specs.{declared.{event.Event.{Event, TheVariants.Enrol}, state.Request.Request}, Deadlines.outcome_at_enrol, Same.{is_none, is_number, same_end, same_cause, same_error}, Tests.{is_applied, is_gated, is_queued as is_phase_queued, is_resolved}, World.{Common, request_of}, Requests.resolved}
+use Rattle.exec_moves.specs.{Move.move_submit, Slots.vacated, Told.{has_number, told_of_end, waker_of}, State.Desk, Submit.{due_next, first_due, submits, Due.Enrols}, declared.place.{Service.Service, Place.Place, InService.InService}}
+use Rattle.exec_steps.{specs.{declared.parts.{mail.Reply.Reply, record.Record.Record, shared.Shared.Shared, worker.Worker.Worker}, Due.IsWheelAt, Gates.at_gate, Holding.nap_of, HoldPlaces.is_bare_at, Places.passes_at, Records.number_in, Serving.{changed_at, outcome_of_error}, Spots.Spot, Submitting.IsNewIn, View.{Views, visible, with_view, own_of, desk_of, driver_of, common_of, seat_seen, things_with, numbers_of}, Works.Steps, Rooted.outcome_told}, proofs.{Serving.{at_large, serves_to, IsServed, OthersKept, keeps_home, Serves, SparesRecords, Keeps, KeepsBy, calm, kept, spares_one}, Facts.{and_none, both_true}, Recorded.request_seen, EndsServed.{desk_over, ends_thing}, Lined.opens_same, ServedEnds.{TellsEnd, ends_told}, ServedWakes.balances_ended, Enrolled.{HasEnrolled, new_first, timed_free}, Keys.name_in, Enrolling.enrol_same, Idling.none_due, Seeing.{makes, shows, served, common_changed, common_same, things_kept, desk_with}, Staging.{split_first, stages_again}, Ends.{flying_ended, later_in, numbers_without, without_first}, Orders.alike_unticked, Ousting.keeps_ended, Over.OneEnds, Resolving.{slab_after, unticked_at}, Timed.{comes_to_new, move_enrol, unset}}}
 pub use Rattle.exec_steps.proofs.Results.{same_error_self}
 pub use Rattle.exec_steps.proofs.Mine.{stands}
 
@@ -19,27 +19,35 @@ ended_is (Ok t) x is = absurd (cc)
 ended_is (Err y) x is = cc
 
 -- what its task hears is what the log tells
-pub tells_error : (q : Asking) (n : ℕ) (x : Error) → IsUpTo (longest (asked_of q).kind) n → outcome_told (output_of q (Err x) None) ≡ Failure x
-tells_error (Asking.Send s) n x h = refl
-tells_error (Asking.Poll p) n x h = refl
-tells_error (Asking.Recv r) n x h = absurd (fills r.exact n h)
-tells_error (Asking.ReadAt r) n x h = absurd (reads r.way (length r.buf.bytes) n h)
-tells_error (Asking.WriteAt w) n x h = absurd (writes_bytes w.state n h)
-tells_error (Asking.Sync s) n x h = absurd h
-tells_error (Asking.Connect c) n x h = absurd h
-
-pub wakes_are : (id : Id) (out : RequestOutput) (o : Observer Reply Reply) → IsNear o → (output_told id out o).wakes ≡ tasks_of (waker_in o)
-wakes_are id out (Local waker) near = refl
-wakes_are id out Orphaned near = refl
-wakes_are id out _ near = absurd near
+pub tells_error : (q : Asking) (x : Error) → is_some (deadline_of q) ≡ true → outcome_told (output_of q (Err x) None) ≡ Failure x
+tells_error (Asking.Send s) x h = refl
+tells_error (Asking.Poll p) x h = refl
+tells_error (Asking.Recv r) x h = refl
+tells_error (Asking.ReadAt r) x h = absurd (false≢true h)
+tells_error (Asking.WriteAt w) x h = absurd (false≢true h)
+tells_error (Asking.Sync s) x h = absurd (false≢true h)
+tells_error (Asking.Connect c) x h = refl
 
 -- the place stays
-pub same_place : (b : Bool) (q : Place) (x y : Desk) → x.place ≡ q → y.place ≡ q → record (if b then x else y) { place = q } ≡ (if b then x else y)
-same_place true q x y a b = ap (λ p. record x { place = p }) (sym a)
-same_place false q x y a b = ap (λ p. record y { place = p }) (sym b)
+pub same_place : (k : ℕ) (r : Request) (d : Desk) (v : Service) (gate : ℕ) → d.place ≡ Place.Service (InService.Submit gate) v → submits v gate (told_of_end k r d) ≡ told_of_end k r d
+same_place k r d v gate there = by r.observed (is_applied r.forwarding) (has_number k d.awaited) refl refl refl
+  where
+    q : Place
+    q = Place.Service (InService.Submit gate) v
+
+    by : (a b c : Bool) → r.observed ≡ a → is_applied r.forwarding ≡ b → has_number k d.awaited ≡ c → record (told_of_end k r d) { place = q } ≡ told_of_end k r d
+    by false b c is at has = rw is (ap (λ p. record (told_of_end k (record r { observed = false }) d) { place = p }) (sym there))
+    by true true c is at has = rw (is, at) (ap (λ p. record d { place = p; results = d.results ++ k ∷ []; requests = vacated k d.requests }) (sym there))
+    by true false true is at has = rw (is, at, has) (ap (λ p. record d { place = p; wakes = d.wakes ++ waker_of r.waiter; awaited = filter (λ n. not (n == k)) d.awaited }) (sym there))
+    by true false false is at has = rw (is, at, has) (ap (λ p. record d { place = p; awaited = filter (λ n. not (n == k)) d.awaited }) (sym there))
 
 abbrev pub ends_as : Outcome → Record → Record
 ends_as outcome r = record r { shown = resolved outcome r.shown }
+
+-- the name of one that isn't durable stays
+pub over_named : (outcome : Outcome) (r : Record) → is_durable r.shown.operation.kind ≡ false → name_in (ends_as outcome r) ≡ name_in r
+over_named outcome r undurable =
+    ap (λ c. record (name_in r) { over = true && c }) undurable ∙ sym (ap (λ c. record (name_in r) { over = c }) (and_none (is_resolved r.shown.phase) (is_durable r.shown.operation.kind) undurable))
 
 module _ {B L : Type 0} (left : B → L) (spot : L → Option Said → Spot) where
   pub enrol_ends : (w w' : Worker) (s s' : Shared B) (e : Event) (id : WaiterId) (error : Error) → (new : IsNewIn w s) → first_of (driver_of w).lists.enrolments ≡ Some id → HasEnrolled w w' s s' e id (Some error) → Steps left spot w s e w' s'
@@ -80,31 +88,34 @@ module _ {B L : Type 0} (left : B → L) (spot : L → Option Said → Spot) whe
       sym (enrol_same c (own_of w0) d.wheel now who.deadline wheel refl sound.config.some_tick begun within) ∙ ap (λ x. outcome_of_error (ended_by x)) ending in
       let a = who.alike in
       let free = unset it.state who.takes in
+      let dated : is_some (deadline_of it.request) ≡ true = ap is_some who.asked in
+      let small = who.small in
+      let undurable : is_durable who.r.shown.operation.kind ≡ false = ap (λ a. is_durable a.kind) a.asked ∙ timed_free it.request dated in
+      let ending_told : TellsEnd id.0 told it.observer t = ends_told id.0 it (Err error) None who.r.shown.forwarding a.near in
       let one : OneEnds w.names d d'.requests rs id.0 it who.r (ends_as outcome) outcome told = record {
         at = who.live;
         there = who.there;
-        slab = slab_after d.requests id.0 it (Err error) None a.near who.live;
+        slab = slab_after d.requests id.0 it (Err error) None small who.live;
         ends = record { same = refl };
       } in
       let deferred = w'.home.deferred in
-      let bounded_kind : IsUpTo (longest (asked_of it.request).kind) who.r.shown.operation.length = subst (λ x. IsUpTo (longest x.kind) who.r.shown.operation.length) a.asked plain.bounded in
       let w1 : Worker = record w { place = q; names = record w.names { ended = w'.names.ended }; home = record w.home { deferred = deferred } } in
       let rs' = changed_at rs k (ends_as outcome) in
       let kept_now : KeepsBy w1 d' w.home.timers rs' s.sleepers.items s =
       keeps_ended w s d d' w.home.timers rs s.sleepers.items id.0 it who.r (ends_as outcome) outcome told q w'.names deferred t one (kept q w s sound (calm q refl))
-      sound.runnable.root sound.runnable.there (record { once = told_once id.0 it (Err error) None a.near; wakes = wakes_are id.0 told it.observer a.near }) tells
-      by.ended by.capacity who.idle (record { bounded = plain.bounded; moved = plain.moved; first_part = plain.first_part; unhinted = plain.unhinted; ungated = refl; deadline = plain.deadline })
-      (λ held. sym (tells_error it.request who.r.shown.operation.length error bounded_kind))
+      ending_told tells
+      by.ended by.capacity who.idle (record { bounded = plain.bounded; moved = plain.moved; deadline = plain.deadline })
+      (λ held. sym (tells_error it.request error dated))
       refl refl refl (ap (λ o. (unscheduled d.wheel o).start) free.0) (ap (λ o. (unscheduled d.wheel o).tick) free.0)
-      (subst IsPunctual driver by.punctual) (λ h. ap (without id) new.due) (unticked_at c start now d.wheel (tick_in it.state) wheel) (alike_unticked d.wheel (tick_in it.state)) refl refl in
+      (subst IsPunctual driver by.punctual) (λ h. ap (without id) new.due) (unticked_at c start now d.wheel (tick_in it.state) wheel) (alike_unticked d.wheel (tick_in it.state)) refl (sym (ap is_bare_at sound.here)) in
       let w2 : Worker = record w1 { home = record w1.home { driver = w'.home.driver } } in
       let there : w'.place ≡ q = ap (λ x. x.place) by.worker ∙ sound.here in
       let same2 : w' ≡ w2 = by.worker ∙ ap (λ y. record w { place = y; home = record w.home { driver = w'.home.driver; deferred = deferred }; names = record w.names { ended = w'.names.ended } }) sound.here in
       let keeps : Keeps w' s' = keeps_home w1 w' s s' rs' d' same2 by.shared driver by.records kept_now in
       let serves : Serves q w w' s s' = serves_to q q w w' s s' (subst (IsServed w) (sym by.worker) refl) (subst (OthersKept s) (sym by.shared) refl) there (stages_again gate v) in
-      let show = shows q w w' s s' d' serves driver in
+      let show = shows q w w' s s' d' serves driver (ap (λ (x : Worker). x.home.timers) by.worker) in
       let seen : visible w' ≡ visible w = show.seen in
-      let spares : SparesRecords w.index s s' = spares_one w.index s s' k who.r (ends_as outcome) by.records (ap (λ (y : Shared B). y.sleepers.items) by.shared) who.there who.worker (λ y. refl) in
+      let spares : SparesRecords w.index s s' = spares_one w.index s s' k who.r (ends_as outcome) (opens_same s.opens s'.opens s.requests.items sound.gates (ap (λ (y : Shared B). y.opens) by.shared)) (record { at = ap (λ b. record (at_gate who.r) { gated = b }) (sym (ap is_gated who.queued)); over = λ h. refl; sent = refl; forwarded = λ h. h }) by.records (ap (λ (y : Shared B). y.sleepers.items) by.shared) who.there who.worker (λ y. refl) in
       let flying : flying_count d'.requests ≡ flying_count d.requests = flying_ended d.requests id.0 it (Err error) None who.live who.idle in
       let numbers : numbers_of n d.lists.enrolments ≡ k ∷ numbers_of n others = ap (numbers_of n) split in
       let apart : (x : WaiterId) → IsSome (value_at d.requests x.0) → x.0 ≢ id.0 → number_in n x.0 ≡ k → ⊥ = λ x some differs same.
@@ -120,7 +131,8 @@ module _ {B L : Type 0} (left : B → L) (spot : L → Option Said → Spot) whe
       let cancels : numbers_of n (without id d.lists.cancels) ≡ filter (λ j. not (j == k)) (numbers_of n d.lists.cancels) =
       numbers_without n id d.lists.cancels (λ x among. apart x (stands d x is_cancelled (request_at d x) refl refl (new.submits.lists.cancels x among))) in
       subst (λ x. Steps left spot w s x w' s') (sym by.event)
-      (served left spot q w w' s s' (Enrol k (Some outcome)) sound serves keeps spares
+      (served left spot q w w' s s' (Enrol k (Some outcome)) sound serves keeps spares (balances_ended q w w' s s' k who.r (ends_as outcome) outcome (waker_in it.observer) sound.here serves who.there by.records (ap (λ (y : Shared B). map nap_of y.sleepers.items) by.shared)
+      (ends_thing w s q sound id.0 it who.live who.r who.there (ends_as outcome) outcome who.worker refl) (tells.notes.wakes_added ∙ ap (λ ws. w.home.deferred.notes.wakes.items ++ ws) ending_told.wakes) spares (ap passes_at there))
       (λ p vs suits.
       let cp = p.config in
       let all = common_of left spot p vs s in
@@ -132,20 +144,20 @@ module _ {B L : Type 0} (left : B → L) (spot : L → Option Said → Spot) whe
       (none_due _ w.index w.moments s.config w.names d w.home.timers rs s.sleepers.items sound.due sound.named sound.config.some_tick begun (own_of w0) all refl refl new.due) in
       let due : due_next cp w.index gate (own_of w0) all (desk_of w0) ≡ Enrols k =
       comes_to_new cp w.index gate k (own_of w0) all (desk_of w0) none (ap (λ ks. slice_get ks 0) numbers) in
-      let desk : desk_of w' ≡ told_of_end who.r.shown (desk_of w0) =
+      let desk : desk_of w' ≡ told_of_end k who.r.shown (desk_of w0) =
       show.desk ∙ ap (λ y. desk_with w y w'.put_off deferred d') there ∙ ap (λ o. desk_with w q o deferred d') (ap (λ x. x.put_off) by.worker)
-      ∙ desk_ended (desk_of w0) w.home.deferred deferred it.observer id.0 told who.r.shown t tells refl refl a.near a.observed a.waiter in
-      let placed : submits v gate (told_of_end who.r.shown (desk_of w0)) ≡ told_of_end who.r.shown (desk_of w0) =
-      same_place who.r.shown.observed q (record (desk_of w0) { wakes = (desk_of w0).wakes ++ waker_of who.r.shown.waiter }) (record (desk_of w0) { outputs = (desk_of w0).outputs + 1 }) refl refl in
+      ∙ desk_over w s q sound id.0 it who.live who.r who.there told t deferred ending_told tells in
+      let placed : submits v gate (told_of_end k who.r.shown (desk_of w0)) ≡ told_of_end k who.r.shown (desk_of w0) =
+      same_place k who.r.shown (desk_of w0) v gate refl in
       record {
         moves =
             ap (move_submit cp w.index (own_of w0) all (desk_of w0) (things_with vs s) gate v) due
             ∙ ap (λ o. move_enrol cp w.index (own_of w0) all (desk_of w0) (things_with vs s) gate v k o) ends
-            ∙ ap (λ x. makes (Enrol k (Some outcome)) (submits v gate (told_of_end x (desk_of w0))) (things_with vs s)) request
+            ∙ ap (λ x. makes (Enrol k (Some outcome)) (submits v gate (told_of_end k x (desk_of w0))) (things_with vs s)) request
             ∙ ap (λ x. makes (Enrol k (Some outcome)) x (things_with vs s)) (placed ∙ sym desk)
-            ∙ ap (makes (Enrol k (Some outcome)) (desk_of w')) (sym (things_kept vs w.index (visible w) (visible w') s s' suits.seen (ap (λ y. y.wakes) seen) serves.shared));
+            ∙ ap (makes (Enrol k (Some outcome)) (desk_of w')) (sym (things_kept vs w.index (visible w) (visible w') s s' suits.seen (ap (λ y. y.wakes) seen) serves.shared spares));
         may = (
-          refl,
+          at_large q w s sound refl,
           (
             ap (λ ks. is_number k (slice_get ks 0)) numbers ∙ eq-eqb k k refl,
             (
@@ -159,7 +171,7 @@ module _ {B L : Type 0} (left : B → L) (spot : L → Option Said → Spot) whe
         );
         own = show.own ∙ rw (there, by.ended, ap (λ x. x.names.untold) by.worker, ready, unenrolled, cancels, flying) refl;
         common =
-            common_changed left spot p (with_view vs w.index (visible w')) s s' k who.r (ends_as outcome) by.shared by.records who.there (λ x. refl)
+            common_changed left spot p (with_view vs w.index (visible w')) s s' k who.r (ends_as outcome) by.shared by.records who.there (over_named outcome who.r undurable)
             ∙ ap (λ (x : Common). record x { requests = slice_set (map (λ r. r.shown) rs) k ((ends_as outcome) who.r).shown }) (common_same left spot p vs w w' s suits (λ c'. ap (λ y. seat_seen y c') seen))
             ∙ ap (λ x. record all { requests = slice_set (map (λ r. r.shown) rs) k (resolved outcome x) }) (sym request);
       }))

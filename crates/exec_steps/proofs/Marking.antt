@@ -1,5 +1,5 @@
 -- A record that is marked, as released or as one that has paid: what is named by it stays.
-use Rattle.std.{proofs.{Common.{◌≡◌, ℕ, ◌==◌, Bool, true, false, List, [], ◌∷◌, length, Option, Some, None, IsSome, refl, sym, ap, subst, ◌∙◌, slice_get, slice_set, if◌then◌else◌}, lemmas.List.length-set}, specs.Option.option_map}
+use Rattle.std.{proofs.{Common.{◌≡◌, ℕ, ◌<◌, ◌==◌, Bool, true, false, List, [], ◌∷◌, length, Option, Some, None, IsSome, refl, sym, ap, subst, ◌∙◌, slice_get, slice_set, if◌then◌else◌}, lemmas.List.length-set}, specs.Option.option_map}
 use Rattle.exec_base.specs.{Slab.{Slab, value_at}, declared.slab.Id.Id}
 use Rattle.exec_time.specs.declared.timers.Sleeper.{Sleeper as Sleeping}
 use Rattle.exec_ring.specs.Rings.{RingState}
@@ -7,17 +7,20 @@ use Rattle.exec_waiters.specs.States.{waiter_at}
 use Rattle.exec_driver.specs.Driving.{Driving}
 use Rattle.exec_machine.specs.{declared.config.Configuration.Configuration, Tests.{is_asleep, is_resolved, is_staged}}
 use Rattle.exec_moves.specs.declared.place.InService.{InService}
-use Rattle.exec_steps.{specs.{Flown.IsPlain, declared.parts.{mail.Reply.Reply, names.Names.Names, record.Record.Record, sleeping.SleeperRecord.SleeperRecord, worker.Moments.Moments}, Calls.{paying, releasing, sleeper_paying}, Records.number_in, Serving.{AreKnown, changed_in, changed_at, is_one_of}, Sound.{IsNamed, IsAlike, IsSubmitted}, Due.{IsDue, IsTimed, AreTimed, AreAsleep, IsAsleepAs}}, proofs.{Facts.{same_thing, same_number}, Flying.{get_set, get_changed}}}
+use Rattle.exec_steps.{specs.{Flown.IsPlain, declared.parts.{mail.Reply.Reply, names.Names.Names, record.Record.Record, sleeping.SleeperRecord.SleeperRecord, worker.Moments.Moments}, Calls.{as_sent, paying, releasing, sleeper_paying}, Records.number_in, Serving.{AreKnown, changed_in, changed_at, is_one_of}, Sound.{IsNamed, IsAlike, IsSubmitted}, Due.{IsDue, IsTimed, AreTimed, AreAsleep, IsAsleepAs}}, proofs.{FiringNames.naps_set, Facts.{same_thing, same_number}, Flying.{get_set, get_changed}}}
 
--- A mark changes only what was paid and released.
+-- A mark changes only what was paid and released, and that its end was sent elsewhere.
 abbrev pub Marks : (Record → Record) → Type 0
-Marks f = (r : Record) → f r ≡ record r { shown = record r.shown { wakes_paid = (f r).shown.wakes_paid; released = (f r).shown.released } }
+Marks f = (r : Record) → f r ≡ record r { shown = record r.shown { wakes_paid = (f r).shown.wakes_paid; released = (f r).shown.released }; sent = (f r).sent }
 
 pub pays : Marks paying
 pays r = refl
 
 pub releases : Marks releasing
 releases r = refl
+
+pub sends : Marks as_sent
+sends r = refl
 
 -- where a test says so
 abbrev pub mark_if : (Record → Record) → Bool → Record → Record
@@ -84,10 +87,10 @@ module _ (f : Record → Record) (rs : List Record) (q : ℕ) where
   module _ (marks : Marks f) where
     -- what stood there, and how it is marked
     pub before : (k : ℕ) (x : Record) → slice_get (changed_at rs q f) k ≡ Some x
-        → (r : Record) × (slice_get rs k ≡ Some r) × (x ≡ record r { shown = record r.shown { wakes_paid = x.shown.wakes_paid; released = x.shown.released } })
+        → (r : Record) × (slice_get rs k ≡ Some r) × (x ≡ record r { shown = record r.shown { wakes_paid = x.shown.wakes_paid; released = x.shown.released }; sent = x.sent })
     before k x there =
         let old = was_marked k x there in
-        (old.0, old.1, subst (λ y. y ≡ record old.0 { shown = record old.0.shown { wakes_paid = y.shown.wakes_paid; released = y.shown.released } }) (sym old.2) (marks_if f marks (q == k) old.0))
+        (old.0, old.1, subst (λ y. y ≡ record old.0 { shown = record old.0.shown { wakes_paid = y.shown.wakes_paid; released = y.shown.released }; sent = y.sent }) (sym old.2) (marks_if f marks (q == k) old.0))
 
     pub submitted_marked : (i : ℕ) (staged untold : List ℕ) (ring : RingState) → IsSubmitted i staged untold ring rs → IsSubmitted i staged untold ring (changed_at rs q f)
     submitted_marked i staged untold ring sub =
@@ -124,8 +127,8 @@ module _ (f : Record → Record) (rs : List Record) (q : ℕ) where
         }
 
     -- what is due is so still, whatever has ended
-    pub due_marked : (x : Option InService) (i : ℕ) (m : Moments) (c : Configuration) (n m' : Names) (d : Driving Reply Reply) (zs : Slab (Sleeping Reply)) (sleepers : List SleeperRecord)
-        → IsDue x i m c n d zs rs sleepers → IsDue x i m c (record n { ended = m'.ended; unreleased = m'.unreleased }) d zs (changed_at rs q f) sleepers
+    pub due_marked : {closing : Bool} (x : Option InService) (i : ℕ) (m : Moments) (c : Configuration) (n m' : Names) (d : Driving Reply Reply) (zs : Slab (Sleeping Reply)) (sleepers : List SleeperRecord)
+        → IsDue x closing i m c n d zs rs sleepers → IsDue x closing i m c (record n { ended = m'.ended; unreleased = m'.unreleased }) d zs (changed_at rs q f) sleepers
     due_marked x i m c n m' d zs sleepers due =
         let timed : AreTimed i (record n { ended = m'.ended; unreleased = m'.unreleased }) (changed_at rs q f) = λ k x there mine.
         let old = before k x there in
@@ -149,18 +152,21 @@ module _ (ss : List SleeperRecord) (n : ℕ) (z : SleeperRecord) (there : slice_
       split false is = (y, sym (ap (λ b. if b then Some (sleeper_paying z) else slice_get ss k) is) ∙ sym now ∙ found, refl)
 
 -- A sleeper that pays sleeps on, or doesn't.
-pub due_paid : (ss : List SleeperRecord) (k : ℕ) (z : SleeperRecord) → slice_get ss k ≡ Some z → (x : Option InService) (i : ℕ) (m : Moments) (c : Configuration) (n : Names) (d : Driving Reply Reply) (zs : Slab (Sleeping Reply)) (rs : List Record)
-    → IsDue x i m c n d zs rs ss → IsDue x i m c n d zs rs (slice_set ss k (sleeper_paying z))
-due_paid ss k z there x i m c n d zs rs due =
-    let alike : (id : Id) (it : Sleeping Reply) (y : SleeperRecord) → value_at zs id ≡ Some it → slice_get (slice_set ss k (sleeper_paying z)) (number_in n.timers.items id) ≡ Some y → IsAsleepAs i it y.shown = λ id it y live found.
+pub due_paid : {closing : Bool} (ss : List SleeperRecord) (k : ℕ) (z : SleeperRecord) → slice_get ss k ≡ Some z → (x : Option InService) (i : ℕ) (m : Moments) (c : Configuration) (n : Names) (d : Driving Reply Reply) (zs : Slab (Sleeping Reply)) (rs : List Record)
+    → IsDue x closing i m c n d zs rs ss → IsDue x closing i m c n d zs rs (slice_set ss k (sleeper_paying z))
+due_paid {closing} ss k z there x i m c n d zs rs due =
+    let alike : (id : Id) (it : Sleeping Reply) (y : SleeperRecord) → value_at zs id ≡ Some it → slice_get (slice_set ss k (sleeper_paying z)) (number_in n.timers.items id) ≡ Some y → IsAsleepAs i it y = λ id it y live found.
     let v = slept_before ss k z there (number_in n.timers.items id) y found in
     let old = due.asleep.alike id it v.0 live v.1 in
-    subst (λ u. IsAsleepAs i it u.shown) (sym v.2) (assumption old) in
-    let live : (j : ℕ) (y : SleeperRecord) → slice_get (slice_set ss k (sleeper_paying z)) j ≡ Some y → is_asleep i y.shown ≡ true → IsSome (value_at zs y.id.0) = λ j y found asleep.
+    subst (λ u. IsAsleepAs i it u) (sym v.2) (assumption old) in
+    let live : (j : ℕ) (y : SleeperRecord) → slice_get (slice_set ss k (sleeper_paying z)) j ≡ Some y → is_asleep i y.shown ≡ true → y.closed ≡ false → IsSome (value_at zs y.id.0) = λ j y found asleep unclosed.
     let v = slept_before ss k z there j y found in
-    subst (λ u. IsSome (value_at zs u.id.0)) (sym v.2) (due.asleep.there j v.0 v.1 (sym (ap (λ u. is_asleep i u.shown) v.2) ∙ asleep)) in
-    let named : (j : ℕ) (y : SleeperRecord) → slice_get (slice_set ss k (sleeper_paying z)) j ≡ Some y → is_asleep i y.shown ≡ true → number_in n.timers.items y.id.0 ≡ j = λ j y found asleep.
+    subst (λ u. IsSome (value_at zs u.id.0)) (sym v.2) (due.asleep.there j v.0 v.1 (sym (ap (λ u. is_asleep i u.shown) v.2) ∙ asleep) (sym (ap (λ u. u.closed) v.2) ∙ unclosed)) in
+    let named : (j : ℕ) (y : SleeperRecord) → slice_get (slice_set ss k (sleeper_paying z)) j ≡ Some y → is_asleep i y.shown ≡ true → y.closed ≡ false → number_in n.timers.items y.id.0 ≡ j = λ j y found asleep unclosed.
     let v = slept_before ss k z there j y found in
-    ap (λ u. number_in n.timers.items u.id.0) v.2 ∙ due.asleep.named j v.0 v.1 (sym (ap (λ u. is_asleep i u.shown) v.2) ∙ asleep) in
-    let asleep : AreAsleep i n zs (slice_set ss k (sleeper_paying z)) = record { alike = alike; there = live; named = named } in
+    ap (λ u. number_in n.timers.items u.id.0) v.2 ∙ due.asleep.named j v.0 v.1 (sym (ap (λ u. is_asleep i u.shown) v.2) ∙ asleep) (sym (ap (λ u. u.closed) v.2) ∙ unclosed) in
+    let lets_go : (j : ℕ) (y : SleeperRecord) → slice_get (slice_set ss k (sleeper_paying z)) j ≡ Some y → y.shown.worker ≡ i → y.closed ≡ true → closing ≡ true = λ j y found mine closed.
+    let v = slept_before ss k z there j y found in
+    due.asleep.lets_go j v.0 v.1 (sym (ap (λ u. u.shown.worker) v.2) ∙ mine) (sym (ap (λ u. u.closed) v.2) ∙ closed) in
+    let asleep : AreAsleep closing i n zs (slice_set ss k (sleeper_paying z)) = record { alike = alike; there = live; named = named; lets_go = lets_go; counted = λ id past. subst (λ m. id.generation < m) (sym (length-set ss k (sleeper_paying z))) (due.asleep.counted id past); names = naps_set i zs zs ss k z (sleeper_paying z) there refl refl (λ id past. past) due.asleep.names } in
     assumption (asleep, due)

@@ -7,7 +7,7 @@ use Rattle.exec_driver.specs.{Driving.Driving, Lists.has_first, Punctual.IsFirst
 use Rattle.exec_task.specs.declared.body.Said.{Said}
 use Rattle.exec_machine.specs.{Deadlines.{earlier, first_timer, first_until, next_due}, Progress.Plan, Tests.{is_asleep, is_open, is_resolved}}
 use Rattle.exec_moves.specs.declared.place.Place.{Place}
-use Rattle.exec_steps.{specs.{declared.parts.{mail.Reply.Reply, names.Names.Names, record.Record.Record, shared.Shared.Shared, sleeping.SleeperRecord.SleeperRecord, worker.Worker.Worker}, Due.{AreAsleep, AreTimed, may_be_due}, Records.number_in, Sound.{IsNamed, SoundAt, served_in}, Spots.Spot, Tests.{HasToldDue, IsFirstSleep, IsNextIn, IsNextMoment}, View.{Views, driver_of, common_of}, Works.Suits}, proofs.{Leasts.{HasAt, IsLeast, least_in, least_there, least_once}, Seats.own_seat}}
+use Rattle.exec_steps.{specs.{declared.parts.{mail.Reply.Reply, names.Names.Names, record.Record.Record, shared.Shared.Shared, sleeping.SleeperRecord.SleeperRecord, worker.Worker.Worker}, Due.{AreAsleep, AreTimed, may_be_due}, Records.number_in, Sound.{IsNamed, SoundAt, served_in}, Spots.Spot, Tests.{HasToldDue, IsFirstSleep, IsNextIn, IsNextMoment}, View.{Views, driver_of, common_of}, Works.Suits}, proofs.{Unclosed.unclosed, Leasts.{HasAt, IsLeast, least_in, least_there, least_once}, Seats.own_seat}}
 
 -- THE MACHINE'S MOMENTS
 
@@ -110,7 +110,7 @@ module _ (i : ℕ) (n : Names) (d : Driving Reply Reply) (zs : Slab (Sleeping Re
 
   -- SLEEPERS
 
-  module _ (asleep : AreAsleep i n zs sleepers) where
+  module _ {closing : Bool} (asleep : AreAsleep closing i n zs sleepers) (opens : closing ≡ false) where
     sleeper_found : (m : ℕ) → HasAt (sleeps_until i) sleepers m → (id : Id) × (z : Sleeping Reply) × (value_at zs id ≡ Some z) × (m ≡ z.deadline)
     sleeper_found m has = by (value_at zs r.id.0) refl
       where
@@ -120,10 +120,13 @@ module _ (i : ℕ) (n : Names) (d : Driving Reply Reply) (zs : Slab (Sleeping Re
         two : (is_asleep i r.shown ≡ true) × (Some r.shown.until ≡ Some m)
         two = tested (is_asleep i r.shown) (Some r.shown.until) m has.moment
 
+        kept : r.closed ≡ false
+        kept = unclosed i n zs sleepers asleep opens has.k r has.there two.0
+
         by : (o : Option (Sleeping Reply)) → value_at zs r.id.0 ≡ o → (id : Id) × (z : Sleeping Reply) × (value_at zs id ≡ Some z) × (m ≡ z.deadline)
-        by None none = absurd (false≢true (subst IsSome none (asleep.there has.k r has.there two.0)))
+        by None none = absurd (false≢true (subst IsSome none (asleep.there has.k r has.there two.0 kept)))
         by (Some z) some =
-            let there : slice_get sleepers (number_in n.timers.items r.id.0) ≡ Some r = subst (λ k. slice_get sleepers k ≡ Some r) (sym (asleep.named has.k r has.there two.0)) has.there in
+            let there : slice_get sleepers (number_in n.timers.items r.id.0) ≡ Some r = subst (λ k. slice_get sleepers k ≡ Some r) (sym (asleep.named has.k r has.there two.0 kept)) has.there in
             let same : r.shown.until ≡ m = let it = two.1 in cc in
             (r.id.0, z, some, sym same ∙ (asleep.alike r.id.0 z r some there).until)
 
@@ -173,5 +176,5 @@ module _ {B L : Type 0} (left : B → L) (spot : L → Option Said → Spot) whe
       by : (closing : Bool) → w.home.closing ≡ closing → IsNextIn closing w moment → moment ≡ next_due (common_of left spot p vs s) i
       by true closes is = rw (own_seat left spot p vs w s sound.seated.seat suits sound.seated.there, opened, closes) (is ∙ timer)
       by false opens is =
-          let sleep = first_sleep i w.names d w.home.timers s.requests.items s.sleepers.items sound.named sound.due.asleep is.0 is.1 in
+          let sleep = first_sleep i w.names d w.home.timers s.requests.items s.sleepers.items sound.named sound.due.asleep opens is.0 is.1 in
           rw (own_seat left spot p vs w s sound.seated.seat suits sound.seated.there, opened, opens, ← timer, ← sleep) is.2

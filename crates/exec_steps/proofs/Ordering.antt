@@ -4,7 +4,7 @@ use Rattle.exec_waiters.specs.declared.waiter_id.WaiterId.{WaiterId}
 use Rattle.exec_driver.{specs.Lists.{first_of, rest_of, is_among}, proofs.Names.same_tells}
 use Rattle.exec_machine.specs.{declared.{config.Configuration.Configuration, state.Request.Request}, Ranges.wheel_slots, Deadlines.{is_due, is_first_due, is_told_after, is_told_before, order_on_wheel}, Tests.all_numbered}
 use Rattle.exec_moves.specs.Serve.{first_numbered}
-use Rattle.exec_steps.{specs.{declared.parts.{record.Record.Record, shared.Shared.Shared, worker.Worker.Worker}, Ordered.{IsToldBefore, Pairwise, tick_at, turn_of, went_round}, Records.number_in, Submitting.{IsDueIn, IsInOrder}, View.{driver_of, own_of}}, proofs.{Idling.{shown_at, stands_timed}, Facts.{same_number, and_none}, Calling.request_seen, Expiring.{DueAt, due_first}, Staging.{among_first, split_first}}}
+use Rattle.exec_steps.{specs.{declared.parts.{record.Record.Record, shared.Shared.Shared, worker.Worker.Worker}, Ordered.{IsToldBefore, Pairwise, tick_at, turn_of, went_round}, Records.number_in, Submitting.{IsDueIn, IsInOrder}, View.{driver_of, own_of}}, proofs.{Idling.{shown_at, stands_timed}, Facts.{same_number, and_none}, Recorded.request_seen, Expiring.{DueAt, due_first}, Staging.{among_first, split_first}}}
 
 -- TESTS OVER A LIST
 

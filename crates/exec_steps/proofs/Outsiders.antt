@@ -9,7 +9,7 @@ use Rattle.exec_moves.specs.{Call.after_claim, Claim.{Claimed, claimed, idle_aft
 use Rattle.exec_moves.specs.declared.handing.CallPlace.TheVariants as call
 use Rattle.exec_moves.specs.declared.handing.InGlobal.TheVariants as global
 use Rattle.exec_moves.specs.declared.handing.InSignal.TheVariants as signals
-use Rattle.exec_steps.{specs.{declared.parts.{caller.Caller.Caller, shared.Shared.Shared, task_slot.TaskSlot.TaskSlot}, Calling.{CallAims, CallBeside, CallSound, CallSteps, HasCallWhole, HoldsForAll, call_of, desk_of_caller, hands_on_in, has_count_in, is_free, place_by_count, place_by_set, with_call, with_caller}, Hearing.Hears, Places.one_if, Sound.IsInHand, Spots.Spot, View.{Views, Visible, common_of, seats_seen, things_with}, Whole.{IsGenuine, IsWhole, Profile, claimed_count}}, proofs.{Aside.{SparesSeats, seats_same, spares_turn}, Counting.{at_most, set_at, set_beside, sum_few, sum_one}, Facts.by_number, Handed.someone, Kicking.{again_some, lowest_claimed}, Turning.{Shares, set_found}}}
+use Rattle.exec_steps.{specs.{declared.parts.{caller.Caller.Caller, shared.Shared.Shared, task_slot.TaskSlot.TaskSlot}, Calling.{CallAims, CallBeside, CallSound, CallSteps, HasCallWhole, HoldsForAll, call_of, desk_of_caller, hands_on_in, has_count_in, is_free, place_by_count, place_by_set, with_call, with_caller}, Hearing.Hears, Places.one_if, Sound.{AreHome, IsInHand}, Spots.Spot, View.{Views, Visible, common_of, seats_seen, things_with}, Whole.{IsGenuine, IsWhole, Profile, claimed_count}}, proofs.{Aside.{SparesSeats, seats_same, spares_turn}, Counting.{at_most, set_at, set_beside, sum_few, sum_one}, Facts.by_number, Handed.someone, Kicking.{again_some, lowest_claimed}, Turning.{Shares, set_found}}}
 
 pub no_other : (j : ℕ) → j ≢ j + 1
 no_other j is = omega (arith, is)
@@ -18,14 +18,14 @@ module _ {B : Type 0} where
   -- WHAT A STEP LEAVES OF OTHERS, where only seats, the idle set and the global queue change
 
   pub hears_same : (slot slot' : TaskSlot B) → slot ≡ slot' → Hears slot slot'
-  hears_same slot slot' is = subst (Hears slot) is (record { home = refl; body = refl; told = λ answer can. (can, refl) })
+  hears_same slot slot' is = subst (Hears slot) is (record { home = refl; body = refl; going = λ h. h; told = λ answer can. (can, refl) })
 
   pub beside_shares : (c c' : Caller) (s s' : Shared B) → Shares s s' → ((i : ℕ) → SparesSeats i s.seats.items s'.seats.items) → ((others : Profile) → IsWhole (with_caller others c) s → IsWhole (with_caller others c') s') → CallBeside c s c' s'
   beside_shares c c' s s' shares seats whole =
       let tasks : s'.tasks.items ≡ s.tasks.items = ap (λ (z : Shared B). z.tasks.items) shares in
       record {
         spares = λ j. spares_turn (j + 1) j s s' (no_other j) shares (seats (j + 1));
-        for_all = λ all. subst HoldsForAll (sym shares) (record { homes = all.homes; resting = all.resting; owning = all.owning; closed = all.closed });
+        for_all = λ all. subst HoldsForAll (sym shares) (record { homes = subst (λ n. AreHome s.config.workers n s.tasks.items) (sym (seats 0).many) all.homes; resting = all.resting; owning = all.owning; closed = all.closed; few = all.few });
         whole = whole;
         hears = λ t slot slot' there there'.
             let is : slot ≡ slot' = cc (sym there ∙ ap (λ xs. slice_get xs t) (sym tasks) ∙ there') in
@@ -33,9 +33,9 @@ module _ {B : Type 0} where
       }
 
   pub sound_shares : (c c' : Caller) (s s' : Shared B) → CallSound c s → Shares s s' → length s'.seats.items ≡ length s.seats.items → IsInHand None (hands_on_in c'.place) c'.hand
-      → ((r : Runnable) → Contains (option_to_list c'.hand) r → IsGenuine s.tasks.items r) → CallAims c'.place s.config.workers → CallSound c' s'
+      → ((r : Runnable) → Contains (option_to_list c'.hand) r → IsGenuine s.tasks.items r) → CallAims c'.place (length s.seats.items) → CallSound c' s'
   sound_shares c c' s s' sound shares many hand genuine aims =
-      subst (CallSound c') (sym shares) (record { config = sound.config; homes = sound.homes; many = many ∙ sound.many; shards = sound.shards; hand = hand; genuine = genuine; aims = aims })
+      subst (CallSound c') (sym shares) (record { config = sound.config; homes = subst (λ n. AreHome s.config.workers n s.tasks.items) (sym many) sound.homes; many = omega (arith, many, sound.many); shards = sound.shards; hand = hand; genuine = genuine; aims = subst (CallAims c'.place) (sym many) aims })
 
   -- THE BALANCES
 
@@ -56,7 +56,11 @@ module _ {B : Type 0} where
         queued_there = whole.queued_there;
         places = whole.places;
         made = λ t more. rw hand (whole.made t more);
+        unclaimed = whole.unclaimed;
+        in_pool = whole.in_pool;
         pool = whole.pool;
+        gates = whole.gates;
+        holding = whole.holding;
       }
 
   -- a claim hands the count over to the worker whose bit it takes
@@ -74,12 +78,12 @@ module _ {B : Type 0} where
       x1 = record s.idle { published = slice_set s.idle.published k false }
 
       n : ℕ
-      n = length s.seats.items
+      n = s.config.workers
 
       found : (k < length s.idle.published) × (is_in s.idle.published k ≡ true)
       found = let it = position-Some (λ b. b) s.idle.published k false lowest in (it.0, it.1)
 
-      shown : (others.published k ≡ true) × (k < length s.seats.items)
+      shown : (others.published k ≡ true) × (k < s.config.workers)
       shown = whole.bits k found.1
 
       balance : claimed_count others (record s { idle = x1 }) ≡ claimed_count others s + 1
@@ -114,15 +118,19 @@ module _ {B : Type 0} where
         queued_there = whole.queued_there;
         places = whole.places;
         made = λ t more. rw hand (whole.made t more);
+        unclaimed = whole.unclaimed;
+        in_pool = whole.in_pool;
         pool = whole.pool;
+        gates = whole.gates;
+        holding = whole.holding;
       }
 
   -- one more count fits, and who holds one can return it
   pub call_count_fits : (c : Caller) (s : Shared B) → CallSound c s → HasCallWhole c s → s.idle.count + 1 < 2 ^ 64
   call_count_fits c s sound has =
       let others = has.others in
-      let claims : claimed_count others s ≤ length s.seats.items =
-      sum_few (λ j. one_if (others.published j && not (is_in s.idle.published j))) 0 (length s.seats.items) (λ j. at_most (others.published j && not (is_in s.idle.published j))) in
+      let claims : claimed_count others s ≤ s.config.workers =
+      sum_few (λ j. one_if (others.published j && not (is_in s.idle.published j))) 0 s.config.workers (λ j. at_most (others.published j && not (is_in s.idle.published j))) in
       let was : (others.counts + one_if (has_count_in c.place)) + claimed_count others s ≡ s.idle.count = has.whole.counts in
       omega (arith, was, has.few, claims, at_most (has_count_in c.place), sound.many, sound.config.few)
 
@@ -133,7 +141,7 @@ module _ {B : Type 0} where
       omega (arith, was, own)
 
   -- who can be claimed is a worker
-  call_claims : (c : Caller) (s : Shared B) (k : ℕ) → CallSound c s → HasCallWhole c s → lowest_of s.idle.published ≡ Some k → k < s.config.workers
+  call_claims : (c : Caller) (s : Shared B) (k : ℕ) → CallSound c s → HasCallWhole c s → lowest_of s.idle.published ≡ Some k → k < length s.seats.items
   call_claims c s k sound has lowest =
       let found = position-Some (λ b. b) s.idle.published k false lowest in
       omega (arith, (has.whole.bits k found.1).1, sound.many)
@@ -195,7 +203,7 @@ module _ {B L : Type 0} (left : B → L) (spot : L → Option Said → Spot) whe
 
   -- A step on the idle set.
   module _ (c c' : Caller) (s : Shared B) (e : Event) (sound : CallSound c s) where
-    pub call_idled : (counted : Bool) (x : Idle) (next : CallPlace) → is_free c.place ≡ false → hands_on_in c.place ≡ false → Leads counted s.config.workers next → e ≡ Turn → c' ≡ record c { place = next }
+    pub call_idled : (counted : Bool) (x : Idle) (next : CallPlace) → is_free c.place ≡ false → hands_on_in c.place ≡ false → Leads counted (length s.seats.items) next → e ≡ Turn → c' ≡ record c { place = next }
         → ((others : Profile) → IsWhole (with_caller others c) s → IsWhole (with_caller others (record c { place = next })) (record s { idle = x }))
         → ((p : Plan) (vs : Views) → call_on (common_of left spot p vs s) (desk_of_caller c) (things_with vs s) c.place ≡ record { event = Turn; choice = Plain; desk = record (desk_of_caller c) { place = next }; thing = record (things_with vs s) { idle = x } })
         → CallSteps left spot c s e c' (record s { idle = x })
@@ -210,7 +218,7 @@ module _ {B L : Type 0} (left : B → L) (spot : L → Option Said → Spot) whe
         (λ p vs many. moves p vs))
 
     -- the balance, by what the caller held and holds then
-    recounted : (before after : Bool) (x : Idle) (next : CallPlace) → has_count_in c.place ≡ before → Leads after s.config.workers next → x.published ≡ s.idle.published → x.count + one_if before ≡ s.idle.count + one_if after
+    recounted : (before after : Bool) (x : Idle) (next : CallPlace) → has_count_in c.place ≡ before → Leads after (length s.seats.items) next → x.published ≡ s.idle.published → x.count + one_if before ≡ s.idle.count + one_if after
         → (others : Profile) → IsWhole (with_caller others c) s → IsWhole (with_caller others (record c { place = next })) (record s { idle = x })
     recounted before after x next here leads set moved =
         let a : one_if (has_count_in c.place) ≡ one_if before = ap one_if here in
@@ -219,9 +227,9 @@ module _ {B L : Type 0} (left : B → L) (spot : L → Option Said → Spot) whe
 
     pub call_set_loaded : c.place ≡ call.Global global.LoadGlobalSet → e ≡ Turn → c' ≡ record c { place = place_by_set s.idle } → CallSteps left spot c s e c' s
     call_set_loaded here event goes =
-        let leads : Leads false s.config.workers (place_by_set s.idle) =
-        leads_either false s.config.workers (has_any s.idle) (call.Global (global.AddGlobalCount (set_of s.idle))) call.Return
-        (λ any. record { going = refl; empty = refl; counts = refl; aims = someone s.idle any }) (to_return s.config.workers) in
+        let leads : Leads false (length s.seats.items) (place_by_set s.idle) =
+        leads_either false (length s.seats.items) (has_any s.idle) (call.Global (global.AddGlobalCount (set_of s.idle))) call.Return
+        (λ any. record { going = refl; empty = refl; counts = refl; aims = someone s.idle any }) (to_return (length s.seats.items)) in
         call_idled false s.idle (place_by_set s.idle) (rw here refl) (rw here refl) leads event goes
         (recounted false false s.idle (place_by_set s.idle) (rw here refl) leads refl refl)
         (λ p vs. rw here refl)
@@ -229,7 +237,7 @@ module _ {B L : Type 0} (left : B → L) (spot : L → Option Said → Spot) whe
     pub call_count_added : (set : WorkerSet) (x : Idle) → c.place ≡ call.Global (global.AddGlobalCount set) → e ≡ Turn → c' ≡ record c { place = call.ClaimWorker set } → x ≡ record s.idle { count = s.idle.count + 1 } → CallSteps left spot c s e c' (record s { idle = x })
     call_count_added set x here event goes is =
         let aims : IsSome (lowest_of set.has) = rw here at sound.aims in
-        let leads : Leads true s.config.workers (call.ClaimWorker set) = record { going = refl; empty = refl; counts = refl; aims = aims } in
+        let leads : Leads true (length s.seats.items) (call.ClaimWorker set) = record { going = refl; empty = refl; counts = refl; aims = aims } in
         let more : x.count ≡ s.idle.count + 1 = ap (λ i. i.count) is in
         call_idled true x (call.ClaimWorker set) (rw here refl) (rw here refl) leads event goes
         (recounted false true x (call.ClaimWorker set) (rw here refl) leads (ap (λ i. i.published) is) (omega (arith, more)))
@@ -237,8 +245,8 @@ module _ {B L : Type 0} (left : B → L) (spot : L → Option Said → Spot) whe
 
     pub call_count_returned : (x : Idle) → c.place ≡ call.Global global.ReturnGlobalCount → 0 < s.idle.count → e ≡ Turn → c' ≡ record c { place = place_by_count s.idle } → x ≡ record s.idle { count = s.idle.count - 1 } → CallSteps left spot c s e c' (record s { idle = x })
     call_count_returned x here some event goes is =
-        let leads : Leads false s.config.workers (place_by_count s.idle) =
-        leads_either false s.config.workers (s.idle.count == 1) (call.Global global.LoadGlobalSet) call.Return (λ last. to_load s.config.workers) (to_return s.config.workers) in
+        let leads : Leads false (length s.seats.items) (place_by_count s.idle) =
+        leads_either false (length s.seats.items) (s.idle.count == 1) (call.Global global.LoadGlobalSet) call.Return (λ last. to_load (length s.seats.items)) (to_return (length s.seats.items)) in
         let less : x.count ≡ s.idle.count - 1 = ap (λ i. i.count) is in
         call_idled false x (place_by_count s.idle) (rw here refl) (rw here refl) leads event goes
         (recounted true false x (place_by_count s.idle) (rw here refl) leads (ap (λ i. i.published) is) (omega (arith, less, some)))
@@ -250,19 +258,19 @@ module _ {B L : Type 0} (left : B → L) (spot : L → Option Said → Spot) whe
         by : (found : Claimed) → claimed set s.idle ≡ found → c' ≡ record c { place = after_claim found } → x ≡ idle_after found s.idle → CallSteps left spot c s e c' (record s { idle = x })
         by (Claimed.Worker k) found goes is =
             let lowest : lowest_of s.idle.published ≡ Some k = lowest_claimed (same_bools set.has s.idle.published) (set_of s.idle) (lowest_of s.idle.published) k found in
-            let leads : Leads false s.config.workers (call.Signal signals.SetLatch k) = record { going = refl; empty = refl; counts = refl; aims = call_claims c s k sound has lowest } in
+            let leads : Leads false (length s.seats.items) (call.Signal signals.SetLatch k) = record { going = refl; empty = refl; counts = refl; aims = call_claims c s k sound has lowest } in
             call_idled false x (call.Signal signals.SetLatch k) (rw here refl) (rw here refl) leads event goes
             (whole_claimed c (record c { place = call.Signal signals.SetLatch k }) s k x refl (rw here refl) refl lowest is)
             (λ p vs. rw (here, found, is) refl)
         by (Claimed.Again other) found goes is =
             let again = again_some (same_bools set.has s.idle.published) (set_of s.idle) (lowest_of s.idle.published) other found in
             let some : IsSome (lowest_of other.has) = rw again.0 again.1 in
-            let leads : Leads true s.config.workers (call.ClaimWorker other) = record { going = refl; empty = refl; counts = refl; aims = some } in
+            let leads : Leads true (length s.seats.items) (call.ClaimWorker other) = record { going = refl; empty = refl; counts = refl; aims = some } in
             call_idled true x (call.ClaimWorker other) (rw here refl) (rw here refl) leads event goes
             (recounted true true x (call.ClaimWorker other) (rw here refl) leads (ap (λ i. i.published) is) (ap (λ i. i.count + 1) is))
             (λ p vs. rw (here, found, is) refl)
         by Claimed.Nobody found goes is =
-            let leads : Leads true s.config.workers (call.Global global.ReturnGlobalCount) = record { going = refl; empty = refl; counts = refl; aims = tt } in
+            let leads : Leads true (length s.seats.items) (call.Global global.ReturnGlobalCount) = record { going = refl; empty = refl; counts = refl; aims = tt } in
             call_idled true x (call.Global global.ReturnGlobalCount) (rw here refl) (rw here refl) leads event goes
             (recounted true true x (call.Global global.ReturnGlobalCount) (rw here refl) leads (ap (λ i. i.published) is) (ap (λ i. i.count + 1) is))
             (λ p vs. rw (here, found, is) refl)

@@ -4,7 +4,7 @@ use Rattle.exec_base.specs.{Slab.{Slab, value_at}, declared.slab.Id.Id}
 use Rattle.exec_outcomes.specs.declared.outcome.Outcome.{Outcome}
 use Rattle.exec_time.specs.declared.timers.Sleeper.{Sleeper as Sleeping}
 use Rattle.exec_request.specs.declared.output.RequestOutput.{RequestOutput}
-use Rattle.exec_waiters.{specs.{States.{waiter_at, waiter_of}, declared.{observer.Observer.{Observer, TheVariants.{Local, Orphaned}}, waiter.{Entry.{Entry, TheVariants.Pending}, Waiter.Waiter}}}, proofs.Changes.entry_of}
+use Rattle.exec_waiters.{specs.{States.{waiter_at, waiter_of}, declared.{observer.Observer.{Observer, TheVariants.Local}, waiter.{Entry.{Entry, TheVariants.Pending}, Waiter.Waiter}}}, proofs.Changes.entry_of}
 use Rattle.exec_driver.specs.Driving.{Driving}
 use Rattle.exec_machine.specs.{declared.state.RequestPhase.TheVariants.Resolved, Tests.is_resolved}
 use Rattle.exec_steps.{specs.{declared.parts.{mail.Reply.Reply, names.Names.Names, record.Record.Record, sleeping.SleeperRecord.SleeperRecord}, Due.AreTimed, Records.number_in, Serving.changed_at, Sound.{AreOver, IsNamed, IsAlike, IsSubmitted}}, proofs.{Facts.{by_name, same_number}, Marking.{mark_if, marked, was_marked}, Resolving.{EntryAfter, SlabAfter}}}
@@ -72,7 +72,6 @@ module _ (i : ℕ) (n : Names) (d d' : Driving Reply Reply) (zs : Slab (Sleeping
     where
       by : (o : Observer Reply Reply) (e : Option (Entry Reply Reply)) → EntryAfter o told e → waiter_of e ≡ None
       by (Local waker) e h = ap waiter_of h
-      by Orphaned e h = ap waiter_of h
       by _ e h = ap waiter_of h
 
   some_before : (other : Id) → IsSome (value_at d'.requests other) → IsSome (value_at d.requests other)

@@ -5,7 +5,7 @@ use Rattle.exec_driver.specs.Steps.{is_control}
 use Rattle.exec_task.specs.declared.body.Said.{Said}
 use Rattle.exec_machine.specs.{declared.event.Event.{Event, TheVariants.{Enter, Busy}}, Tests.is_empty, World.Own}
 use Rattle.exec_moves.specs.{declared.idling.{Stay.Stay, AfterWait.AfterWait, InRingWait.InRingWait}, declared.place.Place.Place, Serve.{Ring, enter, entered as desk_entered}, State.{Desk, Things, taken_in as poll_taken}, Thing.with_ring, Wait.{enter_ring, has_completion}}
-use Rattle.exec_steps.{specs.{declared.parts.{shared.Shared.Shared, worker.Worker.Worker}, Raises.Enters, Serving.EntersRing, Sound.SoundAt, Spots.Spot, Tests.after_enter_of, View.{visible, driver_of, own_of, desk_of, number_told, things_with, trailing, trails_wake}, Works.Steps}, proofs.{Entered.{entered, led_to, ring_seen, without_putting_off, with_put_off}, Raising.sound_taken, Serving.Follows, Swept.some_grouped, WokenEntered.{all_acknowledged, enter_shown}}}
+use Rattle.exec_steps.{specs.{declared.parts.{shared.Shared.Shared, worker.Worker.Worker}, Places.passes_at, Raises.Enters, Serving.EntersRing, Sound.SoundAt, Spots.Spot, Tests.after_enter_of, View.{visible, driver_of, own_of, desk_of, number_told, things_with, trailing, trails_wake}, Works.Steps}, proofs.{Entered.{entered, led_to, ring_seen, without_putting_off, with_put_off}, Raising.sound_taken, Serving.Follows, Swept.some_grouped, WokenEntered.{all_acknowledged, enter_shown}}}
 
 -- where the worker is after the enter, where the kernel was busy or not, and some completion is there or none
 abbrev parked : Bool → Bool → Stay → Place
@@ -34,9 +34,9 @@ enter_by some y me d i x r h = by r.busy refl
     by false free = quietly some (h free) free ∙ ap (λ b. with_ring i x (led_to (parked b some y) (record { defer = d.may_put_off; «enter» = d.put_off }) (enter me d r))) (sym free)
 
 follows_by : (b : Bool) (y : Stay) → Follows (Place.RingWait InRingWait.EnterRing y) (Place.RingWait (if b then InRingWait.SleepOnRing else InRingWait.DisarmRing AfterWait.Begin) y)
-follows_by true y = record { from = refl; to = refl; serves = refl; armed = refl; closes = refl; wakes = refl; permits = refl; moment = λ m. refl; searches = refl; published = refl }
-follows_by false Stay.Turn = record { from = refl; to = refl; serves = refl; armed = refl; closes = refl; wakes = refl; permits = refl; moment = λ m. refl; searches = refl; published = refl }
-follows_by false Stay.Closing = record { from = refl; to = refl; serves = refl; armed = refl; closes = refl; wakes = refl; permits = refl; moment = λ m. refl; searches = refl; published = refl }
+follows_by true y = record { from = refl; to = refl; serves = refl; armed = refl; closes = refl; wakes = refl; moment = λ m. refl; searches = refl; published = refl; bare = refl; batch = λ ms h. h }
+follows_by false Stay.Turn = record { from = refl; to = refl; serves = refl; armed = refl; closes = refl; wakes = refl; moment = λ m. refl; searches = refl; published = refl; bare = refl; batch = λ ms h. h }
+follows_by false Stay.Closing = record { from = refl; to = refl; serves = refl; armed = refl; closes = refl; wakes = refl; moment = λ m. refl; searches = refl; published = refl; bare = refl; batch = λ ms h. h }
 
 module _ {B : Type 0} where
   -- a completion is there then just where the ring isn't quiet
@@ -62,7 +62,7 @@ module _ {B L : Type 0} (left : B → L) (spot : L → Option Said → Spot) whe
   pub ring_entered : (y : Stay) (w w' : Worker) (s s' : Shared B) (e : Event) → SoundAt (Place.RingWait InRingWait.EnterRing y) w s → (it : Enters w s e (record w' { place = w.place }) s')
       → w'.place ≡ after_enter_of e (is_quiet (driver_of w').ring) y → Steps left spot w s e w' s'
   ring_entered y w w' s s' e sound it leads =
-      entered left spot q w w' s s' e sound (subst (λ p. Follows q p) (sym there) (follows_by (not r.busy && not some) y)) (λ h. sound.due.told refl) (with_put_off left spot w w' s s' e it same)
+      entered left spot q w w' s s' e sound (subst (λ p. Follows q p) (sym there) (follows_by (not r.busy && not some) y)) (λ h. sound.due.told refl) (ap passes_at there) (with_put_off left spot w w' s s' e it same)
       (λ p vs suits ring.
       ap (λ z. with_ring it.mid.index (things_with vs it.rested) (enter_ring y (own_of it.mid) (desk_of it.mid) z)) ring
       ∙ enter_by some y (own_of it.mid) (desk_of it.mid) it.mid.index (things_with vs it.rested) (ring_seen it.mid) (found q it.mid (record w' { place = w.place }) it.rested s' e (sound_taken q w it.mid s it.rested sound it.takes) it.enters)

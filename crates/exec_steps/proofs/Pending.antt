@@ -1,51 +1,30 @@
 -- What the end of a poll is to the machine, where the task waits.
 use Rattle.std.proofs.{Common.{◌≡◌, ◌≢◌, ◌⊎◌, inl, inr, ⊎_elim, ℕ, zero, suc, ◌+◌, ◌<◌, ◌≤◌, ◌==◌, ◌&&◌, ◌||◌, ◌-◌, arith, Bool, true, false, not, Contains, List, [], ◌∷◌, length, Option, Some, None, IsSome, refl, sym, ap, subst, ◌∙◌, slice_get, slice_set, is_some, option_to_list, IsTrue, if◌then◌else◌}, lemmas.{Bool.{false≢true, eq-eqb}, Option.slice_get_within}}
-use Rattle.exec_base.specs.Slab.{Slab}
-use Rattle.exec_time.specs.declared.timers.Sleeper.{Sleeper as Sleeping}
-use Rattle.exec_driver.specs.Driving.{Driving}
 use Rattle.exec_task.specs.{Phases.{is_polled, given_back, over, pended, requeue_where, runnable_of, pend_answer}, declared.{body.{Ended.Ended, Said.Said}, runnable.{AfterPoll.AfterPoll, Runnable.Runnable}, task.Phase.Phase}}
 use Rattle.exec_machine.specs.{declared.{event.Event.{Event, TheVariants.Pend}, state.{Forwarding.{Forwarding, TheVariants.Unsent}, TaskPhase.TaskPhase, Waiting.Waiting, Next.Next}}, Choice.Choice.Plain, Progress.Plan, Same.is_number, Tasks.{may_stop, own_after_drops, own_after_waking_up, pended_phase, requests_after_drops, sleepers_after_waking_up, after_over, unpolled}, Tests.{is_settled, is_unsent, is_resolved}, World.{Common, Own, Task, task_of}}
 use Rattle.exec_moves.specs.{declared.{handing.{AfterCallbacks.AfterCallbacks, AfterPush.AfterPush, InPush.InPush}, place.{InPick.InPick, InPoll.InPoll, Place.Place, InCallbacks.InCallbacks}}, Move.move_at, Poll.{after_pend, is_noted, pend as pend_moves, requeued_if}, Seen.{polls_at, polls_in, next_in_poll}, State.{Desk, Moved, Things}}
-use Rattle.exec_steps.{specs.{declared.parts.{mail.Reply.Reply, names.Names.Names, record.Record.Record, shared.Shared.Shared, sleeping.SleeperRecord.SleeperRecord, task_slot.TaskSlot.TaskSlot, worker.Worker.Worker}, Phased.is_complete, Places.{begins_at, hands_on_at, one_if, polled_in, removes_at, step_of_poll}, Polls.{OfSlot, flag_after, pended_with, pended_slot}, Pooled.queued_again, Rooted.{Holds, Awaits, ends_poll}, Sound.{HasGuest, IsGuest, IsInHand, IsResting, IsRunnable, SoundAt, Stands, is_told, may_end, one_of, root_in_hand, waits_for_wakes}, Spots.Spot, Tests.{after_poll_of, next_pick_of}, View.{Views, own_of, desk_of, driver_of, common_of, phase_seen, task_seen, body_in, things_with}, Whole.{HasOne, IsGenuine, is_number as is_counted, runnables_in}, Works.{TurnsSlot, Suits, Steps}}, proofs.{Onces.once_queued, Facts.{by_number, not_same, same_thing, set_there}, Here.{IsHere, going_on, polled_here, unflagged_there}, Polling.{IsOutside, at_phase, behind_roots, home_mine, in_hand_never, in_hand_once, in_own_poll, next_hands, next_outside, number_apart, number_there}, PoolKept.unremoved, Slots.{Balances, IsEvent, slotted, task_there}, SlotTasks.{IsAfter, Keeps, Sits, Tasked, Visits, guest_tasked, none_in, root_tasked}, Seen.{request_at, sleeper_at}}}
+use Rattle.exec_steps.{specs.{declared.parts.{shared.Shared.Shared, task_slot.TaskSlot.TaskSlot, worker.Worker.Worker}, Phased.is_complete, Places.{begins_at, hands_on_at, one_if, polled_in, removes_at, step_of_poll}, Polls.{OfSlot, flag_after, pended_with, pended_slot}, Pooled.queued_again, Holding.holder_of, Sound.{HasGuest, IsGuest, IsInHand, IsResting, IsRunnable, MayStop, SoundAt, Stands, is_told, may_end, one_of, root_in_hand}, Spots.Spot, Tests.{after_poll_of, next_pick_of}, View.{Views, own_of, desk_of, driver_of, common_of, phase_seen, task_seen, body_in, things_with}, Whole.{HasOne, IsGenuine, is_number as is_counted, runnables_in}, Works.{TurnsSlot, Suits, Steps}}, proofs.{Onces.once_queued, Facts.{by_number, not_same, same_thing, set_there}, Here.{IsHere, going_on, polled_here, unflagged_there}, Polling.{IsOutside, at_phase, home_mine, in_hand_never, in_hand_once, in_own_poll, next_hands, next_outside, number_apart, number_there}, PoolKept.unremoved, Slots.{Balances, IsEvent, slotted, task_there}, SlotTasks.{IsAfter, Keeps, Sits, Tasked, Visits, guest_tasked, none_in, root_tasked}, Seen.{request_at, sleeper_at}}}
 
 -- WHAT IT WAITS FOR ISN'T OVER
 
-pub open_there : (i worker : ℕ) (f : Forwarding) (over : Bool) → worker ≡ i → f ≡ Unsent → over ≡ false → (not (is_unsent f) || ((worker == i) && not over)) ≡ true
-open_there i worker f over mine unsent open_still = rw (mine, unsent, open_still, eq-eqb i i refl) refl
-
-pub asleep_there : (i worker : ℕ) (f : Forwarding) (fired removed : Bool) → worker ≡ i → f ≡ Unsent → fired ≡ false → removed ≡ false → (not (is_unsent f) || ((worker == i) && not fired && not removed)) ≡ true
-asleep_there i worker f fired removed mine unsent unfired kept = rw (mine, unsent, unfired, kept, eq-eqb i i refl) refl
-
--- as a poll ends or not
-pub holds_on : (ends : Bool) (i t : ℕ) (holding : List ℕ) (u : Waiting) (ended : Bool) (n : Names) (d : Driving Reply Reply) (zs : Slab (Sleeping Reply)) (rs : List Record) (ss : List SleeperRecord)
-    → Holds ends i t holding u ended n d zs rs ss → Holds false i t holding u ended n d zs rs ss
-holds_on ends i t holding u ended n d zs rs ss old = let waits = awaits_on u old.waits in assumption (waits, old)
-  where
-    awaits_on : (u : Waiting) → Awaits ends i t holding u rs ss → Awaits false i t holding u rs ss
-    awaits_on (Waiting.Request k) h = (h.0, h.1, record { newest = h.2.newest; waiter = h.2.waiter; unpaid = h.2.unpaid; open_still = λ never. absurd (false≢true never) })
-    awaits_on (Waiting.Timer k) h = (h.0, h.1, record { worker = h.2.worker; task = h.2.task; unsent = h.2.unsent; kept = h.2.kept; unpaid = h.2.unpaid; asleep = λ never. absurd (false≢true never) })
-    awaits_on Waiting.Nothing h = tt
-    awaits_on Waiting.Wake h = tt
-    awaits_on Waiting.Woken h = tt
-    awaits_on Waiting.Yielded h = tt
+either_way : (a b : Bool) → b ≡ true → (a || b) ≡ true
+either_way true b h = refl
+either_way false b h = h
 
 module _ {B L : Type 0} (left : B → L) (spot : L → Option Said → Spot) where
-  pub stops : (p : Plan) (vs : Views) (w : Worker) (s : Shared B) (holding : List ℕ) (u : Waiting) (ended : Bool) → may_end u ≡ true
-      → Holds true w.index w.root holding u ended w.names (driver_of w) w.home.timers s.requests.items s.sleepers.items → may_stop (common_of left spot p vs s) w.index u ≡ true
-  stops p vs w s holding (Waiting.Request k) ended may h =
-      let r = h.waits.0 in
-      let held = h.held (length holding - 1) k h.waits.2.newest in
-      let same : held.0 ≡ r = cc (held.1, h.waits.1) in
-      ap (λ it. not (is_unsent it.forwarding) || ((it.worker == w.index) && not (is_resolved it.phase))) (request_at s.requests.items k r h.waits.1)
-      ∙ open_there w.index r.shown.worker r.shown.forwarding (is_resolved r.shown.phase) (sym (ap (λ x. x.shown.worker) same) ∙ held.2.worker) (sym (ap (λ x. x.shown.forwarding) same) ∙ held.2.unsent) (h.waits.2.open_still refl)
-  stops p vs w s holding (Waiting.Timer k) ended may h =
-      let z = h.waits.0 in
-      ap (λ it. not (is_unsent it.forwarding) || ((it.worker == w.index) && not it.fired && not it.removed)) (sleeper_at s.sleepers.items k z h.waits.1)
-      ∙ asleep_there w.index z.shown.worker z.shown.forwarding z.shown.fired z.shown.removed h.waits.2.worker h.waits.2.unsent (h.waits.2.asleep refl) h.waits.2.kept
-  stops p vs w s holding Waiting.Wake ended may h = refl
-  stops p vs w s holding Waiting.Yielded ended may h = refl
-  stops p vs w s holding Waiting.Nothing ended may h = absurd (false≢true may)
-  stops p vs w s holding Waiting.Woken ended may h = absurd (false≢true may)
+  pub stops : (p : Plan) (vs : Views) (w : Worker) (s : Shared B) (u : Waiting) → may_end u ≡ true → MayStop w.index u s.requests.items s.sleepers.items → may_stop (common_of left spot p vs s) w.index u ≡ true
+  stops p vs w s (Waiting.Request k) may h =
+      ap (λ it. not (is_unsent it.forwarding) || ((it.worker == w.index) && not (is_resolved it.phase))) (request_at s.requests.items k h.0 h.1)
+      ∙ ⊎_elim (λ sent. ap (λ b. not b || ((h.0.shown.worker == w.index) && not (is_resolved h.0.shown.phase))) sent)
+      (λ own. either_way (not (is_unsent h.0.shown.forwarding)) ((h.0.shown.worker == w.index) && not (is_resolved h.0.shown.phase)) (rw (own.0, own.1, eq-eqb w.index w.index refl) refl)) h.2
+  stops p vs w s (Waiting.Timer k) may h =
+      ap (λ it. not (is_unsent it.forwarding) || ((it.worker == w.index) && not it.fired && not it.removed)) (sleeper_at s.sleepers.items k h.0 h.1)
+      ∙ ⊎_elim (λ sent. ap (λ b. not b || ((h.0.shown.worker == w.index) && not h.0.shown.fired && not h.0.shown.removed)) sent)
+      (λ own. either_way (not (is_unsent h.0.shown.forwarding)) ((h.0.shown.worker == w.index) && not h.0.shown.fired && not h.0.shown.removed) (rw (own.0, own.1, own.2, eq-eqb w.index w.index refl) refl)) h.2
+  stops p vs w s Waiting.Wake may h = refl
+  stops p vs w s Waiting.Yielded may h = refl
+  stops p vs w s Waiting.Nothing may h = absurd (false≢true may)
+  stops p vs w s Waiting.Woken may h = absurd (false≢true may)
 
 -- THE CELL
 
@@ -135,10 +114,10 @@ abbrev pub to : Place
 to = Place.Callbacks InCallbacks.TakeBatch AfterCallbacks.Look
 
 to_callbacks : IsAfter (Place.Callbacks InCallbacks.TakeBatch AfterCallbacks.Look)
-to_callbacks = record { open_still = refl; closing = refl; served = refl; unarmed = refl; calls = refl; begins = refl; queue = λ x h. h; searching = λ b h. tt; aims = λ c i seats. tt; batch = λ ms h. h; claims = refl; counts = refl; published = refl; clears = refl }
+to_callbacks = record { open_still = refl; closing = refl; served = refl; unarmed = refl; calls = refl; begins = refl; queue = λ x h. h; searching = λ b h. tt; aims = λ c i seats. tt; batch = λ ms h. absurd (false≢true h); spare = refl; cancels = refl; sends_cancel = refl; heard = refl; bare = refl; claims = refl; counts = refl; published = refl; clears = refl; passes = refl; joins = refl }
 
 pub to_push : IsOutside (Place.Push InPush.LoadPushHead AfterPush.Pick)
-to_push = record { after = record { open_still = refl; closing = refl; served = refl; unarmed = refl; calls = refl; begins = refl; queue = λ x h. h; searching = λ b h. h; aims = λ c i seats. tt; batch = λ ms h. h; claims = refl; counts = refl; published = refl; clears = refl }; polls = refl; free = refl; unserved = refl; owes = λ n. refl; removes = refl }
+to_push = record { after = record { open_still = refl; closing = refl; served = refl; unarmed = refl; calls = refl; begins = refl; queue = λ x h. h; searching = λ b h. h; aims = λ c i seats. tt; batch = λ ms h. absurd (false≢true h); spare = refl; cancels = refl; sends_cancel = refl; heard = refl; bare = refl; claims = refl; counts = refl; published = refl; clears = refl; passes = refl; joins = refl }; polls = refl; free = refl; unserved = refl; owes = λ n. refl; removes = refl }
 
 -- A ROOT'S POLL ENDS
 
@@ -154,7 +133,7 @@ module _ {B L : Type 0} (left : B → L) (spot : L → Option Said → Spot) whe
   EndsThere x w s =
       (p : Plan) (vs : Views) → Suits p vs w s
       → move_at p.config w.index (own_of (record w { place = Place.Poll w.root x })) (common_of left spot p vs s) (desk_of (record w { place = Place.Poll w.root x })) (things_with vs s) (Place.Poll w.root x)
-      ≡ record { event = Pend w.root; choice = Plain; desk = (pend_moves w.root (desk_of (record w { place = Place.Poll w.root x })) (task_of (common_of left spot p vs s) w.root)).desk; thing = things_with vs s }
+      ≡ record { event = Pend w.root; choice = Plain; desk = (pend_moves w.index w.root (common_of left spot p vs s) (desk_of (record w { place = Place.Poll w.root x })) (task_of (common_of left spot p vs s) w.root)).desk; thing = things_with vs s }
 
   ended_event : (x : InPoll) (w : Worker) (f h : Option Runnable) (s : Shared B) (slot : TaskSlot B) (b : B) → MayEnd x w.root → slice_get s.tasks.items w.root ≡ Some slot → slot.home ≡ Some w.index → w.hand ≡ h
       → EndsAs slot.cell.phase b slot.body slot.poller (runnable_of slot.cell) w.root_ready → slot.cleared ≡ false → f ≡ flag_after (requeue_where (runnable_of slot.cell) slot.cell.phase) w.root_ready → EndsThere x w s
@@ -169,8 +148,8 @@ module _ {B L : Type 0} (left : B → L) (spot : L → Option Said → Spot) whe
       let by : Desk → Moved Things = λ k. record { event = Pend w.root; choice = Plain; desk = k; thing = things } in
       record {
         moves = ends p vs suits
-            ∙ ap (λ y. by (after_pend w.root (desk_of (record w { place = Place.Poll w.root x })) y y.home)) it
-            ∙ ap (λ o. by (after_pend w.root (desk_of (record w { place = Place.Poll w.root x })) (task_seen left spot slot) o)) home
+            ∙ ap (λ y. by (after_pend w.index w.root all (desk_of (record w { place = Place.Poll w.root x })) y y.home)) it
+            ∙ ap (λ o. by (after_pend w.index w.root all (desk_of (record w { place = Place.Poll w.root x })) (task_seen left spot slot) o)) home
             ∙ ap (λ y. by (record d { root_ready = y; place = to })) (sym how.flag ∙ sym (ap is_some flag))
             ∙ ap (λ o. by (desk_of (record w { place = to; root_ready = f; hand = o }))) empty;
         may = (ap (is_number w.root) may.polls ∙ eq-eqb w.root w.root refl, (ap is_settled may.free, (ap (λ y. may_stop all w.index y.waiting) it ∙ stop, tt)));
@@ -208,9 +187,6 @@ module _ {B L : Type 0} (left : B → L) (spot : L → Option Said → Spot) whe
       let f : Option Runnable = flag_after a w.root_ready in
       let same_root : slot ≡ sound.runnable.root = same_thing slot sound.runnable.root (sym there ∙ sound.runnable.there) in
       let unflagged : w.root_ready ≡ None = unflagged_there w.root_ready (root_in_hand (begins_at (Place.Poll w.root x)) w.root w.hand) slot is_on (subst (λ (o : TaskSlot B). IsRunnable (one_of w.root_ready (root_in_hand (begins_at (Place.Poll w.root x)) w.root w.hand)) o) (sym same_root) sound.runnable.once) in
-      let holds : Holds false w.index w.root slot.held.items slot.waiting (is_complete slot'.cell.phase) w.names (driver_of w) w.home.timers s.requests.items s.sleepers.items =
-      subst (λ c. Holds false w.index w.root slot.held.items slot.waiting c w.names (driver_of w) w.home.timers s.requests.items s.sleepers.items) (sym how.complete)
-      (holds_on (ends_poll (polled_in w.root (Place.Poll w.root x))) w.index w.root slot.held.items slot.waiting (is_complete slot.cell.phase) w.names (driver_of w) w.home.timers s.requests.items s.sleepers.items (sound.rooted.root slot there)) in
       let sits : Sits to w f s slot slot' = record {
         there = there;
         keeps = record { home = refl; number = refl; owner = refl };
@@ -219,10 +195,12 @@ module _ {B L : Type 0} (left : B → L) (spot : L → Option Said → Spot) whe
         hand = refl;
         polls = λ n never. let no : None ≡ Some n = never in absurd (cc);
         complete = how.complete;
-        holds = holds;
+        unpooled = refl;
+        stops = tt;
       } in
       let bal : Balances w.root to w None slot slot' = record {
         keeps = record { home = refl; number = refl; owner = refl };
+        holder = ap (λ o. record (holder_of slot) { over = o }) how.complete;
         apart = λ u other. sym (ap (λ o. runnables_in u (option_to_list o)) empty);
         one = λ g ordinary. absurd (let never : Some w.index ≡ None = sym home ∙ ordinary in cc);
         polls_apart = λ u other. sym (ap (λ q. is_counted (polls_at q) u) sound.here ∙ number_apart w.root u (polls_in w.root x) may.polls other);
@@ -233,7 +211,7 @@ module _ {B L : Type 0} (left : B → L) (spot : L → Option Said → Spot) whe
       let items = turns.tasks slot there ∙ ap (λ o. slice_set s.tasks.items w.root o) (slot_given slot body.0 body.1 old.kept) in
       let done : Steps left spot w s (Pend w.root) (record w { place = to; root_ready = f; hand = None }) (record s { tasks = s'.tasks }) =
       slotted left spot w.root x to w f None s s' slot slot' (Pend w.root) Plain sound to_callbacks (root_tasked w.root x to w f s slot slot' sound sits) there items bal
-      (home_mine w.index slot.home (inl home)) (λ polled. inl it.poller) (record { home = refl; body = how.same_body; told = λ answer hears. (hears, refl) })
+      (home_mine w.index slot.home (inl home)) (λ polled. inl it.poller) (record { home = refl; body = how.same_body; going = λ h. sym how.complete ∙ h; told = λ answer hears. (hears, refl) })
       (λ p vs suits. ended_event x w f None s slot body.0 may there home empty how old.uncleared refl ends p vs suits (stop slot p vs there suits)) in
       let is : w' ≡ record w { place = to; root_ready = f; hand = None } =
       goes slot there ∙ ap (λ y. queued_again w.root y (record w { place = after_poll_of w.root w })) (answer_given slot old.kept) ∙ requeued_root w a ∙ ap (λ o. record w { place = to; root_ready = f; hand = o }) empty in

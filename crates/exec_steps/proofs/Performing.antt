@@ -3,7 +3,7 @@ use Rattle.std.proofs.{Common.{◌≡◌, ℕ, true, false, List, map, Option, S
 use Rattle.exec_base.specs.declared.error.Error.TheVariants.{NoMemory}
 use Rattle.exec_task.specs.{Phases.{is_polled, woken as cell_woken}, Sight.Sight, declared.{body.{Act.Act, Said.Said}, runnable.Runnable.Runnable, task.Phase.Phase}}
 use Rattle.exec_machine.specs.{declared.state.Waiting.Waiting, Progress.Plan, Tasks.woken_phase, World.Task}
-use Rattle.exec_steps.{specs.{declared.parts.{shared.Shared.Shared, task_slot.TaskSlot.TaskSlot, worker.Worker.Worker}, Acting.{Performs, StillPerforms}, Hearing.{CanHear, held_once_come}, Phased.is_complete, Polls.yielded_slot, Scripts.{GoesOn, IsAnswer, held_after}, Spots.{Spot, spot_of, standing_at}, View.{common_of, things_with, phase_seen, task_seen, spot_by, body_in}, Works.{Same, TurnsSlot}}, proofs.{Facts.{by_number, same_thing, set_elsewhere, set_there}, Pending.in_poll}}
+use Rattle.exec_steps.{specs.{Records.numbers_held, declared.parts.{shared.Shared.Shared, task_slot.TaskSlot.TaskSlot, worker.Worker.Worker}, Acting.{Performs, StillPerforms}, Hearing.{CanHear, held_once_come}, Phased.is_complete, Polls.yielded_slot, Scripts.{GoesOn, IsAnswer, held_after}, Spots.{Spot, spot_of, standing_at}, View.{common_of, things_with, phase_seen, task_seen, spot_by, body_in}, Works.{Same, TurnsSlot}}, proofs.{Facts.{by_number, same_thing, set_elsewhere, set_there}, Pending.in_poll}}
 
 -- A CELL IN ITS POLL
 
@@ -32,7 +32,7 @@ module _ {B L : Type 0} (left : B → L) (runs : L → Plan → Option ℕ → T
       record {
         root = root;
         config = config;
-        performs = λ p fits k o found.
+        performs = λ p is fits k o found.
             by_number k t
             (λ apart. fits k o (sym (set_elsewhere s.tasks.items t k slot' apart) ∙ ap (λ ts. slice_get ts k) (sym items) ∙ found))
             (λ same.
@@ -43,11 +43,11 @@ module _ {B L : Type 0} (left : B → L) (runs : L → Plan → Option ℕ → T
 module _ {B L : Type 0} (left : B → L) (runs : L → Plan → Option ℕ → Type 0) (holds : L → Option Said → List ℕ) (spot : L → Option Said → Spot) (gives : L → Option Sight → Said → Act B → L → Option Sight → Type 0) where
   -- A body that goes on performs the plan, where each thing that it can be told answers its act.
   pub performs_on : (p : Plan) (t : Task) (a : Act B) (slot' : TaskSlot B) (b' : B) → GoesOn runs holds spot gives p t a (left b') → slot'.home ≡ t.home → body_in slot'.cell.phase slot'.body ≡ Some b'
-      → ((answer : Said) → CanHear slot'.told slot'.waiting answer → IsAnswer a answer × (held_after a answer t.held ≡ held_once_come slot'.waiting slot'.held.items)) → Performs left runs holds p slot'
+      → ((answer : Said) → CanHear slot'.told slot'.waiting answer → IsAnswer a answer × (held_after a answer t.held ≡ held_once_come slot'.waiting (numbers_held slot'.held.items))) → Performs left runs holds p slot'
   performs_on p t a slot' b' goes home body answers =
       record {
-        runs_it = λ b answer is hears. let same : b' ≡ b = cc (body, is) in subst (λ x. runs (left x) p slot'.home) same (subst (runs (left b') p) (sym home) goes.runs_on);
-        holding = λ b answer is hears.
+        runs_it = λ b answer is hears going. let same : b' ≡ b = cc (body, is) in subst (λ x. runs (left x) p slot'.home) same (subst (runs (left b') p) (sym home) goes.runs_on);
+        holding = λ b answer is hears going.
             let same : b' ≡ b = cc (body, is) in
             let fits = answers answer hears in
             ap (λ x. holds (left x) (Some answer)) (sym same) ∙ goes.holding answer fits.0 ∙ fits.1;
@@ -57,14 +57,14 @@ module _ {B L : Type 0} (left : B → L) (runs : L → Plan → Option ℕ → T
       → Performs left runs holds p (record slot { body = Some b'; told = Some Said.Pass })
   performs_passed p slot b' is nothing goes =
       performs_on p (task_seen left spot slot) (Act.Sleep 0) (record slot { body = Some b'; told = Some Said.Pass }) b' goes refl (in_poll slot.cell.phase (Some b') is)
-      (λ answer hears. subst (λ y. IsAnswer {B = B} (Act.Sleep 0) y × (held_after {B = B} (Act.Sleep 0) y slot.held.items ≡ held_once_come slot.waiting slot.held.items)) (sym hears) (tt, sym (ap (λ u. held_once_come u slot.held.items) nothing)))
+      (λ answer hears. subst (λ y. IsAnswer {B = B} (Act.Sleep 0) y × (held_after {B = B} (Act.Sleep 0) y (numbers_held slot.held.items) ≡ held_once_come slot.waiting (numbers_held slot.held.items))) (sym hears) (tt, sym (ap (λ u. held_once_come u (numbers_held slot.held.items)) nothing)))
 
   pub performs_waiting : (p : Plan) (slot : TaskSlot B) (b' : B) (r : Option ℕ) → is_polled slot.cell.phase ≡ true → GoesOn runs holds spot gives p (task_seen left spot slot) (Act.Await r) (left b')
       → Performs left runs holds p (record slot { body = Some b'; told = None; waiting = Waiting.Wake })
   performs_waiting p slot b' r is goes =
       performs_on p (task_seen left spot slot) (Act.Await r) (record slot { body = Some b'; told = None; waiting = Waiting.Wake }) b' goes refl (in_poll slot.cell.phase (Some b') is) (woken_by r)
     where
-      woken_by : (o : Option ℕ) (answer : Said) → CanHear None Waiting.Wake answer → IsAnswer {B = B} (Act.Await o) answer × (held_after {B = B} (Act.Await o) answer slot.held.items ≡ slot.held.items)
+      woken_by : (o : Option ℕ) (answer : Said) → CanHear None Waiting.Wake answer → IsAnswer {B = B} (Act.Await o) answer × (held_after {B = B} (Act.Await o) answer (numbers_held slot.held.items) ≡ (numbers_held slot.held.items))
       woken_by None Said.Pass h = (tt, refl)
       woken_by (Some k) Said.Pass h = (tt, refl)
       woken_by o answer h = absurd h
@@ -74,7 +74,7 @@ module _ {B L : Type 0} (left : B → L) (runs : L → Plan → Option ℕ → T
   performs_yielded p slot b' is goes =
       let wakes = wakes_as slot.cell.phase (Some b') slot.poller is in
       performs_on p (task_seen left spot slot) Act.Yield (yielded_slot (record slot { body = Some b'; told = None })) b' goes refl (wakes.same_body ∙ in_poll slot.cell.phase (Some b') is)
-      (λ answer hears. subst (λ y. IsAnswer {B = B} Act.Yield y × (held_after {B = B} Act.Yield y slot.held.items ≡ slot.held.items)) (sym hears) (tt, refl))
+      (λ answer hears. subst (λ y. IsAnswer {B = B} Act.Yield y × (held_after {B = B} Act.Yield y (numbers_held slot.held.items) ≡ (numbers_held slot.held.items))) (sym hears) (tt, refl))
 
 -- WHERE THERE IS NO MEMORY
 

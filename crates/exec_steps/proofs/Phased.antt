@@ -25,11 +25,11 @@ module _ {B : Type 0} where
 
   -- It is over by this, so the worker is about to close; any but worker zero once the pool is stopped.
   pub phased_over : (i : ℕ) (told : Bool) (t n : ℕ) (st : Stage) (tasks : List (TaskSlot B)) (slot slot' : TaskSlot B)
-      → slice_get tasks t ≡ Some slot → is_complete slot'.cell.phase ≡ true → (0 < i → st.stopped ≡ true) → IsPhased i false None told t n st tasks → IsPhased i false (Some InClosing.Close) told t n st (slice_set tasks t slot')
+      → slice_get tasks t ≡ Some slot → is_complete slot'.cell.phase ≡ true → (0 < i → st.pool ≡ true → st.stopped ≡ true) → IsPhased i false None told t n st tasks → IsPhased i false (Some InClosing.Close) told t n st (slice_set tasks t slot')
   phased_over i told t n st tasks slot slot' there over stopped phased =
       let ended : has_ended st.phase ≡ true → Some InClosing.Close ≡ Some InClosing.End = λ h. absurd (false≢true (sym (not_ended st.phase phased.opened) ∙ h)) in
       let root : (other : TaskSlot B) → slice_get (slice_set tasks t slot') t ≡ Some other → is_complete other.cell.phase ≡ true = λ other found. ap (λ o. is_complete o.cell.phase) (same_thing other slot' (sym found ∙ set_there tasks t slot' slot there)) ∙ over in
-      let by_other : 0 < i → true ≡ true → st.stopped ≡ true = λ some h. stopped some in
+      let by_other : 0 < i → st.pool ≡ true → true ≡ true → st.stopped ≡ true = λ some of_pool h. stopped some of_pool in
       assumption (ended, root, by_other, phased)
 
   -- Another number of requests is unreleased.

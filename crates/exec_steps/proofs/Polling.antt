@@ -1,18 +1,15 @@
 -- A poll begins: what the worker has in its hand then, and what the step is to the machine.
-use Rattle.std.proofs.{Common.{◌≡◌, ◌≢◌, ◌⊎◌, inl, inr, ⊎_elim, ℕ, ◌+◌, ◌<◌, ◌≤◌, ◌==◌, Bool, true, false, Contains, List, [], ◌∷◌, length, map, Option, Some, None, IsSome, refl, sym, ap, subst, ◌∙◌, arith, lit<, nat_lt, slice_get, slice_set, option_map, is_some, option_to_list, if◌then◌else◌}, lemmas.{Bool.{false≢true, eq-eqb, Decides.nat_tests}, Option.{slice_get_within, slice_get-map}}}
-use Rattle.exec_base.specs.{Slab.{Slab, value_at}, declared.slab.Id.Id}
-use Rattle.exec_time.specs.declared.timers.{Sleeper.Sleeper as Sleeping, Observer.Observer}
-use Rattle.exec_driver.specs.Driving.{Driving}
+use Rattle.std.proofs.{Common.{◌≡◌, ◌≢◌, ◌⊎◌, inl, inr, ⊎_elim, ℕ, ◌+◌, ◌<◌, ◌≤◌, ◌==◌, ◌&&◌, Bool, true, false, Contains, List, [], ◌∷◌, length, map, Option, Some, None, IsSome, refl, sym, ap, subst, ◌∙◌, arith, lit<, nat_lt, slice_get, slice_set, option_map, is_some, option_to_list, if◌then◌else◌}, lemmas.{Bool.{false≢true, eq-eqb, Decides.nat_tests}, Option.{slice_get_within, slice_get-map}}}
 use Rattle.exec_task.specs.{Phases.{is_polled, queued_body, begun as cell_begun, runnable_of}, declared.{body.Said.Said, runnable.Runnable.Runnable, task.Phase.Phase}}
-use Rattle.exec_machine.specs.{declared.{event.Event.{Event, TheVariants.{Begin, Turn}}, state.{TaskPhase.TaskPhase, Waiting.Waiting, Next.Next}}, Choice.Choice.Plain, Progress.Plan, Tasks.{begun, begun_waiting, is_polled_here}, Tests.{is_open, is_ready, is_resolved}, World.{Seat, Task, task_of, seat_of}}
+use Rattle.exec_machine.specs.{declared.{event.Event.{Event, TheVariants.{Begin, Turn}}, state.{Letter.Letter, TaskPhase.TaskPhase, Waiting.Waiting, Next.Next}}, Choice.Choice.Plain, Progress.Plan, Tasks.{begun, begun_waiting, is_polled_here}, Tests.{is_empty, is_open, is_ready}, World.{Seat, Task, task_of, seat_of}}
 use Rattle.exec_moves.specs.{declared.place.{InPick.InPick, InPoll.InPoll, Place.Place}, Parts.after_poll, Poll.{after_begin, begin_poll, let_go}, Seen.{next_at, next_in_poll, polls_at, polls_in, serves_at}, State.{Moved, Things, does, goes, turns}}
-use Rattle.exec_steps.{specs.{declared.parts.{mail.Reply.Reply, names.Names.Names, record.Record.Record, sleeping.SleeperRecord.SleeperRecord, shared.Shared.Shared, task_slot.TaskSlot.TaskSlot, worker.Worker.Worker}, Hearing.Hears, Phased.is_complete, Places.{begins_at, hands_on_at, in_poll_of, one_if, polled_in, removes_at, step_of_poll}, Polls.{OfSlot, begun_slot, begun_slot_if}, Records.number_in, Rooted.{Holds, Awaits, ends_poll}, Sound.{HasGuest, IsGuest, IsHeld, IsInHand, IsResting, IsRunnable, SoundAt, Stands, WaitsAt, acts_next, is_told, one_of, root_in_hand, waits_for_wakes}, Spots.Spot, Tests.next_pick_of, View.{Views, own_of, owed_at, desk_of, driver_of, common_of, phase_seen, task_seen, spot_by, body_in, things_with}, Whole.{HasOne, IsGenuine, is_number, runnables_in}, Works.{TurnsSlot, Steps, Suits}}, proofs.{Begins.{begins_waiting, begins_with, begun_place, holds_begun, told_before, waits_before, wakes_before}, Onces.at_most_once, Facts.{by_number, not_same, same_thing, set_there}, Hearing.hears_begun, PoolKept.unremoved, Seats.own_seat, Slots.{Balances, IsEvent, Remains, slotted, task_there}, SlotTasks.{IsAfter, Keeps, Sits, Tasked, Visits, elsewhere, genuine_set, guest_tasked, homes_set, none_in, root_tasked}, Turning.set_found}}
+use Rattle.exec_steps.{specs.{declared.parts.{shared.Shared.Shared, task_slot.TaskSlot.TaskSlot, worker.Worker.Worker}, Hearing.Hears, Holding.holder_of, Phased.is_complete, Places.{begins_at, hands_on_at, in_poll_of, joins_at, one_if, polled_in, removes_at, step_of_poll}, Polls.{OfSlot, begun_slot, begun_slot_if}, Records.numbers_held, Sound.{HasGuest, IsGuest, IsHeld, IsInHand, IsResting, IsRunnable, SoundAt, Stands, Stops, WaitsAt, acts_next, is_told, one_of, root_in_hand}, Spots.Spot, Tests.next_pick_of, View.{Views, own_of, owed_at, desk_of, driver_of, common_of, phase_seen, task_seen, spot_by, body_in, things_with}, Whole.{HasOne, IsGenuine, is_number, runnables_in}, Works.{TurnsSlot, Steps, Suits}}, proofs.{Begins.{awaits_before, begins_waiting, begins_with, begun_place, stops_later, told_before, waits_before}, Dedicated.chair_of_pool, Onces.at_most_once, Facts.{by_number, not_same, same_thing, set_there}, Hearing.hears_begun, PoolKept.unremoved, Seats.own_seat, Slots.{Balances, IsEvent, Remains, slotted, task_there}, SlotTasks.{IsAfter, Keeps, Sits, Tasked, Visits, elsewhere, genuine_set, guest_tasked, homes_set, none_in, root_tasked}, Turning.set_found}}
 
 -- WHERE IT LEADS
 
-pub on_in_poll : (t : ℕ) (y : InPoll) → begins_at (Place.Poll t y) ≡ None → IsAfter (Place.Poll t y)
-on_in_poll t y begins =
-    record { open_still = refl; closing = refl; served = refl; unarmed = refl; calls = refl; begins = begins; queue = λ x h. h; searching = λ b h. h; aims = λ c i seats. tt; batch = λ ms h. h; claims = refl; counts = refl; published = refl; clears = refl }
+pub on_in_poll : (t : ℕ) (y : InPoll) → begins_at (Place.Poll t y) ≡ None → joins_at (Place.Poll t y) ≡ None → IsAfter (Place.Poll t y)
+on_in_poll t y begins joins =
+    record { passes = refl; joins = joins; open_still = refl; closing = refl; served = refl; unarmed = refl; calls = refl; begins = begins; queue = λ x h. h; searching = λ b h. h; aims = λ c i seats. tt; batch = λ ms h. absurd (false≢true h); spare = refl; cancels = refl; sends_cancel = refl; heard = refl; bare = refl; claims = refl; counts = refl; published = refl; clears = refl }
 
 -- no poll, and nothing for the machine to do
 pub record IsOutside (q : Place) : Type 0 where
@@ -25,9 +22,9 @@ pub record IsOutside (q : Place) : Type 0 where
 
 pub next_outside : (b : Bool) → IsOutside (if b then Place.TakeRootFlag else Place.Pick InPick.CountDown)
 next_outside true =
-    record { after = record { open_still = refl; closing = refl; served = refl; unarmed = refl; calls = refl; begins = refl; queue = λ x h. h; searching = λ b h. tt; aims = λ c i seats. tt; batch = λ ms h. h; claims = refl; counts = refl; published = refl; clears = refl }; polls = refl; free = refl; unserved = refl; owes = λ n. refl; removes = refl }
+    record { after = record { passes = refl; joins = refl; open_still = refl; closing = refl; served = refl; unarmed = refl; calls = refl; begins = refl; queue = λ x h. h; searching = λ b h. tt; aims = λ c i seats. tt; batch = λ ms h. absurd (false≢true h); spare = refl; cancels = refl; sends_cancel = refl; heard = refl; bare = refl; claims = refl; counts = refl; published = refl; clears = refl }; polls = refl; free = refl; unserved = refl; owes = λ n. refl; removes = refl }
 next_outside false =
-    record { after = record { open_still = refl; closing = refl; served = refl; unarmed = refl; calls = refl; begins = refl; queue = λ x h. h; searching = λ b h. tt; aims = λ c i seats. tt; batch = λ ms h. h; claims = refl; counts = refl; published = refl; clears = refl }; polls = refl; free = refl; unserved = refl; owes = λ n. refl; removes = refl }
+    record { after = record { passes = refl; joins = refl; open_still = refl; closing = refl; served = refl; unarmed = refl; calls = refl; begins = refl; queue = λ x h. h; searching = λ b h. tt; aims = λ c i seats. tt; batch = λ ms h. absurd (false≢true h); spare = refl; cancels = refl; sends_cancel = refl; heard = refl; bare = refl; claims = refl; counts = refl; published = refl; clears = refl }; polls = refl; free = refl; unserved = refl; owes = λ n. refl; removes = refl }
 
 pub next_hands : (b : Bool) → hands_on_at (if b then Place.TakeRootFlag else Place.Pick InPick.CountDown) ≡ false
 next_hands true = refl
@@ -141,23 +138,16 @@ module _ {B : Type 0} where
             ordinary = λ no. it.ordinary;
           }
 
-  -- an ordinary task stands behind the roots
-  pub behind_roots : (n t : ℕ) (slot : TaskSlot B) → slot.home ≡ (if nat_lt t n then Some t else None) → slot.home ≡ None → n ≤ t
-  behind_roots n t slot home none = by (nat_lt t n) refl
-    where
-      by : (b : Bool) → nat_lt t n ≡ b → n ≤ t
-      by true is = let never : Some t ≡ None = sym (home ∙ ap (λ b. if b then Some t else None) is) ∙ none in absurd (cc)
-      by false is = grind (arith, nat_tests)
-
   -- a hand that had this task's runnable is empty then, and its poll begins or none
-  start_balances : (t : ℕ) (q : Place) (w : Worker) (slot slot' : TaskSlot B) → w.place ≡ Place.Poll t InPoll.BeginPoll → w.hand ≡ Some (runnable_of slot.cell) → slot.cell.number ≡ record { 0 = t } → Keeps slot slot'
+  start_balances : (t : ℕ) (q : Place) (w : Worker) (slot slot' : TaskSlot B) → w.place ≡ Place.Poll t InPoll.BeginPoll → w.hand ≡ Some (runnable_of slot.cell) → slot.cell.number ≡ record { 0 = t } → Keeps slot slot' → holder_of slot' ≡ holder_of slot
       → ((g : Bool) (n : ℕ) → HasOne g slot.cell.phase (n + 1) → HasOne g slot'.cell.phase (n + 0)) → ((u : ℕ) → u ≢ t → is_number (polls_at q) u ≡ false)
       → ((n : ℕ) → n + 0 ≡ one_if (is_polled slot.cell.phase) → n + one_if (is_number (polls_at q) t) ≡ one_if (is_polled slot'.cell.phase)) → removes_at q ≡ None → (slot.home ≡ None → Remains t q w.index slot slot') → Balances t q w None slot slot'
-  start_balances t q w slot slot' here hand number keeps one apart polls removes remains =
+  start_balances t q w slot slot' here hand number keeps holder one apart polls removes remains =
       let r : Runnable = runnable_of slot.cell in
       let of_it : r.task.0 ≡ t = ap (λ n. n.0) number in
       record {
         keeps = keeps;
+        holder = holder;
         apart = λ u other. sym (ap (λ o. runnables_in u (option_to_list o)) hand ∙ in_hand_never u t r of_it other);
         one = λ g home n h. one g n (subst (λ k. HasOne g slot.cell.phase (n + k)) (ap (λ o. runnables_in t (option_to_list o)) hand ∙ in_hand_once t r of_it) h);
         polls_apart = λ u other. apart u other ∙ sym (ap (λ p. is_number (polls_at p) u) here);
@@ -189,9 +179,16 @@ module _ {B L : Type 0} (left : B → L) (spot : L → Option Said → Spot) whe
       ap (λ b. at_phase slot b (phase_seen (cell_begun slot.cell.phase) i) (begun_waiting slot.waiting) true) how.same_body
       ∙ ap (λ p. at_phase slot (body_in slot.cell.phase slot.body) p (begun_waiting slot.waiting) true) how.shown
 
-  polled_here : (i : ℕ) (seat : Seat) (home : Option ℕ) → seat.pool ≡ true → (home ≡ Some i) ⊎ (home ≡ None) → is_polled_here i seat home ≡ true
+  polled_here : (i : ℕ) (seat : Seat) (home : Option ℕ) → (home ≡ None → seat.pool ≡ true) → (home ≡ Some i) ⊎ (home ≡ None) → is_polled_here i seat home ≡ true
   polled_here i seat home pool (inl is) = ap (is_polled_here i seat) is ∙ eq-eqb i i refl
-  polled_here i seat home pool (inr is) = ap (is_polled_here i seat) is ∙ pool
+  polled_here i seat home pool (inr is) = ap (is_polled_here i seat) is ∙ pool is
+
+  -- the root isn't an ordinary task
+  pub rootless : (t : ℕ) (w : Worker) (s : Shared B) (slot : TaskSlot B) → SoundAt (Place.Poll t InPoll.BeginPoll) w s → slice_get s.tasks.items t ≡ Some slot → slot.home ≡ None → t ≢ w.root
+  rootless t w s slot sound there none = λ same.
+      let is : slot ≡ sound.runnable.root = same_thing slot sound.runnable.root (sym there ∙ ap (slice_get s.tasks.items) same ∙ sound.runnable.there) in
+      let no : None ≡ Some w.index = sym none ∙ ap (λ (o : TaskSlot B). o.home) is ∙ sound.runnable.home in
+      absurd (cc)
 
   begun_event : (t : ℕ) (w : Worker) (s : Shared B) (slot : TaskSlot B) → SoundAt (Place.Poll t InPoll.BeginPoll) w s → slice_get s.tasks.items t ≡ Some slot → BeginsAs slot.cell.phase slot.body w.index → (slot.home ≡ Some w.index) ⊎ (slot.home ≡ None)
       → (p : Plan) (vs : Views) → Suits p vs w s
@@ -208,12 +205,12 @@ module _ {B L : Type 0} (left : B → L) (spot : L → Option Said → Spot) whe
       record {
         moves = ap made it ∙ ap made_if (how.ready slot.poller);
         may = (
-          refl,
+          ap (λ (ls : List Letter). is_empty ls && true) (sound.letters.none refl),
           (
             ap (λ x. is_open x.phase) seat ∙ (sound.phased chair sound.seated.there).opened,
             (
               ap (λ x. is_ready x.phase) it ∙ how.ready slot.poller,
-              (ap (λ x. is_polled_here w.index (seat_of all w.index) x.home) it ∙ polled_here w.index (seat_of all w.index) slot.home (ap (λ x. x.pool) seat ∙ (sound.phased chair sound.seated.there).pool) home, tt),
+              (ap (λ x. is_polled_here w.index (seat_of all w.index) x.home) it ∙ polled_here w.index (seat_of all w.index) slot.home (λ none. ap (λ x. x.pool) seat ∙ chair_of_pool (Place.Poll t InPoll.BeginPoll) w s sound chair sound.seated.there ∙ sound.serves (rootless t w s slot sound there none)) home, tt),
             ),
           ),
         );
@@ -234,7 +231,7 @@ module _ {B L : Type 0} (left : B → L) (spot : L → Option Said → Spot) whe
       slot' : TaskSlot B
       slot' = begun_slot w.index it.slot
 
-      waits : WaitsAt (Some (after_begin u)) u × (ends_poll (Some (after_begin u)) ≡ false)
+      waits : WaitsAt (Some (after_begin u)) u
       waits = begins_waiting it.slot.waiting
 
       polls : polls_in t (after_begin u) ≡ Some t
@@ -249,38 +246,31 @@ module _ {B L : Type 0} (left : B → L) (spot : L → Option Said → Spot) whe
           let own : polled_in w.root q ≡ Some (after_begin u) = in_own_poll w.root (polls_in t (after_begin u)) (after_begin u) (polls ∙ ap (λ n. Some n) same) in
           let before : polled_in w.root (Place.Poll t InPoll.BeginPoll) ≡ None = refl in
           let old = sound.tied.stands it.slot there in
-          let ends : ends_poll (polled_in w.root q) ≡ false = ap ends_poll own ∙ waits.1 in
-          let holds : Holds (ends_poll (polled_in w.root q)) w.index w.root it.slot.held.items u (is_complete slot'.cell.phase) w.names (driver_of w) w.home.timers s.requests.items s.sleepers.items =
-          subst (λ b. Holds b w.index w.root it.slot.held.items u (is_complete slot'.cell.phase) w.names (driver_of w) w.home.timers s.requests.items s.sleepers.items) (sym ends)
-          (subst (λ b. Holds false w.index w.root it.slot.held.items u b w.names (driver_of w) w.home.timers s.requests.items s.sleepers.items) (sym how.complete)
-          (holds_begun w.index w.root it.slot.held.items it.slot.waiting (is_complete it.slot.cell.phase) w.names (driver_of w) w.home.timers s.requests.items s.sleepers.items (sound.rooted.root it.slot there))) in
           let sits : Sits q w w.root_ready s it.slot slot' = record {
             there = there;
             keeps = record { home = refl; number = refl; owner = refl };
-            stands = subst (λ x. Stands x w.index slot') (sym own) (record { polled = how.polled; body = λ some. how.body; poller = λ some. refl; kept = old.kept; uncleared = old.uncleared; told = λ h. old.told (told_before it.slot.waiting (is_complete it.slot.cell.phase) (ap (is_told u) (sym how.complete) ∙ h)); untold = λ h. old.untold (waits_before it.slot.waiting h); waits = waits.0 });
+            stands = subst (λ x. Stands x w.index slot') (sym own) (record { polled = how.polled; body = λ some. how.body; poller = λ some. refl; kept = old.kept; uncleared = old.uncleared; told = λ h. old.told (told_before it.slot.waiting (is_complete it.slot.cell.phase) (ap (is_told u) (sym how.complete) ∙ h)); untold = λ h. old.untold (waits_before it.slot.waiting h); waits = waits });
             once = subst (λ o. IsRunnable o slot') (sym (it.root same).0) (λ b h. how.unqueued b h);
             hand = (begun_place t u).1;
             polls = λ n is. same_thing n t (sym is ∙ polls) ∙ same;
+            unpooled = (begun_place t u).3;
             complete = how.complete;
-            holds = holds;
+            stops = stops_later u u w.index s.requests.items s.sleepers.items;
           } in
           subst (λ n. Tasked q w w.root_ready None s (slice_set s.tasks.items n slot')) (sym same) (root_tasked t InPoll.BeginPoll q w w.root_ready s it.slot slot' sound sits)
 
       other : t ≢ w.root → Tasked q w w.root_ready None s (slice_set s.tasks.items t slot')
       other apart =
-          let within : s.config.workers ≤ t = behind_roots s.config.workers t it.slot (sound.homes.home t it.slot it.there) (it.ordinary apart) in
-          let old = sound.resting t it.slot it.there within how.unpolled in
+          let old = sound.resting t it.slot it.there (it.ordinary apart) how.unpolled in
           let guest : IsGuest (after_begin u) w.index slot' = record {
             ordinary = it.ordinary apart;
             polled = how.polled;
             body = how.body;
             poller = refl;
             cancelled = (old.uncleared how.going).0 ∙ sym (old.uncleared how.going).1;
-            held = old.held;
-            waits = wakes_before it.slot.waiting old.waits;
             told = λ h. old.told (ap (is_told it.slot.waiting) how.going ∙ told_before it.slot.waiting false h);
             untold = λ h. old.untold (waits_before it.slot.waiting h);
-            there = waits.0;
+            there = waits;
           } in
           let visits : Visits q t w None s it.slot slot' = record {
             apart = apart;
@@ -290,9 +280,13 @@ module _ {B L : Type 0} (left : B → L) (spot : L → Option Said → Spot) whe
             genuine = λ r has. absurd (none_in r has);
             polls = λ n is same. apart (same_thing t n (sym polls ∙ is) ∙ same);
             guest = subst (λ o. HasGuest o (after_begin u) w.index w.root (slice_set s.tasks.items t slot')) (sym polls) (λ no. (slot', set_there s.tasks.items t slot' it.slot it.there, guest));
+            stops = subst (λ o. Stops o (after_begin u) w.index (slice_set s.tasks.items t slot') s.requests.items s.sleepers.items) (sym polls) (λ o found. stops_later u o.waiting w.index s.requests.items s.sleepers.items);
             rests = λ unpolled. absurd (false≢true (sym unpolled ∙ how.polled));
           } in
           guest_tasked t InPoll.BeginPoll q w None s it.slot slot' sound visits
+
+  holder_begun : (i : ℕ) (slot : TaskSlot B) → BeginsAs slot.cell.phase slot.body i → holder_of (begun_slot i slot) ≡ holder_of slot
+  holder_begun i slot how = ap (λ a. record (holder_of slot) { awaits = a; over = is_complete (cell_begun slot.cell.phase) }) (awaits_before slot.waiting) ∙ ap (λ o. record (holder_of slot) { over = o }) how.complete
 
   home_of : (t : ℕ) (w : Worker) (s : Shared B) → (it : IsAtStart t w s) → (it.slot.home ≡ Some w.index) ⊎ (it.slot.home ≡ None)
   home_of t w s it = by_number t w.root (λ apart. inr (it.ordinary apart)) (λ same. inl (it.root same).2)
@@ -304,12 +298,12 @@ module _ {B L : Type 0} (left : B → L) (spot : L → Option Said → Spot) whe
       let q : Place = Place.Poll t (after_begin u) in
       let polls : polls_in t (after_begin u) ≡ Some t = (begins_with t u).0 in
       let slot' = begun_slot w.index it.slot in
-      let bal : Balances t q w None it.slot slot' = start_balances t q w it.slot slot' sound.here it.hand it.number (record { home = refl; number = refl; owner = refl }) how.one
+      let bal : Balances t q w None it.slot slot' = start_balances t q w it.slot slot' sound.here it.hand it.number (record { home = refl; number = refl; owner = refl }) (holder_begun w.index it.slot how) how.one
       (λ k apart. number_apart t k (polls_at q) polls apart) (λ n h. ap (λ b. n + one_if b) (number_there t (polls_at q) polls) ∙ how.polls n h)
       (removes_none t (after_begin u) polls) (λ home. record { cleared = refl; over = λ h. absurd (false≢true (sym how.going ∙ h)); poller = λ polled. inl (refl, polls) }) in
-      slotted left spot t InPoll.BeginPoll q w w.root_ready None s s' it.slot slot' (Begin t) Plain sound (on_in_poll t (after_begin u) (begun_place t u).0) (begun_tasked t w s sound it how) it.there items bal
+      slotted left spot t InPoll.BeginPoll q w w.root_ready None s s' it.slot slot' (Begin t) Plain sound (on_in_poll t (after_begin u) (begun_place t u).0 (begun_place t u).2) (begun_tasked t w s sound it how) it.there items bal
       (home_mine w.index it.slot.home (home_of t w s it)) (λ polled. absurd (false≢true (sym how.unpolled ∙ polled)))
-      (record { home = refl; body = how.same_body; told = hears_begun it.slot.told it.slot.waiting it.slot.held.items })
+      (record { home = refl; body = how.same_body; going = λ h. sym how.complete ∙ h; told = hears_begun it.slot.told it.slot.waiting (numbers_held it.slot.held.items) })
       (begun_event t w s it.slot sound it.there how (home_of t w s it))
 
   -- A STALE RUNNABLE: nothing of the task changes
@@ -339,7 +333,6 @@ module _ {B L : Type 0} (left : B → L) (spot : L → Option Said → Spot) whe
       let out : IsOutside q = next_outside (w.picks == 0) in
       let apart : t ≢ w.root = λ same. let queued = (it.root same).1 in let never : Some queued.0 ≡ None = sym (ap queued_body queued.1) ∙ stale.none in absurd (cc) in
       let ordinary = it.ordinary apart in
-      let within : s.config.workers ≤ t = behind_roots s.config.workers t it.slot (sound.homes.home t it.slot it.there) ordinary in
       let keeps : Keeps it.slot it.slot = record { home = refl; number = refl; owner = refl } in
       let visits : Visits q t w None s it.slot it.slot = record {
         apart = apart;
@@ -349,12 +342,13 @@ module _ {B L : Type 0} (left : B → L) (spot : L → Option Said → Spot) whe
         genuine = λ r has. absurd (none_in r has);
         polls = λ n is. let never : None ≡ Some n = sym out.polls ∙ is in absurd (cc);
         guest = subst (λ o. HasGuest o (step_of_poll q) w.index w.root (slice_set s.tasks.items t it.slot)) (sym out.polls) tt;
-        rests = λ unpolled. sound.resting t it.slot it.there within unpolled;
+        stops = subst (λ o. Stops o (step_of_poll q) w.index (slice_set s.tasks.items t it.slot) s.requests.items s.sleepers.items) (sym out.polls) tt;
+        rests = λ unpolled. sound.resting t it.slot it.there ordinary unpolled;
       } in
-      let bal : Balances t q w None it.slot it.slot = start_balances t q w it.slot it.slot sound.here it.hand it.number keeps stale.one (λ k other. ap (λ o. is_number o k) out.polls) (λ n h. ap (λ o. n + one_if (is_number o t)) out.polls ∙ h)
+      let bal : Balances t q w None it.slot it.slot = start_balances t q w it.slot it.slot sound.here it.hand it.number keeps refl stale.one (λ k other. ap (λ o. is_number o k) out.polls) (λ n h. ap (λ o. n + one_if (is_number o t)) out.polls ∙ h)
       out.removes (λ home. record { cleared = refl; over = λ h. h; poller = λ polled. inr (refl, polled) }) in
       slotted left spot t InPoll.BeginPoll q w w.root_ready None s s' it.slot it.slot Turn Plain sound out.after (guest_tasked t InPoll.BeginPoll q w None s it.slot it.slot sound visits) it.there items bal
-      (home_mine w.index it.slot.home (inr ordinary)) (λ polled. inr (record { polled = polled; number = refl; cancelled = λ h. h; kept = refl })) (record { home = refl; body = refl; told = λ answer hears. (hears, refl) })
+      (home_mine w.index it.slot.home (inr ordinary)) (λ polled. inr (record { polled = polled; number = refl; cancelled = λ h. h; kept = refl })) (record { home = refl; body = refl; going = λ h. h; told = λ answer hears. (hears, refl) })
       (λ p vs suits. stale_event t w s it.slot it.there stale ordinary p vs)
 
   pub poll_begun : (t : ℕ) (w w' : Worker) (s s' : Shared B) (e : Event) → SoundAt (Place.Poll t InPoll.BeginPoll) w s

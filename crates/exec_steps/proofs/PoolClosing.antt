@@ -138,11 +138,13 @@ module _ {B : Type 0} where
             by_number j i
             (λ other. pool.mail j c (seat_was i seats seats' chair chair' there items j c other at))
             (λ same. subst (λ (x : Chair). IsMailbox x.mailbox) (seat_is i seats seats' chair chair' there items j c same at) (pool.mail i chair there));
-        shut = λ j c at shut.
+        shut = λ j c at of_pool shut.
             all_on i seats seats' chair chair' there items (λ h. refl)
             (by_number j i
-            (λ other. pool.shut j c (seat_was i seats seats' chair chair' there items j c other at) shut)
-            (λ same. pool.shut i chair there (ap (λ (x : Chair). x.mailbox.inbox.closed) (seat_is i seats seats' chair chair' there items j c same at) ∙ shut)));
+            (λ other. pool.shut j c (seat_was i seats seats' chair chair' there items j c other at) of_pool shut)
+            (λ same.
+            let is : chair' ≡ c = seat_is i seats seats' chair chair' there items j c same at in
+            pool.shut i chair there (ap (λ (x : Chair). x.pool) is ∙ of_pool) (ap (λ (x : Chair). x.mailbox.inbox.closed) is ∙ shut)));
       }
     where
       chair' : Chair
@@ -153,7 +155,7 @@ module _ {B : Type 0} where
 
   -- Its mailbox is closed once all have passed.
   pub pool_shut : (i : ℕ) (d : Duties) (tasks : List (TaskSlot B)) (set : Set (Unit {0})) (seats seats' : List Chair) (chair chair' : Chair) → slice_get seats i ≡ Some chair → seats' ≡ slice_set seats i chair'
-      → chair'.left ≡ chair.left → chair'.pool ≡ chair.pool → IsMailbox chair'.mailbox → HaveLeft seats → IsPool d tasks set seats → IsPool d tasks set seats'
+      → chair'.left ≡ chair.left → chair'.pool ≡ chair.pool → IsMailbox chair'.mailbox → (chair.pool ≡ true → HaveLeft seats) → IsPool d tasks set seats → IsPool d tasks set seats'
   pool_shut i d tasks set seats seats' chair chair' there items left pool_same mail all pool =
       record {
         live = pool.live;
@@ -172,15 +174,25 @@ module _ {B : Type 0} where
             by_number j i
             (λ other. pool.mail j c (seat_was i seats seats' chair chair' there items j c other at))
             (λ same. subst (λ (x : Chair). IsMailbox x.mailbox) (seat_is i seats seats' chair chair' there items j c same at) mail);
-        shut = λ j c at shut. all_on i seats seats' chair chair' there items (λ h. gone ∙ h) all;
+        shut = λ j c at of_pool shut.
+            all_on i seats seats' chair chair' there items (λ h. gone ∙ h)
+            (by_number j i
+            (λ other. pool.shut j c (seat_was i seats seats' chair chair' there items j c other at) of_pool shut)
+            (λ same. all (sym pool_same ∙ ap (λ (x : Chair). x.pool) (seat_is i seats seats' chair chair' there items j c same at) ∙ of_pool)));
       }
     where
       gone : has_gone chair' ≡ has_gone chair
       gone = rw (left, pool_same) refl
 
-      -- all have passed
+      -- who hasn't passed the barrier still hasn't
       before : (j : ℕ) → IsBefore j seats → IsBefore j seats'
-      before j it = absurd (false≢true (sym it.going ∙ all j it.chair it.there))
+      before j it =
+          by_number j i
+          (λ other. before_on i seats seats' chair chair' there items j other it)
+          (λ same.
+          let is : chair ≡ it.chair = same_thing chair it.chair (sym there ∙ subst (λ n. slice_get seats n ≡ Some it.chair) same it.there) in
+          let now : slice_get seats' i ≡ Some chair' = ap (λ xs. slice_get xs i) items ∙ set_there seats i chair' chair there in
+          record { chair = chair'; there = subst (λ n. slice_get seats' n ≡ Some chair') (sym same) now; going = gone ∙ ap has_gone is ∙ it.going })
 
   pub record IsCleared (slot slot' : TaskSlot B) : Type 0 where
     pub home : slot'.home ≡ slot.home

@@ -94,6 +94,10 @@ duties_same others w w' index polls drops =
     ∙ ap (λ p. duties_by others w.index p (drops_at w'.place)) polls
     ∙ ap (duties_by others w.index (polls_at w.place)) drops
 
+pub drops_same : (others : Profile) (w w' : Worker) → w'.index ≡ w.index → drops_at w'.place ≡ drops_at w.place → (with_worker others w').drops_by ≡ (with_worker others w).drops_by
+drops_same others w w' index drops =
+    ap (λ i. λ (j : ℕ). if j == i then drops_at w'.place else others.drops_by j) index ∙ ap (λ (d : Drops). λ (j : ℕ). if j == w.index then d else others.drops_by j) drops
+
 module _ {B : Type 0} where
   pub pool_of : (others : Profile) (w w' : Worker) (tasks : List (TaskSlot B)) (set : Set (Unit {0})) (seats : List Chair) → w'.index ≡ w.index → polls_at w'.place ≡ polls_at w.place → drops_at w'.place ≡ drops_at w.place
       → IsPool (duties_of (with_worker others w)) tasks set seats → IsPool (duties_of (with_worker others w')) tasks set seats
@@ -121,9 +125,9 @@ module _ {B : Type 0} where
         mail = λ j chair at.
             let was = keeps.back j chair at in
             was.2.mail (pool.mail j was.0 was.1);
-        shut = λ j chair at closed.
+        shut = λ j chair at of_pool closed.
             let was = keeps.back j chair at in
-            left_kept seats seats' keeps (pool.shut j was.0 was.1 (sym was.2.closed ∙ closed));
+            left_kept seats seats' keeps (pool.shut j was.0 was.1 (sym was.2.pool ∙ of_pool) (sym was.2.closed ∙ closed));
       }
 
   -- TASKS that are no ordinary ones change

@@ -4,7 +4,7 @@ use Rattle.std.proofs.{Common.{[], ◌≡◌, ◌≢◌, ◌⊎◌, ⊎_elim, in
 use Rattle.exec_task.specs.{TaskSet.{AreAtHome, Set, removed, shard_at}, declared.body.Said.Said}
 use Rattle.exec_machine.specs.{After.common_after, declared.{config.Configuration.Configuration, event.Event.{Event, TheVariants.Turn}}, Choice.Choice.Plain, Progress.Plan}
 use Rattle.exec_moves.specs.{declared.place.{InPick.InPick, InPoll.InPoll, Place.Place}, Cells.shard_of, Move.move_at, Poll.remove_task, Pop.shard_count, Seen.polls_at, State.{Moved, Things}, Thing.with_shard}
-use Rattle.exec_steps.{specs.{declared.parts.{seat.Seat.Seat as Chair, shared.Shared.Shared, task_slot.TaskSlot.TaskSlot, worker.Worker.Worker}, Drained.{Duties, IsOver, IsPool, in_set}, Phased.{IsPhased, IsPrepared, closes_at, closing_in, is_complete, stage_of}, Places.{claims_at, clears_at, drops_at, hands_on_at, has_count_at, in_poll_of, is_number, is_published_at, no_drops, one_if, polled_in, removes_at, step_of_poll}, Rooted.IsRooted, Sound.{HasGuest, IsInHand, SoundAt, Stands}, Spares.Spares, Spots.Spot, Tests.next_pick_of, View.{Views, common_of, desk_of, driver_of, own_of, things_with, visible, with_view}, Whole.{HasOne, HasWhole, IsWhole, Profile, duties_of, stock, with_worker}, Works.{Beside, Steps, Suits, Works}}, proofs.{Aside.spared, Facts.{by_number, same_thing}, Hearing.unheard, Polling.{IsOutside, next_hands, next_outside}, PoolClosing.{Recounts, pool_recounted}, PoolShards.{home_set, in_shard, in_shards, shard_elsewhere, shards_set}, PoolKept.{chosen_other, chosen_own}, PopLeads.some_shards, Shutting.{but_duties, with_duties}, SlotTasks.{Tasked, sound_tasked}, SpawnSets.shard_shown, Turning.view_found, PoolWithout.{numbers, shard_without, others_stay, as_few, but, filtered, without_none, at_most_all}}}
+use Rattle.exec_steps.{specs.{declared.parts.{seat.Seat.Seat as Chair, shared.Shared.Shared, task_slot.TaskSlot.TaskSlot, worker.Worker.Worker}, Drained.{Duties, IsOver, IsPool, in_set}, Phased.{IsPhased, IsPrepared, closes_at, closing_in, is_complete, stage_of}, Places.{claims_at, clears_at, drops_at, hands_on_at, has_count_at, in_poll_of, is_number, is_published_at, no_drops, one_if, polled_in, removes_at, step_of_poll}, Sound.{HasGuest, IsInHand, Serves, SoundAt, Stands, Stops}, Spares.Spares, Spots.Spot, Tests.next_pick_of, View.{Views, common_of, desk_of, own_of, things_with, visible, with_view}, Whole.{HasOne, HasWhole, IsWhole, Profile, duties_of, stock, with_worker}, Works.{Beside, Steps, Suits, Works}}, proofs.{Aside.{record_spared, sleeper_spared, spared}, Facts.{by_number, same_thing}, Hearing.unheard, Polling.{IsOutside, next_hands, next_outside}, PoolClosing.{Recounts, pool_recounted}, PoolShards.{home_set, in_shard, in_shards, shard_elsewhere, shards_set}, PoolKept.{chosen_other, chosen_own}, PopLeads.some_shards, Shutting.{but_duties, mail_there, with_duties}, Slots.gates_free, Spared.{records_endure, sleepers_endure}, SlotTasks.{Tasked, sound_tasked}, SpawnSets.shard_shown, Turning.view_found, PoolWithout.{numbers, shard_without, others_stay, as_few, but, filtered, without_none, at_most_all}}}
 use Rattle.exec_words.specs.Queue.{tail_of}
 
 -- THE STEP
@@ -74,19 +74,23 @@ module _ {B : Type 0} where
         record {
           config = refl;
           clock = refl;
-          opens = refl;
+          gates = λ h. h;
+          hints = λ file h. h;
           many = refl;
           chair = λ chair found. (chair, found, spared chair);
           tails = λ k chair chair' found found'.
               let same : chair ≡ chair' = same_thing chair chair' (sym found ∙ found') in
               subst (λ c. tail_of chair.queue ≤ tail_of c.queue) same (omega arith);
-          records = λ k r found mine. found;
-          records_only = λ k r found mine. found;
-          sleepers = λ k z found mine. found;
-          sleepers_only = λ k z found mine. found;
-          root = λ slot found home. found;
+          records = λ k r found mine. (r, found, record_spared r);
+          records_only = λ k r found mine. (r, found, record_spared r);
+          sleepers = λ k z found mine. (z, found, sleeper_spared z);
+          sleepers_only = λ k z found mine. (z, found, sleeper_spared z);
+          endure = records_endure s.requests.items s.requests.items refl;
+          endure_too = sleepers_endure s.sleepers.items s.sleepers.items refl;
+          root = λ u slot found home. found;
           polled = λ u slot found polled mine. (slot, found, record { polled = polled; number = refl; cancelled = λ h. h; kept = refl });
-          room = λ socket h. h;
+          room = λ h. h;
+          stretch = λ file offset n h. h;
           stopped = λ h. h;
           closed = λ h. closed ∙ h;
           by_zero = λ h. (refl, closed);
@@ -102,7 +106,7 @@ module _ {B : Type 0} where
         let w1 : Worker = record w { place = q } in
         let d : Duties = duties_of (with_worker others w) in
         let d1 : Duties = duties_of (with_worker others w1) in
-        let x : Profile = with_duties (with_worker others w) d1 in
+        let x : Profile = with_duties (with_worker others w) d1 (mail_there others w.batch w) in
         let same : with_worker others w1 ≡ x =
         but_duties others q w.home.closing w.batch w.processed w (polls ∙ sym (ap polls_at sound.here)) (claims ∙ sym (ap claims_at sound.here)) (counts ∙ sym (ap has_count_at sound.here)) (published ∙ sym (ap is_published_at sound.here)) in
         let pool : IsPool d1 s.tasks.items set' s.seats.items = pool_recounted t d d1 s.tasks.items s.set set' s.seats.items (recounts others whole q polls drops) whole.pool in
@@ -117,7 +121,14 @@ module _ {B : Type 0} where
           queued_there = whole.queued_there;
           places = whole.places;
           made = whole.made;
+          unclaimed = whole.unclaimed;
+          in_pool = whole.in_pool;
           pool = pool;
+          gates =
+              gates_free w.index d.drops_by d1.drops_by s.opens s.requests.items
+              (λ j other. chosen_other j w.index (drops_at q) (others.drops_by j) other ∙ sym (chosen_other j w.index (drops_at w.place) (others.drops_by j) other))
+              (ap (λ y. y.passes) (chosen_own w.index (drops_at q) (others.drops_by w.index) ∙ drops)) (ap (λ y. y.joins) (chosen_own w.index (drops_at q) (others.drops_by w.index) ∙ drops)) whole.gates;
+          holding = whole.holding;
         })
       where
         whole_runnables : Profile → ℕ → ℕ
@@ -190,13 +201,15 @@ module _ {B : Type 0} where
         let empty : w.hand ≡ None = sound.hand in
         let unpolled : polled_in w.root q ≡ None = ap (λ o. in_poll_of w.root o (step_of_poll q)) out.polls in
         let tasked : Tasked q w w.root_ready w.hand s s.tasks.items = record {
+          pooled = λ is. sound.pooled refl;
+          serves = subst (λ o. Serves o w.root w.role) (sym out.polls) tt;
           homes = sound.homes;
           runnable = sound.runnable;
           hand = subst (λ b. IsInHand None b w.hand) (sym hands) empty;
           genuine = λ r has. ⊎_elim (λ never. absurd (let no : None ≡ Some w.root = never in cc)) (λ g. g) (sound.genuine r has);
           guest = subst (λ o. HasGuest o (step_of_poll q) w.index w.root s.tasks.items) (sym out.polls) tt;
           resting = sound.resting;
-          rooted = subst (λ x. IsRooted x w.index w.root w.names (driver_of w) w.home.timers s.tasks.items s.requests.items s.sleepers.items) (sym unpolled) sound.rooted;
+          stops = subst (λ o. Stops o (step_of_poll q) w.index s.tasks.items s.requests.items s.sleepers.items) (sym out.polls) tt;
           going = λ slot found. (sound.phased sound.seated.seat sound.seated.there).root slot found;
           stands = λ slot found. subst (λ x. Stands x w.index slot) (sym unpolled) (sound.tied.stands slot found);
         } in
@@ -209,7 +222,6 @@ module _ {B : Type 0} where
           opened = old.opened;
           ended = old.ended;
           root = old.root;
-          pool = old.pool;
           left = old.left;
           shut = old.shut;
           by_zero = λ is. ((old.by_zero is).0, closed ∙ (old.by_zero is).1);

@@ -1,10 +1,10 @@
 -- Where a pop of the own run queue leads, and what is so there.
-use Rattle.std.proofs.{Common.{[], ◌≡◌, ℕ, zero, suc, ◌+◌, ◌-◌, ◌*◌, ◌%◌, ◌<◌, ◌==◌, ◌&&◌, ◌⊎◌, inl, inr, Bool, true, false, Contains, List, ◌∷◌, length, None, Some, refl, sym, ap, subst, ◌∙◌, arith, option_to_list, slice_get, if◌then◌else◌, nat_le, ⊎_elim}, lemmas.{Nat.mod_below, Bool.{Decides.nat_tests, false≢true}, List.{length-map, Elements.Contains-push_cases}}}
+use Rattle.std.proofs.{Common.{[], ◌≡◌, ◌≢◌, ℕ, zero, suc, ◌+◌, ◌-◌, ◌*◌, ◌%◌, ◌<◌, ◌==◌, ◌&&◌, ◌⊎◌, inl, inr, Bool, true, false, Contains, List, ◌∷◌, length, None, Some, refl, sym, ap, subst, ◌∙◌, arith, option_to_list, slice_get, if◌then◌else◌, nat_le, ⊎_elim}, lemmas.{Nat.mod_below, Bool.{Decides.nat_tests, false≢true}, List.{length-map, Elements.Contains-push_cases}}}
 use Rattle.exec_words.specs.Queue.{Queue, head_of, popped, tail_of}
 use Rattle.exec_task.specs.{TaskSet.{IsFor, Set}, declared.{drain.Drain.Drain, runnable.Runnable.Runnable}}
 use Rattle.exec_machine.specs.declared.{config.Configuration.Configuration, event.Event.TheVariants.Turn}
 use Rattle.exec_moves.specs.{declared.{handing.{AfterLeave.AfterLeave, AfterPop.AfterPop, InPop.InPop}, place.{InClosing.InClosing, InPoll.InPoll, Place.Place}}, Pop.{after_empty_pop, after_pop, drain_by, judge_pop, load_pop_head, pops, power_from, shard_count}, State.{Desk, does, turns}}
-use Rattle.exec_steps.{specs.{declared.parts.{shared.Shared.Shared, worker.Worker.Worker}, Phased.{HasPassed, IsPhased, Stage}, Places.has_loot_at, Pooled.is_discard, Sound.{HasRunnable, IsHeld, IsLoot, SoundAt, has_wakes_at, root_in_hand}, Tests.leave_of, View.queue_seen, Whole.IsGenuine}, proofs.{Facts.{by_number, not_same}, Queueing.{Around, Reaches, still_of}}}
+use Rattle.exec_steps.{specs.{Roles.is_pool, View.driver_of, declared.parts.{shared.Shared.Shared, worker.Worker.Worker}, Phased.{HasPassed, IsPhased, Stage}, Places.has_loot_at, Pooled.is_discard, Sound.{has_wakes_at, HasRunnable, IsHeld, IsLoot, IsTold, root_in_hand, SoundAt, tellers}, Tests.leave_of, View.queue_seen, Whole.IsGenuine}, proofs.{Dedicated.chair_of_pool, Facts.{by_number, not_same}, Queueing.{Around, Reaches, still_of}}}
 
 -- WHAT A POP IS TO THE QUEUE THAT IS SEEN
 
@@ -78,9 +78,9 @@ module _ {B : Type 0} where
 
   -- THE POLL OF WHAT CAME: its runnable is in the hand
   pub begins_poll : (q : Place) (r : Runnable) (w v : Worker) (s t : Shared B) → SoundAt q w s → still_of (Place.Poll r.task.0 InPoll.BeginPoll) ≡ still_of q → has_wakes_at q ≡ false → has_loot_at q ≡ false
-      → v.hand ≡ Some r → v.loot ≡ w.loot → v.searching ≡ w.searching → HasRunnable w.index w.root v.root_ready (root_in_hand (Some r.task.0) w.root (Some r)) s.tasks.items → IsHeld (Some r.task.0) w.root s.tasks.items r
+      → v.hand ≡ Some r → v.loot ≡ w.loot → v.searching ≡ w.searching → HasRunnable w.index w.root v.root_ready (root_in_hand (Some r.task.0) w.root (Some r)) s.tasks.items → IsHeld (Some r.task.0) w.root s.tasks.items r → (r.task.0 ≢ w.root → is_pool w.role ≡ true) → IsTold w.names.ended.items w.home.deferred (tellers (driver_of w).requests w.home.timers + 64)
       → Around (Place.Poll r.task.0 InPoll.BeginPoll) w s t → Reaches q (leave_of (AfterLeave.Poll r.task.0) w) w v s t
-  begins_poll q r w v s t sound same wakes empty hand loot searching runnable held around = by w.searching refl
+  begins_poll q r w v s t sound same wakes empty hand loot searching runnable held serves told around = by w.searching refl
     where
       it_is : (x : Runnable) → Contains (option_to_list v.hand) x → IsHeld (Some r.task.0) w.root s.tasks.items x
       it_is x has = subst (IsHeld (Some r.task.0) w.root s.tasks.items) (lone r x (subst (λ o. Contains (option_to_list o) x) hand has)) held
@@ -89,16 +89,16 @@ module _ {B : Type 0} where
       by true is =
           record {
             same = same;
-            quiet = λ h. wakes;
-            around = record { seated = around.seated; queue = around.queue; aims = tt; batch = around.batch; phased = around.phased };
-            carries = record { runnable = rw hand runnable; hand = (r, hand, refl); loot = rw (loot) (subst (λ b. IsLoot b w.loot) empty sound.loot); genuine = it_is; stolen = rw loot sound.stolen; searching = searching ∙ is };
+            quiet = λ h. sound.quiet wakes;
+            around = record { seated = around.seated; queue = around.queue; aims = tt; batch = around.batch; batch_place = around.batch_place; lets_go = around.lets_go; phased = around.phased };
+            carries = record { runnable = rw hand runnable; hand = (r, hand, refl); loot = rw (loot) (subst (λ b. IsLoot b w.loot) empty sound.loot); genuine = it_is; stolen = rw loot sound.stolen; searching = searching ∙ is; pooled = λ no. absurd (false≢true no); serves = serves; calm = λ apart. searching ∙ sound.calm apart; left = tt; told = told };
           }
       by false is =
           record {
             same = same;
-            quiet = λ h. wakes;
+            quiet = λ h. sound.quiet wakes;
             around = around;
-            carries = record { runnable = rw hand runnable; hand = (r, hand, refl); loot = rw (loot) (subst (λ b. IsLoot b w.loot) empty sound.loot); genuine = it_is; stolen = rw loot sound.stolen; searching = searching ∙ is };
+            carries = record { runnable = rw hand runnable; hand = (r, hand, refl); loot = rw (loot) (subst (λ b. IsLoot b w.loot) empty sound.loot); genuine = it_is; stolen = rw loot sound.stolen; searching = searching ∙ is; pooled = λ no. absurd (false≢true no); serves = serves; calm = λ apart. searching ∙ sound.calm apart; left = tt; told = told };
           }
 
   -- one that is to be polled isn't in the place of the root's
@@ -110,7 +110,7 @@ module _ {B : Type 0} where
   set_closed x (AfterPop.Pick f) w s sound is = absurd (false≢true is)
   set_closed x AfterPop.Discard w s sound is =
       let phase = sound.phased sound.seated.seat sound.seated.there in
-      let stopped : s.stopped ≡ true = by_number w.index 0 (λ other. phase.by_other (omega (arith, other)) refl) (λ same. (phase.by_zero same).0) in
+      let stopped : s.stopped ≡ true = by_number w.index 0 (λ other. phase.by_other (omega (arith, other)) (chair_of_pool (Place.Pop x AfterPop.Discard) w s sound sound.seated.seat sound.seated.there ∙ sound.pooled refl) refl) (λ same. (phase.by_zero same).0) in
       phase.closed stopped
 
   -- it is a closing's, of whatever is emptied: the drain of all shards comes next
@@ -125,7 +125,6 @@ module _ {B : Type 0} where
         opened = was.opened;
         ended = λ h. absurd (cc (was.ended h));
         root = was.root;
-        pool = was.pool;
         left = was.left;
         shut = was.shut;
         by_zero = was.by_zero;

@@ -19,7 +19,7 @@ module _ {B L : Type 0} (left : B → L) (spot : L → Option Said → Spot) (x 
   abbrev pub Moving : AfterPop → Moved (Queue ℕ) → Type 0
   Moving b m = (p : Plan) (vs : Views) → Suits p vs w s → move_at p.config w.index (own_of w) (common_of left spot p vs s) (desk_of w) (things_with vs s) (Place.Pop x b) ≡ with_queue w.index (things_with vs s) m
 
-  -- WHERE NOTHING IS POPPED: the place changes
+  -- Wpops.there NOTHING IS POPPED: the place changes
   stays : (b : AfterPop) (next : Place) → Pops b → s'.seats.items ≡ slice_set s.seats.items w.index its → w' ≡ record w { place = next } → Reaches (Place.Pop x b) next w (record w { place = next }) s s' → Moving b (turns next (desk_of w) (queue_seen its.queue)) → Steps left spot w s e w' s'
   stays b next pops set goes to moves =
       let q = Place.Pop x b in
@@ -27,7 +27,7 @@ module _ {B L : Type 0} (left : B → L) (spot : L → Option Said → Spot) (x 
       let sound = pops.sound in
       subst (λ v. Steps left spot w s e v s') (sym goes)
       (requeued_own left spot its its.queue q w w1 s s' e sound pops.turn (record { same = refl; read = sound.time.read; asleep = sound.time.asleep }) pops.kept pops.there set (omega arith) refl refl to
-      (λ others before. whole_queued others w.index its its.queue w w1 s s' pops.kept pops.there set (hands_own w.index its.queue its.queue w w1 (poses q w w1 s sound to.same refl refl) (λ t. refl) refl) (λ r has. inl has) before)
+      (λ others before. whole_queued others w.index its its.queue w w1 s s' pops.kept pops.there set (hands_own w.index its.queue its.queue w w1 (poses q w w1 s sound to.same refl refl (record { batch = refl; letters = refl; left = refl })) (λ t. refl) refl) (λ r has. inl has) before)
       moves)
 
   -- the queue was empty
@@ -38,9 +38,9 @@ module _ {B L : Type 0} (left : B → L) (spot : L → Option Said → Spot) (x 
       stays (AfterPop.Pick First.Own) next pops set goes
       (record {
         same = refl;
-        quiet = λ h. refl;
-        around = around_own next w s s' its its.queue pops.there set sound.seated pops.held tt sound.batch (sound.phased its pops.there);
-        carries = record { runnable = sound.runnable; hand = sound.hand; loot = sound.loot; genuine = sound.genuine; stolen = sound.stolen; searching = tt };
+        quiet = λ h. sound.quiet refl;
+        around = around_own next w s s' its its.queue pops.there set sound.seated pops.held tt sound.batch (sound.batch_place its pops.there) sound.lets_go (sound.phased its pops.there);
+        carries = record { runnable = sound.runnable; hand = sound.hand; loot = sound.loot; genuine = sound.genuine; stolen = sound.stolen; searching = tt; pooled = λ is. sound.pooled refl; serves = tt; calm = sound.calm; left = sound.left; told = sound.told };
       }) moves
   none_popped (AfterPop.Pick First.Global) pops set goes moves =
       let sound = pops.sound in
@@ -48,9 +48,9 @@ module _ {B L : Type 0} (left : B → L) (spot : L → Option Said → Spot) (x 
       stays (AfterPop.Pick First.Global) next pops set goes
       (record {
         same = refl;
-        quiet = λ h. refl;
-        around = around_own next w s s' its its.queue pops.there set sound.seated pops.held tt sound.batch (sound.phased its pops.there);
-        carries = record { runnable = sound.runnable; hand = sound.hand; loot = sound.loot; genuine = sound.genuine; stolen = sound.stolen; searching = tt };
+        quiet = λ h. sound.quiet refl;
+        around = around_own next w s s' its its.queue pops.there set sound.seated pops.held tt sound.batch (sound.batch_place its pops.there) sound.lets_go (sound.phased its pops.there);
+        carries = record { runnable = sound.runnable; hand = sound.hand; loot = sound.loot; genuine = sound.genuine; stolen = sound.stolen; searching = tt; pooled = λ is. sound.pooled refl; serves = tt; calm = sound.calm; left = sound.left; told = sound.told };
       }) moves
   none_popped AfterPop.Discard pops set goes moves =
       let sound = pops.sound in
@@ -59,9 +59,9 @@ module _ {B L : Type 0} (left : B → L) (spot : L → Option Said → Spot) (x 
       stays AfterPop.Discard next pops set goes
       (record {
         same = refl;
-        quiet = λ h. refl;
-        around = around_own next w s s' its its.queue pops.there set sound.seated pops.held tt sound.batch (phased_drain (stage_of its s) d w s (drains w s sound.shards) (sound.phased its pops.there));
-        carries = record { runnable = sound.runnable; hand = sound.hand; loot = sound.loot; genuine = sound.genuine; stolen = sound.stolen; searching = sound.searching };
+        quiet = λ h. sound.quiet refl;
+        around = around_own next w s s' its its.queue pops.there set sound.seated pops.held tt sound.batch (sound.batch_place its pops.there) sound.lets_go (phased_drain (stage_of its s) d w s (drains w s sound.shards) (sound.phased its pops.there));
+        carries = record { runnable = sound.runnable; hand = sound.hand; loot = sound.loot; genuine = sound.genuine; stolen = sound.stolen; searching = sound.searching; pooled = λ is. sound.pooled refl; serves = tt; calm = sound.calm; left = sound.left; told = sound.told };
       }) moves
 
   -- to another step of the pop
@@ -72,9 +72,9 @@ module _ {B L : Type 0} (left : B → L) (spot : L → Option Said → Spot) (x 
       stays (AfterPop.Pick f) next pops set goes
       (record {
         same = refl;
-        quiet = λ h. refl;
-        around = around_own next w s s' its its.queue pops.there set sound.seated queue tt sound.batch (sound.phased its pops.there);
-        carries = record { runnable = sound.runnable; hand = sound.hand; loot = sound.loot; genuine = sound.genuine; stolen = sound.stolen; searching = tt };
+        quiet = λ h. sound.quiet refl;
+        around = around_own next w s s' its its.queue pops.there set sound.seated queue tt sound.batch (sound.batch_place its pops.there) sound.lets_go (sound.phased its pops.there);
+        carries = record { runnable = sound.runnable; hand = sound.hand; loot = sound.loot; genuine = sound.genuine; stolen = sound.stolen; searching = tt; pooled = λ is. sound.pooled refl; serves = tt; calm = sound.calm; left = sound.left; told = sound.told };
       }) moves
   pops_on AfterPop.Discard y pops queue set goes moves =
       let sound = pops.sound in
@@ -82,9 +82,9 @@ module _ {B L : Type 0} (left : B → L) (spot : L → Option Said → Spot) (x 
       stays AfterPop.Discard next pops set goes
       (record {
         same = refl;
-        quiet = λ h. refl;
-        around = around_own next w s s' its its.queue pops.there set sound.seated queue tt sound.batch (sound.phased its pops.there);
-        carries = record { runnable = sound.runnable; hand = sound.hand; loot = sound.loot; genuine = sound.genuine; stolen = sound.stolen; searching = sound.searching };
+        quiet = λ h. sound.quiet refl;
+        around = around_own next w s s' its its.queue pops.there set sound.seated queue tt sound.batch (sound.batch_place its pops.there) sound.lets_go (sound.phased its pops.there);
+        carries = record { runnable = sound.runnable; hand = sound.hand; loot = sound.loot; genuine = sound.genuine; stolen = sound.stolen; searching = sound.searching; pooled = λ is. sound.pooled refl; serves = tt; calm = sound.calm; left = sound.left; told = sound.told };
       }) moves
 
   -- by the head that was found
@@ -115,7 +115,7 @@ module _ {B L : Type 0} (left : B → L) (spot : L → Option Said → Spot) (x 
       by true is goes moves = none_popped b pops set goes moves
       by false is goes moves = by_two ((n == 1) && (h.gap == 0)) is refl goes moves
 
-  -- WHERE THE OLDEST VALUE IS POPPED
+  -- Wpops.there THE OLDEST VALUE IS POPPED
   pub some_popped : (b : AfterPop) (r : Runnable) (rs : List Runnable) → Pops b → HasWhole w s → its.queue.values ≡ r ∷ rs → s'.seats.items ≡ slice_set s.seats.items w.index (record its { queue = popped its.queue }) → w' ≡ with_popped s.config b (Some r) w
       → Moving b (does Turn (after_pop s.config b r.task.0 (desk_of w)) (queue_seen (popped its.queue))) → Steps left spot w s e w' s'
   some_popped b r rs pops has is set goes moves = by b pops goes moves
@@ -158,11 +158,11 @@ module _ {B L : Type 0} (left : B → L) (spot : L → Option Said → Spot) (x 
           let w1 : Worker = polling r w in
           let sound = pops.sound in
           let next = Place.Poll r.task.0 InPoll.BeginPoll in
-          let around : Around next w s s' = around_own next w s s' its y pops.there set sound.seated pops.held tt sound.batch (sound.phased its pops.there) in
-          let to : Reaches q w1.place w w1 s s' = begins_poll q r w w1 s s' sound refl refl refl refl refl refl (no_root q w s r sound genuine sound.runnable) (inr genuine) around in
+          let around : Around next w s s' = around_own next w s s' its y pops.there set sound.seated pops.held tt sound.batch (sound.batch_place its pops.there) sound.lets_go (sound.phased its pops.there) in
+          let to : Reaches q w1.place w w1 s s' = begins_poll q r w w1 s s' sound refl refl refl refl refl refl (no_root q w s r sound genuine sound.runnable) (inr genuine) (λ other. sound.pooled refl) sound.told around in
           subst (λ v. Steps left spot w s e v s') (sym goes)
           (requeued_own left spot its y q w w1 s s' e sound pops.turn (record { same = refl; read = sound.time.read; asleep = sound.time.asleep }) pops.kept pops.there set grows refl refl to
-          (λ others before. whole_queued others w.index its y w w1 s s' pops.kept pops.there set (hands_own w.index its.queue y w w1 (poses q w w1 s sound to.same refl refl) (in_hand w1 refl sound.hand refl) (gap_popped its.queue.gap)) older before)
+          (λ others before. whole_queued others w.index its y w w1 s s' pops.kept pops.there set (hands_own w.index its.queue y w w1 (poses q w w1 s sound to.same refl refl (record { batch = refl; letters = refl; left = refl })) (in_hand w1 refl sound.hand refl) (gap_popped its.queue.gap)) older before)
           moves)
       by AfterPop.Discard pops goes moves =
           let q = Place.Pop x AfterPop.Discard in
@@ -171,15 +171,15 @@ module _ {B L : Type 0} (left : B → L) (spot : L → Option Said → Spot) (x 
           let w2 : Worker = record w { place = next; hand = Some r } in
           let sound = pops.sound in
           let same : still_of next ≡ still_of q = if_either (λ z. still_of z ≡ still_of q) (has_others s.config) (Place.Pop InPop.LoadPopHead AfterPop.Discard) (Place.Pop InPop.PopAlone AfterPop.Discard) refl refl in
-          let carries : (z : InPop) → Carries (Place.Pop z AfterPop.Discard) w w1 s = λ z. record { runnable = sound.runnable; hand = sound.hand; loot = sound.loot; genuine = sound.genuine; stolen = sound.stolen; searching = sound.searching } in
-          let to_alone : Reaches q (Place.Pop InPop.PopAlone AfterPop.Discard) w w1 s s' = record { same = refl; quiet = λ h. refl; around = around_own (Place.Pop InPop.PopAlone AfterPop.Discard) w s s' its y pops.there set sound.seated pops.held tt sound.batch (sound.phased its pops.there); carries = carries InPop.PopAlone } in
-          let to_head : Reaches q (Place.Pop InPop.LoadPopHead AfterPop.Discard) w w1 s s' = record { same = refl; quiet = λ h. refl; around = around_own (Place.Pop InPop.LoadPopHead AfterPop.Discard) w s s' its y pops.there set sound.seated pops.held tt sound.batch (sound.phased its pops.there); carries = carries InPop.LoadPopHead } in
+          let carries : (z : InPop) → Carries (Place.Pop z AfterPop.Discard) w w1 s = λ z. record { runnable = sound.runnable; hand = sound.hand; loot = sound.loot; genuine = sound.genuine; stolen = sound.stolen; searching = sound.searching; pooled = λ is. sound.pooled refl; serves = tt; calm = sound.calm; left = sound.left; told = sound.told } in
+          let to_alone : Reaches q (Place.Pop InPop.PopAlone AfterPop.Discard) w w1 s s' = record { same = refl; quiet = λ h. sound.quiet refl; around = around_own (Place.Pop InPop.PopAlone AfterPop.Discard) w s s' its y pops.there set sound.seated pops.held tt sound.batch (sound.batch_place its pops.there) sound.lets_go (sound.phased its pops.there); carries = carries InPop.PopAlone } in
+          let to_head : Reaches q (Place.Pop InPop.LoadPopHead AfterPop.Discard) w w1 s s' = record { same = refl; quiet = λ h. sound.quiet refl; around = around_own (Place.Pop InPop.LoadPopHead AfterPop.Discard) w s s' its y pops.there set sound.seated pops.held tt sound.batch (sound.batch_place its pops.there) sound.lets_go (sound.phased its pops.there); carries = carries InPop.LoadPopHead } in
           let to : Reaches q next w w1 s s' = if_either (λ z. Reaches q z w w1 s s') (has_others s.config) (Place.Pop InPop.LoadPopHead AfterPop.Discard) (Place.Pop InPop.PopAlone AfterPop.Discard) to_head to_alone in
           let gone : may_let_go s' ≡ true = or_left s'.set.closed s'.global.closed (ap (λ (z : Shared B). z.set.closed) pops.kept ∙ set_closed x AfterPop.Discard w s sound refl) in
           let whole : (others : Profile) → IsWhole (with_worker others w) s → IsWhole (with_worker others w1) s' =
           λ others before.
-          let held : IsWhole (with_worker others w2) s' = whole_queued others w.index its y w w2 s s' pops.kept pops.there set (hands_own w.index its.queue y w w2 (poses q w w2 s sound same refl refl) (in_hand w2 refl sound.hand refl) (gap_popped its.queue.gap)) older before in
-          whole_handed others w2 w1 s' s'.global refl refl (record { polls = refl; claims = refl; searching = refl; counts = refl; index = refl; published = refl; drops = refl })
+          let held : IsWhole (with_worker others w2) s' = whole_queued others w.index its y w w2 s s' pops.kept pops.there set (hands_own w.index its.queue y w w2 (poses q w w2 s sound same refl refl (record { batch = refl; letters = refl; left = refl })) (in_hand w2 refl sound.hand refl) (gap_popped its.queue.gap)) older before in
+          whole_handed others w2 w1 s' s'.global refl refl (record { polls = refl; claims = refl; searching = refl; counts = refl; index = refl; published = refl; drops = refl; told = (record { batch = refl; letters = refl; left = refl }) })
           (λ t slot found home one. has_fewer (may_let_go s') slot.cell.phase ((others.runnables t + runnables_in t (hands_of w2)) + stock t s') ((others.runnables t + runnables_in t (hands_of w1)) + stock t s') gone (fewer t (others.runnables t) (stock t s') sound.hand) one)
           (λ t more. fewer t (others.runnables t) (stock t s') sound.hand) held.queued_there held in
           subst (λ v. Steps left spot w s e v s') (sym goes)

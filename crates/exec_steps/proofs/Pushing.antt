@@ -4,7 +4,7 @@ use Rattle.exec_words.specs.{Head.{fit_at, is_spent}, Queue.{Queue, fit_of, head
 use Rattle.exec_task.specs.declared.{body.Said.Said, runnable.Runnable.Runnable}
 use Rattle.exec_machine.specs.{declared.{event.Event.{Event, TheVariants.Turn}}, Choice.Choice.Plain, Progress.Plan}
 use Rattle.exec_moves.specs.{declared.{handing.{AfterKick.AfterKick, AfterPush.AfterPush, InGlobal.InGlobal, InKick.InKick, InPush.InPush}, place.{InPick.InPick, InPoll.InPoll, Place.Place}}, Move.move_at, Parts.{after_push, has_others}, Pop.same_head, Push.{after_fit, after_store, flow_over, in_hand, load_push_head, store_oldest, store_value}, State.{Desk, Moved, queue_of, turns}, Thing.with_queue}
-use Rattle.exec_steps.{specs.{declared.parts.{seat.Seat.Seat as Chair, shared.Shared.Shared, worker.Worker.Worker}, Phased.TurnsChair, Places.{begins_at, hands_on_at, has_loot_at, searches_at}, Pooled.{OfChair, overflowed_if, with_overflow}, Sound.{HasQueue, IsSearching, SoundAt}, Spots.Spot, View.{Views, common_of, desk_of, own_of, queue_seen, tasks_of, things_of, things_with}, Whole.{HasWhole, IsGenuine, queued, runnables_in}, Works.{Goes, Makes, Steps, Suits}}, proofs.{Facts.same_number, Queued.{hands_of, whole_queued}, Queueing.{Carries, Reaches, around_own, hands_own, if_either, poses, requeued_own, seen_by}, Showing.own_queue_seen, Thieves.{in_both, in_parts, left_from, published_seen, same_heads, taken_from}, Turning.{GoesOn, set_found}}}
+use Rattle.exec_steps.{specs.{Tests.after_push_of, declared.parts.{seat.Seat.Seat as Chair, shared.Shared.Shared, worker.Worker.Worker}, Phased.TurnsChair, Places.{begins_at, hands_on_at, has_loot_at, searches_at}, Pooled.{OfChair, overflowed_if, with_overflow}, Sound.{HasQueue, IsSearching, SoundAt}, Spots.Spot, View.{Views, common_of, desk_of, own_of, queue_seen, tasks_of, things_of, things_with}, Whole.{HasWhole, IsGenuine, queued, runnables_in}, Works.{Goes, Makes, Steps, Suits}}, proofs.{PushLeads.{ArrivesAt, CarriesNone, push_reaches}, Handed.{IsPushFor, PushNext, push_seen}, Aside.told_on, Facts.same_number, Queued.{hands_of, whole_queued}, Queueing.{Carries, Reaches, around_own, hands_own, if_either, poses, requeued_own, seen_by}, Showing.own_queue_seen, Thieves.{in_both, in_parts, left_from, published_seen, same_heads, taken_from}, Turning.{GoesOn, set_found}}}
 
 -- THE QUEUE THAT IS SEEN
 
@@ -52,7 +52,7 @@ module _ {B L : Type 0} (left : B → L) (spot : L → Option Said → Spot) (x 
       let sound = pushes.sound in
       subst (λ z. Steps left spot w s e z s') (sym goes)
       (requeued_own left spot its y q w v s s' e sound pushes.turn on pushes.kept pushes.there set grows refl refl to
-      (λ others before. whole_queued others w.index its y w v s s' pushes.kept pushes.there set (hands_own w.index its.queue y w v (poses q w v s sound to.same searching (ap (λ (z : Worker). z.index) on.same)) count gap) older before)
+      (λ others before. whole_queued others w.index its y w v s s' pushes.kept pushes.there set (hands_own w.index its.queue y w v (poses q w v s sound to.same searching (ap (λ (z : Worker). z.index) on.same) (told_on w v s.clock on)) count gap) older before)
       moves)
 
   -- the queue is as it was
@@ -103,9 +103,9 @@ module _ {B L : Type 0} (left : B → L) (spot : L → Option Said → Spot) (b 
           let next : Place = Place.Global InGlobal.Append b in
           to fit is (subst (λ z. Reaches here z w (record w { place = z }) s s') (sym place) (record {
             same = refl;
-            quiet = λ h. refl;
-            around = around_own next w s s' its q there set sound.seated (sound.queue its there) tt sound.batch (sound.phased its there);
-            carries = record { runnable = sound.runnable; hand = sound.hand; loot = record { places = sound.loot.places; few = sound.loot.few; none = λ is. absurd (cc (is)) }; genuine = sound.genuine; stolen = sound.stolen; searching = sound.searching };
+            quiet = λ h. sound.quiet h;
+            around = around_own next w s s' its q there set sound.seated (sound.queue its there) tt sound.batch (sound.batch_place its there) sound.lets_go (sound.phased its there);
+            carries = record { runnable = sound.runnable; hand = sound.hand; loot = record { places = sound.loot.places; few = sound.loot.few; none = λ is. absurd (cc (is)) }; genuine = sound.genuine; stolen = sound.stolen; searching = sound.searching; pooled = sound.pooled; serves = sound.serves; calm = sound.calm; left = sound.left; told = sound.told };
           }))
 
       to_push : (y : InPush) (fit : Fit) → fit_of q ≡ fit → after_fit b (head_of q) fit ≡ Place.Push y b → has_loot_at (Place.Push y b) ≡ false → HasQueue (Place.Push y b) q → Steps left spot w s e w' s'
@@ -113,9 +113,9 @@ module _ {B L : Type 0} (left : B → L) (spot : L → Option Said → Spot) (b 
           let next : Place = Place.Push y b in
           to fit is (subst (λ z. Reaches here z w (record w { place = z }) s s') (sym place) (record {
             same = refl;
-            quiet = λ h. refl;
-            around = around_own next w s s' its q there set sound.seated queue tt sound.batch (sound.phased its there);
-            carries = record { runnable = sound.runnable; hand = sound.hand; loot = rw bare sound.loot; genuine = sound.genuine; stolen = sound.stolen; searching = sound.searching };
+            quiet = λ h. sound.quiet h;
+            around = around_own next w s s' its q there set sound.seated queue tt sound.batch (sound.batch_place its there) sound.lets_go (sound.phased its there);
+            carries = record { runnable = sound.runnable; hand = sound.hand; loot = rw bare sound.loot; genuine = sound.genuine; stolen = sound.stolen; searching = sound.searching; pooled = sound.pooled; serves = sound.serves; calm = sound.calm; left = sound.left; told = sound.told };
           }))
 
       by_gap : (none : Bool) → is_spent (tail_of q) ≡ false → nat_lt ((tail_of q - q.real) + q.gap) 256 ≡ false → (q.gap == 0) ≡ none → Steps left spot w s e w' s'
@@ -139,11 +139,12 @@ module _ {B L : Type 0} (left : B → L) (spot : L → Option Said → Spot) (b 
 
   -- THE VALUE IS STORED
 
-  pub value_stored : (len : ℕ) → SoundAt (Place.Push (InPush.StoreValue len) b) w s → Makes (store_value s.config len b (desk_of w) (queue_of (things_of s) w.index)) e w' → w' ≡ record w { place = w'.place; hand = None }
+  pub value_stored : (len : ℕ) → SoundAt (Place.Push (InPush.StoreValue len) b) w s → PushNext left spot b w s → e ≡ Turn
+      → w' ≡ record w { place = (if nat_le 2 len && nat_lt 1 s.config.workers then Place.Kick InKick.LoadKickCount (AfterKick.Push b) else after_push_of b w); hand = None }
       → TurnsChair w.index (λ chair. record chair { queue = published chair.queue (option_to_list w.hand) }) s s' → s' ≡ record s { seats = s'.seats } → Steps left spot w s e w' s'
-  value_stored len sound makes same chair kept =
-      pushed left spot (InPush.StoreValue len) b w w' s s' e its y v (record { sound = sound; there = there; turn = makes.event; kept = kept }) (record { same = refl; read = sound.time.read; asleep = sound.time.asleep }) refl set (omega (arith, length-append its.queue.values more)) refl count older reaches goes
-      (λ p vs suits. seen_by w s vs p (λ c. store_value c len b (desk_of w) (queue_of (things_of s) w.index)) m suits.config seen)
+  value_stored len sound following turn goes chair kept =
+      pushed left spot (InPush.StoreValue len) b w w' s s' e its y v (record { sound = sound; there = there; turn = turn; kept = kept }) (record { same = refl; read = sound.time.read; asleep = sound.time.asleep }) refl set (omega (arith, length-append its.queue.values more)) refl count older reaches goes
+      (λ p vs suits. ap (with_queue w.index (things_with vs s)) (seen p vs suits))
     where
       its : Chair
       its = sound.seated.seat
@@ -161,7 +162,7 @@ module _ {B L : Type 0} (left : B → L) (spot : L → Option Said → Spot) (b 
       y = published its.queue more
 
       next : Place
-      next = after_store s.config len b (desk_of w)
+      next = if nat_le 2 len && has_others s.config then Place.Kick InKick.LoadKickCount (AfterKick.Push b) else after_push_of b w
 
       v : Worker
       v = record w { place = next; hand = None }
@@ -176,60 +177,46 @@ module _ {B L : Type 0} (left : B → L) (spot : L → Option Said → Spot) (b 
       hand_seen None = refl
       hand_seen (Some r) = refl
 
-      seen : store_value s.config len b (desk_of w) (queue_of (things_of s) w.index) ≡ m
-      seen =
-          ap (store_value s.config len b (desk_of w)) (own_queue_seen w.index s its there)
+      seen : (p : Plan) (vs : Views) → Suits p vs w s → store_value p.config w.index (own_of w) (common_of left spot p vs s) len b (desk_of w) (queue_of (things_with vs s) w.index) ≡ m
+      seen p vs suits =
+          ap (store_value p.config w.index (own_of w) (common_of left spot p vs s) len b (desk_of w)) (own_queue_seen w.index s its there)
+          ∙ ap (λ (x : Place). turns (if nat_le 2 len && has_others p.config then Place.Kick InKick.LoadKickCount (AfterKick.Push b) else x) (record (desk_of w) { hand = None }) (published (queue_seen its.queue) (in_hand (desk_of w).hand))) (push_seen left spot p vs here w s sound suits.config b (following.seen p vs suits))
+          ∙ ap (λ c. turns (if nat_le 2 len && has_others c then Place.Kick InKick.LoadKickCount (AfterKick.Push b) else after_push_of b w) (record (desk_of w) { hand = None }) (published (queue_seen its.queue) (in_hand (desk_of w).hand))) (sym suits.config)
           ∙ ap (λ ts. turns next (record (desk_of w) { hand = None }) (published (queue_seen its.queue) ts)) (hand_seen w.hand)
           ∙ ap (turns next (record (desk_of w) { hand = None })) (published_seen its.queue more)
 
-      goes : w' ≡ v
-      goes = same ∙ ap (λ d. record w { place = d.place; hand = None }) (makes.desk ∙ ap (λ z. z.desk) seen)
-
-      carries : (p : Place) → begins_at p ≡ None → hands_on_at p ≡ false → has_loot_at p ≡ false → IsSearching (searches_at p) w.searching → Carries p w v s
-      carries p begins hands loot searching =
+      carries : CarriesNone w v s
+      carries p begins hands loot searching pooled serves left_then told =
           record {
             runnable = rw begins sound.runnable;
             hand = rw (begins, hands) refl;
             loot = rw loot sound.loot;
             genuine = λ r has. among_none r has;
             stolen = sound.stolen;
-            searching = searching;
+            searching = rw sound.searching searching;
+            pooled = pooled;
+            serves = serves;
+            calm = sound.calm;
+            left = left_then;
+            told = told;
           }
 
-      to_push : (a : AfterPush) → b ≡ a → Reaches here (after_push a (desk_of w)) w v s s'
-      to_push (AfterPush.Act t) is =
-          subst (λ z. Reaches (Place.Push (InPush.StoreValue len) z) (Place.Poll t InPoll.Act) w v s s') (sym is) (record {
-            same = refl;
-            quiet = λ h. refl;
-            around = around_own (Place.Poll t InPoll.Act) w s s' its y there set sound.seated (sound.queue its there).0 tt sound.batch (sound.phased its there);
-            carries = carries (Place.Poll t InPoll.Act) refl refl refl sound.searching;
-          })
-      to_push AfterPush.Pick is =
-          subst (λ z. Reaches (Place.Push (InPush.StoreValue len) z) (if w.picks == 0 then Place.TakeRootFlag else Place.Pick InPick.CountDown) w v s s') (sym is)
-          (if_either (λ z. Reaches (Place.Push (InPush.StoreValue len) AfterPush.Pick) z w v s s') (w.picks == 0) Place.TakeRootFlag (Place.Pick InPick.CountDown)
-          (record {
-            same = refl;
-            quiet = λ h. refl;
-            around = around_own Place.TakeRootFlag w s s' its y there set sound.seated (sound.queue its there).0 tt sound.batch (sound.phased its there);
-            carries = carries Place.TakeRootFlag refl refl refl tt;
-          })
-          (record {
-            same = refl;
-            quiet = λ h. refl;
-            around = around_own (Place.Pick InPick.CountDown) w s s' its y there set sound.seated (sound.queue its there).0 tt sound.batch (sound.phased its there);
-            carries = carries (Place.Pick InPick.CountDown) refl refl refl tt;
-          }))
+      arrives_at : ArrivesAt w s s'
+      arrives_at p armed queue aims batch lets_go phased = around_own p w s s' its y there set (rw armed sound.seated) (queue y (sound.queue its there).0) aims batch (sound.batch_place its there) lets_go (phased its there)
+
+      is : IsPushFor b here
+      is = record { callbacks = refl; closes = refl; closing = refl; spare = refl; bare = refl; held = λ x h. h.0; batch = λ ms h. h }
 
       reaches : Reaches here next w v s s'
       reaches =
-          if_either (λ z. Reaches here z w v s s') (nat_le 2 len && has_others s.config) (Place.Kick InKick.LoadKickCount (AfterKick.Push b)) (after_push b (desk_of w))
+          if_either (λ z. Reaches here z w v s s') (nat_le 2 len && has_others s.config) (Place.Kick InKick.LoadKickCount (AfterKick.Push b)) (after_push_of b w)
           (record {
             same = refl;
-            quiet = λ h. refl;
-            around = around_own (Place.Kick InKick.LoadKickCount (AfterKick.Push b)) w s s' its y there set sound.seated (sound.queue its there).0 tt sound.batch (sound.phased its there);
-            carries = carries (Place.Kick InKick.LoadKickCount (AfterKick.Push b)) refl refl refl sound.searching;
+            quiet = λ h. sound.quiet h;
+            around = around_own (Place.Kick InKick.LoadKickCount (AfterKick.Push b)) w s s' its y there set sound.seated (sound.queue its there).0 tt sound.batch (sound.batch_place its there) sound.lets_go (sound.phased its there);
+            carries = carries (Place.Kick InKick.LoadKickCount (AfterKick.Push b)) refl refl refl refl sound.pooled sound.serves sound.left sound.told;
           })
-          (to_push b refl)
+          (push_reaches here w v s s' arrives_at carries b sound following.comes is refl refl refl refl)
 
       count : (t : ℕ) → runnables_in t (hands_of v) + runnables_in t (y.values ++ y.held) ≡ runnables_in t (hands_of w) + runnables_in t (queued its)
       count t =
@@ -320,8 +307,8 @@ module _ {B L : Type 0} (left : B → L) (spot : L → Option Said → Spot) (b 
           reaches : Reaches here next w v s s'
           reaches = record {
             same = refl;
-            quiet = λ h. refl;
-            around = around_own next w s s' its y there set sound.seated refl tt sound.batch (sound.phased its there);
+            quiet = λ h. sound.quiet h;
+            around = around_own next w s s' its y there set sound.seated refl tt sound.batch (sound.batch_place its there) sound.lets_go (sound.phased its there);
             carries = record {
               runnable = sound.runnable;
               hand = sound.hand;
@@ -329,6 +316,11 @@ module _ {B L : Type 0} (left : B → L) (spot : L → Option Said → Spot) (b 
               genuine = sound.genuine;
               stolen = λ r has_r. has.whole.queued_here w.index its r there (Contains-append_left values its.queue.held r (left_from 128 values r (subst (λ xs. Contains xs r) taken has_r)));
               searching = sound.searching;
+              pooled = sound.pooled;
+              serves = sound.serves;
+              calm = sound.calm;
+              left = sound.left;
+              told = sound.told;
             };
           }
 
@@ -348,9 +340,9 @@ module _ {B L : Type 0} (left : B → L) (spot : L → Option Said → Spot) (b 
           held_on left spot x b w w' s s' e its next pushes set
           (record {
             same = refl;
-            quiet = λ h. refl;
-            around = around_own next w s s' its its.queue there set sound.seated knows.0 tt sound.batch (sound.phased its there);
-            carries = record { runnable = sound.runnable; hand = sound.hand; loot = sound.loot; genuine = sound.genuine; stolen = sound.stolen; searching = sound.searching };
+            quiet = λ h. sound.quiet h;
+            around = around_own next w s s' its its.queue there set sound.seated knows.0 tt sound.batch (sound.batch_place its there) sound.lets_go (sound.phased its there);
+            carries = record { runnable = sound.runnable; hand = sound.hand; loot = sound.loot; genuine = sound.genuine; stolen = sound.stolen; searching = sound.searching; pooled = sound.pooled; serves = sound.serves; calm = sound.calm; left = sound.left; told = sound.told };
           })
           goes (λ p vs suits. ap (with_queue w.index (things_with vs s)) now)
 
@@ -373,9 +365,9 @@ module _ {B L : Type 0} (left : B → L) (spot : L → Option Said → Spot) (b 
       (λ t. ap (λ xs. runnables_in t (hands_of w) + runnables_in t xs) same_values) (λ r has. inl (subst (λ xs. Contains xs r) same_values has))
       (record {
         same = refl;
-        quiet = λ h. refl;
-        around = around_own next w s s' its y there set sound.seated refl tt sound.batch (sound.phased its there);
-        carries = record { runnable = sound.runnable; hand = sound.hand; loot = sound.loot; genuine = sound.genuine; stolen = sound.stolen; searching = sound.searching };
+        quiet = λ h. sound.quiet h;
+        around = around_own next w s s' its y there set sound.seated refl tt sound.batch (sound.batch_place its there) sound.lets_go (sound.phased its there);
+        carries = record { runnable = sound.runnable; hand = sound.hand; loot = sound.loot; genuine = sound.genuine; stolen = sound.stolen; searching = sound.searching; pooled = sound.pooled; serves = sound.serves; calm = sound.calm; left = sound.left; told = sound.told };
       })
       (goes ∙ ap (λ d. record w { place = d.place }) (makes.desk ∙ ap (λ z. z.desk) now))
       (λ p vs suits. ap (with_queue w.index (things_with vs s)) now)

@@ -1,10 +1,10 @@
 -- Where one run queue changes, and what is in the hands of the worker: what that leaves of the balances, and where it leads.
-use Rattle.std.proofs.{Common.{◌≡◌, ◌≢◌, ℕ, zero, suc, ◌+◌, ◌==◌, Bool, true, false, not, ◌⊎◌, inl, inr, Contains, List, [], ◌∷◌, ◌++◌, length, sum_by, Option, None, Some, refl, sym, ap, subst, ◌∙◌, arith, option_to_list, slice_get, slice_set}, lemmas.{Bool.false≢true, List.{length-set, Sums.sum_by-cons}}}
+use Rattle.std.proofs.{Common.{◌≡◌, ◌≢◌, ℕ, zero, suc, ◌+◌, ◌*◌, ◌<◌, ◌≤◌, ◌==◌, Bool, true, false, not, ◌⊎◌, inl, inr, Contains, List, [], ◌∷◌, ◌++◌, length, map, sum_by, Option, None, Some, refl, sym, ap, subst, ◌∙◌, arith, option_to_list, slice_get, slice_set}, lemmas.{Bool.false≢true, List.{length-set, Sums.sum_by-cons}, Option.slice_get_within}}
 use Rattle.exec_words.specs.{Queue.Queue, Reserved.Reserved}
 use Rattle.exec_task.specs.declared.{body.Said.Said, runnable.Runnable.Runnable}
 use Rattle.exec_machine.specs.{declared.{event.Event.{Event, TheVariants.Turn}, state.Next.Next}, Choice.Choice.Plain, Progress.Plan}
 use Rattle.exec_moves.specs.{declared.place.Place.Place, Move.move_at, Seen.{next_at, polls_at, serves_at}, Thing.set_queue}
-use Rattle.exec_steps.{specs.{declared.parts.{seat.Seat.Seat as Chair, shared.Shared.Shared, worker.Worker.Worker}, Kinds.Kind, Phased.{IsPhased, closes_at, closing_in, stage_of}, Places.{claims_at, drops_at, has_count_at, has_loot_at, is_armed_at, is_published_at, one_if, searches_at, step_of_poll}, Sound.{Aims, HasBatch, HasQueue, IsLoot, IsSeated, IsSearching, SoundAt, has_wakes_at}, Spots.Spot, View.{Views, common_of, desk_of, own_of, queue_seen, seats_seen, things_with}, Whole.{HasOne, IsGenuine, IsWhole, Profile, claimed_count, duties_of, is_number, may_let_go, queued, runnables_in, stock, with_worker}, Works.{Steps, Suits}}, proofs.{Aside.{SparesSeats, spares_turn}, Facts.{by_number, set_elsewhere, set_there}, Counting.Stance, Idled.{Settles, calm_of, guest_again, guest_calm, step_again}, PoolKept.{gates_set, pool_of, pool_seats}, Showing.{queue_shows, seats_kept}, Turning.{Arrives, GoesOn, IsTurn, OfKind, turned}}}
+use Rattle.exec_steps.{specs.{Gates.HaveGates, Holding.box_of, Roles.is_pool, declared.parts.{seat.Seat.Seat as Chair, shared.Shared.Shared, worker.Worker.Worker}, Kinds.{Kind, lowered}, Phased.{closes_at, closing_in, IsPhased, Stage, stage_of}, Places.{claims_at, drops_at, has_count_at, has_loot_at, is_armed_at, is_pooled_at, is_published_at, one_if, searches_at, step_of_poll}, Sound.{Aims, HasBatch, HasQueue, IsLoot, IsSeated, IsSearching, SoundAt, has_wakes_at}, Spots.Spot, View.{Views, common_of, desk_of, own_of, queue_seen, seats_seen, things_with}, Whole.{HasOne, IsGenuine, IsWhole, Profile, claimed_count, duties_of, is_number, may_let_go, queued, runnables_in, stock, with_worker}, Works.{Steps, Suits}}, proofs.{Aside.{hands_same, SameTold, spares_turn, SparesSeats}, Facts.{by_number, set_elsewhere, set_there}, Counting.Stance, Idled.{calm_of, guest_again, guest_calm, Settles, step_again, stops_again, stops_calm}, PoolKept.{drops_same, gates_set, pool_of, pool_seats}, Showing.{map_kept, queue_shows, seats_kept}, Turning.{Arrives, GoesOn, IsTurn, lower_on, OfKind, pool_low, turned}}}
 
 -- SUMS
 
@@ -31,6 +31,7 @@ pub record Hands (k : ℕ) (q q' : Queue Runnable) (w w' : Worker) : Type 0 wher
   pub index : w'.index ≡ w.index
   pub published : is_published_at w'.place ≡ is_published_at w.place
   pub drops : drops_at w'.place ≡ drops_at w.place
+  pub told : SameTold w w'
   pub claims_beside : (j : ℕ) → j ≢ k → is_number (claims_at w'.place) j ≡ is_number (claims_at w.place) j
   pub claims : one_if (is_number (claims_at w'.place) k) + one_if (not (q.gap == 0)) ≡ one_if (is_number (claims_at w.place) k) + one_if (not (q'.gap == 0))
 
@@ -65,7 +66,7 @@ module _ {B : Type 0} where
           omega (arith, sum, hands.runnables t)
 
       claimed : claimed_count (with_worker others w') s1 ≡ claimed_count (with_worker others w) s
-      claimed = rw (hands.index, hands.published, many) refl
+      claimed = rw (hands.index, hands.published) refl
 
       done : IsWhole (with_worker others w') s1
       done = record {
@@ -78,7 +79,7 @@ module _ {B : Type 0} where
             let mine : (with_worker others w').claims k ≡ one_if (not (q'.gap == 0)) = omega (arith, whole.claims k its there, hands.claims) in
             rw (← is_its j chair same at_j, same) mine);
         counts = rw (claimed, hands.searching, hands.counts) whole.counts;
-        bits = λ j h. rw (hands.index, hands.published, many) (whole.bits j h);
+        bits = λ j h. rw (hands.index, hands.published) (whole.bits j h);
         set = whole.set;
         queued_here = λ j chair r at_j has.
             by_number j k
@@ -92,9 +93,18 @@ module _ {B : Type 0} where
         queued_there = whole.queued_there;
         places = whole.places;
         made = λ t more. let none = whole.made t more in (number t ∙ none.0, rw hands.polls none.1);
+        unclaimed = λ j more.
+            let beyond : length s.seats.items ≤ j = subst (λ n. n ≤ j) many more in
+            let inside : k < length s.seats.items = slice_get_within s.seats.items k its there in
+            rw (hands.claims_beside j (λ same. omega (arith, beyond, inside, same))) (whole.unclaimed j beyond);
+        in_pool = λ j chair at_j.
+            let was_j = (gates_set k s.seats.items s'.seats.items its its' set there (record { left = refl; pool = refl; closed = refl; mail = λ h. h })).back j chair at_j in
+            was_j.2.pool ∙ whole.in_pool j was_j.0 was_j.1;
         pool =
             pool_of others w w' s.tasks.items s.set s'.seats.items hands.index hands.polls hands.drops
             (pool_seats (duties_of (with_worker others w)) s.tasks.items s.set s.seats.items s'.seats.items (gates_set k s.seats.items s'.seats.items its its' set there (record { left = refl; pool = refl; closed = refl; mail = λ h. h })) whole.pool);
+        gates = subst (λ f. HaveGates f s.opens s.requests.items) (sym (drops_same others w w' hands.index hands.drops)) whole.gates;
+        holding = rw (hands_same others w w' hands.index hands.told, ap (map box_of) set ∙ map_kept box_of s.seats.items k its' its there refl) whole.holding;
       }
 
 -- WHERE IT LEADS
@@ -108,7 +118,8 @@ any_loot b loot h = record { places = h.places; few = h.few; none = λ is. absur
 
 module _ {B : Type 0} where
   pub record Leads (q q' : Place) (w v : Worker) (s t : Shared B) : Type 0 where
-    pub same : bare_of q' ≡ bare_of q
+    pub same : bare_of q' ≡ lowered w.role (is_pooled_at q') (bare_of q)
+    pub calm : is_pool w.role ≡ false → v.searching ≡ false
     pub root_ready : v.root_ready ≡ w.root_ready
     pub hand : v.hand ≡ w.hand
     pub searches : IsSearching (searches_at q') v.searching
@@ -121,20 +132,26 @@ module _ {B : Type 0} where
     pub quiet : has_wakes_at q' ≡ false → has_wakes_at q ≡ false
     pub stage : (chair : Chair) → slice_get t.seats.items w.index ≡ Some chair → (was : Chair) × (slice_get s.seats.items w.index ≡ Some was) × (stage_of was s ≡ stage_of chair s)
 
-  of_bare : (q q' : Place) (w : Worker) (s : Shared B) → SoundAt q w s → bare_of q' ≡ bare_of q → OfKind (bare_of q') w s
+  of_bare : (q q' : Place) (w : Worker) (s : Shared B) → SoundAt q w s → bare_of q' ≡ lowered w.role (is_pooled_at q') (bare_of q) → OfKind (bare_of q') w s
   of_bare q q' w s sound same =
-      let here : OfKind (bare_of q) w s =
+      let here : OfKind (lowered w.role (is_pooled_at q') (bare_of q)) w s =
       record {
         runnable = sound.runnable;
         hand = sound.hand;
         loot = any_loot (has_loot_at q) w.loot sound.loot;
         genuine = sound.genuine;
         searching = tt;
+        pooled = pool_low (is_pooled_at q') (is_pooled_at q) (is_pool w.role) sound.pooled;
+        serves = sound.serves;
         guest = guest_calm (polls_at q) (step_of_poll q) w.index w.root s.tasks.items sound.guest;
         left = sound.left;
         due = sound.due;
         flown = sound.flown;
-        rooted = rw (step_again w.root (polls_at q) (step_of_poll q)) sound.rooted;
+        told = sound.told;
+        letters = sound.letters;
+        stops = stops_calm (polls_at q) (step_of_poll q) w.index s.tasks.items s.requests.items s.sleepers.items sound.stops;
+        hears = sound.hears;
+        lets_go = sound.lets_go;
         phased = sound.phased;
         tied = rw (step_again w.root (polls_at q) (step_of_poll q)) sound.tied;
       } in
@@ -152,14 +169,24 @@ module _ {B : Type 0} where
         genuine = rw to.hand it.genuine;
         stolen = to.stolen;
         searching = to.searches;
+        pooled = it.pooled;
+        serves = it.serves;
+        calm = to.calm;
         aims = to.aims;
         guest = guest_again (polls_at q') (step_of_poll q') w.index w.root s.tasks.items it.guest;
         left = it.left;
         batch = to.batch;
+        batch_place = λ chair there.
+            let was = to.stage chair there in
+            subst (λ (st : Stage). st.shut ≡ false → 2 * st.made + 1 ≤ w.batch.places) was.2 (sound.batch_place was.0 was.1);
         quiet = λ h. sound.quiet (to.quiet h);
         due = it.due;
         flown = it.flown;
-        rooted = rw (← step_again w.root (polls_at q') (step_of_poll q')) it.rooted;
+        told = it.told;
+        letters = it.letters;
+        stops = stops_again (polls_at q') (step_of_poll q') w.index s.tasks.items s.requests.items s.sleepers.items it.stops;
+        hears = it.hears;
+        lets_go = it.lets_go;
         phased = λ chair there.
             let was = to.stage chair there in
             subst (λ stage. IsPhased w.index (closes_at q') (closing_in q') w.home.closing w.root w.names.unreleased stage s.tasks.items) was.2 (it.phased was.0 was.1);
@@ -168,12 +195,13 @@ module _ {B : Type 0} where
 
 module _ {B : Type 0} where
   -- to what a place of the same kind settles at, with the seats as they are then
-  pub leads_to : (q r q' : Place) (z : Stance) (w v : Worker) (s t : Shared B) → t ≡ record s { seats = t.seats } → bare_of r ≡ bare_of q → has_wakes_at r ≡ has_wakes_at q → Settles r q' z w t → v.root_ready ≡ w.root_ready → v.hand ≡ w.hand → v.searching ≡ z.searching
+  pub leads_to : (q r q' : Place) (z : Stance) (w v : Worker) (s t : Shared B) → t ≡ record s { seats = t.seats } → bare_of r ≡ lowered w.role (is_pooled_at r) (bare_of q) → has_wakes_at r ≡ has_wakes_at q → Settles r q' z w t → v.root_ready ≡ w.root_ready → v.hand ≡ w.hand → v.searching ≡ z.searching → (is_pool w.role ≡ false → v.searching ≡ false)
       → IsLoot (has_loot_at q') v.loot → ((r : Runnable) → Contains v.loot.values r → IsGenuine s.tasks.items r) → IsSeated w.index (is_armed_at r) s.config.workers t.seats.items
       → ((chair : Chair) → slice_get t.seats.items w.index ≡ Some chair → (was : Chair) × (slice_get s.seats.items w.index ≡ Some was) × (stage_of was s ≡ stage_of chair s)) → Leads q q' w v s t
-  leads_to q r q' z w v s t kept bare wakes to root_ready hand searching loot stolen seated stage =
+  leads_to q r q' z w v s t kept bare wakes to root_ready hand searching calm loot stolen seated stage =
       record {
-        same = ap (λ (k : Kind). record k { loot = true; claims = None }) to.same ∙ bare;
+        same = lower_on w.role (bare_of q) (bare_of r) (bare_of q') (ap (λ (k : Kind). record k { loot = true; claims = None }) to.same) bare;
+        calm = calm;
         root_ready = root_ready;
         hand = hand;
         searches = rw searching to.searches;

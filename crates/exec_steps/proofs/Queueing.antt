@@ -1,11 +1,11 @@
 -- Where the own run queue, the global queue and what is in the hands change, and nothing else that is shared: what such a
 -- turn leaves of the balances, and where it leads.
-use Rattle.std.proofs.{Common.{◌≡◌, ℕ, ◌+◌, ◌≤◌, ◌==◌, Bool, true, false, Contains, List, ◌++◌, length, map, Option, None, Some, refl, sym, ap, arith, subst, ◌∙◌, option_to_list, slice_get, slice_set, if◌then◌else◌}, lemmas.List.length-set}
+use Rattle.std.proofs.{Common.{[], ◌≡◌, ℕ, ◌+◌, ◌*◌, ◌≤◌, ◌==◌, Bool, true, false, Contains, List, ◌++◌, length, map, Option, None, Some, refl, sym, ap, arith, subst, ◌∙◌, option_to_list, slice_get, slice_set, if◌then◌else◌}, lemmas.List.length-set}
 use Rattle.exec_words.specs.{Global.Global, Queue.{Queue, tail_of}}
 use Rattle.exec_task.specs.declared.{body.Said.Said, runnable.Runnable.Runnable}
 use Rattle.exec_machine.specs.{declared.{config.Configuration.Configuration, event.Event.{Event, TheVariants.Turn}, state.Next.Next}, Choice.Choice.Plain, Progress.Plan}
 use Rattle.exec_moves.specs.{declared.place.Place.Place, Move.move_at, Seen.{next_at, polls_at, serves_at}, State.{Moved, Things}, Thing.{set_global, set_queue, with_queue}}
-use Rattle.exec_steps.{specs.{declared.parts.{seat.Seat.Seat as Chair, shared.Shared.Shared, task_slot.TaskSlot.TaskSlot, worker.Worker.Worker}, Due.IsDue, Flown.HasFlown, Kinds.{Kind, kind_of}, Phased.{IsPhased, closes_at, closing_in, stage_of}, Places.{begins_at, claims_at, drops_at, has_count_at, hands_on_at, has_loot_at, in_poll_of, is_armed_at, is_published_at, searches_at, step_of_poll}, Rooted.IsRooted, Sound.{Aims, HasBatch, HasGuest, HasQueue, HasRunnable, IsHeld, IsInHand, IsLeft, IsLoot, IsSearching, IsSeated, IsTied, SoundAt, has_wakes_at, root_in_hand}, Spares.IsMailbox, Spots.Spot, View.{Views, common_of, desk_of, driver_of, inbox_at, own_of, polls_seen, queue_at, queue_seen, seats_seen, tasks_of, things_with, word_at}, Whole.{HasOne, IsGenuine, IsWhole, Profile, claimed_count, may_let_go, runnables_in, stock, with_worker}, Works.{Steps, Suits}}, proofs.{Aside.{seats_own, seats_same, spares_turn}, Facts.set_there, Idled.{guest_again, guest_calm, step_again, step_if}, PoolKept.pool_of, Queued.{Hands, hands_of}, Showing.{queue_shows, seats_kept}, Turning.{Arrives, GoesOn, IsTurn, turned}}}
+use Rattle.exec_steps.{specs.{HoldPlaces.spare_at, Gates.HaveGates, Rooted.HearsNext, Roles.is_pool, declared.parts.{seat.Seat.Seat as Chair, shared.Shared.Shared, task_slot.TaskSlot.TaskSlot, worker.Worker.Worker}, Due.IsDue, Flown.HasFlown, Kinds.{Kind, kind_of}, Phased.{IsPhased, closes_at, closing_in, stage_of}, Places.{begins_at, calls_back_at, claims_at, drops_at, hands_on_at, has_count_at, has_loot_at, in_poll_of, is_armed_at, is_pooled_at, is_published_at, searches_at, step_of_poll, task_at}, Sound.{Aims, has_wakes_at, HasBatch, HasGuest, HasLetters, HasQueue, HasRunnable, IsHeld, IsInHand, IsLeft, IsLoot, IsSearching, IsSeated, IsTied, IsTold, LetsGoAt, root_in_hand, Serves, SoundAt, Stops, tellers}, Spares.IsMailbox, Spots.Spot, View.{Views, common_of, desk_of, driver_of, inbox_at, own_of, polls_seen, queue_at, queue_seen, seats_seen, tasks_of, things_with, word_at}, Whole.{HasOne, IsGenuine, IsWhole, Profile, claimed_count, may_let_go, runnables_in, stock, with_worker}, Works.{Steps, Suits}}, proofs.{Dedicated.as_long, Aside.{hands_same, SameTold, seats_own, seats_same, spares_turn}, Facts.set_there, Idled.{guest_again, guest_calm, step_again, step_if, stops_again, stops_calm}, PoolKept.{drops_same, pool_of}, Queued.{Hands, hands_of}, Showing.{queue_shows, seats_kept}, Turning.{Arrives, GoesOn, IsTurn, turned}}}
 
 -- THE BALANCES
 
@@ -24,6 +24,7 @@ pub record Poses (w w' : Worker) : Type 0 where
   pub index : w'.index ≡ w.index
   pub published : is_published_at w'.place ≡ is_published_at w.place
   pub drops : drops_at w'.place ≡ drops_at w.place
+  pub told : SameTold w w'
 
 -- runnables go between its hands and its run queue, where no claim of that comes or goes
 pub hands_own : (k : ℕ) (q q' : Queue Runnable) (w w' : Worker) → Poses w w' → ((t : ℕ) → runnables_in t (hands_of w') + runnables_in t (q'.values ++ q'.held) ≡ runnables_in t (hands_of w) + runnables_in t (q.values ++ q.held)) → (q'.gap == 0) ≡ (q.gap == 0) → Hands k q q' w w'
@@ -36,6 +37,7 @@ hands_own k q q' w w' same runnables gap =
       index = same.index;
       published = same.published;
       drops = same.drops;
+      told = same.told;
       claims_beside = λ j other. rw same.claims refl;
       claims = rw (same.claims, gap) refl;
     }
@@ -59,7 +61,11 @@ module _ {B : Type 0} where
         queued_there = genuine;
         places = rw (closed, places) whole.places;
         made = λ t more. let none = whole.made t more in (no_more _ _ (most t more) none.0, rw same.polls none.1);
+        unclaimed = λ j more. rw same.claims (whole.unclaimed j more);
+        in_pool = whole.in_pool;
         pool = pool_of others w w' s.tasks.items s.set s.seats.items same.index same.polls same.drops whole.pool;
+        gates = subst (λ f. HaveGates f s.opens s.requests.items) (sym (drops_same others w w' same.index same.drops)) whole.gates;
+        holding = rw (hands_same others w w' same.index same.told) whole.holding;
       }
 
 -- THE OWN SEAT, of which the run queue became this
@@ -68,9 +74,10 @@ pub seated_own : (i workers : ℕ) (armed : Bool) (seats seats' : List Chair) (i
 seated_own i workers armed seats seats' its x there set seated =
     let is : seated.seat ≡ its = cc (seated.there, there) in
     record {
-      many = ap length set ∙ length-set seats i (record its { queue = x }) ∙ seated.many;
+      many = as_long (ap length set ∙ length-set seats i (record its { queue = x })) seated.many;
       seat = record its { queue = x };
       there = ap (λ xs. slice_get xs i) set ∙ set_there seats i (record its { queue = x }) its there;
+      pool = ap (λ (c : Chair). c.pool) (sym is) ∙ seated.pool;
       unarmed = λ h. ap (λ (c : Chair). c.mailbox.waker.target) (sym is) ∙ seated.unarmed h;
       mail = subst (λ (c : Chair). IsMailbox c.mailbox) is seated.mail;
     }
@@ -86,26 +93,28 @@ own_now i seats seats' its chair x there set found =
 
 -- what a place says but of the hands, of whether a search count is held, and of how far a closing is
 abbrev pub still_of : Place → Kind
-still_of p = record (kind_of p) { step = step_if (polls_at p) (step_of_poll p); closing = None; closes = false; begins = None; hands_on = false; loot = true; searches = None }
+still_of p = record (kind_of p) { step = step_if (polls_at p) (step_of_poll p); closing = None; closes = false; begins = None; hands_on = false; loot = true; searches = None; pooled = false; calls = None; spare = 0; bare = false }
 
 module _ {B : Type 0} where
   record Still (k : Kind) (w : Worker) (s : Shared B) : Type 0 where
     guest : HasGuest k.polls k.step w.index w.root s.tasks.items
-    left : IsLeft k.calls w.home.deferred
-    due : IsDue k.served w.index w.moments s.config w.names (driver_of w) w.home.timers s.requests.items s.sleepers.items
+    due : IsDue k.served w.home.closing w.index w.moments s.config w.names (driver_of w) w.home.timers s.requests.items s.sleepers.items
     flown : HasFlown k.served w.index w.names (driver_of w) s.requests.items
-    rooted : IsRooted (in_poll_of w.root k.polls k.step) w.index w.root w.names (driver_of w) w.home.timers s.tasks.items s.requests.items s.sleepers.items
-    tied : IsTied (in_poll_of w.root k.polls k.step) w.index w.root w.home.deferred.notes.wakes.items s.tasks.items s.requests.items s.sleepers.items
+    letters : HasLetters k.sends_cancel k.cancels w.index s.config.workers w.letters s.requests.items s.sleepers.items
+    stops : Stops k.polls k.step w.index s.tasks.items s.requests.items s.sleepers.items
+    hears : HearsNext k.heard w.index s.requests.items s.sleepers.items
+    tied : IsTied (in_poll_of w.root k.polls k.step) w.index w.root s.tasks.items
 
   of_still : (q q' : Place) (w : Worker) (s : Shared B) → SoundAt q w s → still_of q' ≡ still_of q → Still (still_of q') w s
   of_still q q' w s sound same =
       let here : Still (still_of q) w s =
       record {
         guest = guest_calm (polls_at q) (step_of_poll q) w.index w.root s.tasks.items sound.guest;
-        left = sound.left;
         due = sound.due;
         flown = sound.flown;
-        rooted = rw (step_again w.root (polls_at q) (step_of_poll q)) sound.rooted;
+        letters = sound.letters;
+        stops = stops_calm (polls_at q) (step_of_poll q) w.index s.tasks.items s.requests.items s.sleepers.items sound.stops;
+        hears = sound.hears;
         tied = rw (step_again w.root (polls_at q) (step_of_poll q)) sound.tied;
       } in
       subst (λ k. Still k w s) (sym same) here
@@ -116,18 +125,22 @@ module _ {B : Type 0} where
     pub queue : (chair : Chair) → slice_get t.seats.items w.index ≡ Some chair → HasQueue q chair.queue
     pub aims : Aims q s.config w.index t.seats.items
     pub batch : HasBatch q w.batch.values
+    pub batch_place : (chair : Chair) → slice_get t.seats.items w.index ≡ Some chair → chair.mailbox.inbox.closed ≡ false → 2 * chair.made + 1 ≤ w.batch.places
+    pub lets_go : LetsGoAt q (driver_of w).requests w.home.timers
     pub phased : (chair : Chair) → slice_get t.seats.items w.index ≡ Some chair → IsPhased w.index (closes_at q) (closing_in q) w.home.closing w.root w.names.unreleased (stage_of chair s) s.tasks.items
 
   -- where only the own run queue became this
   pub around_own : (q : Place) (w : Worker) (s t : Shared B) (its : Chair) (x : Queue Runnable) → slice_get s.seats.items w.index ≡ Some its → t.seats.items ≡ slice_set s.seats.items w.index (record its { queue = x })
-      → IsSeated w.index (is_armed_at q) s.config.workers s.seats.items → HasQueue q x → Aims q s.config w.index t.seats.items → HasBatch q w.batch.values
+      → IsSeated w.index (is_armed_at q) s.config.workers s.seats.items → HasQueue q x → Aims q s.config w.index t.seats.items → HasBatch q w.batch.values → (its.mailbox.inbox.closed ≡ false → 2 * its.made + 1 ≤ w.batch.places) → LetsGoAt q (driver_of w).requests w.home.timers
       → IsPhased w.index (closes_at q) (closing_in q) w.home.closing w.root w.names.unreleased (stage_of its s) s.tasks.items → Around q w s t
-  around_own q w s t its x there set seated queue aims batch phased =
+  around_own q w s t its x there set seated queue aims batch place lets_go phased =
       record {
         seated = seated_own w.index s.config.workers (is_armed_at q) s.seats.items t.seats.items its x there set seated;
         queue = λ chair found. subst (λ (c : Chair). HasQueue q c.queue) (own_now w.index s.seats.items t.seats.items its chair x there set found) queue;
         aims = aims;
         batch = batch;
+        batch_place = λ chair found. subst (λ (c : Chair). c.mailbox.inbox.closed ≡ false → 2 * c.made + 1 ≤ w.batch.places) (own_now w.index s.seats.items t.seats.items its chair x there set found) place;
+        lets_go = lets_go;
         phased = λ chair found.
             subst (λ (c : Chair). IsPhased w.index (closes_at q) (closing_in q) w.home.closing w.root w.names.unreleased (stage_of c s) s.tasks.items)
             (own_now w.index s.seats.items t.seats.items its chair x there set found) phased;
@@ -141,10 +154,15 @@ module _ {B : Type 0} where
     pub genuine : (r : Runnable) → Contains (option_to_list v.hand) r → IsHeld (begins_at q) w.root s.tasks.items r
     pub stolen : (r : Runnable) → Contains v.loot.values r → IsGenuine s.tasks.items r
     pub searching : IsSearching (searches_at q) v.searching
+    pub pooled : is_pooled_at q ≡ true → is_pool w.role ≡ true
+    pub serves : Serves (task_at q) w.root w.role
+    pub calm : is_pool w.role ≡ false → v.searching ≡ false
+    pub left : IsLeft (calls_back_at q) w.home.deferred
+    pub told : IsTold w.names.ended.items w.home.deferred (tellers (driver_of w).requests w.home.timers + spare_at q)
 
   pub record Reaches (q q' : Place) (w v : Worker) (s t : Shared B) : Type 0 where
     pub same : still_of q' ≡ still_of q
-    pub quiet : has_wakes_at q' ≡ false → has_wakes_at q ≡ false
+    pub quiet : has_wakes_at q' ≡ false → w.home.deferred.notes.wakes.items ≡ []
     pub around : Around q' w s t
     pub carries : Carries q' w v s
 
@@ -160,21 +178,29 @@ module _ {B : Type 0} where
         genuine = to.carries.genuine;
         stolen = to.carries.stolen;
         searching = to.carries.searching;
+        pooled = to.carries.pooled;
+        serves = to.carries.serves;
+        calm = to.carries.calm;
         aims = to.around.aims;
         guest = guest_again (polls_at q') (step_of_poll q') w.index w.root s.tasks.items it.guest;
-        left = it.left;
+        left = to.carries.left;
         batch = to.around.batch;
-        quiet = λ h. sound.quiet (to.quiet h);
+        batch_place = to.around.batch_place;
+        quiet = to.quiet;
         due = it.due;
         flown = it.flown;
-        rooted = rw (← step_again w.root (polls_at q') (step_of_poll q')) it.rooted;
+        told = to.carries.told;
+        letters = it.letters;
+        stops = stops_again (polls_at q') (step_of_poll q') w.index s.tasks.items s.requests.items s.sleepers.items it.stops;
+        hears = it.hears;
+        lets_go = to.around.lets_go;
         phased = to.around.phased;
         tied = rw (← step_again w.root (polls_at q') (step_of_poll q')) it.tied;
       }
 
   -- what a place says of its worker's profile stays
-  pub poses : (q : Place) (w w' : Worker) (s : Shared B) → SoundAt q w s → still_of w'.place ≡ still_of q → w'.searching ≡ w.searching → w'.index ≡ w.index → Poses w w'
-  poses q w w' s sound same searching index =
+  pub poses : (q : Place) (w w' : Worker) (s : Shared B) → SoundAt q w s → still_of w'.place ≡ still_of q → w'.searching ≡ w.searching → w'.index ≡ w.index → SameTold w w' → Poses w w'
+  poses q w w' s sound same searching index told =
       record {
         polls = rw sound.here (ap (λ k. k.polls) same);
         claims = rw sound.here (ap (λ k. k.claims) same);
@@ -183,6 +209,7 @@ module _ {B : Type 0} where
         index = index;
         published = rw sound.here (ap (λ k. k.published) same);
         drops = ap (λ k. k.drops) same ∙ sym (ap drops_at sound.here);
+        told = told;
       }
 
 -- to the machine it is a turn
@@ -249,7 +276,7 @@ module _ {B L : Type 0} (left : B → L) (spot : L → Option Said → Spot) whe
       → Steps left spot w s e w' (record s { global = g })
   rehanded q w w' s g e sound event on closed free unserved to whole moves =
       let s' : Shared B = record s { global = g } in
-      let at_end : Reaches q w'.place w w' s s' = record { same = to.same; quiet = to.quiet; around = record { seated = to.around.seated; queue = to.around.queue; aims = to.around.aims; batch = to.around.batch; phased = to.around.phased }; carries = to.carries } in
+      let at_end : Reaches q w'.place w w' s s' = record { same = to.same; quiet = to.quiet; around = record { seated = to.around.seated; queue = to.around.queue; aims = to.around.aims; batch = to.around.batch; batch_place = to.around.batch_place; lets_go = to.around.lets_go; phased = to.around.phased }; carries = to.carries } in
       turned left spot q w w' s s' e sound event on refl closed (λ vs. refl)
       (turn_still w.workers q w'.place to.same free unserved) (reached q w'.place w w' s s' sound at_end)
       (record { spares = λ j other. spares_turn w.index j s s' other refl (seats_same w.index s.seats.items s.seats.items refl); whole = whole })

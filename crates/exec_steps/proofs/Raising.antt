@@ -1,13 +1,13 @@
 -- A step that first takes in the wakes which wait at its worker's seat is to the machine what the rest of it is: the machine's
 -- wake poll is the ring's with those raised.
-use Rattle.std.{proofs.{Common.{◌≡◌, ◌≢◌, inl, ℕ, zero, suc, ◌+◌, ◌≤◌, Bool, List, [], ◌∷◌, length, map, Option, Some, refl, sym, ap, subst, ◌∙◌, arith, slice_get, slice_set}, lemmas.{List.length-set, Option.get_or_from_slice_get}}}
+use Rattle.std.{proofs.{Common.{◌≡◌, ◌≢◌, inl, ℕ, zero, suc, ◌+◌, ◌*◌, ◌<◌, ◌≤◌, Bool, false, List, [], ◌∷◌, length, map, Option, Some, refl, sym, ap, subst, ◌∙◌, arith, slice_get, slice_set}, lemmas.{List.length-set, Option.get_or_from_slice_get}}}
 use Rattle.exec_ring.specs.Rings.{RingState, completions}
 use Rattle.exec_words.specs.Queue.{tail_of}
 use Rattle.exec_driver.specs.{Driving.Driving, Placed.ListsRequests}
 use Rattle.exec_task.specs.declared.body.Said.{Said}
 use Rattle.exec_machine.specs.{declared.{config.Configuration.Configuration, event.Event.Event, state.Rest.Rest}, Choice.Choice, Tests.AllTrue, Allowed.allowed, After.{own_after, common_after}, Progress.Plan, World.{Common, Own}}
-use Rattle.exec_moves.specs.{declared.{handing.{InGlobal.InGlobal, InKick.InKick}, idling.{InLook.InLook, InScan.InScan}, place.{InMail.InMail, InClosing.InClosing, Place.Place}}, Move.move, State.{Desk, Moved, Things, no_wake_poll, wake_poll_of}, Thing.set_wake_poll}
-use Rattle.exec_steps.{specs.{declared.parts.{mail.Reply.Reply, seat.Seat.Seat as Chair, shared.Shared.Shared, worker.Worker.Worker}, Flown.operations, Hearing.StillHears, Phased.{IsPhased, closes_at, closing_in, stage_of}, Places.is_armed_at, Pooled.with_raises, Raises.TakesRaises, Sound.{Aims, HasQueue, IsSeated, MayClaim, Sound, SoundAt}, Spares.{Spares, SparesChair}, Spots.Spot, Submitting.must_flush, View.{Views, Visible, visible, with_view, driver_of, own_of, desk_of, common_of, inbox_at, number_told, polls_seen, queue_at, raised_times, seat_seen, seats_seen, things_with, trailing, wake_poll_in, word_at}, Whole.{Profile, IsWhole, with_worker}, Works.{Beside, Works, Suits, Steps}}, proofs.{Aside.{SameProfile, beside_calm, queues_set, seats_own}, Facts.{by_number, set_elsewhere, set_there}, PoolKept.gates_set, Ringed.{SameIn, sound_ring}, Shown.{own_with, desk_with}, Showing.{map_kept, polls_kept}, Swept.{RaisesTo, raises_to}}}
+use Rattle.exec_moves.specs.{declared.{handing.{InGlobal.InGlobal, InKick.InKick}, idling.{InLook.InLook, InRingWait.InRingWait, InScan.InScan}, place.{InMail.InMail, InClosing.InClosing, InService.InService, Place.Place}}, Move.move, State.{Desk, Moved, Things, no_wake_poll, wake_poll_of}, Thing.set_wake_poll}
+use Rattle.exec_steps.{specs.{declared.parts.{mail.Reply.Reply, seat.Seat.Seat as Chair, shared.Shared.Shared, worker.Worker.Worker}, Flown.operations, Hearing.StillHears, Holding.box_of, Phased.{IsPhased, closes_at, closing_in, stage_of}, Places.is_armed_at, Pooled.with_raises, Raises.TakesRaises, Sound.{Aims, AreHome, HasQueue, IsSeated, MayClaim, Sound, SoundAt}, Spares.{Spares, SparesChair}, Spots.Spot, Submitting.must_flush, View.{Views, Visible, visible, with_view, driver_of, own_of, desk_of, common_of, inbox_at, number_told, polls_seen, queue_at, raised_times, seat_seen, seats_seen, things_with, trailing, wake_poll_in, word_at}, Whole.{Profile, IsWhole, with_worker}, Works.{Beside, Works, Suits, Steps}}, proofs.{Aside.{SameProfile, beside_calm, queues_set, seats_own}, Facts.{by_number, set_elsewhere, set_there}, PoolKept.gates_set, Ringed.{SameIn, sound_ring}, Shown.{own_with, desk_with}, Showing.{map_kept, polls_kept}, Swept.{RaisesTo, raises_to}}}
 
 -- WHAT TWO CHANGES AT ONE PLACE SHOW
 
@@ -63,15 +63,19 @@ same_made {T} {i} {i'} {o} {o'} {c} {c'} index own common f = ap (λ x. f x o' c
 
 -- A PLACE LOOKS AT OTHER WORKERS' SEATS ALONE
 
-aims_kept : (p : Place) (c : Configuration) (i : ℕ) (seats seats' : List Chair) → ((j : ℕ) → j ≢ i → slice_get seats' j ≡ slice_get seats j) → Aims p c i seats → Aims p c i seats'
-aims_kept (Place.Scan (InScan.ClaimHalf x h tail)) c i seats seats' others may =
+aims_kept : (p : Place) (c : Configuration) (i : ℕ) (seats seats' : List Chair) → length seats' ≡ length seats → ((j : ℕ) → j ≢ i → slice_get seats' j ≡ slice_get seats j) → Aims p c i seats → Aims p c i seats'
+aims_kept (Place.Scan (InScan.ClaimHalf x h tail)) c i seats seats' many others may =
     (record { other = may.0.other; unclaimed = may.0.unclaimed; some = may.0.some; most = may.0.most; behind = λ chair there. may.0.behind chair (sym (others _ may.0.other) ∙ there) }, may.1)
-aims_kept (Place.Look (InLook.LookAtHead j)) c i seats seats' others may = may
-aims_kept (Place.Kick (InKick.ExchangeKickCount set) b) c i seats seats' others may = may
-aims_kept (Place.Global (InGlobal.AddGlobalCount set) b) c i seats seats' others may = may
-aims_kept (Place.Mail (InMail.Apply applied taken)) c i seats seats' others may = may
-aims_kept (Place.Closing (InClosing.TellRoot j)) c i seats seats' others may = may
-aims_kept _ c i seats seats' others may = may
+aims_kept (Place.Look (InLook.LookAtHead j)) c i seats seats' many others may = may
+aims_kept (Place.RingWait (InRingWait.DisarmRing next) x) c i seats seats' many others may = may
+aims_kept (Place.Kick (InKick.ExchangeKickCount set) b) c i seats seats' many others may = may
+aims_kept (Place.Global (InGlobal.AddGlobalCount set) b) c i seats seats' many others may = may
+aims_kept (Place.Mail (InMail.Apply applied taken)) c i seats seats' many others may = may
+aims_kept (Place.Closing (InClosing.TellRoot j)) c i seats seats' many others may = may
+aims_kept (Place.Signal x j b) c i seats seats' many others may = (subst (λ n. j < n) (sym many) may.0, may.1)
+aims_kept (Place.Service (InService.Signal j b) v) c i seats seats' many others may = subst (λ n. j < n) (sym many) may
+aims_kept (Place.Service (InService.Raise ring j b) v) c i seats seats' many others may = subst (λ n. j < n) (sym many) may
+aims_kept _ c i seats seats' many others may = may
 
 module _ {B : Type 0} where
   -- what holds again, where its worker rests otherwise, and another number of wakes waits there
@@ -82,15 +86,19 @@ module _ {B : Type 0} where
       let chair' : Chair = record chair { rest = x; raised = n } in
       let s1 : Shared B = record s { seats = s'.seats } in
       let found : slice_get s'.seats.items w.index ≡ Some chair' = ap (λ xs. slice_get xs w.index) set ∙ set_there s.seats.items w.index chair' chair there in
+      let many : length s'.seats.items ≡ length s.seats.items = ap length set ∙ length-set s.seats.items w.index chair' in
       let seated : IsSeated w.index (is_armed_at q) s.config.workers s'.seats.items =
-      record { many = ap length set ∙ length-set s.seats.items w.index chair' ∙ sound.seated.many; seat = chair'; there = found; unarmed = sound.seated.unarmed; mail = assumption sound.seated.mail } in
+      record { many = subst (λ n. s.config.workers ≤ n) (sym many) sound.seated.many; seat = chair'; there = found; pool = sound.seated.pool; unarmed = sound.seated.unarmed; mail = assumption sound.seated.mail } in
       let queue : (c : Chair) → slice_get s'.seats.items w.index ≡ Some c → HasQueue q c.queue =
       λ c at. let is : chair' ≡ c = cc (found, at) in subst (λ y. HasQueue q y.queue) is (sound.queue chair there) in
       let aims : Aims q s.config w.index s'.seats.items =
-      aims_kept q s.config w.index s.seats.items s'.seats.items (λ j other. ap (λ xs. slice_get xs j) set ∙ set_elsewhere s.seats.items w.index j chair' other) sound.aims in
+      aims_kept q s.config w.index s.seats.items s'.seats.items many (λ j other. ap (λ xs. slice_get xs j) set ∙ set_elsewhere s.seats.items w.index j chair' other) sound.aims in
       let phased : (c : Chair) → slice_get s'.seats.items w.index ≡ Some c → IsPhased w.index (closes_at q) (closing_in q) w.home.closing w.root w.names.unreleased (stage_of c s) s.tasks.items =
       λ c at. let is : chair' ≡ c = cc (found, at) in subst (λ y. IsPhased w.index (closes_at q) (closing_in q) w.home.closing w.root w.names.unreleased (stage_of y s) s.tasks.items) is (sound.phased chair there) in
-      let again : SoundAt q w s1 = assumption (seated, queue, aims, phased, sound) in
+      let homes : AreHome s.config.workers (length s'.seats.items) s.tasks.items = subst (λ n. AreHome s.config.workers n s.tasks.items) (sym many) sound.homes in
+      let place : (c : Chair) → slice_get s'.seats.items w.index ≡ Some c → c.mailbox.inbox.closed ≡ false → 2 * c.made + 1 ≤ w.batch.places =
+      λ c at. let is : chair' ≡ c = cc (found, at) in subst (λ (y : Chair). y.mailbox.inbox.closed ≡ false → 2 * y.made + 1 ≤ w.batch.places) is (sound.batch_place chair there) in
+      let again : SoundAt q w s1 = assumption (homes, seated, queue, aims, place, phased, sound) in
       subst (SoundAt q w) (sym shared) again
 
   -- what others rely on
@@ -102,7 +110,8 @@ module _ {B : Type 0} where
       record {
         config = by.config;
         clock = by.clock;
-        opens = by.opens;
+        gates = by.gates;
+        hints = by.hints;
         many = by.many ∙ ap length set ∙ length-set s.seats.items i chair';
         chair = λ c at. by.chair c (ap (λ xs. slice_get xs j) set ∙ set_elsewhere s.seats.items i j chair' other ∙ at);
         tails = λ k c c' at at'.
@@ -116,9 +125,12 @@ module _ {B : Type 0} where
         records_only = by.records_only;
         sleepers = by.sleepers;
         sleepers_only = by.sleepers_only;
+        endure = by.endure;
+        endure_too = by.endure_too;
         root = by.root;
         polled = by.polled;
         room = by.room;
+        stretch = by.stretch;
         stopped = by.stopped;
         closed = by.closed;
         by_zero = by.by_zero;
@@ -131,7 +143,7 @@ module _ {B : Type 0} (q : Place) (w w1 : Worker) (s s1 : Shared B) (sound : Sou
   to : RaisesTo sound.seated.seat.raised (driver_of w) (with_raises sound.seated.seat.raised (driver_of w))
   to = raises_to sound.seated.seat.raised (driver_of w) sound.flown.polled
 
-  driver_is : driver_of w1 ≡ record (driver_of w) { ring = (with_raises sound.seated.seat.raised (driver_of w)).ring }
+  pub driver_is : driver_of w1 ≡ record (driver_of w) { ring = (with_raises sound.seated.seat.raised (driver_of w)).ring }
   driver_is = takes.driver sound.seated.seat sound.seated.there ∙ to.shape
 
   pub sound_taken : SoundAt q w1 s1
@@ -218,12 +230,12 @@ module _ {B : Type 0} (q : Place) (w w1 : Worker) (s s1 : Shared B) (sound : Sou
       let chair = sound.seated.seat in
       let there = sound.seated.there in
       let chair' : Chair = record chair { raised = 0 } in
-      let same : SameProfile w w1 = subst (SameProfile w) (sym takes.worker) (record { hand = refl; loot = refl; polls = refl; claims = refl; searching = refl; counts = refl; index = refl; published = refl; drops = refl }) in
+      let same : SameProfile w w1 = subst (SameProfile w) (sym takes.worker) (record { hand = refl; loot = refl; polls = refl; claims = refl; searching = refl; counts = refl; index = refl; published = refl; drops = refl; told = record { batch = refl; letters = refl; left = refl } }) in
       let shares : s1 ≡ record s { seats = s1.seats; idle = s1.idle; global = s1.global } = takes.shared ∙ ap (λ (z : Shared B). record s { seats = s1.seats; idle = z.idle; global = z.global }) (sym takes.shared) in
       let calm : Beside w s w1 s1 =
       beside_calm w w1 s s1 same shares (seats_own w.index s.seats.items s1.seats.items chair chair' seats_are there (omega arith))
       (gates_set w.index s.seats.items s1.seats.items chair chair' seats_are there (record { left = refl; pool = refl; closed = refl; mail = λ h. h }))
-      (ap (map (λ (c : Chair). c.queue)) seats_are ∙ queues_set s.seats.items w.index chair chair' there refl) (ap (λ (z : Shared B). z.idle) takes.shared) (ap (λ (z : Shared B). z.global) takes.shared) in
+      (ap (map (λ (c : Chair). c.queue)) seats_are ∙ queues_set s.seats.items w.index chair chair' there refl) (ap (map box_of) seats_are ∙ map_kept box_of s.seats.items w.index chair' chair there refl) (ap (λ (z : Shared B). z.idle) takes.shared) (ap (λ (z : Shared B). z.global) takes.shared) in
       record {
         spares = λ j other. spares_first w.index j s s1 s' chair other takes.shared there seats_are (it.spares j (λ is. other (is ∙ index)));
         whole = λ others whole. it.whole others (calm.whole others whole);

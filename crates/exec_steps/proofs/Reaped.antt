@@ -1,10 +1,9 @@
 -- What a reaping finds: no operation that has landed, or the first of those that have.
 use Rattle.std.proofs.Common.{◌≡◌, ℕ, true, false, List, [], ◌∷◌, Option, Some, None, refl, sym, ap, subst, ◌∙◌}
-use Rattle.exec_outcomes.specs.declared.outcome.Kind.{Kind}
 use Rattle.exec_ring.specs.{Completions.result_in, Kernels.{is_quiet, next_completion}, Rings.completions, declared.completion.Completion.Completion}
 use Rattle.exec_waiters.specs.{States.{file_of, waiter_at}, declared.deferred.Deferred.Deferred}
 use Rattle.exec_driver.specs.{Driving.Driving, Opens.{OpenState, account_in}, Steps.{ReapsFrom, ReapsNext, completed_in, permit_after, swept, told_as, with_landings}, declared.driver.reaping.Reaped.Reaped}
-use Rattle.exec_steps.{specs.{declared.parts.{mail.Reply.Reply, names.Names.Names, record.Record.Record}, Flown.{AreLanded, HasLanded, IsUpTo, longest, operations}, Records.has_one_part}, proofs.{Finding.completed_is, Behind.{first_is, none_left}, WokenSwept.{first_there, none_there, sweeps}}}
+use Rattle.exec_steps.{specs.{declared.parts.{mail.Reply.Reply, names.Names.Names, record.Record.Record}, Flown.{AreLanded, HasLanded, operations}}, proofs.{Finding.completed_is, Behind.{first_is, none_left}, WokenSwept.{first_there, none_there, sweeps}}}
 
 -- THE FIRST THAT HAS LANDED
 
@@ -80,10 +79,3 @@ module _ (n : Names) (d d' : Driving Reply Reply) (rs : List Record) (opens open
           let one = reaps_one n d d' rs opens opens' before after None reaps c cs is all.0 in
           let told = one.from.reaps.told_is in
           absurd (cc)
-
--- WHAT IS ASKED OF ITS RECORD
-
-pub one_part_of : (k : Kind) (n : ℕ) → IsUpTo (longest k) n → has_one_part k ≡ true
-one_part_of Kind.Poll n h = refl
-one_part_of Kind.Send n h = refl
-one_part_of _ n h = absurd h

@@ -4,7 +4,7 @@ use Rattle.exec_words.specs.{Queue.{Queue, head_of, published, released, room_of
 use Rattle.exec_task.specs.declared.{body.Said.Said, runnable.Runnable.Runnable}
 use Rattle.exec_machine.specs.{declared.{event.Event.{Event, TheVariants.Turn}}, Choice.Choice.Plain}
 use Rattle.exec_moves.specs.{declared.{idling.{InScan.InScan}, place.Place.Place}, Pop.same_head, Seen.polls_at, Search.{release_half}, State.{Moved, queue_of, turns}, Thing.{set_queue, with_queue}}
-use Rattle.exec_steps.{specs.{declared.parts.{seat.Seat.Seat as Chair, shared.Shared.Shared, worker.Worker.Worker}, Kinds.Kind, Phased.{TurnsChair, stage_of}, Places.{claims_at, drops_at, has_count_at, has_loot_at, is_armed_at, is_published_at, one_if, searches_at}, Pooled.released_if, Sound.{Aims, HasBatch, HasQueue, IsSeated, SoundAt, has_wakes_at}, Spares.Thins, Spots.Spot, Tests.leaves_turn_of, View.{desk_of, queue_seen, things_of, things_with}, Whole.{HasWhole, IsWhole, Profile, is_number, queued, runnables_in, with_worker}, Works.{Goes, Makes, Steps}}, proofs.{Aside.{seats_other, seats_own}, Facts.{not_same, set_there}, Handed.{leaves_seen, leaves_settle, out}, Idled.Settles, Queued.{Hands, Leads, bare_of, hands_of, leads_to, requeued, whole_queued}, Showing.own_queue_seen, Thieves.{has_claim, in_both, own_still, published_seen, same_hands, seat_there, seated_still, stage_still}}}
+use Rattle.exec_steps.{specs.{Kinds.{Kind, lowered}, declared.parts.{seat.Seat.Seat as Chair, shared.Shared.Shared, worker.Worker.Worker}, Phased.{TurnsChair, stage_of}, Places.{claims_at, drops_at, has_count_at, has_loot_at, is_armed_at, is_pooled_at, is_published_at, one_if, searches_at}, Pooled.released_if, Sound.{Aims, HasBatch, HasQueue, IsSeated, SoundAt, has_wakes_at}, Spares.Thins, Spots.Spot, Tests.leaves_turn_of, View.{desk_of, queue_seen, things_of, things_with}, Whole.{HasWhole, IsWhole, Profile, is_number, queued, runnables_in, with_worker}, Works.{Goes, Makes, Steps}}, proofs.{Dedicated.as_long, Aside.{seats_other, seats_own}, Facts.{not_same, set_there}, Handed.{leaves_seen, leaves_settle, out}, Idled.Settles, Queued.{Hands, Leads, bare_of, hands_of, leads_to, requeued, whole_queued}, Showing.own_queue_seen, Thieves.{has_claim, in_both, own_still, published_seen, same_hands, seat_there, seated_still, stage_still}}}
 
 module _ {B L : Type 0} (left : B → L) (spot : L → Option Said → Spot) (w w' : Worker) (s s' : Shared B) (e : Event) where
   -- THE RELEASE
@@ -20,7 +20,7 @@ module _ {B L : Type 0} (left : B → L) (spot : L → Option Said → Spot) (w 
       other = sound.aims.0
 
       found : (seat : Chair) × (slice_get s.seats.items from ≡ Some seat)
-      found = seat_there from q w s sound sound.aims.1
+      found = seat_there from q w s sound (omega (arith, sound.aims.1, sound.seated.many))
 
       its : Chair
       its = found.0
@@ -43,16 +43,17 @@ module _ {B L : Type 0} (left : B → L) (spot : L → Option Said → Spot) (w 
           let is : w' ≡ w1 = goes ∙ ap (λ z. record w { place = z }) place in
           subst (λ v. Steps left spot w s e v s') (sym is)
           (requeued left spot from its y q w w1 s s' e sound (makes.event ∙ ap (λ z. z.event) was) (record { same = refl; read = sound.time.read; asleep = sound.time.asleep }) kept there set refl refl leads
-          (seats_other w.index from s.seats.items s'.seats.items its (record its { queue = y }) set there grows (record { phase = refl; pool = refl; left = refl; closed = refl; target = refl; mail = λ h. h; queue = thins }))
+          (seats_other w.index from s.seats.items s'.seats.items its (record its { queue = y }) set there grows (record { phase = refl; pool = refl; left = refl; closed = refl; target = refl; mail = λ h. h; made = refl; queue = thins }))
           (λ others before. whole_queued others from its y w w1 s s' kept there set hands (λ r has_r. inl (subst (λ xs. Contains xs r) same has_r)) before)
           (λ p vs suits. ap (with_queue from (things_with vs s)) was))
 
       -- a place of the scan with the same in the hands
-      leads_scan : (next : Place) (y : Queue Runnable) → bare_of next ≡ bare_of q → searches_at next ≡ None → has_loot_at next ≡ true → is_armed_at next ≡ false → has_wakes_at next ≡ false → s'.seats.items ≡ slice_set s.seats.items from (record its { queue = y })
+      leads_scan : (next : Place) (y : Queue Runnable) → bare_of next ≡ lowered w.role (is_pooled_at next) (bare_of q) → searches_at next ≡ None → has_loot_at next ≡ true → is_armed_at next ≡ false → has_wakes_at next ≡ false → s'.seats.items ≡ slice_set s.seats.items from (record its { queue = y })
           → ((own : Queue Runnable) → (own.held ≡ []) × (128 ≤ room_of own) → HasQueue next own) → Aims next s.config w.index s'.seats.items → HasBatch next w.batch.values → Leads q next w (record w { place = next }) s s'
       leads_scan next y same searches loot armed quiet set queue aims batch =
           record {
             same = same;
+            calm = sound.calm;
             root_ready = refl;
             hand = refl;
             searches = rw searches tt;
@@ -82,13 +83,14 @@ module _ {B L : Type 0} (left : B → L) (spot : L → Option Said → Spot) (w 
             index = refl;
             published = sym (ap is_published_at sound.here);
             drops = sym (ap drops_at sound.here);
+            told = record { batch = refl; letters = refl; left = refl };
             claims_beside = λ j apart. sym (not_same from j (λ is. apart (sym is))) ∙ sym (ap (λ o. is_number o j) claiming);
             claims = omega (arith, mine, some);
           })
       by false is set =
           to (Place.Scan (InScan.ReleaseHalf from (head_of its.queue))) its.queue (rw (own_queue_seen from s its there, is) refl) set (omega arith) (inl refl) refl
           (leads_scan (Place.Scan (InScan.ReleaseHalf from (head_of its.queue))) its.queue refl refl refl refl refl set (λ own h. h) sound.aims sound.batch)
-          (same_hands from its.queue w (record w { place = Place.Scan (InScan.ReleaseHalf from (head_of its.queue)) }) refl refl (sym (ap polls_at sound.here)) refl (sym (ap has_count_at sound.here)) refl (sym (ap is_published_at sound.here)) (sym (ap claims_at sound.here)) (sym (ap drops_at sound.here)))
+          (same_hands from its.queue w (record w { place = Place.Scan (InScan.ReleaseHalf from (head_of its.queue)) }) refl refl (sym (ap polls_at sound.here)) refl (sym (ap has_count_at sound.here)) refl (sym (ap is_published_at sound.here)) (sym (ap claims_at sound.here)) (sym (ap drops_at sound.here)) (record { batch = refl; letters = refl; left = refl }))
 
   -- THE STORE
 
@@ -141,11 +143,11 @@ module _ {B L : Type 0} (left : B → L) (spot : L → Option Said → Spot) (w 
       empty = ap (λ (k : Kind). k.loot) settles.same
 
       seated : IsSeated w.index false s.config.workers s'.seats.items
-      seated = record { many = ap length set ∙ length-set s.seats.items w.index mine' ∙ sound.seated.many; seat = mine'; there = now; unarmed = sound.seated.unarmed; mail = sound.seated.mail }
+      seated = record { many = as_long (ap length set ∙ length-set s.seats.items w.index mine') sound.seated.many; pool = sound.seated.pool; seat = mine'; there = now; unarmed = sound.seated.unarmed; mail = sound.seated.mail }
 
       leads : Leads q next w w1 s s'
       leads = subst (Leads q next w w1 s) (sym kept)
-          (leads_to q Place.BeginTurn next (out w.searching) w w1 s s1 refl refl refl settles refl refl refl
+          (leads_to q Place.BeginTurn next (out w.searching) w w1 s s1 refl refl refl settles refl refl refl sound.calm
           (record { places = sound.loot.places; few = omega arith; none = λ is. refl }) (λ r has_r. sound.stolen r (nothing r has_r)) seated
           (λ it at_own. (mine, there, ap (λ (c : Chair). stage_of c s) (is_mine it at_own))))
         where
@@ -166,6 +168,7 @@ module _ {B L : Type 0} (left : B → L) (spot : L → Option Said → Spot) (w 
         index = refl;
         published = settles.published ∙ sym (ap is_published_at sound.here);
         drops = ap (λ (k : Kind). k.drops) settles.same ∙ sym (ap drops_at sound.here);
+        told = record { batch = refl; letters = refl; left = refl };
         claims_beside = λ j apart. ap (λ o. is_number o j) unclaiming;
         claims = ap (λ o. one_if (is_number o w.index) + one_if (not (mine.queue.gap == 0))) unclaiming;
       }

@@ -1,12 +1,12 @@
 -- What is asked of the record of an operation that was reaped, and a reaping that found none.
-use Rattle.std.{proofs.{Common.{◌≡◌, ℕ, ◌+◌, ◌^◌, ◌<◌, true, false, List, length, Option, Some, None, refl, sym, ap, subst, ◌∙◌, get_or, Err}, lemmas.Option.slice_get_within}, specs.VecDeque.deque_capacity}
-use Rattle.exec_base.specs.declared.error.Error.TheVariants.{Timeout}
+use Rattle.std.{proofs.{Common.{◌≡◌, ℕ, ◌+◌, ◌^◌, ◌<◌, true, false, List, length, Option, Some, None, refl, sym, ap, subst, ◌∙◌, arith, get_or, Err}, lemmas.Option.slice_get_within}, specs.VecDeque.deque_capacity}
+use Rattle.exec_base.specs.{Slab.value_at, declared.error.Error.TheVariants.Timeout}
 use Rattle.exec_outcomes.specs.Outcomes.{bytes_of}
 use Rattle.exec_ring.specs.Completions.{result_in}
-use Rattle.exec_waiters.specs.{States.pending_count, declared.deferred.Deferred.Deferred}
+use Rattle.exec_waiters.{specs.{States.pending_count, declared.deferred.Deferred.Deferred}, proofs.Changes.entry_of}
 use Rattle.exec_driver.specs.{Driving.Driving, Opens.OpenState, Steps.ReapsNext, declared.driver.reaping.Reaped.Reaped}
 use Rattle.exec_moves.specs.declared.place.Place.{Place}
-use Rattle.exec_steps.{specs.{declared.parts.{mail.Reply.Reply, record.Record.Record, shared.Shared.Shared, worker.Worker.Worker}, Flown.IsPlain, Records.{has_one_part, number_in}, Sound.SoundAt, View.driver_of}, proofs.{Mine.live_mine, Dating.{found_is, one_pending, room_by}, Reaped.{TellsOf, one_part_of, tells_of}, Requeued.{lawful_shown, total_shown}, Resolving.slab_after}}
+use Rattle.exec_steps.{specs.{declared.parts.{mail.Reply.Reply, record.Record.Record, shared.Shared.Shared, worker.Worker.Worker}, Flown.IsPlain, Records.{IsCountable, number_in}, Sound.SoundAt, View.driver_of}, proofs.{Mine.live_mine, Dating.{found_is, one_pending, room_by}, Known.low_there, Reaped.{TellsOf, tells_of}, Requeued.{lawful_shown, total_shown}, Resolving.slab_after}}
 
 pub none_of : (told : Option Reaped) → ((x : Reaped) → told ≡ Some x → ⊥) → told ≡ None
 none_of None h = refl
@@ -27,8 +27,9 @@ module _ {B : Type 0} (q : Place) (w : Worker) (s : Shared B) (sound : SoundAt q
   pub reaped_room : length w.names.ended.items < deque_capacity w.names.ended
   reaped_room =
       let h = of_it.reaped.has in
-      let alike = sound.named.alike h.id h.it h.r h.live h.there in
-      let pending = one_pending _ (pending_count (driver_of w).requests) (slab_after (driver_of w).requests h.id h.it (Err Timeout) None alike.near h.live).pending in
+      let low = low_there w.index w.names.requests.items (driver_of w).requests s.opens s.requests.items sound.known h.id (rw (entry_of (value_at (driver_of w).requests h.id) h.it h.live) refl) in
+      let small : h.id.generation < 2 ^ 64 = omega (arith, low) in
+      let pending = one_pending _ (pending_count (driver_of w).requests) (slab_after (driver_of w).requests h.id h.it (Err Timeout) None small h.live).pending in
       room_by (length w.names.ended.items) (pending_count (driver_of w).requests) w.names.unreleased (deque_capacity w.names.ended) sound.over.counted pending sound.flown.ending
 
   reaped_plain_of : IsPlain of_it.reaped.has.r.shown
@@ -39,12 +40,11 @@ module _ {B : Type 0} (q : Place) (w : Worker) (s : Shared B) (sound : SoundAt q
   pub reaped_record : (j : ℕ) (old : Record) → j ≡ number_in w.names.requests.items done.id.0 → old ≡ get_or s.requests.items j old → old ≡ of_it.reaped.has.r
   reaped_record j old number found = found_is s.requests.items (number_in w.names.requests.items of_it.reaped.has.id) j of_it.reaped.has.r old (number ∙ reaped_number) of_it.reaped.has.there found
 
-  pub reaped_one_part : (j : ℕ) (old : Record) → j ≡ number_in w.names.requests.items done.id.0 → old ≡ get_or s.requests.items j old → has_one_part old.shown.operation.kind ≡ true
-  reaped_one_part j old number found =
-      ap (λ y. has_one_part y.shown.operation.kind) (reaped_record j old number found) ∙ one_part_of of_it.reaped.has.r.shown.operation.kind of_it.reaped.has.r.shown.operation.length reaped_plain_of.bounded
-
-  pub reaped_plain : (j : ℕ) (old : Record) → j ≡ number_in w.names.requests.items done.id.0 → old ≡ get_or s.requests.items j old → old.shown.operation.hinted ≡ false
-  reaped_plain j old number found = ap (λ y. y.shown.operation.hinted) (reaped_record j old number found) ∙ reaped_plain_of.unhinted
+  pub reaped_countable : (j : ℕ) (old : Record) → j ≡ number_in w.names.requests.items done.id.0 → old ≡ get_or s.requests.items j old → IsCountable old.shown.operation
+  reaped_countable j old number found = λ direct.
+      let bounded : of_it.reaped.has.r.shown.operation.skip + of_it.reaped.has.r.shown.operation.length + 4095 < 2 ^ 63 = reaped_plain_of.bounded in
+      let here : old.shown.operation.skip + old.shown.operation.length + 4095 < 2 ^ 63 = subst (λ y. y.shown.operation.skip + y.shown.operation.length + 4095 < 2 ^ 63) (sym (reaped_record j old number found)) bounded in
+      omega (arith, here)
 
   pub reaped_lawful : (j : ℕ) (old : Record) → j ≡ number_in w.names.requests.items done.id.0 → old ≡ get_or s.requests.items j old → bytes_of done.given + old.shown.operation.moved < 2 ^ 64
   reaped_lawful j old number found =

@@ -1,14 +1,14 @@
 -- What holds again once an operation has landed whose request goes on.
-use Rattle.std.proofs.{Common.{◌≡◌, ◌≢◌, ℕ, ◌+◌, ◌^◌, ◌<◌, ◌≤◌, ◌==◌, ◌||◌, Bool, true, false, List, [], ◌∷◌, ◌++◌, length, map, Some, None, refl, sym, ap, subst, ◌∙◌, slice_get, slice_index_or, is_some, if◌then◌else◌}, lemmas.Bool.{false≢true, eq-eqb}}
+use Rattle.std.proofs.{Common.{◌≡◌, ◌≢◌, ℕ, ◌+◌, ◌^◌, ◌<◌, ◌≤◌, ◌==◌, ◌&&◌, ◌||◌, inl, not, Bool, true, false, List, [], ◌∷◌, ◌++◌, length, map, Some, None, refl, sym, ap, subst, ◌∙◌, slice_get, slice_index_or, is_some, if◌then◌else◌}, lemmas.Bool.{false≢true, eq-eqb}}
 use Rattle.exec_base.specs.{Slab.{value_at, written}, declared.slab.Id.Id}
-use Rattle.exec_outcomes.specs.{Lawful.{is_lawful, window_in, window_of}, Outcomes.{HasCome, bytes_of, counted_for, first_length, first_part, moves_on, part_now, second_part, moves_bytes}, declared.outcome.{Kind.Kind, OpResult.OpResult}}
+use Rattle.exec_outcomes.specs.{Accounts.is_durable, Lawful.{is_lawful, window_of}, Outcomes.{HasCome, bytes_of, refuses_hint}, declared.outcome.OpResult.OpResult}
 use Rattle.exec_request.specs.{Judging.{Judges, judged_as}, Kept.kept_of, Requests.{asked_of, cursor_of, deadline_of, hinted_of}, declared.request.Request.Request as Asking}
 use Rattle.exec_ring.specs.{Completions.result_in, declared.completion.Completion.Completion}
-use Rattle.exec_waiters.{specs.{States.{waiter_at, takes_tick}, declared.waiter.{Entry.TheVariants.Pending, Waiter.Waiter}}, proofs.Changes.entry_of}
-use Rattle.exec_driver.specs.{Driving.Driving, Lists.{is_among, with_queued}, Punctual.IsPunctual}
-use Rattle.exec_machine.specs.{declared.state.{Request.Request, RequestPhase.TheVariants.Landed}, Requests.{judged_of, reaped, went_on, asked_of as asked_in, cursor_of as cursor_in}, Tests.is_staged}
+use Rattle.exec_waiters.{specs.{States.{needs_permit, waiter_at, takes_tick}, declared.waiter.{Entry.TheVariants.Pending, Waiter.Waiter}}, proofs.Changes.entry_of}
+use Rattle.exec_driver.specs.{Driving.Driving, Lists.{is_among, with_queued}, Opens.OpenState, Punctual.IsPunctual}
+use Rattle.exec_machine.specs.{declared.state.{Request.Request, RequestPhase.TheVariants.Landed}, Requests.{judged_of, reaped, went_on, asked_of as asked_in, cursor_of as cursor_in}, Tests.{is_gated, is_kept, is_staged}}
 use Rattle.exec_moves.specs.declared.place.Place.{Place}
-use Rattle.exec_steps.{specs.{declared.parts.{mail.Reply.Reply, names.Names.Names, record.Record.Record, shared.Shared.Shared, worker.Worker.Worker}, Carried.{IsCarried, those_of}, Due.{IsWheelAt, may_be_due, wheel_moment}, Flown.{AreLanded, HasFlown, HasLanded, IsPlain, IsUpTo, longest, passes_permit}, Records.number_in, Serving.{changed_at, is_one_of, cancels_in, AreTagged}, Sound.{SoundAt, IsAlike, IsSubmitted, served_in}, View.{driver_of, number_told}, Ordered.{IsOrdered, went_round}}, proofs.{Going.owning_on, Facts.{by_name, same_number, not_same}, Marking.{known_then, mark_kept, mark_if, marked, was_marked}, Mine.live_mine, Changing.{OneGoesOn, all_go_one, changes_one, keeps_one, apart_number}, Conveying.{carried_judged, carried_ring}, Flown.FliesOn, Judging.{bytes_fit, cancel_decides, first_still, given_is, moved_is, stays_first, switched_is, total_fits}, Serving.{Follows, KeepsBy}, Starting.simple, Swept.RingAfter, Whole.whole_kept, Orders.{Eases, IsPartOf, TurnsAlike, alike_self, eased, eases_written, part_self}}}
+use Rattle.exec_steps.{specs.{declared.parts.{mail.Reply.Reply, names.Names.Names, record.Record.Record, shared.Shared.Shared, worker.Worker.Worker}, Carried.{IsCarried, those_of}, Due.{IsWheelAt, may_be_due, wheel_moment}, Flown.{AreLanded, HasFlown, HasLanded, IsPlain}, Gates.{IsKnown, has_hint_at}, Records.number_in, Serving.{changed_at, is_one_of, cancels_in, AreTagged}, Sound.{SoundAt, IsAlike, IsSubmitted, served_in}, View.{driver_of, number_told}, Ordered.{IsOrdered, went_round}}, proofs.{Going.owning_on, Facts.{and_parts, by_name, same_number, not_same}, Hinting.stretch_judged, Known.known_written, Marking.{known_then, mark_kept, mark_if, marked, was_marked}, Mine.live_mine, Changing.{OneGoesOn, all_go_one, changes_one, keeps_one, apart_number}, Conveying.{carried_judged, carried_ring}, Flown.FliesOn, Judging.{asks_after, cancel_decides, forgets_after, given_is, moved_bytes, moved_fits, moved_is, switched_is, total_fits}, Serving.{Follows, KeepsBy}, Swept.RingAfter, Whole.whole_kept, Orders.{Eases, IsPartOf, TurnsAlike, alike_self, eased, eases_written, part_self}}}
 
 -- THE OTHERS THAT HAVE LANDED have other numbers
 
@@ -72,44 +72,13 @@ lawful_shown start tick it r given a lawful =
     ∙ ap (λ b. is_lawful (window_of (asked_of it.request) (record (cursor_in r.operation) { moved = (cursor_of it.request).moved; switched = b })) given) a.switched
     ∙ lawful
 
-first_window : (r : Request) (given : OpResult) → r.operation.switched ≡ false → is_lawful (window_of (asked_in r.operation) (cursor_in r.operation)) given ≡ true
-    → is_lawful (window_in r.operation.kind (first_length r.operation.kind r.operation.length r.operation.skip) r.operation.moved) given ≡ true
-first_window r given first lawful = rw first at lawful
-
-first_whole : (k : Kind) (l skip n : ℕ) → IsUpTo (longest k) n → first_length k l skip ≡ l
-first_whole Kind.Poll l skip n h = refl
-first_whole Kind.Send l skip n h = refl
-first_whole _ l skip n h = absurd h
-
-moved_next : (r : Request) (given : OpResult) → r.operation.switched ≡ false → moves_on (asked_in r.operation) (cursor_in r.operation) (judged_of r given) ≡ false
-    → (went_on r given).moved ≡ r.operation.moved + counted_for (record { kind = r.operation.kind; length = first_length r.operation.kind r.operation.length r.operation.skip }) given
-moved_next r given first stays =
-    ap (λ b. if b then 0 else r.operation.moved + counted_for (part_now (asked_in r.operation) (cursor_in r.operation)) given) stays
-    ∙ ap (λ b. r.operation.moved + counted_for (if b then second_part (asked_in r.operation) else first_part (asked_in r.operation)) given) first
-
--- what a send has moved then
-moved_sent : (r : Request) (given : OpResult) → IsPlain r → r.operation.kind ≡ Kind.Send → (went_on r given).moved ≡ r.operation.moved + bytes_of given
-moved_sent r given p send =
-    let o = r.operation in
-    moved_next r given p.first_part (stays_first (asked_in o) (cursor_in o) (judged_of r given) o.length p.bounded)
-    ∙ ap (λ k. o.moved + (if moves_bytes k then bytes_of given else 0)) send
-
-pub moved_fits : (r : Request) (given : OpResult) → IsPlain r → is_lawful (window_of (asked_in r.operation) (cursor_in r.operation)) given ≡ true → (went_on r given).moved ≤ r.operation.length
-moved_fits r given p lawful =
-    let o = r.operation in
-    let whole = first_whole o.kind o.length o.skip o.length p.bounded in
-    let fits : is_lawful (window_in o.kind o.length o.moved) given ≡ true = ap (λ l. is_lawful (window_in o.kind l o.moved) given) (sym whole) ∙ first_window r given p.first_part lawful in
-    let next = moved_next r given p.first_part (stays_first (asked_in o) (cursor_in o) (judged_of r given) o.length p.bounded) in
-    let under : o.moved + counted_for (record { kind = o.kind; length = o.length }) given ≤ o.length = bytes_fit o.kind o.length o.moved given p.bounded p.moved fits in
-    let is : (went_on r given).moved ≡ o.moved + counted_for (record { kind = o.kind; length = o.length }) given = next ∙ ap (λ l. o.moved + counted_for (record { kind = o.kind; length = l }) given) whole in
-    subst (λ m. m ≤ o.length) (sym is) under
+-- one more result leaves it within its length
+pub fits_shown : (r : Request) (given : OpResult) → IsPlain r → is_lawful (window_of (asked_in r.operation) (cursor_in r.operation)) given ≡ true → (went_on r given).moved ≤ r.operation.skip + r.operation.length + 4095
+fits_shown r given p lawful = moved_fits (asked_in r.operation) (cursor_in r.operation) (judged_of r given) p.moved lawful
 
 pub total_shown : (r : Request) (given : OpResult) → IsPlain r → is_lawful (window_of (asked_in r.operation) (cursor_in r.operation)) given ≡ true → bytes_of given + r.operation.moved < 2 ^ 64
 total_shown r given p lawful =
-    let o = r.operation in
-    let whole = first_whole o.kind o.length o.skip o.length p.bounded in
-    let fits : is_lawful (window_in o.kind o.length o.moved) given ≡ true = ap (λ l. is_lawful (window_in o.kind l o.moved) given) (sym whole) ∙ first_window r given p.first_part lawful in
-    total_fits o.kind o.length o.moved given p.bounded p.moved fits
+    total_fits (window_of (asked_in r.operation) (cursor_in r.operation)) r.operation.moved (r.operation.skip + r.operation.length + 4095) given p.moved p.bounded lawful
 
 module _ {B : Type 0} (q q' : Place) (w : Worker) (s : Shared B) (sound : SoundAt q w s) (d' : Driving Reply Reply) (c : Completion) (cs : List Completion) (back : GoesBack w s d' c cs) where
   abbrev pub back_waiter : Waiter Reply Reply
@@ -124,9 +93,6 @@ module _ {B : Type 0} (q q' : Place) (w : Worker) (s : Shared B) (sound : SoundA
   pub back_plain : IsPlain back.h.r.shown
   back_plain = sound.flown.plain (number_in w.names.requests.items back.h.id) back.h.r back.h.there (live_mine w.index w.names (driver_of w) w.home.timers s.requests.items s.sleepers.items sound.named back.h.id back.h.it back.h.r back.h.live back.h.there)
 
-  back_kind : IsUpTo (longest (asked_of back.h.it.request).kind) back.h.r.shown.operation.length
-  back_kind = subst (λ a. IsUpTo (longest a.kind) back.h.r.shown.operation.length) back_alike.asked back_plain.bounded
-
   kept_asked : asked_of back.request ≡ asked_of back.h.it.request
   kept_asked = ap (λ k. k.asked) back.kept
 
@@ -138,26 +104,30 @@ module _ {B : Type 0} (q q' : Place) (w : Worker) (s : Shared B) (sound : SoundA
       let given = result_in c.result in
       let a = back_alike in
       let results = a.come.0 ++ judged_as (hinted_of it.request) it.state given ∷ [] in
-      let was = simple it.request r.operation.length back_kind in
-      let is = simple back.request r.operation.length (subst (λ x. IsUpTo (longest x.kind) r.operation.length) (sym kept_asked) back_kind) in
       record {
         asked = a.asked ∙ sym kept_asked;
-        moved = moved_is d.wheel.start d.wheel.tick it r a given back.request None back.judges;
-        switched = switched_is d.wheel.start d.wheel.tick it r a given back.request None back.judges;
+        moved = moved_is d.wheel.start d.wheel.tick it r a given back.h.flies back.request None back.judges;
+        switched = switched_is d.wheel.start d.wheel.tick it r a given back.h.flies back.request None back.judges;
         come = (results, subst (λ x. HasCome x (cursor_of back.request) results) (sym kept_asked) (back.judges.goes_on a.come.0 a.come.1 refl));
-        hinted = a.hinted ∙ was.unhinted ∙ sym is.unhinted;
+        hinted = λ flies. absurd (false≢true flies);
+        asks_hint = λ asks.
+            let still = asks_after d.wheel.start d.wheel.tick it r a given back.h.flies back.request None back.judges asks in
+            let was = a.asks_hint still.0 in
+            (was.0, still.1 ∙ was.1);
+        seen = λ durable. a.seen durable ∙ ap (λ k. k.seen) (sym back.kept);
         deadline = a.deadline ∙ ap (λ k. k.deadline) (sym back.kept);
         cancelled = a.cancelled;
         timer = a.timer;
         observed = a.observed;
         waiter = a.waiter;
         flying = refl;
-        permit = λ e. absurd (false≢true e);
+        permit = sym (ap is_gated back.h.landed) ∙ a.permit ∙ ap (λ x. is_durable x.kind && not it.permit) (sym kept_asked);
         open_still = refl;
         near = a.near;
-        going = λ e. absurd (cancel_decides (asked_in r.operation) (cursor_in r.operation) (judged_of r given) r.operation.length back_plain.bounded back_plain.first_part (a.cancelled ∙ e)
-            (given_is d.wheel.start d.wheel.tick it r a given back.request None back.judges));
+        going = λ e. absurd (cancel_decides (asked_in r.operation) (cursor_in r.operation) (judged_of r given) (a.cancelled ∙ e) (given_is d.wheel.start d.wheel.tick it r a given back.h.flies back.request None back.judges));
         told_once = a.told_once;
+        dated = λ ticks. ap is_some (ap (λ k. k.deadline) back.kept) ∙ a.dated ticks;
+        alone = λ asks. ap (λ x. is_kept x.kind) kept_asked ∙ a.alone asks;
       }
 
   plain_then : IsPlain (goes_back (result_in c.result) back.h.r).shown
@@ -168,10 +138,7 @@ module _ {B : Type 0} (q q' : Place) (w : Worker) (s : Shared B) (sound : SoundA
       let a = back_alike in
       record {
         bounded = p.bounded;
-        moved = moved_fits r given p (lawful_shown (driver_of w).wheel.start (driver_of w).wheel.tick back.h.it r given a back.h.lawful);
-        first_part = first_still (asked_in r.operation) (cursor_in r.operation) (judged_of r given) r.operation.length p.bounded p.first_part;
-        unhinted = p.unhinted;
-        ungated = refl;
+        moved = fits_shown r given p (lawful_shown (driver_of w).wheel.start (driver_of w).wheel.tick back.h.it r given a back.h.lawful);
         deadline = p.deadline;
       }
 
@@ -217,8 +184,8 @@ module _ {B : Type 0} (q q' : Place) (w : Worker) (s : Shared B) (sound : SoundA
       subst (λ y. IsPlain (goes_back (result_in c.result) y).shown) same plain_then
   plain_by j false x is found mine = sound.flown.plain j x found mine
 
-  flown_back : passes_permit (served_in q') ≡ false → HasFlown (served_in q') w.index w.names d' back_records
-  flown_back permits =
+  flown_back : HasFlown (served_in q') w.index w.names d' back_records
+  flown_back =
       let d = driver_of w in
       let rs = s.requests.items in
       let k = number_in w.names.requests.items back.h.id in
@@ -236,7 +203,14 @@ module _ {B : Type 0} (q q' : Place) (w : Worker) (s : Shared B) (sound : SoundA
         staging = rw back.ring.size flown.staging;
         telling = rw back.ring.size flown.telling;
         entries = rw back.ring.staged flown.entries;
-        permits = permits;
+        gated = λ other x live needs.
+            let listed : is_among other d.lists.gated ≡ true =
+            by_name other.0 back.h.id (λ apart. flown.gated other x (sym (changed.others other.0 apart) ∙ sym (waiters other.0) ∙ live) needs)
+            (λ eq.
+            let here : waiter_at (written d.requests back.h.id (Pending it')) other.0 ≡ Some x = sym (waiters other.0) ∙ live in
+            let is_it : x ≡ it' = cc (here, eq, changed.is_at) in
+            flown.gated other it (ap (waiter_at d.requests) eq ∙ back.h.live) (ap (λ a. is_durable a.kind && not it.permit) (sym kept_asked) ∙ ap needs_permit (sym is_it) ∙ needs)) in
+            ap (λ l. is_among other l.gated) back.lists ∙ listed;
         plain = λ j x found mine.
             let old = was_marked f rs k j x found in
             subst (λ y. IsPlain y.shown) (sym old.2) (plain_by j (k == j) old.0 refl old.1 (sym (mark_kept ℕ (λ x. x.shown.worker) (goes_back given) (λ x. refl) (k == j) old.0) ∙ sym (ap (λ y. y.shown.worker) old.2) ∙ mine));
@@ -274,7 +248,7 @@ module _ {B : Type 0} (q q' : Place) (w : Worker) (s : Shared B) (sound : SoundA
       subst (λ x. IsCarried n x d'.ring back_records s.store) (sym back.requests)
       (carried_ring n (written d.requests back.h.id (Pending it')) d.ring back_records s.store
       (carried_judged n d.requests d.ring rs s.store sound.carried back.h.id back.h.it it' back.h.r (goes_back given) given back.h.live back.h.there back.h.landed refl refl
-      (moved_sent back.h.r.shown given back_plain) (whole_kept back.h.it.request back.request back.kept (sound.carried.whole back.h.id back.h.it back.h.live)) (ap (λ x. x.target) back.kept)
+      (λ of_bytes. moved_bytes (asked_in back.h.r.shown.operation) (cursor_in back.h.r.shown.operation) (judged_of back.h.r.shown given) of_bytes) (whole_kept back.h.it.request back.request back.kept (sound.carried.whole back.h.id back.h.it back.h.live)) (stretch_judged back.h.it.request back.request (judged_as (hinted_of back.h.it.request) back.h.it.state given) s.store back.kept back.judges.cursor (sound.carried.stretch back.h.id back.h.it back.h.live)) (ap (λ x. x.target) back.kept)
       (λ other x live apart. apart_number w.index w.names w.names d d' w.home.timers rs s.sleepers.items back.h.id back.h.it it' back.h.r (goes_back given) one_back sound.named other (rw (entry_of (value_at d.requests other) x live) refl) apart))
       d'.ring (λ v small. ap (those_of v) back.ring.flying) (λ v small. ap (those_of v) back.ring.staged))
 
@@ -286,7 +260,18 @@ module _ {B : Type 0} (q q' : Place) (w : Worker) (s : Shared B) (sound : SoundA
       (subst (λ l. IsPartOf l.enrolments d.lists.enrolments) (sym back.lists) (part_self d.lists.enrolments))
       (subst (λ l. IsPartOf l.due d.lists.due) (sym back.lists) (part_self d.lists.due)) sound.due.order
 
+  -- it asks for its hint as before, or its record says that it was refused
+  pub known_back : {opens' : List OpenState} → ((file : ℕ) → has_hint_at s.opens file ≡ false → has_hint_at opens' file ≡ false)
+      → IsKnown w.index w.names.requests.items (written (driver_of w).requests back.h.id (Pending back_waiter)) opens' back_records
+  known_back {opens' = opens'} hints =
+      let r = back.h.r.shown in
+      known_written w.index w.names.requests.items (driver_of w).requests s.opens opens' s.requests.items (number_in w.names.requests.items back.h.id) (goes_back (result_in c.result))
+      (λ y. record { id = refl; worker = refl; kind = refl; target = refl; unrefused = λ h. (and_parts y.shown.operation.unrefused (not (refuses_hint (judged_of y.shown (result_in c.result)))) h).0 })
+      hints back.h.id back.h.it back_waiter back.h.r refl back.h.live back.h.there
+      (inl (forgets_after (driver_of w).wheel.start (driver_of w).wheel.tick back.h.it r back_alike (result_in c.result) back.h.flies back.request None back.judges)) sound.known
+
   pub keeps_back : Follows q q' → IsPunctual d' → (may_be_due (served_in q') ≡ false → d'.lists.due ≡ []) → KeepsBy (record w { place = q' }) d' w.home.timers back_records s.sleepers.items s
   keeps_back follows punctual due =
       keeps_one q q' w.put_off w.names w s d' back.h.id back.h.it back_waiter back.h.r (goes_back (result_in c.result)) sound follows one_back punctual due order_back
-      (subst (λ x. IsWheelAt s.config w.moments.start (wheel_moment (served_in q) w.moments) x) (sym back.wheel) sound.due.wheel) back.ring.size submitted_back (flown_back follows.permits) carried_back
+      (subst (λ x. IsWheelAt s.config w.moments.start (wheel_moment (served_in q) w.moments) x) (sym back.wheel) sound.due.wheel) back.ring.size submitted_back flown_back carried_back refl
+      (subst (λ x. IsKnown w.index w.names.requests.items x s.opens back_records) (sym back.requests) (known_back (λ file h. h)))

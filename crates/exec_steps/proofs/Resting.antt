@@ -1,10 +1,10 @@
 -- What the steps of the clock and of peers keep: they change how workers rest, and nothing else that a worker rests on.
-use Rattle.std.proofs.{Common.{◌≡◌, ℕ, zero, suc, ◌<◌, ◌≤◌, ◌^◌, List, [], ◌∷◌, ◌+◌, length, map, get_or, set, take, drop, ◌++◌, add-one, append_assoc, drop-cons, Option, None, Some, refl, sym, ap, subst, ◌∙◌, arith, slice_get, slice_set, option_map, IfSome}, Math.Seq.take-suc-set, lemmas.{List.{length-map, length-set, drop-set-lt}, Option.{slice_get-map, slice_get-get_or, slice_get_within}}}
+use Rattle.std.proofs.{Common.{◌≡◌, ℕ, zero, suc, ◌*◌, ◌<◌, ◌≤◌, ◌^◌, false, List, [], ◌∷◌, ◌+◌, length, map, get_or, set, take, drop, ◌++◌, add-one, append_assoc, drop-cons, Option, None, Some, refl, sym, ap, subst, ◌∙◌, arith, slice_get, slice_set, option_map, IfSome}, Math.Seq.take-suc-set, lemmas.{List.{length-map, length-set, drop-set-lt}, Option.{slice_get-map, slice_get-get_or, slice_get_within}}}
 use Rattle.exec_base.specs.declared.limits.TheConstants.{LAST_MOMENT}
 use Rattle.exec_words.specs.Queue.{tail_of}
 use Rattle.exec_machine.specs.declared.{config.Configuration.Configuration, state.Rest.Rest}
-use Rattle.exec_moves.specs.declared.{handing.{InGlobal.InGlobal, InKick.InKick}, idling.{InLook.InLook, InScan.InScan}, place.{InClosing.InClosing, InMail.InMail, Place.Place}}
-use Rattle.exec_steps.{specs.{Places.is_armed_at, Sound.{Aims, HasQueue, IsInTime, IsSeated, Sound, SoundAt}, declared.parts.{seat.Seat.Seat as Chair, shared.Shared.Shared, worker.Worker.Worker}, Phased.{IsPhased, TurnsChair, stage_of, closes_at, closing_in}, Records.{rest_at, reached, roused}, Whole.{IsWhole, Profile}}, proofs.{Aside.{queue_of_chair, queues_set, whole_same}, Facts.same_thing, PoolKept.{KeepsGate, KeepsGates}, Spared.there_within}}
+use Rattle.exec_moves.specs.declared.{handing.{InGlobal.InGlobal, InKick.InKick}, idling.{InLook.InLook, InRingWait.InRingWait, InScan.InScan}, place.{InClosing.InClosing, InMail.InMail, InService.InService, Place.Place}}
+use Rattle.{exec_steps.{specs.{Holding.box_of, Places.is_armed_at, Sound.{Aims, AreHome, HasQueue, IsInTime, IsSeated, Sound, SoundAt}, declared.{parts.{seat.{Seat.{Seat as Chair}}, shared.Shared.Shared, worker.Worker.Worker}}, Phased.{IsPhased, TurnsChair, stage_of, closes_at, closing_in}, Records.{rest_at, reached, roused}, Whole.{IsWhole, Profile}}, proofs.{Dedicated.as_long, Aside.{queue_of_chair, queues_set, whole_same}, Facts.same_thing, PoolKept.{KeepsGate, KeepsGates}, Showing.map_kept, Spared.there_within}}}
 
 abbrev pub rested : Rest → Chair → Chair
 rested x chair = record chair { rest = x }
@@ -56,6 +56,10 @@ aims_rested : (p : Place) (c : Configuration) (i : ℕ) (seats seats' : List Cha
 aims_rested (Place.Scan (InScan.ClaimHalf x h tail)) c i seats seats' rests may =
     (record { other = may.0.other; unclaimed = may.0.unclaimed; some = may.0.some; most = may.0.most; behind = λ chair there. let was = rested_of seats seats' _ chair rests there in subst (λ y. tail ≤ tail_of y.queue) (sym was.3) (may.0.behind was.0 was.1) }, may.1)
 aims_rested (Place.Look (InLook.LookAtHead j)) c i seats seats' rests may = may
+aims_rested (Place.RingWait (InRingWait.DisarmRing n) x) c i seats seats' rests may = may
+aims_rested (Place.Signal x j b) c i seats seats' rests may = (subst (λ n. j < n) (sym rests.many) may.0, may.1)
+aims_rested (Place.Service (InService.Signal j b) v) c i seats seats' rests may = subst (λ n. j < n) (sym rests.many) may
+aims_rested (Place.Service (InService.Raise ring j b) v) c i seats seats' rests may = subst (λ n. j < n) (sym rests.many) may
 aims_rested (Place.Kick (InKick.ExchangeKickCount set) b) c i seats seats' rests may = may
 aims_rested (Place.Global (InGlobal.AddGlobalCount set) b) c i seats seats' rests may = may
 aims_rested (Place.Mail (InMail.Apply applied taken)) c i seats seats' rests may = may
@@ -77,6 +81,10 @@ gates_rested seats seats' rests =
 queues_reached : (clock : ℕ) (seats : List Chair) → map queue_of_chair (map (reached clock) seats) ≡ map queue_of_chair seats
 queues_reached clock [] = refl
 queues_reached clock (chair ∷ chairs) = ap (λ qs. chair.queue ∷ qs) (queues_reached clock chairs)
+
+boxes_reached : (clock : ℕ) (seats : List Chair) → map box_of (map (reached clock) seats) ≡ map box_of seats
+boxes_reached clock [] = refl
+boxes_reached clock (chair ∷ chairs) = ap (λ bs. box_of chair ∷ bs) (boxes_reached clock chairs)
 
 -- a turn of the loop by which the clock reaches each seat
 pub reached_next : (clock i : ℕ) (xs : List Chair) (d y : Chair) → i < length xs → y ≡ reached clock (get_or xs i d)
@@ -102,9 +110,10 @@ module _ {B : Type 0} where
         bounded = bounded;
       } in
       let seated : IsSeated w.index (is_armed_at q) s.config.workers t.seats.items = record {
-        many = rests.many ∙ sound.seated.many;
+        many = as_long rests.many sound.seated.many;
         seat = rested mine.0 seat;
         there = mine.1;
+        pool = sound.seated.pool;
         unarmed = sound.seated.unarmed;
         mail = assumption sound.seated.mail;
       } in
@@ -112,7 +121,10 @@ module _ {B : Type 0} where
       let aims : Aims q s.config w.index t.seats.items = aims_rested q s.config w.index s.seats.items t.seats.items rests sound.aims in
       let phased : (chair : Chair) → slice_get t.seats.items w.index ≡ Some chair → IsPhased w.index (closes_at q) (closing_in q) w.home.closing w.root w.names.unreleased (stage_of chair s) s.tasks.items = λ chair there.
       subst (λ c. IsPhased w.index (closes_at q) (closing_in q) w.home.closing w.root w.names.unreleased (stage_of c s) s.tasks.items) (is chair there) (sound.phased seat sound.seated.there) in
-      assumption (time, seated, queue, aims, phased, sound)
+      let homes : AreHome s.config.workers (length t.seats.items) s.tasks.items = subst (λ n. AreHome s.config.workers n s.tasks.items) (sym rests.many) sound.homes in
+      let batch_place : (chair : Chair) → slice_get t.seats.items w.index ≡ Some chair → chair.mailbox.inbox.closed ≡ false → 2 * chair.made + 1 ≤ w.batch.places = λ chair there.
+      subst (λ c. c.mailbox.inbox.closed ≡ false → 2 * c.made + 1 ≤ w.batch.places) (is chair there) (sound.batch_place seat sound.seated.there) in
+      assumption (time, seated, queue, aims, phased, homes, batch_place, sound)
 
   pub clock_kept : (w : Worker) (s s' : Shared B) (by : ℕ) → s.clock + by ≤ LAST_MOMENT → s'.seats.items ≡ map (reached (s.clock + by)) s.seats.items
       → s' ≡ record s { clock = s.clock + by; seats = s'.seats } → Sound w s → Sound w s'
@@ -147,14 +159,18 @@ module _ {B : Type 0} where
         queued_there = whole.queued_there;
         places = whole.places;
         made = whole.made;
+        unclaimed = whole.unclaimed;
+        in_pool = whole.in_pool;
         pool = whole.pool;
+        gates = whole.gates;
+        holding = whole.holding;
       })
 
   pub clock_whole : (x : Profile) (s s' : Shared B) (by : ℕ) → s'.seats.items ≡ map (reached (s.clock + by)) s.seats.items → s' ≡ record s { clock = s.clock + by; seats = s'.seats } → IsWhole x s → IsWhole x s'
   clock_whole x s s' by seats kept whole =
       let s1 : Shared B = record s { seats = s'.seats } in
       whole_kept x s s'
-      (whole_same x s s1 refl (gates_rested s.seats.items s'.seats.items (all_rested (s.clock + by) s.seats.items s'.seats.items seats)) (ap (map queue_of_chair) seats ∙ queues_reached (s.clock + by) s.seats.items) refl refl whole)
+      (whole_same x s s1 refl (gates_rested s.seats.items s'.seats.items (all_rested (s.clock + by) s.seats.items s'.seats.items seats)) (ap (map queue_of_chair) seats ∙ queues_reached (s.clock + by) s.seats.items) (ap (map box_of) seats ∙ boxes_reached (s.clock + by) s.seats.items) refl refl whole)
       (kept ∙ ap (λ (z : Shared B). record s { clock = z.clock; seats = s'.seats; listeners = z.listeners }) (sym kept))
 
   pub stir_whole : (x : Profile) (s s' : Shared B) (i : ℕ) → i < length s.seats.items → TurnsChair i roused s s' → s' ≡ record s { seats = s'.seats } → IsWhole x s → IsWhole x s'
@@ -164,7 +180,7 @@ module _ {B : Type 0} where
       let seats : s'.seats.items ≡ slice_set s.seats.items i (rested Rest.Awake it.0) = turns it.0 it.1 in
       whole_kept x s s'
       (whole_same x s s1 refl (gates_rested s.seats.items s'.seats.items (one_rested Rest.Awake i s.seats.items s'.seats.items it.0 it.1 seats))
-      (ap (map queue_of_chair) seats ∙ queues_set s.seats.items i it.0 (rested Rest.Awake it.0) it.1 refl) refl refl whole)
+      (ap (map queue_of_chair) seats ∙ queues_set s.seats.items i it.0 (rested Rest.Awake it.0) it.1 refl) (ap (map box_of) seats ∙ map_kept box_of s.seats.items i (rested Rest.Awake it.0) it.0 it.1 refl) refl refl whole)
       (kept ∙ ap (λ (z : Shared B). record s { clock = z.clock; seats = s'.seats; listeners = z.listeners }) (sym kept))
 
   pub peer_whole : (x : Profile) (s s' : Shared B) → s' ≡ record s { listeners = s'.listeners } → IsWhole x s → IsWhole x s'
@@ -181,5 +197,9 @@ module _ {B : Type 0} where
         queued_there = whole.queued_there;
         places = whole.places;
         made = whole.made;
+        unclaimed = whole.unclaimed;
+        in_pool = whole.in_pool;
         pool = whole.pool;
+        gates = whole.gates;
+        holding = whole.holding;
       })

@@ -1,9 +1,9 @@
--- Results and errors are what they are; and no first request is durable.
+-- Results and errors are what they are.
 use Rattle.std.proofs.{Common.{◌≡◌, ℕ, ◌==◌, Bool, true, false, refl}, lemmas.Bool.{eq-eqb, false≢true}}
 use Rattle.exec_base.specs.declared.error.{Cause.Cause, Error.Error}
-use Rattle.exec_outcomes.specs.{Accounts.is_durable, declared.outcome.Kind.Kind}
+use Rattle.exec_outcomes.specs.{declared.outcome.Kind.Kind}
 use Rattle.exec_machine.specs.Same.{same_cause, same_error}
-use Rattle.exec_steps.{specs.Flown.{IsUpTo, longest}, proofs.Facts.both_true}
+use Rattle.exec_steps.proofs.Facts.{both_true}
 
 same_cause_self : (x : Cause) → same_cause x x ≡ true
 same_cause_self (Cause.Code n) = eq-eqb n n refl
@@ -26,8 +26,3 @@ same_error_self (Error.BlobSyncFailed n x) = both_true (n == n) (same_cause x x)
 same_error_self (Error.BlobResizeFailed n x) = both_true (n == n) (same_cause x x) (eq-eqb n n refl) (same_cause_self x)
 same_error_self Error.NoMemory = refl
 same_error_self Error.Full = refl
-
-pub plain_kind : (k : Kind) (n : ℕ) → IsUpTo (longest k) n → is_durable k ≡ false
-plain_kind Kind.Poll n h = refl
-plain_kind Kind.Send n h = refl
-plain_kind _ n h = absurd h

@@ -2,7 +2,7 @@
 use Rattle.std.proofs.{Common.{◌≡◌, ◌≢◌, ℕ, zero, suc, ◌+◌, ◌-◌, ◌^◌, ◌<◌, ◌≤◌, ◌⊎◌, inl, inr, Bool, true, false, List, [], ◌∷◌, length, map, min, Some, refl, sym, ap, subst, ◌∙◌, arith, slice_get, slice_set, nat_le, lit≤, if◌then◌else◌}, lemmas.{Bool.Decides.nat_tests, List.length-set, Option.get_or_from_slice_get}}
 use Rattle.exec_words.specs.declared.word.WaitTarget.{WaitTarget}
 use Rattle.exec_moves.specs.{Claim.raised_if, State.{WakePoll, no_wake_poll, raised, wake_poll_of}, Thing.set_wake_poll}
-use Rattle.exec_steps.{specs.{declared.parts.{seat.Seat.Seat as Chair, shared.Shared.Shared}, Phased.stage_of, Pooled.chair_raised, Sound.IsSeated, Spares.IsMailbox, View.{Views, Visible, inbox_at, polls_seen, queue_at, raised_times, things_with, word_at}}, proofs.{Facts.{by_number, set_elsewhere, set_there}, Showing.map_kept}}
+use Rattle.exec_steps.{specs.{declared.parts.{seat.Seat.Seat as Chair, shared.Shared.Shared}, Phased.stage_of, Pooled.chair_raised, Sound.IsSeated, Spares.IsMailbox, View.{Views, Visible, inbox_at, polls_seen, queue_at, raised_times, things_with, word_at}}, proofs.{Dedicated.as_long, Facts.{by_number, set_elsewhere, set_there}, Showing.map_kept}}
 
 -- A SEAT THAT KEEPS what its worker goes by
 pub record Keeps (was chair : Chair) : Type 0 where
@@ -13,12 +13,13 @@ pub record Keeps (was chair : Chair) : Type 0 where
   pub phase : chair.phase ≡ was.phase
   pub pool : chair.pool ≡ was.pool
   pub left : chair.left ≡ was.left
+  pub made : chair.made ≡ was.made
 
 same_seat : (chair : Chair) → Keeps chair chair
-same_seat chair = record { queue = refl; target = refl; inbox = refl; mail = λ h. h; phase = refl; pool = refl; left = refl }
+same_seat chair = record { queue = refl; target = refl; inbox = refl; mail = λ h. h; phase = refl; pool = refl; left = refl; made = refl }
 
 same_stage : {B : Type 0} (was chair : Chair) → Keeps was chair → (s : Shared B) → stage_of was s ≡ stage_of chair s
-same_stage was chair keeps s = rw (keeps.phase, keeps.pool, keeps.left, keeps.inbox) refl
+same_stage was chair keeps s = rw (keeps.phase, keeps.pool, keeps.left, keeps.inbox, keeps.made) refl
 
 module _ {B : Type 0} (k : ℕ) (its its' : Chair) (keeps : Keeps its its') (s s' : Shared B) (there : slice_get s.seats.items k ≡ Some its) (set : s'.seats.items ≡ slice_set s.seats.items k its') where
   now : slice_get s'.seats.items k ≡ Some its'
@@ -35,15 +36,16 @@ module _ {B : Type 0} (k : ℕ) (its its' : Chair) (keeps : Keeps its its') (s s
 
   pub seated_now : (i : ℕ) (armed : Bool) (workers : ℕ) → IsSeated i armed workers s.seats.items → IsSeated i armed workers s'.seats.items
   seated_now i armed workers seated =
-      let many : length s'.seats.items ≡ workers = ap length set ∙ length-set s.seats.items k its' ∙ seated.many in
+      let many : workers ≤ length s'.seats.items = as_long (ap length set ∙ length-set s.seats.items k its') seated.many in
       by_number i k
-      (λ other. record { many = many; seat = seated.seat; there = ap (λ xs. slice_get xs i) set ∙ set_elsewhere s.seats.items k i its' other ∙ seated.there; unarmed = seated.unarmed; mail = seated.mail })
+      (λ other. record { many = many; seat = seated.seat; there = ap (λ xs. slice_get xs i) set ∙ set_elsewhere s.seats.items k i its' other ∙ seated.there; pool = seated.pool; unarmed = seated.unarmed; mail = seated.mail })
       (λ same.
       let is : its ≡ seated.seat = cc (sym there, subst (λ n. slice_get s.seats.items n ≡ Some seated.seat) same seated.there) in
       record {
         many = many;
         seat = its';
         there = subst (λ n. slice_get s'.seats.items n ≡ Some its') (sym same) now;
+        pool = keeps.pool ∙ ap (λ (c : Chair). c.pool) is ∙ seated.pool;
         unarmed = λ h. keeps.target ∙ subst (λ (c : Chair). c.mailbox.waker.target ≡ WaitTarget.None) (sym is) (seated.unarmed h);
         mail = keeps.mail (subst (λ (c : Chair). IsMailbox c.mailbox) (sym is) seated.mail);
       })

@@ -4,7 +4,7 @@ use Rattle.exec_words.specs.{Idle.Idle, Queue.{Queue, head_of, room_of, tail_of}
 use Rattle.exec_task.specs.declared.{body.Said.Said}
 use Rattle.exec_machine.specs.{declared.{config.Configuration.Configuration, event.Event.{Event, TheVariants.Turn}, state.Next.Next}, Choice.Choice.Plain, Progress.Plan}
 use Rattle.exec_moves.specs.{declared.{idling.{InLook.InLook, InScan.InScan, InSearch.InSearch, Scan.Scan}, place.Place.Place}, Move.move_at, Search.{add_search_count, begun_scan, from_of, half, judge_head, load_scan_head, load_search_count, load_their_head, load_their_tail, looks_at, move_half, past, past_own, stirred}, Seen.{next_at, serves_at}, State.{Moved, queue_of}}
-use Rattle.exec_steps.{specs.{declared.parts.{seat.Seat.Seat as Chair, shared.Shared.Shared, worker.Worker.Worker}, Places.{has_count_at, is_published_at}, Sound.{IsScanning, MayClaim, SoundAt, has_wakes_at}, Spots.Spot, View.{Views, common_of, desk_of, own_of, things_of, things_with}, Works.{Goes, Makes, Steps, Suits}}, proofs.{Counting.{Stands, counts_alone, counts_same, stance_at, stance_here}, Facts.same_number, Handed.{less_by, most_by, out, true_false}, Idled.{Settles, calm_of, gone, led, settles_either}, Showing.own_queue_seen, Turning.queue_back_again}}
+use Rattle.exec_steps.{specs.{Kinds.lowered, declared.parts.{seat.Seat.Seat as Chair, shared.Shared.Shared, worker.Worker.Worker}, Places.{has_count_at, is_published_at}, Sound.{IsScanning, MayClaim, SoundAt, has_wakes_at}, Spots.Spot, View.{Views, common_of, desk_of, own_of, things_of, things_with}, Works.{Goes, Makes, Steps, Suits}}, proofs.{Dedicated.never_apart, Counting.{Stands, counts_alone, counts_same, stance_at, stance_here}, Facts.same_number, Handed.{less_by, most_by, out, true_false}, Idled.{Settles, calm_of, gone, led, settles_either}, Showing.own_queue_seen, Turning.queue_back_again}}
 
 -- THE NEXT QUEUE isn't the one before it
 
@@ -61,7 +61,7 @@ module _ {B : Type 0} where
   HasHalf w s = (chair : Chair) → slice_get s.seats.items w.index ≡ Some chair → (chair.queue.held ≡ []) × (128 ≤ room_of chair.queue)
 
   -- where a scan goes on
-  looks_settle : (q : Place) (x : Scan) (w : Worker) (s : Shared B) → calm_of Place.BeginTurn ≡ calm_of q → has_wakes_at q ≡ false → HasHalf w s → w.batch.values ≡ [] → x.start < s.config.workers → Settles q (looks_at s.config w.index x) (out w.searching) w s
+  looks_settle : (q : Place) (x : Scan) (w : Worker) (s : Shared B) → calm_of (Place.Look InLook.Publish) ≡ lowered w.role true (calm_of q) → has_wakes_at q ≡ false → HasHalf w s → (false ≡ true → w.batch.values ≡ []) → x.start < s.config.workers → Settles q (looks_at s.config w.index x) (out w.searching) w s
   looks_settle q x w s same quiet half batch start = by (nat_lt (past_own s.config w.index x).passed s.config.workers) refl
     where
       by : (b : Bool) → nat_lt (past_own s.config w.index x).passed s.config.workers ≡ b → Settles q (if b then Place.Scan (InScan.LoadTheirHead (past_own s.config w.index x)) else Place.Look InLook.Publish) (out w.searching) w s
@@ -70,7 +70,7 @@ module _ {B : Type 0} where
           record { same = same; searches = tt; counts = refl; published = refl; queue = half; aims = (comes_other s.config w.index x less, (rw (still_start s.config w.index x) start, less)); batch = batch; quiet = λ h. quiet }
       by false is = record { same = same; searches = tt; counts = refl; published = refl; queue = λ chair there. (half chair there).0; aims = tt; batch = batch; quiet = λ h. quiet }
 
-  pub judged_settle : (q : Place) (x : Scan) (h : Head) (w : Worker) (s : Shared B) → calm_of Place.BeginTurn ≡ calm_of q → has_wakes_at q ≡ false → HasHalf w s → w.batch.values ≡ [] → from_of s.config x ≢ w.index → IsScanning s.config x → Settles q (judge_head s.config w.index x h) (out w.searching) w s
+  pub judged_settle : (q : Place) (x : Scan) (h : Head) (w : Worker) (s : Shared B) → calm_of (Place.Look InLook.Publish) ≡ lowered w.role true (calm_of q) → has_wakes_at q ≡ false → HasHalf w s → (false ≡ true → w.batch.values ≡ []) → from_of s.config x ≢ w.index → IsScanning s.config x → Settles q (judge_head s.config w.index x h) (out w.searching) w s
   judged_settle q x h w s same quiet half batch other within = by (h.gap == 0) refl
     where
       by : (b : Bool) → (h.gap == 0) ≡ b → Settles q (if b then Place.Scan (InScan.LoadTheirTail x h) else looks_at s.config w.index (past x)) (out w.searching) w s
@@ -96,7 +96,7 @@ module _ {B L : Type 0} (left : B → L) (spot : L → Option Said → Spot) (w 
   search_count_added x sound makes same is =
       let q = Place.Search InSearch.AddSearchCount in
       let more : x.count ≡ s.idle.count + 1 = ap (λ i. i.count) is in
-      led left spot q (Place.Scan InScan.LoadScanHead) w.moments.read w.rng (out true) w w' s x e sound makes.event sound.time.read (same ∙ ap (λ d. record w { place = d.place; searching = true }) makes.desk)
+      led left spot q (Place.Scan InScan.LoadScanHead) w.moments.read w.rng (out true) w w' s x e sound makes.event sound.time.read (same ∙ ap (λ d. record w { place = d.place; searching = true }) makes.desk) (never_apart q w s sound refl)
       (record { same = refl; searches = tt; counts = refl; published = refl; queue = sound.queue; aims = tt; batch = sound.batch; quiet = λ h. refl }) refl refl
       (counts_alone (stance_at q w) true false w s x (stance_here q w sound.here) (ap (λ i. i.published) is) (rw sound.searching (omega (arith, more))))
       (λ p vs suits. rw is refl)
@@ -107,7 +107,7 @@ module _ {B L : Type 0} (left : B → L) (spot : L → Option Said → Spot) (w 
   scan_head_loaded sound makes same =
       let q = Place.Scan InScan.LoadScanHead in
       let m = load_scan_head s.config w.index (desk_of w) (queue_of (things_of s) w.index) in
-      led left spot q m.desk.place w.moments.read (stirred w.rng) (out w.searching) w w' s s.idle e sound makes.event sound.time.read (same ∙ ap (λ d. record w { place = d.place; rng = stirred w.rng }) makes.desk)
+      led left spot q m.desk.place w.moments.read (stirred w.rng) (out w.searching) w w' s s.idle e sound makes.event sound.time.read (same ∙ ap (λ d. record w { place = d.place; rng = stirred w.rng }) makes.desk) sound.calm
       (by (nat_lt (room_of (queue_of (things_of s) w.index)) half) refl) refl refl (counts_same (stance_at q w) w s (stance_here q w sound.here))
       (λ p vs suits. rw (← suits.config) (ap (λ x. record { event = Turn; choice = Plain; desk = m.desk; thing = x }) (queue_back_again w.index (things_with vs s))))
     where

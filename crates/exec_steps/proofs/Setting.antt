@@ -18,8 +18,8 @@ module _ {B : Type 0} where
   -- and leaves others as they were
   pub set_beside : (w w' : Worker) (s : Shared B) → w' ≡ record w { home = record w.home { driver = w'.home.driver } } → Beside w s w' s
   set_beside w w' s same =
-      let profile : SameProfile w w' = subst (SameProfile w) (sym same) (record { hand = refl; loot = refl; polls = refl; claims = refl; searching = refl; counts = refl; index = refl; published = refl; drops = refl }) in
-      beside_calm w w' s s profile refl (seats_same w.index s.seats.items s.seats.items refl) (gates_same s.seats.items s.seats.items refl) refl refl refl
+      let profile : SameProfile w w' = subst (SameProfile w) (sym same) (record { hand = refl; loot = refl; polls = refl; claims = refl; searching = refl; counts = refl; index = refl; published = refl; drops = refl; told = record { batch = refl; letters = refl; left = refl } }) in
+      beside_calm w w' s s profile refl (seats_same w.index s.seats.items s.seats.items refl) (gates_same s.seats.items s.seats.items refl) refl refl refl refl
 
 -- THE NEXT COMPLETION OF THE WAKE POLL ENDS IT, once all raises are in the ring
 module _ {B L : Type 0} (left : B → L) (spot : L → Option Said → Spot) (w w1 w' : Worker) (s s1 : Shared B) (sound : Sound w s) (takes : TakesRaises w s w1 s1)
@@ -45,8 +45,8 @@ module _ {B L : Type 0} (left : B → L) (spot : L → Option Said → Spot) (w 
 
   pub ending_beside : Beside w s w' s1
   ending_beside =
-      let profile : SameProfile w1 w' = subst (SameProfile w1) (sym same) (record { hand = refl; loot = refl; polls = refl; claims = refl; searching = refl; counts = refl; index = refl; published = refl; drops = refl }) in
-      beside_first w.place w w1 s s1 sound takes w' s1 (beside_calm w1 w' s1 s1 profile refl (seats_same w1.index s1.seats.items s1.seats.items refl) (gates_same s1.seats.items s1.seats.items refl) refl refl refl)
+      let profile : SameProfile w1 w' = subst (SameProfile w1) (sym same) (record { hand = refl; loot = refl; polls = refl; claims = refl; searching = refl; counts = refl; index = refl; published = refl; drops = refl; told = record { batch = refl; letters = refl; left = refl } }) in
+      beside_first w.place w w1 s s1 sound takes w' s1 (beside_calm w1 w' s1 s1 profile refl (seats_same w1.index s1.seats.items s1.seats.items refl) (gates_same s1.seats.items s1.seats.items refl) refl refl refl refl)
 
   pub ending_things : (p : Plan) (vs : Views) → Suits p vs w s → things_with (with_view vs w.index (visible w')) s1 ≡ set_wake_poll w.index (things_with vs s) (last_told (wake_poll_of (things_with vs s) w.index))
   ending_things p vs suits =

@@ -5,7 +5,7 @@ use Rattle.exec_words.specs.{Global.{Global, share_of, share_queued, share_taken
 use Rattle.exec_task.specs.declared.{body.Said.Said, runnable.Runnable.Runnable}
 use Rattle.exec_machine.specs.{declared.{config.Configuration.Configuration, event.Event.{Event, TheVariants.Turn}}, Choice.Choice.Plain, Progress.Plan}
 use Rattle.exec_moves.specs.{declared.{handing.{AfterPop.AfterPop, First.First, InPop.InPop}, place.{InPick.InPick, InPoll.InPoll, Place.Place}}, Move.move_at, Parts.{has_others, polls}, Pick.{Queues, after_empty_look, take_share}, State.{Desk, Moved, does, queue_of, turns}, Thing.{set_global, set_queue, with_queues}}
-use Rattle.exec_steps.{specs.{declared.parts.{seat.Seat.Seat as Chair, shared.Shared.Shared, worker.Worker.Worker}, Phased.{TurnsChair, closes_at, closing_in}, Places.{begins_at, hands_on_at, has_loot_at, is_armed_at, searches_at}, Pooled.{polling, with_share}, Sound.{Aims, HasBatch, HasQueue, SoundAt}, Spots.Spot, View.{Views, common_of, desk_of, own_of, queue_seen, tasks_of, things_of, things_with}, Whole.{HasOne, HasWhole, IsGenuine, IsWhole, Profile, may_let_go, queued, runnables_in, stock, with_worker}, Works.{Steps, Suits}}, proofs.{PopLeads.{begins_poll, no_root}, Queued.{hands_of, whole_queued}, Queueing.{Around, Carries, Poses, Reaches, around_own, as_many, hands_own, if_either, poses, requeued_both, whole_handed}, Showing.own_queue_seen, Thieves.{in_both, in_parts, left_from, published_seen, taken_from}}}
+use Rattle.exec_steps.{specs.{HoldPlaces.{is_bare_at, spare_at}, declared.parts.{seat.Seat.Seat as Chair, shared.Shared.Shared, worker.Worker.Worker}, Phased.{TurnsChair, closes_at, closing_in}, Places.{begins_at, calls_back_at, hands_on_at, has_loot_at, is_armed_at, searches_at, task_at}, Pooled.{polling, with_share}, Sound.{Aims, HasBatch, HasQueue, SoundAt}, Spots.Spot, View.{Views, common_of, desk_of, own_of, queue_seen, tasks_of, things_of, things_with}, Whole.{HasOne, HasWhole, IsGenuine, IsWhole, Profile, may_let_go, queued, runnables_in, stock, with_worker}, Works.{Steps, Suits}}, proofs.{Dedicated.all_serve, PopLeads.{begins_poll, no_root}, Queued.{hands_of, whole_queued}, Queueing.{Around, Carries, Poses, Reaches, around_own, as_many, hands_own, if_either, poses, requeued_both, whole_handed}, Showing.own_queue_seen, Thieves.{in_both, in_parts, left_from, published_seen, taken_from}}}
 
 -- A SHARE, of the first of which something is polled
 
@@ -103,7 +103,7 @@ module _ {B L : Type 0} (left : B → L) (spot : L → Option Said → Spot) (f 
       moves : (m : Moved Queues) → take_share s.config f room held (desk_of w) (two (tasks_of s.global.values) (queue_of (things_of s) w.index)) ≡ m → (p : Plan) (vs : Views) → Suits p vs w s → move_at p.config w.index (own_of w) (common_of left spot p vs s) (desk_of w) (things_with vs s) q ≡ with_queues w.index (things_with vs s) m
       moves m is p vs suits = subst (λ c. with_queues w.index (things_with vs s) (take_share c f room held (desk_of w) (two (tasks_of s.global.values) (queue_of (things_of s) w.index))) ≡ with_queues w.index (things_with vs s) m) suits.config (ap (with_queues w.index (things_with vs s)) is)
 
-      -- NOTHING WAS THERE
+      -- NOTHING WAS Tthere
       by_none : s.global.values ≡ [] → w' ≡ record w { place = after_empty_look s.config f } → Steps left spot w s e w' s'
       by_none none goes =
           let next : Place = after_empty_look s.config f in
@@ -113,26 +113,26 @@ module _ {B L : Type 0} (left : B → L) (spot : L → Option Said → Spot) (f 
           let set : s'.seats.items ≡ slice_set s.seats.items w.index (record its { queue = its.queue }) = chair its there ∙ ap (λ y. slice_set s.seats.items w.index (record its { queue = y })) as_before in
           let left_over : g ≡ s.global = ap (λ xs. record s.global { values = xs }) (ap (drop n) none ∙ drop_none n ∙ sym none) in
           let m : Moved Queues = turns next (desk_of w) (two (tasks_of s.global.values) (queue_seen its.queue)) in
-          let carries : (p : Place) → begins_at p ≡ None → hands_on_at p ≡ false → has_loot_at p ≡ false → searches_at p ≡ None → Carries p w w1 s =
-          λ p begins hands loot searches. record { runnable = rw begins sound.runnable; hand = rw (begins, hands) sound.hand; loot = rw loot sound.loot; genuine = rw begins sound.genuine; stolen = sound.stolen; searching = rw searches tt } in
-          let around : (p : Place) → is_armed_at p ≡ false → HasQueue p its.queue → Aims p s.config w.index s'.seats.items → HasBatch p w.batch.values → closes_at p ≡ false → closing_in p ≡ None → Around p w s s' =
-          λ p armed queue aims batch closes closing. around_own p w s s' its its.queue there set (rw armed sound.seated) queue aims batch (rw (closes, closing) (sound.phased its there)) in
+          let carries : (p : Place) → begins_at p ≡ None → hands_on_at p ≡ false → has_loot_at p ≡ false → searches_at p ≡ None → calls_back_at p ≡ None → spare_at p ≡ 64 → Carries p w w1 s =
+          λ p begins hands loot searches calls spare. record { runnable = rw begins sound.runnable; hand = rw (begins, hands) sound.hand; loot = rw loot sound.loot; genuine = rw begins sound.genuine; stolen = sound.stolen; searching = rw searches tt; pooled = λ is. sound.pooled refl; serves = all_serve (task_at p) w.root w.role (sound.pooled refl); calm = sound.calm; left = rw calls sound.left; told = rw spare sound.told } in
+          let around : (p : Place) → is_armed_at p ≡ false → HasQueue p its.queue → Aims p s.config w.index s'.seats.items → HasBatch p w.batch.values → closes_at p ≡ false → closing_in p ≡ None → is_bare_at p ≡ false → Around p w s s' =
+          λ p armed queue aims batch closes closing bare. around_own p w s s' its its.queue there set (rw armed sound.seated) queue aims batch (sound.batch_place its there) (rw (closing, bare) sound.lets_go) (rw (closes, closing) (sound.phased its there)) in
           let to : (y : First) → Reaches q (after_empty_look s.config y) w w1 s s' = reaches w1 around carries in
           subst (λ v. Steps left spot w s e v s') (sym goes)
           (requeued_both left spot its its.queue q w w1 s s' e sound turn (record { same = refl; read = sound.time.read; asleep = sound.time.asleep }) both (ap (λ (y : Global Runnable). y.closed) global) there set (omega arith) refl refl (to f)
           (λ others before.
-          whole_queued others w.index its its.queue w w1 s s' (kept ∙ ap (λ y. record s { seats = s'.seats; global = y }) left_over) there set (hands_own w.index its.queue its.queue w w1 (poses q w w1 s sound (to f).same refl refl) (λ t. refl) refl) (λ r has_r. inl has_r) before)
+          whole_queued others w.index its its.queue w w1 s s' (kept ∙ ap (λ y. record s { seats = s'.seats; global = y }) left_over) there set (hands_own w.index its.queue its.queue w w1 (poses q w w1 s sound (to f).same refl refl (record { batch = refl; letters = refl; left = refl })) (λ t. refl) refl) (λ r has_r. inl has_r) before)
           (λ p vs suits. moves m (seen s.config (desk_of w) ∙ share_none s.config f room held (desk_of w) s.global its.queue none) p vs suits ∙ ap (λ (y : Global Runnable). record { event = Turn; choice = Plain; desk = desk_of w1; thing = set_global (set_queue w.index (things_with vs s) (queue_seen its.queue)) (tasks_of y.values) }) (sym (global ∙ left_over))))
         where
-          reaches : (v : Worker) → ((p : Place) → is_armed_at p ≡ false → HasQueue p its.queue → Aims p s.config w.index s'.seats.items → HasBatch p w.batch.values → closes_at p ≡ false → closing_in p ≡ None → Around p w s s')
-              → ((p : Place) → begins_at p ≡ None → hands_on_at p ≡ false → has_loot_at p ≡ false → searches_at p ≡ None → Carries p w v s) → (y : First) → Reaches q (after_empty_look s.config y) w v s s'
+          reaches : (v : Worker) → ((p : Place) → is_armed_at p ≡ false → HasQueue p its.queue → Aims p s.config w.index s'.seats.items → HasBatch p w.batch.values → closes_at p ≡ false → closing_in p ≡ None → is_bare_at p ≡ false → Around p w s s')
+              → ((p : Place) → begins_at p ≡ None → hands_on_at p ≡ false → has_loot_at p ≡ false → searches_at p ≡ None → calls_back_at p ≡ None → spare_at p ≡ 64 → Carries p w v s) → (y : First) → Reaches q (after_empty_look s.config y) w v s s'
           reaches v around carries First.Own =
-              record { same = refl; quiet = λ h. refl; around = around Place.TakeRootFlag refl whole_queue tt sound.batch refl refl; carries = carries Place.TakeRootFlag refl refl refl refl }
+              record { same = refl; quiet = λ h. sound.quiet refl; around = around Place.TakeRootFlag refl whole_queue tt sound.batch refl refl refl; carries = carries Place.TakeRootFlag refl refl refl refl refl refl }
           reaches v around carries First.Global =
               let b = AfterPop.Pick First.Global in
               if_either (λ z. Reaches q z w v s s') (has_others s.config) (Place.Pop InPop.LoadPopHead b) (Place.Pop InPop.PopAlone b)
-              (record { same = refl; quiet = λ h. refl; around = around (Place.Pop InPop.LoadPopHead b) refl whole_queue tt sound.batch refl refl; carries = carries (Place.Pop InPop.LoadPopHead b) refl refl refl refl })
-              (record { same = refl; quiet = λ h. refl; around = around (Place.Pop InPop.PopAlone b) refl whole_queue tt sound.batch refl refl; carries = carries (Place.Pop InPop.PopAlone b) refl refl refl refl })
+              (record { same = refl; quiet = λ h. sound.quiet refl; around = around (Place.Pop InPop.LoadPopHead b) refl whole_queue tt sound.batch refl refl refl; carries = carries (Place.Pop InPop.LoadPopHead b) refl refl refl refl refl refl })
+              (record { same = refl; quiet = λ h. sound.quiet refl; around = around (Place.Pop InPop.PopAlone b) refl whole_queue tt sound.batch refl refl refl; carries = carries (Place.Pop InPop.PopAlone b) refl refl refl refl refl refl })
 
       -- SOMETHING CAME
       by_some : (r : Runnable) (rs : List Runnable) → s.global.values ≡ r ∷ rs → w' ≡ polling r w → Steps left spot w s e w' s'
@@ -171,10 +171,10 @@ module _ {B L : Type 0} (left : B → L) (spot : L → Option Said → Spot) (f 
           genuine = among r (0, omega arith, refl)
 
           around : Around (Place.Poll r.task.0 InPoll.BeginPoll) w s s'
-          around = around_own (Place.Poll r.task.0 InPoll.BeginPoll) w s s' its y there set sound.seated whole_queue tt sound.batch (sound.phased its there)
+          around = around_own (Place.Poll r.task.0 InPoll.BeginPoll) w s s' its y there set sound.seated whole_queue tt sound.batch (sound.batch_place its there) sound.lets_go (sound.phased its there)
 
           to : Reaches q w1.place w w1 s s'
-          to = begins_poll q r w w1 s s' sound refl refl refl refl refl refl (no_root q w s r sound genuine sound.runnable) (inr genuine) around
+          to = begins_poll q r w w1 s s' sound refl refl refl refl refl refl (no_root q w s r sound genuine sound.runnable) (inr genuine) (λ other. sound.pooled refl) sound.told around
 
           -- THE BALANCE: first all of the share is in the hands, and then the others in the run queue
           w2 : Worker
@@ -187,7 +187,7 @@ module _ {B L : Type 0} (left : B → L) (spot : L → Option Said → Spot) (f 
           none = sound.loot.none refl
 
           pose : Poses w w1
-          pose = poses q w w1 s sound to.same refl refl
+          pose = poses q w w1 s sound to.same refl refl (record { batch = refl; letters = refl; left = refl })
 
           moved : (t others : ℕ) → (others + runnables_in t (hands_of w)) + stock t s ≡ (others + runnables_in t (hands_of w2)) + stock t s1
           moved t others =
@@ -211,12 +211,12 @@ module _ {B L : Type 0} (left : B → L) (spot : L → Option Said → Spot) (f 
           whole : (others : Profile) → IsWhole (with_worker others w) s → IsWhole (with_worker others w1) s'
           whole others before =
               let held : IsWhole (with_worker others w2) s1 =
-              whole_handed others w w2 s g refl refl (record { polls = pose.polls; claims = pose.claims; searching = refl; counts = pose.counts; index = refl; published = pose.published; drops = pose.drops })
+              whole_handed others w w2 s g refl refl (record { polls = pose.polls; claims = pose.claims; searching = refl; counts = pose.counts; index = refl; published = pose.published; drops = pose.drops; told = (record { batch = refl; letters = refl; left = refl }) })
               (λ t slot found home one. subst (HasOne (may_let_go s) slot.cell.phase) (moved t (others.runnables t)) one)
               (λ t more. as_many _ _ (moved t (others.runnables t)))
               (λ x has_x. before.queued_there x (left_from n s.global.values x has_x)) before in
               whole_queued others w.index its y w2 w1 s1 s' kept there set
-              (hands_own w.index its.queue y w2 w1 (record { polls = refl; claims = refl; searching = refl; counts = refl; index = refl; published = refl; drops = refl }) count refl) older held
+              (hands_own w.index its.queue y w2 w1 (record { polls = refl; claims = refl; searching = refl; counts = refl; index = refl; published = refl; drops = refl; told = (record { batch = refl; letters = refl; left = refl }) }) count refl) older held
 
       by : (xs : List Runnable) → s.global.values ≡ xs → Steps left spot w s e w' s'
       by [] is = by_none is (goes ∙ ap (λ (xs : List Runnable). with_share s.config f (slice_get xs 0) w) is)

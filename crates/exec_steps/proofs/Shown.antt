@@ -1,11 +1,11 @@
 -- What is seen of a worker by its driver.
-use Rattle.std.proofs.Common.{ℕ, List, length, map}
+use Rattle.std.proofs.Common.{ℕ, List, ◌++◌, length, map}
 use Rattle.exec_ring.specs.Rings.{RingState, completions}
 use Rattle.exec_waiters.specs.{States.flying_count, declared.deferred.Deferred.Deferred}
 use Rattle.exec_driver.specs.Driving.{Driving}
 use Rattle.exec_machine.specs.{declared.{event.Event.Event, state.MailMessage.MailMessage}, Choice.Choice.Plain, World.Own}
 use Rattle.exec_moves.specs.{declared.place.Place.Place, Seen.{polls_at, next_at, serves_at}, State.{Desk, Things, Moved}}
-use Rattle.exec_steps.specs.{declared.parts.{mail.Reply.Reply, worker.{PutOff.PutOff, Worker.Worker}}, Flown.operations, View.{Visible, own_of, owed_at, desk_of, numbers_of, number_told, trailing, wake_poll_in}}
+use Rattle.exec_steps.specs.{declared.parts.{mail.Reply.Reply, worker.{PutOff.PutOff, Worker.Worker}}, Flown.operations, View.{Visible, awaited_from, completions_in, letters_in, own_of, owed_at, desk_of, numbers_of, results_in, slots_seen, number_told, trailing, wake_poll_in}}
 
 -- what a move makes that names nothing
 abbrev pub makes : Event → Desk → Things → Moved Things
@@ -18,7 +18,7 @@ own_with w q ended untold d =
       serving = serves_at q;
       polls = polls_at q;
       next = next_at q;
-      owed = owed_at w.workers q;
+      owed = owed_at w.workers q ++ letters_in w.letters;
       untold = untold;
       ended = ended;
       ready = numbers_of w.names.requests.items d.lists.queued;
@@ -35,6 +35,10 @@ desk_with w q o left d =
       put_off = o.«enter»;
       wakes = map (λ t. t.0) left.notes.wakes.items;
       outputs = length left.outputs.items;
+      completions = completions_in left.notes.completions.items;
+      results = results_in left.results.items;
+      requests = slots_seen w.names.requests.items d.requests;
+      awaited = awaited_from 0 w.names.requests.items d.requests.slots;
       entries = length d.ring.staged;
       polled = d.armed;
       others = trailing 0 (completions d.ring);

@@ -34,7 +34,7 @@ module _ {B L : Type 0} (left : B → L) (spot : L → Option Said → Spot) (y 
 
   unslept : (w : Worker) (s : Shared B) → (sound : SoundAt asleep_on w s) → sound.seated.seat.raised ≡ 0 → is_quiet (driver_of w).ring ≡ false → Steps left spot w s Turn (record w { place = disarms }) s
   unslept w s sound waits some =
-      awake left spot asleep_on disarms w w.slept s s sound (record { same = same_kind y; queue = sound.queue; aims = λ seats. tt; batch = sound.batch }) sound.time.asleep refl refl refl refl refl refl refl
+      awake left spot asleep_on disarms w w.slept s s sound (record { same = same_kind y; queue = sound.queue; aims = λ seats. tt; batch = sound.batch }) sound.time.asleep refl refl refl (sound.letters.none refl) refl refl refl
       (λ p vs suits.
       let cs = common_of left spot p vs s in
       let x = things_with vs s in
@@ -45,7 +45,7 @@ module _ {B L : Type 0} (left : B → L) (spot : L → Option Said → Spot) (y 
 
   slept : (w w' : Worker) (s s' : Shared B) (e : Event) → (sound : SoundAt asleep_on w s) → sound.seated.seat.raised ≡ 0 → is_quiet (driver_of w).ring ≡ true → Sleeps (record w { place = disarms }) s e s' → w' ≡ record w { place = disarms } → Steps left spot w s e w' s'
   slept w w' s s' e sound waits quiet it same =
-      slept_by left spot asleep_on disarms w w' s s' e (λ x. w.slept) sound (record { same = same_kind y; queue = sound.queue; aims = λ seats. tt; batch = sound.batch }) refl refl refl refl refl refl (λ x. sound.time.asleep) it same
+      slept_by left spot asleep_on disarms w w' s s' e (λ x. w.slept) sound (record { same = same_kind y; queue = sound.queue; aims = λ seats. tt; batch = sound.batch }) refl refl refl refl (sound.letters.none refl) refl (λ x. sound.time.asleep) it same
       (λ p vs suits.
       let cs = common_of left spot p vs s in
       let x = things_with vs s in

@@ -1,10 +1,10 @@
 -- What a sleep is to the machine: until the next moment at which something is due, or a turn where that has come.
-use Rattle.std.proofs.{Common.{◌≡◌, ℕ, ◌≤◌, ◌==◌, Bool, true, false, List, [], length, map, Option, Some, None, refl, sym, ap, subst, ◌∙◌, arith, slice_get, slice_set, IfSome, inl, if◌then◌else◌}, lemmas.{Bool.{eq-eqb, Decides.nat_tests}, List.length-set}}
+use Rattle.std.proofs.{Common.{◌≡◌, ℕ, ◌*◌, ◌+◌, ◌≤◌, ◌==◌, Bool, true, false, List, [], ◌++◌, length, map, Option, Some, None, refl, sym, ap, subst, ◌∙◌, arith, slice_get, slice_set, IfSome, inl, if◌then◌else◌}, lemmas.{Bool.{eq-eqb, Decides.nat_tests}, List.length-set}}
 use Rattle.exec_words.specs.{Word.is_idle_at, declared.word.PureWord.PureWord}
 use Rattle.exec_task.specs.declared.body.Said.{Said}
 use Rattle.exec_machine.specs.{declared.{event.Event.{Event, TheVariants.{Turn, Sleep}}, state.{Next.Next, Rest.Rest}}, Choice.Choice.Plain, Deadlines.{next_due, rest_until, is_after}, Progress.Plan, Same.same_number, World.{Seat, seat_of}}
 use Rattle.exec_moves.specs.{declared.{idling.InWordWait.InWordWait, place.Place.Place}, Load.has_come, Move.move_at, Seen.{next_at, polls_at, serves_at}, State.{Desk, Moved, Things, does, word_of}, Thing.{set_word, with_word}, Wait.noting_sleep}
-use Rattle.exec_steps.{specs.{declared.parts.{seat.Seat.Seat as Chair, shared.Shared.Shared, worker.Worker.Worker}, Kinds.kind_of, Phased.{IsPhased, closes_at, closing_in, stage_of}, Places.is_armed_at, Sound.{Aims, HasBatch, HasQueue, IsSeated, SoundAt, has_wakes_at}, Spots.Spot, Tests.{IsNextIn, IsNextMoment, slept_after}, View.{Views, common_of, desk_of, inbox_at, own_of, owed_at, polls_seen, queue_at, seats_seen, things_of, things_with, visible, with_view, word_at}, Waits.Sleeps, Works.{Goes, HasChair, Makes, Steps, Suits}}, proofs.{Aside.{beside_calm, profile_alike, queue_of_chair, queues_set, seats_own, seats_same}, Facts.set_there, Hearing.unheard, NextDue.moment_seen, PoolKept.{gates_same, gates_set}, Seats.{chair_set, own_seat}, Shutting.seats_show, Turning.{Arrives, Fits, GoesOn, IsTurn, Keeps, Shares, arrives, of_kind, sound_on, turn_alike, turned, view_found, word_back_again}}}
+use Rattle.exec_steps.{specs.{Holding.box_of, declared.parts.{seat.Seat.Seat as Chair, shared.Shared.Shared, worker.Worker.Worker}, Kinds.{kind_of, lowered}, Phased.{IsPhased, closes_at, closing_in, stage_of}, Places.{is_armed_at, is_pooled_at}, Sound.{Aims, HasBatch, HasQueue, IsSeated, SoundAt, has_wakes_at}, Spots.Spot, Tests.{IsNextIn, IsNextMoment, slept_after}, View.{Views, common_of, desk_of, inbox_at, letters_in, own_of, owed_at, polls_seen, queue_at, seats_seen, things_of, things_with, visible, with_view, word_at}, Waits.Sleeps, Works.{Goes, HasChair, Makes, Steps, Suits}}, proofs.{Showing.map_kept, Dedicated.as_long, Aside.{beside_calm, profile_alike, queue_of_chair, queues_set, seats_own, seats_same}, Facts.set_there, Hearing.unheard, NextDue.moment_seen, PoolKept.{gates_same, gates_set}, Seats.{chair_set, own_seat}, Shutting.seats_show, Turning.{Arrives, Fits, GoesOn, IsTurn, Keeps, Shares, arrives, of_kind, sound_on, turn_alike, turned, view_found, word_back_again}}}
 
 same_itself : (o : Option ℕ) → same_number o o ≡ true
 same_itself None = refl
@@ -30,13 +30,13 @@ noted_as false clock i until d x = ap (λ y. does (Sleep until) (record d { slep
 module _ {B : Type 0} where
   -- where the wait goes on: a place of the same kind
   pub record Ends (q q' : Place) (w : Worker) (s : Shared B) : Type 0 where
-    pub same : kind_of q' ≡ kind_of q
+    pub same : kind_of q' ≡ lowered w.role (is_pooled_at q') (kind_of q)
     pub queue : (chair : Chair) → slice_get s.seats.items w.index ≡ Some chair → HasQueue q' chair.queue
     pub aims : (seats : List Chair) → Aims q' s.config w.index seats
     pub batch : HasBatch q' w.batch.values
 
 module _ {B L : Type 0} (left : B → L) (spot : L → Option Said → Spot) (q q' : Place) (w : Worker) (m : Option ℕ) (s s' : Shared B) (sound : SoundAt q w s) (ends : Ends q q' w s) (asleep : IfSome m (λ moment. moment ≤ s.clock))
-    (free : next_at q ≡ Next.Free) (unserved : serves_at q ≡ false) (polls : polls_at q ≡ None) (owes : owed_at w.workers q ≡ []) (quiet : has_wakes_at q ≡ false) (kept : s' ≡ record s { seats = s'.seats }) where
+    (free : next_at q ≡ Next.Free) (unserved : serves_at q ≡ false) (polls : polls_at q ≡ None) (owes : owed_at w.workers q ++ letters_in w.letters ≡ []) (quiet : has_wakes_at q ≡ false) (kept : s' ≡ record s { seats = s'.seats }) where
   abbrev pub w1 : Worker
   w1 = record w { place = q'; slept = m }
 
@@ -59,15 +59,16 @@ module _ {B L : Type 0} (left : B → L) (spot : L → Option Said → Spot) (q 
         queue = λ chair there. ends.queue chair (ap (λ xs. slice_get xs w.index) (sym seats) ∙ there);
         aims = ends.aims s'.seats.items;
         batch = ends.batch;
+        batch_place = λ chair there. sound.batch_place chair (ap (λ xs. slice_get xs w.index) (sym seats) ∙ there);
         phased = λ chair there. (of_kind q q' w s sound ends.same).phased chair (ap (λ xs. slice_get xs w.index) (sym seats) ∙ there);
       } in
       let things : (vs : Views) → things_with vs s' ≡ things_with vs s = λ vs.
       ap (λ (z : Shared B). things_with vs z) kept ∙ ap (λ (cs : List Chair). record (things_with vs s) { queues = map queue_at cs; words = map word_at cs; inboxes = map inbox_at cs; wake_polls = polls_seen vs.workers cs }) seats in
       turned left spot q w w1 s s' Turn sound refl on shares (ap (λ (z : Shared B). z.global.closed) kept) (λ vs. ap (seats_seen vs) seats)
-      (turn_alike w.workers q q' ends.same free unserved)
+      (turn_alike w.workers w.role q q' ends.same free unserved)
       (arrives q q' w w1 s s' sound ends.same (λ h. sound.quiet quiet) keeps fits)
-      (beside_calm w w1 s s' (profile_alike q q' w w1 sound.here refl ends.same keeps refl) shares (seats_same w.index s.seats.items s'.seats.items seats) (gates_same s.seats.items s'.seats.items seats)
-      (ap (λ xs. map queue_of_chair xs) seats) (ap (λ (z : Shared B). z.idle) kept) (ap (λ (z : Shared B). z.global) kept))
+      (beside_calm w w1 s s' (profile_alike q q' w w1 sound.here refl ends.same keeps refl (record { batch = refl; letters = refl; left = refl })) shares (seats_same w.index s.seats.items s'.seats.items seats) (gates_same s.seats.items s'.seats.items seats)
+      (ap (λ xs. map queue_of_chair xs) seats) (ap (λ xs. map box_of xs) seats) (ap (λ (z : Shared B). z.idle) kept) (ap (λ (z : Shared B). z.global) kept))
       (λ p vs suits. moves p vs suits ∙ ap (λ x. does Turn (desk_of w1) x) (sym (things vs)))
 
   -- It sleeps until a moment ahead.
@@ -82,10 +83,11 @@ module _ {B L : Type 0} (left : B → L) (spot : L → Option Said → Spot) (q 
       let found : slice_get s'.seats.items w.index ≡ Some now = ap (λ xs. slice_get xs w.index) items ∙ set_there s.seats.items w.index now seat sound.seated.there in
       let same = ends.same in
       let fits : Fits q' w s s'.seats.items = record {
-        seated = record { many = ap length items ∙ length-set s.seats.items w.index now ∙ sound.seated.many; seat = now; there = found; unarmed = λ h. sound.seated.unarmed (sym (ap (λ k. k.armed) same) ∙ h); mail = sound.seated.mail };
+        seated = record { many = as_long (ap length items ∙ length-set s.seats.items w.index now) sound.seated.many; pool = sound.seated.pool; seat = now; there = found; unarmed = λ h. sound.seated.unarmed (sym (ap (λ k. k.armed) same) ∙ h); mail = sound.seated.mail };
         queue = λ chair there. let is : now ≡ chair = cc (found, there) in subst (λ c. HasQueue q' c.queue) is (ends.queue seat sound.seated.there);
         aims = ends.aims s'.seats.items;
         batch = ends.batch;
+        batch_place = λ chair there. let is : now ≡ chair = cc (found, there) in subst (λ (c : Chair). c.mailbox.inbox.closed ≡ false → 2 * c.made + 1 ≤ w.batch.places) is (sound.batch_place seat sound.seated.there);
         phased = λ chair there.
             let is : now ≡ chair = cc (found, there) in
             subst (λ c. IsPhased w.index (closes_at q') (closing_in q') w.home.closing w.root w.names.unreleased (stage_of c s) s.tasks.items) is ((of_kind q q' w s sound same).phased seat sound.seated.there);
@@ -107,16 +109,16 @@ module _ {B L : Type 0} (left : B → L) (spot : L → Option Said → Spot) (q 
                   (ap (seats_seen vs.workers) items ∙ chair_set vs.workers s.seats.items w.index (visible w) now suits.seen
                   ∙ ap (λ x. slice_set (seats_seen vs.workers s.seats.items) w.index x) (ap (λ (x : Seat). record x { rest = rest_until moment }) (sym (own_seat left spot p vs w s seat suits sound.seated.there))));
             }),
-        sound_on q w w1 s s' sound on shares (arrives q q' w w1 s s' sound same (λ h. sound.quiet quiet) keeps fits),
+        sound_on q w w1 s s' sound on shares (omega (arith, ap length items ∙ length-set s.seats.items w.index now)) (arrives q q' w w1 s s' sound same (λ h. sound.quiet quiet) keeps fits),
         unheard refl (ap (λ (z : Shared B). z.config) kept) (ap (λ (z : Shared B). z.tasks.items) kept),
-        beside_calm w w1 s s' (profile_alike q q' w w1 sound.here refl same keeps refl) shares (seats_own w.index s.seats.items s'.seats.items seat now items sound.seated.there (omega arith))
+        beside_calm w w1 s s' (profile_alike q q' w w1 sound.here refl same keeps refl (record { batch = refl; letters = refl; left = refl })) shares (seats_own w.index s.seats.items s'.seats.items seat now items sound.seated.there (omega arith))
             (gates_set w.index s.seats.items s'.seats.items seat now items sound.seated.there (record { left = refl; pool = refl; closed = refl; mail = λ h. h }))
-            (ap (λ xs. map queue_of_chair xs) items ∙ queues_set s.seats.items w.index seat now sound.seated.there refl) (ap (λ (z : Shared B). z.idle) kept) (ap (λ (z : Shared B). z.global) kept),
+            (ap (λ xs. map queue_of_chair xs) items ∙ queues_set s.seats.items w.index seat now sound.seated.there refl) (ap (λ xs. map box_of xs) items ∙ map_kept box_of s.seats.items w.index now seat sound.seated.there refl) (ap (λ (z : Shared B). z.idle) kept) (ap (λ (z : Shared B). z.global) kept),
       )
 
 module _ {B L : Type 0} (left : B → L) (spot : L → Option Said → Spot) where
   -- By what a sleep does; the moment at which it begins may be kept.
-  pub slept_by : (q q' : Place) (w w' : Worker) (s s' : Shared B) (e : Event) (begun : Event → Option ℕ) → SoundAt q w s → Ends q q' w s → is_armed_at q ≡ true → next_at q ≡ Next.Free → serves_at q ≡ false → polls_at q ≡ None → owed_at w.workers q ≡ [] → has_wakes_at q ≡ false
+  pub slept_by : (q q' : Place) (w w' : Worker) (s s' : Shared B) (e : Event) (begun : Event → Option ℕ) → SoundAt q w s → Ends q q' w s → is_armed_at q ≡ true → next_at q ≡ Next.Free → serves_at q ≡ false → polls_at q ≡ None → owed_at w.workers q ++ letters_in w.letters ≡ [] → has_wakes_at q ≡ false
       → ((x : Event) → IfSome (begun x) (λ moment. moment ≤ s.clock)) → Sleeps (record w { place = q' }) s e s' → w' ≡ record w { place = q'; slept = begun e }
       → ((p : Plan) (vs : Views) → Suits p vs w s → move_at p.config w.index (own_of w) (common_of left spot p vs s) (desk_of w) (things_with vs s) q
       ≡ (let due = next_due (common_of left spot p vs s) w.index in sleeping (has_come s.clock due) due (desk_of (record w { place = q'; slept = begun Turn })) (desk_of (record w { place = q'; slept = begun (Sleep due) })) (things_with vs s)))
@@ -154,7 +156,7 @@ module _ {B L : Type 0} (left : B → L) (spot : L → Option Said → Spot) whe
       → Sleeps (record w { place = Place.WordWait InWordWait.DisarmWord }) s e s' → w' ≡ record w { place = Place.WordWait InWordWait.DisarmWord; slept = slept_after e s'.clock w.slept } → Steps left spot w s e w' s'
   word_slept w w' s s' e sound idle it same =
       slept_by (Place.WordWait InWordWait.SleepOnWord) (Place.WordWait InWordWait.DisarmWord) w w' s s' e (λ x. slept_after x s.clock w.slept) sound
-      (record { same = refl; queue = sound.queue; aims = λ seats. tt; batch = sound.batch }) refl refl refl refl refl refl begun it
+      (record { same = refl; queue = sound.queue; aims = λ seats. tt; batch = sound.batch }) refl refl refl refl (sound.letters.none refl) refl begun it
       (same ∙ ap (λ (t : Shared B). record w { place = Place.WordWait InWordWait.DisarmWord; slept = slept_after e t.clock w.slept }) it.kept)
       (λ p vs suits.
       let due = next_due (common_of left spot p vs s) w.index in
@@ -166,5 +168,5 @@ module _ {B L : Type 0} (left : B → L) (spot : L → Option Said → Spot) whe
 
   pub word_unslept : (w : Worker) (s : Shared B) → SoundAt (Place.WordWait InWordWait.SleepOnWord) w s → is_idle_at (word_of (things_of s) w.index) w.processed ≡ false → Steps left spot w s Turn (record w { place = Place.WordWait InWordWait.DisarmWord }) s
   word_unslept w s sound idle =
-      awake left spot (Place.WordWait InWordWait.SleepOnWord) (Place.WordWait InWordWait.DisarmWord) w w.slept s s sound (record { same = refl; queue = sound.queue; aims = λ seats. tt; batch = sound.batch }) sound.time.asleep refl refl refl refl refl refl refl
+      awake left spot (Place.WordWait InWordWait.SleepOnWord) (Place.WordWait InWordWait.DisarmWord) w w.slept s s sound (record { same = refl; queue = sound.queue; aims = λ seats. tt; batch = sound.batch }) sound.time.asleep refl refl refl (sound.letters.none refl) refl refl refl
       (λ p vs suits. rw idle (ap (λ x. does Turn (record (desk_of w) { place = Place.WordWait InWordWait.DisarmWord }) x) (word_back_again w.index (things_with vs s))))

@@ -1,36 +1,9 @@
 -- A new task joins: what holds of all tasks, of the task set and of the balances then, whoever made it.
-use Rattle.std.{proofs.{Common.{◌≡◌, ◌⊎◌, inl, inr, ℕ, zero, suc, ◌+◌, ◌<◌, ◌≤◌, ◌^◌, ◌==◌, ◌||◌, ◌&&◌, ◌%◌, ◌≢◌, nat_lt, sum_by, arith, Bool, true, false, not, cond, Contains, List, [], ◌∷◌, ◌++◌, length, Option, Some, None, IsSome, refl, sym, ap, subst, ◌∙◌, slice_get, slice_index_or, slice_set, option_to_list, if◌then◌else◌, ⊎_elim}, lemmas.{Bool.{false≢true, eq-eqb, Decides.nat_tests}, List.{length-append, length-set}, Option.slice_get_within}}, specs.List.range_with_len}
+use Rattle.std.{proofs.{Common.{◌≡◌, ◌⊎◌, inl, inr, ℕ, zero, suc, ◌+◌, ◌<◌, ◌≤◌, ◌^◌, ◌==◌, ◌||◌, ◌&&◌, ◌%◌, ◌≢◌, nat_lt, sum_by, arith, Bool, true, false, not, cond, Contains, List, [], ◌∷◌, ◌++◌, length, map, Option, Some, None, IsSome, refl, sym, ap, subst, ◌∙◌, slice_get, slice_index_or, slice_set, option_to_list, if◌then◌else◌, ⊎_elim}, lemmas.{Bool.{false≢true, eq-eqb, Decides.nat_tests}, List.{length-append, length-set, map-append}, Option.slice_get_within}}, specs.List.range_with_len}
 use Rattle.exec_words.specs.{Idle.is_in, Queue.tail_of}
 use Rattle.exec_task.specs.{Phases.{is_polled, runnable_of}, TaskSet.{AreAtHome, held, inserted, shard_at, with_task}, declared.{body.Said.Said, runnable.Runnable.Runnable, task.Phase.Phase}}
 use Rattle.exec_machine.specs.declared.{config.Configuration.Configuration, state.Waiting.Waiting}
-use Rattle.exec_steps.{specs.{declared.parts.{seat.Seat.Seat as Chair, shared.Shared.Shared, task_slot.TaskSlot.TaskSlot, worker.Worker.Worker}, Drained.{Duties, IsBefore, IsHeldOnce, IsOver, IsPool, in_set}, Phased.is_complete, Places.one_if, Pooled.IsNewTask, Sound.{AreHome, AreResting, IsResting, acts_next, waits_for_wakes}, Spares.{Spares, SparesPolled}, Whole.{HasOne, IsGenuine, IsWhole, Profile, duties_of, may_let_go, runnables_in, stock}}, proofs.{Aside.spared, Facts.{by_number, not_same, same_thing}, Onces.once_queued, Polling.{in_hand_never, in_hand_once}, PoolShards.home_set, SpawnSets.{absent, joined_count, joined_shards, last_none, within}}}
-
--- WHAT STANDS IN A LIST THAT GREW
-
-module _ {A : Type 0} where
-  pub found_again : (xs ys : List A) (k : ℕ) (x : A) → slice_get xs k ≡ Some x → slice_get (xs ++ ys) k ≡ Some x
-  found_again [] ys k x found = absurd (cc)
-  found_again (y ∷ xs) ys zero x found = found
-  found_again (y ∷ xs) ys (suc k) x found = found_again xs ys k x found
-
-  pub found_last : (xs : List A) (x : A) → slice_get (xs ++ x ∷ []) (length xs) ≡ Some x
-  found_last [] x = refl
-  found_last (y ∷ xs) x = found_last xs x
-
-  pub found_which : (xs : List A) (x y : A) (k : ℕ) → slice_get (xs ++ x ∷ []) k ≡ Some y → (slice_get xs k ≡ Some y) ⊎ ((k ≡ length xs) × (x ≡ y))
-  found_which [] x y zero found = inr (refl, cc)
-  found_which [] x y (suc k) found = absurd (cc)
-  found_which (z ∷ xs) x y zero found = inl found
-  found_which (z ∷ xs) x y (suc k) found =
-      elim (found_which xs x y k found) as (λ o. (slice_get xs k ≡ Some y) ⊎ ((suc k ≡ suc (length xs)) × (x ≡ y))) [
-        | inl there ↦ inl there
-        | inr last ↦ inr (ap suc last.0, last.1)
-      ]
-
-  pub set_within : (xs : List A) (x y : A) (k : ℕ) → k < length xs → slice_set (xs ++ x ∷ []) k y ≡ slice_set xs k y ++ x ∷ []
-  set_within [] x y k few = absurd (omega (arith, few))
-  set_within (z ∷ xs) x y zero few = refl
-  set_within (z ∷ xs) x y (suc k) few = ap (λ zs. z ∷ zs) (set_within xs x y k (omega (arith, few)))
+use Rattle.exec_steps.{specs.{Records.numbers_held, declared.parts.{held.Held.Held, seat.Seat.Seat as Chair, shared.Shared.Shared, task_slot.TaskSlot.TaskSlot, worker.Worker.Worker}, Drained.{Duties, IsBefore, IsHeldOnce, IsOver, IsPool, in_set}, Gates.HaveGates, Holding.{Box, Hands, IsHolding, Nap, Thing, awaited_in, box_of, holder_of, nap_of, thing_of}, Phased.is_complete, Places.one_if, Pooled.IsNewTask, Sound.{AreHome, AreResting, IsResting, acts_next}, Spares.{Spares, SparesPolled}, Whole.{HasOne, IsGenuine, IsWhole, Profile, duties_of, hands_of, may_let_go, runnables_in, stock}}, proofs.{Aside.{record_spared, sleeper_spared, spared}, Facts.{by_number, not_same, same_thing}, HoldJoined.holding_joined, Onces.once_queued, Polling.{in_hand_never, in_hand_once}, PoolShards.home_set, Spared.{records_endure, sleepers_endure}, SpawnLists.{found_again, found_last, found_which}, SpawnSets.{absent, joined_count, joined_shards, last_none, within}}}
 
 -- THE BALANCES: a party has one more runnable, that of the new task
 
@@ -41,6 +14,7 @@ pub record HasOneMore (r : Runnable) (x y : Profile) : Type 0 where
   pub counts : y.counts ≡ x.counts
   pub published : y.published ≡ x.published
   pub duties : duties_of y ≡ duties_of x
+  pub hands : hands_of y ≡ hands_of x
 
 module _ {B : Type 0} where
   -- THE NEW TASK
@@ -77,16 +51,28 @@ module _ {B : Type 0} where
     more : length s'.tasks.items ≡ length s.tasks.items + 1
     more = ap length it.items ∙ length-append s.tasks.items (it.new ∷ [])
 
-    pub homes_joined : (n : ℕ) → AreHome n s.tasks.items → AreHome n s'.tasks.items
-    homes_joined n homes =
+    pub homes_joined : (n count : ℕ) → AreHome n count s.tasks.items → AreHome n count s'.tasks.items
+    homes_joined n count homes =
         record {
+          many = homes.many;
           roots = omega (arith, homes.roots, more);
-          home = λ k o found.
-              elim (which k o found) as (λ z. o.home ≡ (if nat_lt k n then Some k else None)) [
-                | inl old ↦ homes.home k o old
-                | inr new ↦
-                    let far : nat_lt k n ≡ false = grind (arith, nat_tests, homes.roots, new.0) in
-                    sym (ap (λ (y : TaskSlot B). y.home) new.1) ∙ home ∙ sym (ap (λ b. if b then Some k else None) far)
+          home = λ k o found within.
+              elim (which k o found) as (λ z. o.home ≡ Some k) [
+                | inl old ↦ homes.home k o old within
+                | inr new ↦ absurd (omega (arith, homes.roots, new.0, within))
+              ];
+          dedicated = λ k j o found past rooted.
+              elim (which k o found) as (λ z. (n ≤ j) × (j < count)) [
+                | inl old ↦ homes.dedicated k j o old past rooted
+                | inr new ↦ absurd (nobodys o j new.1 rooted)
+              ];
+          once = λ k l j o other found found' rooted rooted'.
+              elim (which k o found) as (λ z. k ≡ l) [
+                | inl old ↦ elim (which l other found') as (λ z. k ≡ l) [
+                  | inl old' ↦ homes.once k l j o other old old' rooted rooted'
+                  | inr new ↦ absurd (nobodys other j new.1 rooted')
+                ]
+                | inr new ↦ absurd (nobodys o j new.1 rooted)
               ];
           number = λ k o found.
               elim (which k o found) as (λ z. o.cell.number ≡ record { 0 = k }) [
@@ -96,23 +82,41 @@ module _ {B : Type 0} where
               ];
           few = it.few;
         }
+      where
+        -- the new one is nobody's root
+        nobodys : (o : TaskSlot B) (j : ℕ) → it.new ≡ o → o.home ≡ Some j → ⊥
+        nobodys o j is rooted = let no : None ≡ Some j = sym home ∙ ap (λ (y : TaskSlot B). y.home) is ∙ rooted in cc (no)
 
     rests : IsResting it.new
     rests =
         record {
           uncleared = λ going. (ap (λ c. c.cancelled) it.fresh.cell, ap (λ (o : TaskSlot B). o.cleared) it.fresh.rest);
-          held = it.fresh.held;
-          waits = ap (λ (o : TaskSlot B). waits_for_wakes o.waiting) it.fresh.rest;
           told = λ h. subst IsSome (sym (ap (λ (o : TaskSlot B). o.told) it.fresh.rest)) refl;
           untold = λ h. absurd (false≢true (sym h ∙ ap (λ (o : TaskSlot B). acts_next o.waiting) it.fresh.rest));
         }
 
-    pub resting_joined : (n : ℕ) → AreResting n s.tasks.items → AreResting n s'.tasks.items
-    resting_joined n old k o found within free =
+    pub resting_joined : AreResting s.tasks.items → AreResting s'.tasks.items
+    resting_joined old k o found ordinary free =
         elim (which k o found) as (λ z. IsResting o) [
-          | inl was ↦ old k o was within free
+          | inl was ↦ old k o was ordinary free
           | inr new ↦ subst IsResting new.1 rests
         ]
+
+    -- it holds nothing, and waits for nothing
+    pub holder_new : map holder_of s'.tasks.items ≡ map holder_of s.tasks.items ++ holder_of it.new ∷ []
+    holder_new = ap (map holder_of) it.items ∙ map-append holder_of s.tasks.items (it.new ∷ [])
+
+    none_held : it.new.held.items ≡ []
+    none_held = by it.new.held.items it.fresh.held
+      where
+        by : (xs : List Held) → numbers_held xs ≡ [] → xs ≡ []
+        by [] none = refl
+        by (x ∷ xs) none = absurd (cc)
+
+    pub holds_joined : (h : Hands) (n : ℕ) (things : List Thing) (naps : List Nap) (boxes : List Box) → IsHolding h n (map holder_of s.tasks.items) things naps boxes → IsHolding h n (map holder_of s'.tasks.items) things naps boxes
+    holds_joined h n things naps boxes holding =
+        subst (λ hs. IsHolding h n hs things naps boxes) (sym holder_new)
+        (holding_joined h n (map holder_of s.tasks.items) things naps boxes (holder_of it.new) none_held (ap (λ (o : TaskSlot B). awaited_in o.waiting) it.fresh.rest) (ap is_complete queued) holding)
 
     pub genuine_joined : (x : Runnable) → IsGenuine s.tasks.items x → IsGenuine s'.tasks.items x
     genuine_joined x g = record { slot = g.slot; there = again x.task.0 g.slot g.there; ordinary = g.ordinary; of_it = g.of_it }
@@ -132,19 +136,23 @@ module _ {B : Type 0} where
         let done : Spares j s s1 = record {
           config = refl;
           clock = refl;
-          opens = refl;
+          gates = λ h. h;
+          hints = λ file h. h;
           many = refl;
           chair = λ chair found. (chair, found, spared chair);
           tails = λ k chair chair' found found'.
               let same : chair ≡ chair' = same_thing chair chair' (sym found ∙ found') in
               subst (λ c. tail_of chair.queue ≤ tail_of c.queue) same (omega arith);
-          records = λ k x found mine. found;
-          records_only = λ k x found mine. found;
-          sleepers = λ k z found mine. found;
-          sleepers_only = λ k z found mine. found;
-          root = λ o found rooted. again j o found;
+          records = λ k x found mine. (x, found, record_spared x);
+          records_only = λ k x found mine. (x, found, record_spared x);
+          sleepers = λ k z found mine. (z, found, sleeper_spared z);
+          sleepers_only = λ k z found mine. (z, found, sleeper_spared z);
+          endure = records_endure s.requests.items s.requests.items refl;
+          endure_too = sleepers_endure s.sleepers.items s.sleepers.items refl;
+          root = λ t o found rooted. again t o found;
           polled = λ t o found polled mine. (o, again t o found, record { polled = polled; number = refl; cancelled = λ e. e; kept = refl });
-          room = λ socket h. h;
+          room = λ h. h;
+          stretch = λ file offset n h. h;
           stopped = λ h. h;
           closed = λ h. closed_same ∙ h;
           by_zero = λ h. (refl, closed_same);
@@ -155,7 +163,7 @@ module _ {B : Type 0} where
         subst (λ z. Spares j s z) (sym it.kept) done
 
   abbrev claimed_by : Shared B → (ℕ → Bool) → ℕ
-  claimed_by s f = sum_by (λ j. one_if (f j && not (is_in s.idle.published j))) (range_with_len 0 (length s.seats.items))
+  claimed_by s f = sum_by (λ j. one_if (f j && not (is_in s.idle.published j))) (range_with_len 0 s.config.workers)
 
   module _ (body : B) (r : Runnable) (s s' : Shared B) (it : Joins body r s s') where
     abbrev number : ℕ
@@ -281,6 +289,11 @@ module _ {B : Type 0} where
               let apart : t ≢ number = λ is. absurd (omega (arith, is, past)) in
               let old = whole.made t (omega (arith, past)) in
               (ap (λ n. n + stock t s) (far t apart) ∙ old.0, ap (λ f. f t) one.polls ∙ old.1);
+          unclaimed = λ j beyond. ap (λ f. f j) one.claims ∙ whole.unclaimed j beyond;
+          in_pool = whole.in_pool;
+          gates = subst (λ (d : Duties). HaveGates d.drops_by s.opens s.requests.items) (sym one.duties) whole.gates;
+          holding = holds_joined body r s s' it (hands_of y) s.config.workers (map thing_of s.requests.items) (map nap_of s.sleepers.items) (map box_of s.seats.items)
+              (subst (λ h. IsHolding h s.config.workers (map holder_of s.tasks.items) (map thing_of s.requests.items) (map nap_of s.sleepers.items) (map box_of s.seats.items)) (sym one.hands) whole.holding);
           pool = subst (λ d. IsPool d s'.tasks.items s'.set s.seats.items) (sym one.duties) (pool_joined (duties_of x) whole.pool);
         } in
         subst (IsWhole y) (sym it.kept) done

@@ -4,7 +4,7 @@ use Rattle.exec_base.specs.declared.{error.Error.Error, task_no.TaskNo.TaskNo}
 use Rattle.exec_task.specs.{Phases.is_polled, Sight.Sight, TaskSet.{Set, held, inserted}, declared.{body.{Act.Act, Said.Said}, runnable.Runnable.Runnable}}
 use Rattle.exec_machine.specs.{Choice.Choice.Plain, declared.{config.{Configuration.Configuration, ScriptWord.ScriptWord}, event.Event.Event, state.{Code.TheVariants.Script, TaskPhase.TaskPhase, Waiting.Waiting}}, Mail.meets_closed, Progress.Plan, Tasks.{after_spawn as after_spawn_by, after_word, new_task}, Words.{asks_spawn, moved_on, next_word}, World.{Common, Own, Task, task_of}}
 use Rattle.exec_moves.specs.{Cells.shard_of, Move.move_act, Parts.has_others, Pop.shard_count, Send.{after_spawn, next_task}, State.{Desk, Things}, Thing.set_shard, declared.place.{InPoll.InPoll, Place.Place}}
-use Rattle.exec_steps.{specs.{declared.parts.{shared.Shared.Shared, task_slot.TaskSlot.TaskSlot, worker.Worker.Worker}, Acting.{ActsAs, HasActed, Performs, PerformsAll, StepsOf}, Drained.in_set, Hearing.{CanHear, held_once_come}, Pooled.{IsNewTask, MakesTask, Spawns, SpawnsNone, event_of_made, told_of_made, with_made}, Scripts.{Begins, GoesOn, IsAnswer, IsAnswered, IsBorn, IsNamed, held_after}, Sound.SoundAt, Spots.{Spot, spot_of, standing_at}, View.{Views, body_in, phase_seen, common_of, desk_of, spot_by, task_seen, things_with, visible, with_view}, Whole.{HasWhole, duties_of, with_worker}, Works.{Beside, Same, Suits, TurnsSlot, Works}}, proofs.{Acting.{Leaves, act_leaves, acted, actor, acts_so, by_word, me_at, moved_seen, tells_on}, Facts.{by_not, by_not_not, same_thing, set_there}, Pending.in_poll, Performing.{performs_on, same_slot, still_performs, unmoved_seen}, PopLeads.some_shards, Slots.{IsEvent, task_there}, SpawnJoins.{Joins, found_again, found_which, none_yet, set_within}, SpawnSets.{joined_seen, shard_shown}, Stirs.only, Turning.view_found, WakeThere.spares_on, SpawnPlaces.{next_by, own_by, joined_sound, joined_beside}}}
+use Rattle.exec_steps.{specs.{Records.numbers_held, Roles.is_pool, declared.parts.{shared.Shared.Shared, task_slot.TaskSlot.TaskSlot, worker.Worker.Worker}, Acting.{ActsAs, HasActed, Performs, PerformsAll, StepsOf}, Drained.in_set, Hearing.{CanHear, held_once_come}, Pooled.{IsNewTask, MakesTask, Spawns, SpawnsNone, event_of_made, told_of_made, with_made}, Scripts.{Begins, GoesOn, IsAnswer, IsAnswered, IsBorn, IsNamed, held_after}, Sound.SoundAt, Spots.{Spot, spot_of, standing_at}, View.{Views, body_in, phase_seen, common_of, desk_of, spot_by, task_seen, things_with, visible, with_view}, Whole.{HasWhole, duties_of, with_worker}, Works.{Beside, Same, Suits, TurnsSlot, Works}}, proofs.{Acting.{Leaves, act_leaves, acted, actor, acts_so, by_word, me_at, moved_seen, tells_on}, Facts.{by_not, by_not_not, same_thing, set_there}, Pending.in_poll, Performing.{performs_on, same_slot, still_performs, unmoved_seen}, PopLeads.some_shards, Slots.{IsEvent, task_there}, SpawnJoins.{Joins, none_yet}, SpawnLists.{found_again, found_which, set_within}, SpawnSets.{joined_seen, shard_shown}, Stirs.only, Turning.view_found, WakeThere.spares_on, DedicatedSeen.pool_seen, SpawnPlaces.{next_by, own_by, joined_sound, joined_beside, spawn_leads}}}
 
 -- WHAT IT IS TO THE MACHINE
 
@@ -13,17 +13,17 @@ closed_move : (c : Configuration) (i : ℕ) (me : Own) (s : Common) (d : Desk) (
 closed_move c i me s d x t k is = rw is refl
 
 open_move : (c : Configuration) (i : ℕ) (me : Own) (s : Common) (d : Desk) (x : Things) (t k : ℕ) → s.set_closed ≡ false
-    → move_act c i me s d x t (ScriptWord.Spawn k) ≡ (let n = shard_of c (next_task s) in record { event = Event.Spawn (next_task s) k; choice = Plain; desk = record d { hand = Some (next_task s); place = after_spawn c t }; thing = set_shard n x (slice_index_or x.shards n [] ++ next_task s ∷ []) })
+    → move_act c i me s d x t (ScriptWord.Spawn k) ≡ (let n = shard_of c (next_task s) in record { event = Event.Spawn (next_task s) k; choice = Plain; desk = record d { hand = Some (next_task s); place = after_spawn c i s t }; thing = set_shard n x (slice_index_or x.shards n [] ++ next_task s ∷ []) })
 open_move c i me s d x t k is = rw is refl
 
 module _ {B L : Type 0} (left : B → L) (spot : L → Option Said → Spot) where
   -- what is seen of a new task
   pub new_seen : (body : B) (number : TaskNo) (k : ℕ) (new : TaskSlot B) → IsNewTask number body new → Begins (spot (left body)) k → task_seen left spot new ≡ new_task (Script k) None
   new_seen body number k new fresh begins =
-      let shown : TaskSlot B → Option Said → Task = λ o told. record (standing_at (spot_by left spot (body_in o.cell.phase o.body) told) (task_seen left spot o)) { held = o.held.items } in
+      let shown : TaskSlot B → Option Said → Task = λ o told. record (standing_at (spot_by left spot (body_in o.cell.phase o.body) told) (task_seen left spot o)) { held = (numbers_held o.held.items) } in
       let code : spot_by left spot (body_in new.cell.phase new.body) new.told ≡ record { code = Script k; place = 0; adapters = []; call = None } =
       ap (λ p. spot_by left spot (body_in p new.body) new.told) (ap (λ c. c.phase) fresh.cell) ∙ ap (λ (o : TaskSlot B). spot (left body) o.told) fresh.rest ∙ begins in
-      ap (λ at. record (standing_at at (task_seen left spot new)) { held = new.held.items }) code
+      ap (λ at. record (standing_at at (task_seen left spot new)) { held = (numbers_held new.held.items) }) code
       ∙ ap (λ hs. record (standing_at (record { code = Script k; place = 0; adapters = []; call = None }) (task_seen left spot new)) { held = hs }) fresh.held
       ∙ ap (λ p. record (standing_at (record { code = Script k; place = 0; adapters = []; call = None }) (task_seen left spot new)) { held = []; phase = phase_seen p new.poller }) (ap (λ c. c.phase) fresh.cell)
       ∙ ap (λ (o : TaskSlot B). record { code = Script k; place = 0; adapters = []; call = None; held = []; phase = TaskPhase.Queued; cleared = o.cleared; home = o.home; waiting = o.waiting; fresh = o.fresh }) fresh.rest
@@ -49,7 +49,7 @@ module _ {B L : Type 0} (left : B → L) (spot : L → Option Said → Spot) whe
       ∙ ap (λ y. record x { shards = slice_set x.shards k (y ++ m ∷ []) }) (sym (shard_shown s.set.shards k))
       ∙ ap (λ j. set_shard (m % j) x (slice_index_or x.shards (m % j) [] ++ m ∷ [])) many
 
-  module _ (t : ℕ) (w : Worker) (s m s' : Shared B) (slot mid : TaskSlot B) (body : B) (r : Runnable) (others : Bool) (it : Joins body r m s') (there : slice_get s.tasks.items t ≡ Some slot) (waits : slot.waiting ≡ Waiting.Nothing) (items : m.tasks.items ≡ slice_set s.tasks.items t mid) (kept : m ≡ record s { tasks = m.tasks })
+  module _ (t : ℕ) (w : Worker) (s m s' : Shared B) (slot mid : TaskSlot B) (body : B) (r : Runnable) (pool others : Bool) (it : Joins body r m s') (there : slice_get s.tasks.items t ≡ Some slot) (waits : slot.waiting ≡ Waiting.Nothing) (items : m.tasks.items ≡ slice_set s.tasks.items t mid) (kept : m ≡ record s { tasks = m.tasks })
       (below : (n : ℕ) → 0 < in_set n m.set → n < length m.tasks.items) (many : length s.set.shards ≡ shard_count s.config) where
     number_seen : (p : Plan) (vs : Views) → length (common_of left spot p vs s).tasks ≡ r.task.0
     number_seen p vs = length-map s.tasks.items (task_seen left spot) ∙ sym (it.number ∙ ap length items ∙ length-set s.tasks.items t mid)
@@ -70,14 +70,14 @@ module _ {B L : Type 0} (left : B → L) (spot : L → Option Said → Spot) whe
         ∙ ap (λ ts. record all { tasks = ts; set_closed = s'.set.closed }) new
         ∙ ap (λ b. record all { tasks = slice_set all.tasks t (moved_on all (task_of all t)) ++ new_task (Script k) None ∷ []; set_closed = b }) shut
 
-    spawn_works : w.place ≡ Place.Poll t InPoll.Act → s.set.closed ≡ false → (name k : ℕ) (p : Plan) (vs : Views) → Suits p vs w s → others ≡ has_others s.config → name ≡ k → next_word (common_of left spot p vs s) (task_seen left spot slot) ≡ ScriptWord.Spawn k
+    spawn_works : w.place ≡ Place.Poll t InPoll.Act → s.set.closed ≡ false → (name k : ℕ) (p : Plan) (vs : Views) → Suits p vs w s → after_spawn p.config w.index (common_of left spot p vs s) t ≡ next_by t pool others → name ≡ k → next_word (common_of left spot p vs s) (task_seen left spot slot) ≡ ScriptWord.Spawn k
         → Begins (spot (left body)) k → moved_on (common_of left spot p vs s) (task_seen left spot slot) ≡ task_seen left spot mid
-        → Works left spot p vs w s (Event.Spawn r.task.0 name) (record w { place = next_by t others; hand = Some r }) s'
-    spawn_works here unclosed name k p vs suits leads named word begins moved =
+        → Works left spot p vs w s (Event.Spawn r.task.0 name) (record w { place = next_by t pool others; hand = Some r }) s'
+    spawn_works here unclosed name k p vs suits to named word begins moved =
         let all = common_of left spot p vs s in
         let x = things_with vs s in
         let d = desk_of (record w { place = Place.Poll t InPoll.Act }) in
-        let w1 : Worker = record w { place = next_by t others; hand = Some r } in
+        let w1 : Worker = record w { place = next_by t pool others; hand = Some r } in
         let at_t : task_of all t ≡ task_seen left spot slot = task_there left spot s.tasks.items t slot there in
         let again : with_view vs w.index (visible w) ≡ vs = view_found vs w.index (visible w) suits.seen in
         let count : next_task all ≡ r.task.0 = number_seen p vs in
@@ -86,13 +86,12 @@ module _ {B L : Type 0} (left : B → L) (spot : L → Option Said → Spot) whe
         let shown : things_with vs s' ≡ (let n = shard_of p.config r.task.0 in set_shard n x (slice_index_or x.shards n [] ++ r.task.0 ∷ [])) =
         shards_show body r vs p.config m s' it below counts
         ∙ ap (λ (y : Things). let n = shard_of p.config r.task.0 in set_shard n y (slice_index_or y.shards n [] ++ r.task.0 ∷ [])) things_same in
-        let to : after_spawn p.config t ≡ next_by t others = ap (next_by t) (ap has_others (sym suits.config) ∙ sym leads) in
         subst (λ v. Works left spot p vs v s (Event.Spawn r.task.0 name) w1 s') (ap (λ y. record w { place = y }) (sym here)) (record {
           choice = Plain;
           moves = by_word left spot t p all w s vs slot (ScriptWord.Spawn k) at_t word
               ∙ open_move p.config w.index (me_at t w) all d x t k unclosed
-              ∙ ap (λ j. let n = shard_of p.config j in record { event = Event.Spawn j k; choice = Plain; desk = record d { hand = Some j; place = after_spawn p.config t }; thing = set_shard n x (slice_index_or x.shards n [] ++ j ∷ []) }) count
-              ∙ ap (λ y. record { event = Event.Spawn r.task.0 k; choice = Plain; desk = record d { hand = Some r.task.0; place = after_spawn p.config t }; thing = y }) (sym shown)
+              ∙ ap (λ j. let n = shard_of p.config j in record { event = Event.Spawn j k; choice = Plain; desk = record d { hand = Some j; place = after_spawn p.config w.index all t }; thing = set_shard n x (slice_index_or x.shards n [] ++ j ∷ []) }) count
+              ∙ ap (λ y. record { event = Event.Spawn r.task.0 k; choice = Plain; desk = record d { hand = Some r.task.0; place = after_spawn p.config w.index all t }; thing = y }) (sym shown)
               ∙ ap (λ y. record { event = Event.Spawn r.task.0 k; choice = Plain; desk = record d { hand = Some r.task.0; place = y }; thing = things_with vs s' }) to
               ∙ ap (λ j. record { event = Event.Spawn r.task.0 j; choice = Plain; desk = desk_of w1; thing = things_with vs s' }) (sym named)
               ∙ ap (λ v. record { event = Event.Spawn r.task.0 name; choice = Plain; desk = desk_of w1; thing = things_with v s' }) (sym again);
@@ -100,7 +99,7 @@ module _ {B L : Type 0} (left : B → L) (spot : L → Option Said → Spot) whe
             acts_so left spot t all w slot (asks_spawn name) at_t waits (ap (asks_spawn name) word ∙ eq-eqb name k named),
             (eq-eqb r.task.0 (length all.tasks) (sym count), (ap not unclosed, tt)),
           );
-          own = own_by t w (Some r) others;
+          own = own_by t w (Some r) pool others;
           common = ap (λ v. common_of left spot p v s') again ∙ common_then name p vs (subst (Begins (spot (left body))) (sym named) begins) moved;
         })
 
@@ -116,10 +115,10 @@ module _ {B L : Type 0} (left : B → L) (runs : L → Plan → Option ℕ → T
       let home : new.home ≡ None = ap (λ (o : TaskSlot B). o.home) fresh.rest in
       let starts : (answer : Said) → CanHear new.told new.waiting answer → answer ≡ Said.Start = λ answer hears. subst (λ o. CanHear o new.waiting answer) told hears in
       record {
-        runs_it = λ b answer is hears. subst (λ y. runs (left y) p new.home) (same_thing body b (sym its ∙ is)) (subst (runs (left body) p) (sym home) born.runs_it);
-        holding = λ b answer is hears.
+        runs_it = λ b answer is hears going. subst (λ y. runs (left y) p new.home) (same_thing body b (sym its ∙ is)) (subst (runs (left body) p) (sym home) (born.runs_it None tt));
+        holding = λ b answer is hears going.
             ap (λ y. holds (left y) (Some answer)) (same_thing b body (sym is ∙ its)) ∙ ap (λ y. holds (left body) (Some y)) (starts answer hears) ∙ born.holding
-            ∙ sym (ap (λ u. held_once_come u new.held.items) waiting ∙ fresh.held);
+            ∙ sym (ap (λ u. held_once_come u (numbers_held new.held.items)) waiting ∙ fresh.held);
       }
 
   pub performs_joined : (p : Plan) (k : ℕ) (body : B) (r : Runnable) (s s' : Shared B) → Joins body r s s' → IsBorn runs holds spot p k (left body) → PerformsAll left runs holds p s → PerformsAll left runs holds p s'
@@ -131,11 +130,11 @@ module _ {B L : Type 0} (left : B → L) (runs : L → Plan → Option ℕ → T
 
 module _ {B L : Type 0} (left : B → L) (runs : L → Plan → Option ℕ → Type 0) (holds : L → Option Said → List ℕ) (spot : L → Option Said → Spot) (gives : L → Option Sight → Said → Act B → L → Option Sight → Type 0) where
   -- a task goes on that was told so of the one that it wanted
-  performs_told : (p : Plan) (slot : TaskSlot B) (b' body : B) (x : Said) → IsAnswer (Act.Spawn body) x → is_polled slot.cell.phase ≡ true → slot.waiting ≡ Waiting.Nothing → held_after (Act.Spawn body) x slot.held.items ≡ slot.held.items
+  performs_told : (p : Plan) (slot : TaskSlot B) (b' body : B) (x : Said) → IsAnswer (Act.Spawn body) x → is_polled slot.cell.phase ≡ true → slot.waiting ≡ Waiting.Nothing → held_after (Act.Spawn body) x (numbers_held slot.held.items) ≡ (numbers_held slot.held.items)
       → GoesOn runs holds spot gives p (task_seen left spot slot) (Act.Spawn body) (left b') → Performs left runs holds p (record slot { body = Some b'; told = Some x })
   performs_told p slot b' body x answers is nothing held goes =
       performs_on left runs holds spot gives p (task_seen left spot slot) (Act.Spawn body) (record slot { body = Some b'; told = Some x }) b' goes refl (in_poll slot.cell.phase (Some b') is)
-      (λ answer hears. subst (λ y. IsAnswer (Act.Spawn body) y × (held_after (Act.Spawn body) y slot.held.items ≡ held_once_come slot.waiting slot.held.items)) (sym hears) (answers, held ∙ sym (ap (λ u. held_once_come u slot.held.items) nothing)))
+      (λ answer hears. subst (λ y. IsAnswer (Act.Spawn body) y × (held_after (Act.Spawn body) y (numbers_held slot.held.items) ≡ held_once_come slot.waiting (numbers_held slot.held.items))) (sym hears) (answers, held ∙ sym (ap (λ u. held_once_come u (numbers_held slot.held.items)) nothing)))
 
   module _ (answered : IsAnswered spot) (t : ℕ) (body : B) (w w' : Worker) (s s1 s' : Shared B) (h : HasActed left runs holds spot gives t w s s1 (Act.Spawn body)) where
     abbrev slot : TaskSlot B
@@ -229,13 +228,14 @@ module _ {B L : Type 0} (left : B → L) (runs : L → Plan → Option ℕ → T
           ap (λ o. record w { place = Place.Poll t InPoll.Act; hand = o }) (sym h.sound.hand) ∙ ap (λ q. record w { place = q }) (sym h.sound.here) in
           let sound : SoundAt (Place.Poll t InPoll.Act) w only_told = subst (λ v. SoundAt (Place.Poll t InPoll.Act) v only_told) still leaves.sound in
           let one : Beside w s w only_told = subst (λ v. Beside w s v only_told) still leaves.beside in
+          let pool : Bool = is_pool w.role in
           let others : Bool = has_others s.config in
-          let w1 : Worker = record w { place = next_by t others; hand = Some r } in
-          let two : Beside w only_told w1 s' = joined_beside t others w only_told s' body r joins sound in
+          let w1 : Worker = record w { place = next_by t pool others; hand = Some r } in
+          let two : Beside w only_told w1 s' = joined_beside t pool others w only_told s' body r joins sound in
           let below : (n : ℕ) → 0 < in_set n s.set → n < length (slice_set s.tasks.items t mid) = λ n some.
           let old = has.whole.pool.only n (omega (arith, some)) in
           omega (arith, slice_get_within s.tasks.items n old.0 old.1, length-set s.tasks.items t mid) in
-          let lead : w' ≡ w1 = goes ∙ ap (λ (y : Shared B). record w { place = next_by t (has_others y.config); hand = Some r }) h.made.kept in
+          let lead : w' ≡ w1 = goes ∙ ap (λ (y : Shared B). record w { place = next_by t pool (has_others y.config); hand = Some r }) h.made.kept in
           let done : StepsOf left runs holds spot w s (Event.Spawn r.task.0 name) w1 s' = (
             (λ p vs suits fits.
                 let so = h.asks p vs (fits t slot h.made.there) in
@@ -244,17 +244,17 @@ module _ {B L : Type 0} (left : B → L) (runs : L → Plan → Option ℕ → T
                 let word = so.asks.1 in
                 let born = so.makes k word in
                 let past : spot (left b') (Some x) ≡ spot_of (moved_on all (task_seen left spot slot)) = answered (left b') x (λ never. absurd (cc)) ∙ so.stands in
-                spawn_works left spot t w s only_told s' slot mid body r others joins h.made.there who.waits refl refl below h.sound.shards h.sound.here unclosed name k p vs suits refl (called ∙ named p (left body) k born.runs_it born.begins) word born.begins
+                spawn_works left spot t w s only_told s' slot mid body r pool others joins h.made.there who.waits refl refl below h.sound.shards h.sound.here unclosed name k p vs suits (spawn_leads p.config w.index all t pool (pool_seen left spot p vs (Place.Poll t InPoll.Act) w s h.sound suits) ∙ ap (λ c. next_by t pool (has_others c)) (sym suits.config)) (called ∙ named p (left body) k (born.runs_it None tt) born.begins) word born.begins
                 (sym (moved_seen left spot all slot b' (Some x) who.polled past))),
-            joined_sound t others w only_told s' body r joins sound,
+            joined_sound t pool others w only_told s' body r joins sound,
             record {
               root = refl;
               config = ap (λ (y : Shared B). y.config) all_kept;
-              performs = λ p fits.
+              performs = λ p is fits.
                   let so = h.asks p (record { workers = []; calls = [] }) (fits t slot h.made.there) in
                   performs_joined left runs holds spot p so.asks.0 body r only_told s' joins (so.makes so.asks.0 so.asks.1)
                   ((still_performs left runs holds t w w s only_told slot mid h.made.there refl refl refl
-                  (λ p' fits'. performs_told p' slot b' body x tt who.polled who.waits refl ((h.asks p' (record { workers = []; calls = [] }) fits').goes_on refl))).performs p fits);
+                  (λ p' fits'. performs_told p' slot b' body x tt who.polled who.waits refl ((h.asks p' (record { workers = []; calls = [] }) fits').goes_on refl))).performs p is fits);
             },
             record {
               spares = λ j apart. spares_on j s only_told s' (one.spares j apart) (two.spares j apart);

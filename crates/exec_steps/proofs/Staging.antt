@@ -9,7 +9,7 @@ use Rattle.exec_driver.{specs.{Driving.{Driving, request_at, is_cancelled, is_qu
 use Rattle.exec_task.specs.declared.body.Said.{Said}
 use Rattle.exec_machine.specs.{declared.{config.Configuration.Configuration, event.Event.{Event, TheVariants.Cancel}}, Progress.Plan, Ranges.ring_size, Same.is_number, Tests.{is_empty, is_in_flight, is_staged}, World.{Common, request_of}}
 use Rattle.exec_moves.specs.{Callback.is_full, Load.may_stage, Move.move_submit, Submit.{due_next, staging_due, first_due, one_more, submits, Due.Cancels}, declared.place.{Service.Service, Place.Place, InService.InService}}
-use Rattle.exec_steps.{specs.{declared.parts.{mail.Reply.Reply, names.Names.Names, record.Record.Record, sleeping.SleeperRecord.SleeperRecord, shared.Shared.Shared, worker.Worker.Worker}, Flown.{HasFlown, IsPlain, ends_in, operations}, Places.one_if, Records.number_in, Serving.{AreTagged, cancels_in, changed_at}, Sound.{SoundAt, IsAlike, IsNamed, IsSubmitted, served_in}, Spots.Spot, Submitting.{AreNamed, IsIdle, StagesCancel, must_flush}, View.{Views, visible, with_view, own_of, desk_of, driver_of, common_of, seat_seen, things_with, numbers_of}, Works.{Suits, Steps}}, proofs.{Going.{owning_on, GoesOn, same_worker}, Marking.{known_then, plain_kept, mark_if, marked, was_marked}, Serving.{serves_to, IsServed, OthersKept, Follows, Serves, SparesRecords, Keeps, KeepsBy, keeps_all, spares_one}, Facts.by_not_not, Calling.request_seen, Carries.carried_marked, Changing.{OneGoesOn, keeps_one, others_there, all_go_one}, Conveying.carried_beside, Flown.landed_on, Idling.{comes_to_staging, none_due, none_gated}, Keeping.polls_same, Seeing.{makes, shows, served, common_changed, common_same, ring_again, things_kept}}}
+use Rattle.exec_steps.{specs.{declared.parts.{mail.Reply.Reply, names.Names.Names, record.Record.Record, sleeping.SleeperRecord.SleeperRecord, shared.Shared.Shared, worker.Worker.Worker}, Flown.{HasFlown, IsPlain, ends_in, operations}, Holding.{nap_of, thing_of}, Places.{one_if, passes_at}, Records.number_in, Serving.{AreTagged, cancels_in, changed_at}, Sound.{SoundAt, IsAlike, IsNamed, IsSubmitted, served_in}, Spots.Spot, Submitting.{AreNamed, IsIdle, StagesCancel, must_flush}, View.{Views, visible, with_view, own_of, desk_of, driver_of, common_of, seat_seen, things_with, numbers_of}, Works.{Suits, Steps}}, proofs.{Going.{owning_on, GoesOn, same_worker}, Marking.{known_then, plain_kept, mark_if, marked, was_marked}, Serving.{at_large, balances_still, serves_to, IsServed, OthersKept, Follows, Serves, SparesRecords, Keeps, KeepsBy, keeps_all, spares_one}, Facts.by_not_not, Recorded.request_seen, Carries.carried_marked, Changing.{OneGoesOn, keeps_one, others_there, all_go_one}, Conveying.carried_beside, Flown.landed_on, Idling.{comes_to_staging, none_due}, Gated.none_gated, Keeping.polls_same, Known.known_marked, Lined.{map_changed, opens_same}, Seeing.{makes, shows, served, common_changed, common_same, ring_again, things_kept}}}
 
 -- WHAT IS SEEN
 
@@ -29,13 +29,13 @@ flush_seen c w sized =
 abbrev pub idle_at : {B : Type 0} (v : Service) (w : Worker) (s : Shared B) → (idle : IsIdle v w s) → IsIdle v (record w { place = Place.Service (InService.Submit idle.gate) v }) s
 idle_at v w s idle =
     let q : Place = Place.Service (InService.Submit idle.gate) v in
-    record { gate = idle.gate; sound = subst (λ x. SoundAt q x s) (ap (λ y. record w { place = y }) idle.sound.here) idle.sound; lists = idle.lists; due = idle.due; enrolments = idle.enrolments }
+    record { gate = idle.gate; sound = subst (λ x. SoundAt q x s) (ap (λ y. record w { place = y }) idle.sound.here) idle.sound; lists = idle.lists; due = idle.due; enrolments = idle.enrolments; ungated = idle.ungated }
 
 pub suits_at : {B : Type 0} (q : Place) (p : Plan) (vs : Views) (w : Worker) (s : Shared B) → Suits p vs w s → Suits p vs (record w { place = q }) s
 suits_at q p vs w s suits = record { config = suits.config; seen = suits.seen; workers = suits.workers }
 
 pub stages_again : (gate : ℕ) (v : Service) → Follows (Place.Service (InService.Submit gate) v) (Place.Service (InService.Submit gate) v)
-stages_again gate v = record { from = refl; to = refl; serves = refl; armed = refl; closes = refl; wakes = refl; permits = refl; moment = λ m. refl; searches = refl; published = refl }
+stages_again gate v = record { from = refl; to = refl; serves = refl; armed = refl; closes = refl; wakes = refl; moment = λ m. refl; searches = refl; published = refl; bare = refl; batch = λ ms h. h }
 
 module _ {B L : Type 0} (left : B → L) (spot : L → Option Said → Spot) where
   -- nothing else is next for the machine
@@ -50,7 +50,7 @@ module _ {B L : Type 0} (left : B → L) (spot : L → Option Said → Spot) whe
       comes_to_staging p.config w.index idle.gate (own_of w) all (desk_of w)
       (subst (λ c. first_due c w.index (own_of w) all ≡ None) suits.config none)
       (ap (λ ids. slice_get (numbers_of w.names.requests.items ids) 0) idle.enrolments)
-      (none_gated _ w.index idle.gate w.names (driver_of w) s.requests.items all refl sound.flown)
+      (none_gated _ w.index w.names (driver_of w) w.home.timers s.requests.items s.sleepers.items s.opens s.store sound.named sound.flown sound.carried sound.gates idle.gate all refl idle.ungated)
 
 -- CANCELS
 
@@ -74,7 +74,7 @@ marks_phase true r = refl
 marks_phase false r = refl
 
 marks_plain : (r : Record) → IsPlain r.shown → IsPlain (marks_cancel r).shown
-marks_plain r p = record { bounded = p.bounded; moved = p.moved; first_part = p.first_part; unhinted = p.unhinted; ungated = p.ungated; deadline = p.deadline }
+marks_plain r p = record { bounded = p.bounded; moved = p.moved; deadline = p.deadline }
 
 among_later : (id other : WaiterId) (ids : List WaiterId) → is_among other ids ≡ true → is_among other (id ∷ ids) ≡ true
 among_later id other ids h = rw h (or_true ((id.0.index == other.0.index) && (id.0.generation == other.0.generation)))
@@ -230,7 +230,7 @@ module _ {B L : Type 0} (left : B → L) (spot : L → Option Said → Spot) whe
         there = ask.there;
         slab = sym (same_written d.requests id.0 (Pending ask.it) (entry_of (value_at d.requests id.0) ask.it ask.live));
         on = on;
-        alike = record { asked = a.asked; moved = a.moved; switched = a.switched; come = a.come; hinted = a.hinted; deadline = a.deadline; cancelled = a.cancelled; timer = a.timer; observed = a.observed; waiter = a.waiter; flying = a.flying; permit = a.permit; open_still = a.open_still; near = a.near; going = a.going; told_once = λ h. ask.cancelled };
+        alike = record { asked = a.asked; moved = a.moved; switched = a.switched; come = a.come; hinted = a.hinted; asks_hint = a.asks_hint; seen = a.seen; deadline = a.deadline; cancelled = a.cancelled; timer = a.timer; observed = a.observed; waiter = a.waiter; flying = a.flying; permit = a.permit; open_still = a.open_still; near = a.near; going = a.going; told_once = λ h. ask.cancelled; dated = a.dated; alone = a.alone };
         start = refl;
         tick = refl;
         requests = refl;
@@ -267,7 +267,7 @@ module _ {B L : Type 0} (left : B → L) (spot : L → Option Said → Spot) whe
         staging = rw unchanged flown.staging;
         telling = rw room flown.telling;
         entries = rw (unchanged, untold_more, entries_more) (omega (arith, flown.entries));
-        permits = refl;
+        gated = flown.gated;
         plain = plain_kept marks_cancel rs k marks_plain w.index (λ r. refl) flown.plain;
         landed = landed_on w.names (record w.names { staged = w'.names.staged; untold = w'.names.untold }) d d' rs rs' (operations d.ring) flown.landed
             (λ other x r given live flies found landed.
@@ -282,13 +282,14 @@ module _ {B L : Type 0} (left : B → L) (spot : L → Option Said → Spot) whe
       keeps_all w w' s s' rs' d' same it.shared it.driver it.records
       (subst (λ y. KeepsBy (record w { place = y; put_off = w'.put_off; names = record w.names { staged = w'.names.staged; untold = w'.names.untold } }) d' w.home.timers rs' s.sleepers.items s) (sym there)
       (keeps_one q q w'.put_off w'.names w s d' id.0 ask.it ask.it ask.r marks_cancel sound (stages_again idle.gate v) one (subst IsPunctual it.driver punctual) (λ h. idle.due) sound.due.order sound.due.wheel refl submitted flown_then
-      (carried_beside w.names.requests.items d.requests d.ring rs' s.store (carried_marked w.names.requests.items d.requests d.ring rs s.store sound.carried k marks_cancel (λ r at. refl) (λ r at. refl)) (cancel_entry id).window 4294967295 (λ h. omega (arith, h))))) in
+      (carried_beside w.names.requests.items d.requests d.ring rs' s.store (carried_marked w.names.requests.items d.requests d.ring rs s.store sound.carried k marks_cancel (λ r at. refl) (λ r at. refl)) (cancel_entry id).window 4294967295 (λ h. omega (arith, h)))
+      refl (known_marked w.index w.names.requests.items d.requests s.opens s.opens rs k marks_cancel (λ y. record { id = refl; worker = refl; kind = refl; target = refl; unrefused = λ h. h }) (λ file h. h) sound.known))) in
       let serves : Serves q w w' s s' = serves_to q q w w' s s' (subst (IsServed w) (sym it.worker) refl) (subst (OthersKept s) (sym it.shared) refl) there (stages_again idle.gate v) in
-      let show = shows q w w' s s' d' serves it.driver in
+      let show = shows q w w' s s' d' serves it.driver (ap (λ (v : Worker). v.home.timers) it.worker) in
       let seen : visible w' ≡ visible w = show.seen in
-      let spares : SparesRecords w.index s s' = spares_one w.index s s' k ask.r marks_cancel it.records (ap (λ (y : Shared B). y.sleepers.items) it.shared) ask.there ask.worker (λ y. refl) in
+      let spares : SparesRecords w.index s s' = spares_one w.index s s' k ask.r marks_cancel (opens_same s.opens s'.opens s.requests.items sound.gates (ap (λ (y : Shared B). y.opens) it.shared)) (record { at = refl; over = λ h. h; sent = refl; forwarded = λ h. h }) it.records (ap (λ (y : Shared B). y.sleepers.items) it.shared) ask.there ask.worker (λ y. refl) in
       subst (λ x. Steps left spot w s x w' s') (sym it.event)
-      (served left spot q w w' s s' (Cancel k) sound serves keeps spares
+      (served left spot q w w' s s' (Cancel k) sound serves keeps spares (balances_still q w w' s s' sound.here serves spares (ap passes_at there) (ap (λ (v : Worker). v.home.deferred.notes.wakes.items) it.worker) (ap (map thing_of) it.records ∙ map_changed thing_of rs k ask.r marks_cancel ask.there refl) (ap (λ (y : Shared B). map nap_of y.sleepers.items) it.shared))
       (λ p vs suits.
       let c = p.config in
       let all = common_of left spot p vs s in
@@ -302,11 +303,11 @@ module _ {B L : Type 0} (left : B → L) (spot : L → Option Said → Spot) whe
             ap (move_submit c w.index (own_of w0) all (desk_of w0) (things_with vs s) idle.gate v) (staging_next left spot v w0 s (idle_at v w s idle) p vs (suits_at q p vs w s suits) ∙ due)
             ∙ ap (makes (Cancel k) (submits v idle.gate (one_more (desk_of w0)))) (ring_again (things_with vs s) w.index all)
             ∙ ap (λ x. makes (Cancel k) x (things_with vs s)) (sym (show.desk ∙ rw (there, off, ap (λ x. x.home.deferred) it.worker, entries_more) refl))
-            ∙ ap (makes (Cancel k) (desk_of w')) (sym (things_kept vs w.index (visible w) (visible w') s s' suits.seen (ap (λ y. y.wakes) seen) serves.shared));
-        may = (refl, (ap (λ ks. is_number k (slice_get ks 0)) numbers ∙ eq-eqb k k refl, (ap (λ x. x.worker == w.index) request ∙ ap (λ i. i == w.index) ask.worker ∙ eq-eqb w.index w.index refl, (ap (λ x. is_in_flight x.phase) request ∙ ask.flies, (ap (λ x. x.cancelled) request ∙ ask.cancelled, (ap (λ x. not x.cancel_staged) request ∙ ap not ask.unstaged, tt))))));
+            ∙ ap (makes (Cancel k) (desk_of w')) (sym (things_kept vs w.index (visible w) (visible w') s s' suits.seen (ap (λ y. y.wakes) seen) serves.shared spares));
+        may = (at_large q w s sound refl, (ap (λ ks. is_number k (slice_get ks 0)) numbers ∙ eq-eqb k k refl, (ap (λ x. x.worker == w.index) request ∙ ap (λ i. i == w.index) ask.worker ∙ eq-eqb w.index w.index refl, (ap (λ x. is_in_flight x.phase) request ∙ ask.flies, (ap (λ x. x.cancelled) request ∙ ask.cancelled, (ap (λ x. not x.cancel_staged) request ∙ ap not ask.unstaged, tt))))));
         own = show.own ∙ rw (there, ap (λ x. x.names.ended) it.worker, it.untold, numbers) refl;
         common =
-            common_changed left spot p (with_view vs w.index (visible w')) s s' k ask.r marks_cancel it.shared it.records ask.there (λ x. refl)
+            common_changed left spot p (with_view vs w.index (visible w')) s s' k ask.r marks_cancel it.shared it.records ask.there refl
             ∙ ap (λ (x : Common). record x { requests = slice_set (map (λ y. y.shown) rs) k (marks_cancel ask.r).shown }) (common_same left spot p vs w w' s suits (λ c. ap (λ y. seat_seen y c) seen))
             ∙ ap (λ x. record all { requests = slice_set (map (λ y. y.shown) rs) k (record x { cancel_staged = true }) }) (sym request);
       }))

@@ -1,55 +1,16 @@
 -- What the staging of a request's operation is to the machine.
 use Rattle.std.{proofs.{Common.{◌≡◌, ◌≢◌, ℕ, ◌+◌, ◌*◌, ◌<◌, ◌&&◌, ◌||◌, Bool, true, false, not, List, [], ◌∷◌, ◌++◌, length, Option, Some, None, refl, sym, ap, ◌∙◌, slice_get, is_some, if◌then◌else◌}, lemmas.Bool.false≢true}, specs.Option.option_map}
 use Rattle.exec_base.specs.Slab.{value_at}
-use Rattle.exec_outcomes.specs.{declared.outcome.{Judged.Judged, Kind.Kind}, Outcomes.{HasCome, stop_of, present, moved_by}}
-use Rattle.exec_request.specs.{Kept.kept_of, Requests.{asked_of, cursor_of, hinted_of, deadline_of, window_by}, States.asks_cancel, Syncing.write_kind, Ways.asked_by, declared.{request.Request.Request as Asking, results.WaiterState.{WaiterState, TheVariants.{Active, CancelRequested}}, way.Way.Way, write_at.WriteAtState.WriteAtState}}
+use Rattle.exec_outcomes.specs.{Accounts.is_durable, declared.outcome.Judged.Judged, Outcomes.{HasCome, stop_of, present, moved_by}}
+use Rattle.exec_request.specs.{Kept.{kept_of, seen_by}, Requests.{asked_of, cursor_of, hinted_of, deadline_of}, States.asks_cancel, declared.{request.Request.Request as Asking, results.WaiterState.{WaiterState, TheVariants.{Active, CancelRequested}}}}
 use Rattle.exec_ring.specs.declared.completion.Submission.{Submission}
 use Rattle.exec_waiters.{specs.{States.{waiter_at, takes_tick, tick_in, needs_permit}, declared.{waiter.Waiter.Waiter, waiter_id.WaiterId.WaiterId}}, proofs.Changes.entry_of}
-use Rattle.exec_driver.specs.{Driving.{request_at, is_queued}, Lists.{first_of, is_among}}
-use Rattle.exec_machine.specs.{declared.state.{Request.Request, RequestPhase.RequestPhase}, Requests.{asks_hint, is_enrolled}, Same.{is_none, same_kind}, Tests.{is_gated, is_in_flight, is_resolved}}
+use Rattle.exec_driver.specs.{Driving.{request_at, is_queued}, Lists.{first_of, is_among}, Opens.OpenState}
+use Rattle.exec_machine.specs.{declared.state.{Request.Request, RequestPhase.RequestPhase}, Requests.is_enrolled, Same.is_none, Tests.{is_gated, is_in_flight, is_kept, is_resolved}}
 use Rattle.exec_moves.specs.declared.place.Service.{Service}
-use Rattle.exec_steps.{specs.{declared.parts.{mail.Reply.Reply, record.Record.Record, shared.Shared.Shared, worker.Worker.Worker}, Flown.{IsPlain, IsUpTo, is_poll, longest}, Records.number_in, Serving.{AreKnown, AreTagged, cancels_in, is_cancel}, Sound.IsAlike, Submitting.IsIdle, View.driver_of}, proofs.{Going.GoesOn, Marking.mark_if, Staging.among_first}}
+use Rattle.exec_steps.{specs.{declared.parts.{mail.Reply.Reply, record.Record.Record, shared.Shared.Shared, worker.Worker.Worker}, Flown.IsPlain, Records.number_in, Serving.{AreKnown, AreTagged, cancels_in, is_cancel}, Sound.IsAlike, Submitting.{IsIdle, staged_with}, View.driver_of}, proofs.{Going.GoesOn, Marking.mark_if, Staging.among_first}}
 
--- A REQUEST OF THE FIRST KINDS
-
--- its operations have no hint, and are neither cancels nor the wake poll
-pub record IsSimple (q : Asking) : Type 0 where
-  pub unhinted : hinted_of q ≡ false
-  pub operates : (h : Bool) → is_cancel (window_by h q).kind ≡ false
-  pub unpolled : (h : Bool) → is_poll (window_by h q).kind ≡ false
-
-pub fills : (b : Bool) (n : ℕ) → IsUpTo (longest (if b then Kind.Fill else Kind.Recv)) n → ⊥
-fills true n h = h
-fills false n h = h
-
-pub reads : (w : Way) (m n : ℕ) → IsUpTo (longest (asked_by w m).kind) n → ⊥
-reads Way.Buffered m n h = h
-reads Way.Hinted m n h = h
-reads (Way.Direct skip len) m n h = h
-reads (Way.Switched skip len) m n h = h
-
-pub writes_bytes : (w : WriteAtState) (n : ℕ) → IsUpTo (longest (write_kind w)) n → ⊥
-writes_bytes WriteAtState.Writing n h = h
-writes_bytes WriteAtState.WritingSync n h = h
-writes_bytes WriteAtState.WritingBeforeSync n h = h
-writes_bytes WriteAtState.Syncing n h = h
-
-pub simple : (q : Asking) (n : ℕ) → IsUpTo (longest (asked_of q).kind) n → IsSimple q
-simple (Asking.Send s) n h = record { unhinted = refl; operates = λ b. refl; unpolled = λ b. refl }
-simple (Asking.Poll p) n h = record { unhinted = refl; operates = λ b. refl; unpolled = λ b. refl }
-simple (Asking.Recv r) n h = absurd (fills r.exact n h)
-simple (Asking.ReadAt r) n h = absurd (reads r.way (length r.buf.bytes) n h)
-simple (Asking.WriteAt w) n h = absurd (writes_bytes w.state n h)
-simple (Asking.Sync s) n h = absurd h
-simple (Asking.Connect c) n h = absurd h
-
-hint_of : (k : Kind) (b : Bool) (n : ℕ) → IsUpTo (longest k) n → (same_kind k Kind.Hint || (same_kind k Kind.Direct && b)) ≡ false
-hint_of Kind.Poll b n h = refl
-hint_of Kind.Send b n h = refl
-hint_of _ b n h = absurd h
-
-pub no_hint : (r : Request) → IsPlain r → asks_hint r.operation ≡ false
-no_hint r p = hint_of r.operation.kind r.operation.switched r.operation.length p.bounded
+-- ITS PHASE
 
 -- it waits to be staged
 pub queued_phase : (p : RequestPhase) → is_in_flight p ≡ false → is_resolved p ≡ false → is_gated p ≡ false → p ≡ RequestPhase.Queued
@@ -98,35 +59,56 @@ cancels_by (x ∷ es) e none = rw (cancels_by es e none) refl
 
 -- THE RECORD
 
-abbrev pub starts : Record → Record
-starts r = record r { shown = record r.shown { operation = record r.shown.operation { hinted = false }; phase = RequestPhase.Staged } }
+abbrev pub starts : List OpenState → Record → Record
+starts opens r = staged_with opens r
 
-pub starts_on : (r : Record) → is_resolved r.shown.phase ≡ false → GoesOn r (starts r)
-starts_on r unresolved = record { same = refl; over = sym unresolved; ended = λ h. absurd (false≢true (sym unresolved ∙ h)) }
+pub starts_on : (opens : List OpenState) (r : Record) → is_resolved r.shown.phase ≡ false → GoesOn r (starts opens r)
+starts_on opens r unresolved = record { same = refl; over = sym unresolved; ended = λ h. absurd (false≢true (sym unresolved ∙ h)) }
 
-pub starts_alike : (start tick : ℕ) (it : Waiter Reply Reply) (q : Asking) (r : Record) → IsAlike start tick it r.shown → SameCursor it.request q → IsSimple q → asks_cancel it.state ≡ false
-    → IsAlike start tick (record it { in_flight = true; request = q }) (starts r).shown
-starts_alike start tick it q r a same plain unasked =
-    let permit : false ≡ true → it.permit ≡ false = λ h. absurd (false≢true h) in
-    assumption (a.asked ∙ sym same.asked, a.moved ∙ sym same.moved, a.switched ∙ sym same.switched, sym plain.unhinted, a.deadline ∙ sym same.deadline, permit, same, a)
+pub starts_alike : (opens : List OpenState) (start tick : ℕ) (it : Waiter Reply Reply) (q : Asking) (r : Record) → IsAlike start tick it r.shown → SameCursor it.request q → (starts opens r).shown.operation.hinted ≡ hinted_of q
+    → ((cursor_of q).hinted ≡ true → (cursor_of it.request).hinted ≡ true) → seen_by q ≡ seen_by it.request → asks_cancel it.state ≡ false → needs_permit it ≡ false → IsAlike start tick (record it { in_flight = true; request = q }) (starts opens r).shown
+starts_alike opens start tick it q r a same hint asks seen unasked free =
+    record {
+      asked = a.asked ∙ sym same.asked;
+      moved = a.moved ∙ sym same.moved;
+      switched = a.switched ∙ sym same.switched;
+      come = same.come;
+      hinted = λ flies. hint;
+      asks_hint = λ h. a.asks_hint (asks h);
+      seen = λ durable. a.seen durable ∙ sym seen;
+      deadline = a.deadline ∙ sym same.deadline;
+      cancelled = a.cancelled;
+      timer = a.timer;
+      observed = a.observed;
+      waiter = a.waiter;
+      flying = refl;
+      permit = sym (ap (λ x. is_durable x.kind && not it.permit) same.asked ∙ free);
+      open_still = refl;
+      near = a.near;
+      going = λ h. refl;
+      told_once = a.told_once;
+      dated = λ h. ap is_some same.deadline ∙ a.dated h;
+      alone = λ h. ap (λ x. is_kept x.kind) same.asked ∙ a.alone h;
+    }
 
 -- A STEP
 
-queued_parts : (a b c : Bool) → (not a && not b && not c) ≡ true → (a ≡ false) × (b ≡ false)
+queued_parts : (a b c : Bool) → (not a && not b && not c) ≡ true → (a ≡ false) × (b ≡ false) × (c ≡ false)
 queued_parts true b c h = absurd (false≢true h)
 queued_parts false true c h = absurd (false≢true h)
-queued_parts false false c h = (refl, refl)
+queued_parts false false true h = absurd (false≢true h)
+queued_parts false false false h = (refl, refl, refl)
 
-pub starts_if_worker : (b : Bool) (r : Record) → (mark_if starts b r).shown.worker ≡ r.shown.worker
-starts_if_worker true r = refl
-starts_if_worker false r = refl
+pub starts_if_worker : (opens : List OpenState) (b : Bool) (r : Record) → (mark_if (starts opens) b r).shown.worker ≡ r.shown.worker
+starts_if_worker opens true r = refl
+starts_if_worker opens false r = refl
 
-pub starts_if_cancel : (b : Bool) (r : Record) → (mark_if starts b r).shown.cancel_staged ≡ r.shown.cancel_staged
-starts_if_cancel true r = refl
-starts_if_cancel false r = refl
+pub starts_if_cancel : (opens : List OpenState) (b : Bool) (r : Record) → (mark_if (starts opens) b r).shown.cancel_staged ≡ r.shown.cancel_staged
+starts_if_cancel opens true r = refl
+starts_if_cancel opens false r = refl
 
-pub starts_plain : (r : Record) → IsPlain r.shown → IsPlain (starts r).shown
-starts_plain r p = record { bounded = p.bounded; moved = p.moved; first_part = p.first_part; unhinted = refl; ungated = refl; deadline = p.deadline }
+pub starts_plain : (opens : List OpenState) (r : Record) → IsPlain r.shown → IsPlain (starts opens r).shown
+starts_plain opens r p = record { bounded = p.bounded; moved = p.moved; deadline = p.deadline }
 
 pub known_and : (ks : List ℕ) (k : ℕ) (rs : List Record) → AreKnown ks rs → k < length rs → AreKnown (ks ++ k ∷ []) rs
 known_and [] k rs known more = (more, tt)
@@ -143,6 +125,7 @@ pub record Starts {B : Type 0} (w : Worker) (s : Shared B) (id : WaiterId) : Typ
   pub alike : IsAlike (driver_of w).wheel.start (driver_of w).wheel.tick it r.shown
   pub idle : it.in_flight ≡ false
   pub unasked : asks_cancel it.state ≡ false
+  pub free : needs_permit it ≡ false
   pub queued : r.shown.phase ≡ RequestPhase.Queued
   pub enrolled : is_enrolled r.shown ≡ true
 
@@ -170,7 +153,6 @@ module _ {B : Type 0} (v : Service) (w : Worker) (s : Shared B) (idle : IsIdle v
       let parts = queued_parts it.in_flight (asks_cancel it.state) (needs_permit it) waits in
       let r = idle.sound.named.requests id.0 (rw (entry_of (value_at (driver_of w).requests id.0) it live) refl) in
       let a = idle.sound.named.alike id.0 it r.0 live r.1 in
-      let p = idle.sound.flown.plain (number_in w.names.requests.items id.0) r.0 r.1 r.3 in
       let none : r.0.shown.timer ≡ None → r.0.shown.operation.deadline ≡ None = λ untimed.
       dateless r.0.shown.operation.deadline
       (λ some.
@@ -187,7 +169,8 @@ module _ {B : Type 0} (v : Service) (w : Worker) (s : Shared B) (idle : IsIdle v
         alike = a;
         idle = parts.0;
         unasked = parts.1;
-        queued = queued_phase r.0.shown.phase (a.flying ∙ parts.0) a.open_still p.ungated;
+        free = parts.2;
+        queued = queued_phase r.0.shown.phase (a.flying ∙ parts.0) a.open_still (a.permit ∙ parts.2);
         enrolled = enrolled_by it r.0.shown r.0.shown.timer r.0.shown.operation.deadline refl refl none;
       }
 

@@ -3,8 +3,8 @@ use Rattle.std.proofs.{Common.{◌≡◌, ◌≢◌, ℕ, ◌+◌, ◌-◌, ◌<
 use Rattle.exec_words.specs.{Head.{claim_at, claimed_head}, Queue.{Queue, claimed, head_of, tail_of}, Reserved.{extended}, declared.head.Head.Head}
 use Rattle.exec_task.specs.declared.{body.Said.Said, runnable.Runnable.Runnable}
 use Rattle.exec_machine.specs.{declared.{event.Event.{Event, TheVariants.Turn}}, Choice.Choice.Plain, Progress.Plan}
-use Rattle.exec_moves.specs.{declared.{idling.{InScan.InScan, Scan.Scan}, place.Place.Place}, Move.move_at, Pop.same_head, Seen.polls_at, Search.{claim_half, from_of, judge_head}, State.{Desk, Moved, queue_of, turns}, Thing.{set_queue, with_queue}}
-use Rattle.exec_steps.{specs.{declared.parts.{seat.Seat.Seat as Chair, shared.Shared.Shared, worker.Worker.Worker}, Kinds.Kind, Phased.TurnsChair, Places.{claims_at, drops_at, has_count_at, has_loot_at, is_published_at, one_if}, Pooled.{OfChair, claimed_if, taken_if}, Sound.SoundAt, Spots.Spot, View.{Views, common_of, desk_of, own_of, queue_seen, tasks_of, things_of, things_with}, Whole.{HasWhole, IsWhole, Profile, is_number, runnables_in, with_worker}, Works.{Makes, Steps, Suits}}, proofs.{Aside.{SparesSeats, seats_other, spared}, Facts.not_same, Handed.{out, true_false}, Idled.Settles, Queued.{Hands, Leads, hands_of, leads_to, requeued, whole_queued}, Searching.judged_settle, Showing.own_queue_seen, Thieves.{half_of, in_both, in_parts, left_from, own_still, same_hands, same_heads, seat_there, seated_still, stage_still, taken_from}, Turning.{GoesOn, by_hand}}}
+use Rattle.exec_moves.specs.{declared.{idling.{InLook.InLook, InScan.InScan, Scan.Scan}, place.Place.Place}, Move.move_at, Pop.same_head, Seen.polls_at, Search.{claim_half, from_of, judge_head}, State.{Desk, Moved, queue_of, turns}, Thing.{set_queue, with_queue}}
+use Rattle.exec_steps.{specs.{declared.parts.{seat.Seat.Seat as Chair, shared.Shared.Shared, worker.Worker.Worker}, Kinds.Kind, Phased.TurnsChair, Places.{claims_at, drops_at, has_count_at, has_loot_at, is_published_at, one_if}, Pooled.{OfChair, claimed_if, taken_if}, Sound.SoundAt, Spots.Spot, View.{Views, common_of, desk_of, own_of, queue_seen, tasks_of, things_of, things_with}, Whole.{HasWhole, IsWhole, Profile, is_number, runnables_in, with_worker}, Works.{Makes, Steps, Suits}}, proofs.{Dedicated.never_apart, Aside.{seats_other, spared, SparesSeats, told_on}, Facts.not_same, Handed.{out, true_false}, Idled.Settles, Queued.{Hands, Leads, hands_of, leads_to, requeued, whole_queued}, Searching.judged_settle, Showing.own_queue_seen, Thieves.{half_of, in_both, in_parts, left_from, own_still, same_hands, same_heads, seat_there, seated_still, stage_still, taken_from}, Turning.{GoesOn, by_hand}}}
 
 module _ {B L : Type 0} (left : B → L) (spot : L → Option Said → Spot) (w w' : Worker) (s s' : Shared B) (e : Event) where
   -- THE CLAIM
@@ -27,7 +27,7 @@ module _ {B L : Type 0} (left : B → L) (spot : L → Option Said → Spot) (w 
       few = mod_below (x.start + x.passed) s.config.workers sound.config.workers
 
       found : (seat : Chair) × (slice_get s.seats.items from ≡ Some seat)
-      found = seat_there from q w s sound few
+      found = seat_there from q w s sound (omega (arith, few, sound.seated.many))
 
       its : Chair
       its = found.0
@@ -105,6 +105,7 @@ module _ {B L : Type 0} (left : B → L) (spot : L → Option Said → Spot) (w 
           leads : Leads q w'.place w w' s s'
           leads = subst (λ y. Leads q y w w' s s') (sym place) (record {
             same = refl;
+            calm = never_apart q w s sound refl;
             root_ready = ap (λ (v : Worker). v.root_ready) same;
             hand = hand_same;
             searches = tt;
@@ -119,7 +120,7 @@ module _ {B L : Type 0} (left : B → L) (spot : L → Option Said → Spot) (w 
           })
 
           spares : SparesSeats w.index s.seats.items s'.seats.items
-          spares = seats_other w.index from s.seats.items s'.seats.items its its' set there (omega (arith, length-drop n values, less)) (record { phase = refl; pool = refl; left = refl; closed = refl; target = refl; mail = λ h. h; queue = inr (inl (n, some, less, unclaimed, refl)) })
+          spares = seats_other w.index from s.seats.items s'.seats.items its its' set there (omega (arith, length-drop n values, less)) (record { phase = refl; pool = refl; left = refl; closed = refl; target = refl; mail = λ h. h; made = refl; queue = inr (inl (n, some, less, unclaimed, refl)) })
 
           count : (t : ℕ) → runnables_in t (hands_of w') + runnables_in t (q'.values ++ q'.held) ≡ runnables_in t (hands_of w) + runnables_in t (values ++ its.queue.held)
           count t =
@@ -140,6 +141,7 @@ module _ {B L : Type 0} (left : B → L) (spot : L → Option Said → Spot) (w 
             index = ap (λ (v : Worker). v.index) same;
             published = ap is_published_at place ∙ sym (ap is_published_at sound.here);
             drops = ap drops_at place ∙ sym (ap drops_at sound.here);
+            told = told_on w w' s.clock on;
             claims_beside = λ j apart. ap (λ o. is_number o j) claiming ∙ not_same from j (λ is. apart (sym is)) ∙ sym (ap (λ o. is_number o j) unclaiming);
             claims = omega (arith, mine, none, gap, gap_then);
           }
@@ -192,15 +194,15 @@ module _ {B L : Type 0} (left : B → L) (spot : L → Option Said → Spot) (w 
           kept_loot : w'.loot ≡ w.loot
           kept_loot = loot ∙ ap (λ xs. record w.loot { values = xs }) (append-nil w.loot.values)
 
-          settles : Settles Place.BeginTurn next (out w.searching) w s1
-          settles = judged_settle Place.BeginTurn x (head_of its.queue) w s1 refl refl (λ chair at_own. sound.queue chair (sym (own_still from its w s s' other set) ∙ at_own)) sound.batch other sound.aims.1
+          settles : Settles (Place.Look InLook.Publish) next (out w.searching) w s1
+          settles = judged_settle (Place.Look InLook.Publish) x (head_of its.queue) w s1 refl refl (λ chair at_own. sound.queue chair (sym (own_still from its w s s' other set) ∙ at_own)) sound.batch other sound.aims.1
 
           empty : has_loot_at next ≡ false
           empty = ap (λ (k : Kind). k.loot) settles.same
 
           leads : Leads q w'.place w w' s s'
           leads = subst (λ y. Leads q y w w' s s') (sym place) (subst (Leads q next w w' s) (sym kept)
-              (leads_to q Place.BeginTurn next (out w.searching) w w' s s1 refl refl refl settles (ap (λ (v : Worker). v.root_ready) same) hand_same (ap (λ (v : Worker). v.searching) same)
+              (leads_to q (Place.Look InLook.Publish) next (out w.searching) w w' s s1 refl refl refl settles (ap (λ (v : Worker). v.root_ready) same) hand_same (ap (λ (v : Worker). v.searching) same) (never_apart q w s sound refl)
               (rw (empty, kept_loot) sound.loot) (λ r has_r. sound.stolen r (subst (λ l. Contains l.values r) kept_loot has_r)) (seated_still from its false w s s' other set sound.seated) (stage_still from its w s s' other set)))
 
           spares : SparesSeats w.index s.seats.items s'.seats.items
@@ -210,7 +212,7 @@ module _ {B L : Type 0} (left : B → L) (spot : L → Option Said → Spot) (w 
           hands =
               same_hands from its.queue w w' hand_same kept_loot (ap polls_at place ∙ ap (λ (k : Kind). k.polls) settles.same ∙ sym (ap polls_at sound.here)) (ap (λ (v : Worker). v.searching) same) (ap has_count_at place ∙ settles.counts ∙ sym (ap has_count_at sound.here)) (ap (λ (v : Worker). v.index) same)
               (ap is_published_at place ∙ settles.published ∙ sym (ap is_published_at sound.here)) (ap claims_at place ∙ ap (λ (k : Kind). k.claims) settles.same ∙ sym (ap claims_at sound.here))
-              (ap drops_at place ∙ ap (λ (k : Kind). k.drops) settles.same ∙ sym (ap drops_at sound.here))
+              (ap drops_at place ∙ ap (λ (k : Kind). k.drops) settles.same ∙ sym (ap drops_at sound.here)) (told_on w w' s.clock on)
 
           whole : (others : Profile) → IsWhole (with_worker others w) s → IsWhole (with_worker others w') s'
           whole others before = whole_queued others from its its.queue w w' s s' kept there set hands (λ r has_r. inl has_r) before

@@ -4,7 +4,7 @@ use Rattle.exec_base.specs.declared.task_no.TaskNo.{TaskNo}
 use Rattle.exec_task.specs.{Phases.{is_polled, is_idle as is_cell_idle, runnable_of, woken as cell_woken}, Sight.Sight, declared.{body.{Act.Act, Said.Said}, runnable.Runnable.Runnable, task.Phase.Phase}}
 use Rattle.exec_machine.specs.{declared.{config.ScriptWord.ScriptWord, event.Event.{Event, TheVariants.Wake}, state.Waiting.Waiting}, Progress.Plan, Tasks.{after_waking_word, waits_for}, Words.{asks_yield, idle_words, is_idle_word, moved_on, next_word, words_left}, World.{Common, Task}}
 use Rattle.exec_moves.specs.declared.{handing.{AfterPush.AfterPush, InPush.InPush}, place.{InPoll.InPoll, Place.Place}}
-use Rattle.exec_steps.{specs.{declared.parts.{shared.Shared.Shared, task_slot.TaskSlot.TaskSlot, worker.Worker.Worker}, Acting.{ActsAs, HasActed, Performs, PerformsAll, StepsOf}, Hearing.{Hears, held_once_come}, Pooled.{WakesBy, WakesHere, WakesOrdinary, WakesTask, WakesThere, woken_slot}, Scripts.{GoesOn, IsAnswer, IsAnswered, held_after}, Sound.SoundAt, Spares.{Spares, SparesPolled}, Spots.{Spot, spot_of}, View.{Views, body_in, common_of, task_seen}, Whole.IsGenuine, Works.{Beside, TurnsSlot}}, proofs.{Flagged.{Flags, flag_then, flags, wakes_root}, Acting.{Leaves, act_leaves, actor, moved_seen, tells_on}, Aside.spared, Cells.body_woken, Facts.{by_number, same_thing, set_elsewhere, set_there}, Performing.{performs_on, still_performs}, Pending.in_poll, Still.performs_still, Stirs.{IsWake, LeadsOn, Stirs, ToldFirst, leads_idle, leads_on, stirs, wakes_ordinary, wakes_works}}}
+use Rattle.exec_steps.{specs.{Records.numbers_held, Tests.first_push_of, declared.parts.{shared.Shared.Shared, task_slot.TaskSlot.TaskSlot, worker.Worker.Worker}, Acting.{ActsAs, HasActed, Performs, PerformsAll, StepsOf}, Hearing.{Hears, held_once_come}, Pooled.{WakesBy, WakesHere, WakesOrdinary, WakesTask, WakesThere, woken_slot}, Scripts.{GoesOn, IsAnswer, IsAnswered, held_after}, Sound.SoundAt, Spares.{Spares, SparesPolled}, Spots.{Spot, spot_of}, View.{Views, body_in, common_of, task_seen}, Whole.IsGenuine, Works.{Beside, Suits, TurnsSlot}}, proofs.{Flagged.{Flags, flag_then, flags, wakes_root}, Acting.{Leaves, act_leaves, actor, moved_seen, tells_on}, Aside.spared, DedicatedSeen.pool_seen, Spared.{records_endure, sleeper_spared, sleepers_endure, spared_same}, Cells.{body_woken, complete_woken}, Facts.{by_number, same_thing, set_elsewhere, set_there}, Performing.{performs_on, still_performs}, Pending.in_poll, Still.performs_still, Stirs.{IsWake, LeadsOn, Stirs, ToldFirst, leads_idle, leads_on, stirs, wakes_ordinary, wakes_works}}}
 
 -- who is woken by a word is a task that there is
 by_first : (s : Common) (it : Task) (u : ℕ) (x : ScriptWord) (ws : List ScriptWord) → (slice_index_or ws (idle_words s it ws) ScriptWord.End ≡ ScriptWord.Wake u → u < length s.tasks)
@@ -29,15 +29,18 @@ module _ {B : Type 0} where
       record {
         config = refl;
         clock = refl;
-        opens = refl;
+        gates = λ h. h;
+        hints = λ file h. h;
         many = refl;
         chair = λ chair found. (chair, found, spared chair);
         tails = second.tails;
-        records = λ k r found mine. found;
-        records_only = λ k r found mine. found;
-        sleepers = λ k z found mine. found;
-        sleepers_only = λ k z found mine. found;
-        root = λ slot found home. second.root slot (first.root slot found home) home;
+        records = λ k r found mine. (r, found, spared_same r);
+        records_only = λ k r found mine. (r, found, spared_same r);
+        sleepers = λ k z found mine. (z, found, sleeper_spared z);
+        sleepers_only = λ k z found mine. (z, found, sleeper_spared z);
+        endure = records_endure s.requests.items s.requests.items refl;
+        endure_too = sleepers_endure s.sleepers.items s.sleepers.items refl;
+        root = λ t slot found home. second.root t slot (first.root t slot found home) home;
         polled = λ t slot found polled mine.
             let one = first.polled t slot found polled mine in
             let two = second.polled t one.0 one.1 one.2.polled (ap (λ (o : TaskSlot B). o.poller) one.2.kept ∙ mine) in (
@@ -47,10 +50,11 @@ module _ {B : Type 0} where
                 polled = two.2.polled;
                 number = two.2.number ∙ one.2.number;
                 cancelled = λ h. two.2.cancelled (one.2.cancelled h);
-                kept = two.2.kept ∙ ap (λ (o : TaskSlot B). record o { cell = two.0.cell; cleared = two.0.cleared; fresh = two.0.fresh }) one.2.kept;
+                kept = two.2.kept ∙ ap (λ (o : TaskSlot B). record o { cell = two.0.cell; cleared = two.0.cleared; fresh = two.0.fresh; output = two.0.output }) one.2.kept;
               },
             );
-        room = λ socket h. h;
+        room = λ h. h;
+        stretch = λ file offset n h. h;
         stopped = λ h. h;
         closed = λ h. h;
         by_zero = λ h. (refl, refl);
@@ -61,13 +65,13 @@ module _ {B : Type 0} where
 
 module _ {B L : Type 0} (left : B → L) (runs : L → Plan → Option ℕ → Type 0) (holds : L → Option Said → List ℕ) (spot : L → Option Said → Spot) (gives : L → Option Sight → Said → Act B → L → Option Sight → Type 0) where
   performs_woken : (p : Plan) (slot : TaskSlot B) → Performs left runs holds p slot → Performs left runs holds p (woken_slot slot)
-  performs_woken p slot = performs_still left runs holds spot p slot (woken_slot slot) (record { home = refl; body = body_woken slot.cell.phase slot.body; told = λ answer hears. (hears, refl) })
+  performs_woken p slot = performs_still left runs holds spot p slot (woken_slot slot) (record { home = refl; body = body_woken slot.cell.phase slot.body; going = λ h. sym (complete_woken slot.cell.phase) ∙ h; told = λ answer hears. (hears, refl) })
 
-  pub performs_passing : (p : Plan) (slot : TaskSlot B) (b' : B) (a : Act B) → IsAnswer a Said.Pass → held_after a Said.Pass slot.held.items ≡ slot.held.items → is_polled slot.cell.phase ≡ true → slot.waiting ≡ Waiting.Nothing → GoesOn runs holds spot gives p (task_seen left spot slot) a (left b')
+  pub performs_passing : (p : Plan) (slot : TaskSlot B) (b' : B) (a : Act B) → IsAnswer a Said.Pass → held_after a Said.Pass (numbers_held slot.held.items) ≡ (numbers_held slot.held.items) → is_polled slot.cell.phase ≡ true → slot.waiting ≡ Waiting.Nothing → GoesOn runs holds spot gives p (task_seen left spot slot) a (left b')
       → Performs left runs holds p (record slot { body = Some b'; told = Some Said.Pass })
   performs_passing p slot b' a answers held is nothing goes =
       performs_on left runs holds spot gives p (task_seen left spot slot) a (record slot { body = Some b'; told = Some Said.Pass }) b' goes refl (in_poll slot.cell.phase (Some b') is)
-      (λ answer hears. subst (λ y. IsAnswer a y × (held_after a y slot.held.items ≡ held_once_come slot.waiting slot.held.items)) (sym hears) (answers, held ∙ sym (ap (λ u. held_once_come u slot.held.items) nothing)))
+      (λ answer hears. subst (λ y. IsAnswer a y × (held_after a y (numbers_held slot.held.items) ≡ held_once_come slot.waiting (numbers_held slot.held.items))) (sym hears) (answers, held ∙ sym (ap (λ u. held_once_come u (numbers_held slot.held.items)) nothing)))
 
   -- the task that woke has gone on past its word, and the other was woken then
   module _ (answered : IsAnswered spot) (t : ℕ) (n : TaskNo) (w w' : Worker) (s s1 s' : Shared B) (e : Event) (h : HasActed left runs holds spot gives t w s s1 (Act.Wake n)) (it : WakesTask t n.0 w w' s1 s' e) (other : TaskSlot B) (there : slice_get it.middle.tasks.items n.0 ≡ Some other) where
@@ -93,7 +97,7 @@ module _ {B L : Type 0} (left : B → L) (runs : L → Plan → Option ℕ → T
 
     woke : (q : Place) (f hand : Option Runnable) → s' ≡ record s { tasks = s'.tasks } → s'.tasks.items ≡ slice_set it.middle.tasks.items n.0 (woken_slot other) → w' ≡ record w { place = q; root_ready = f; hand = hand } → e ≡ Wake n.0
         → SoundAt q (record w { place = q; root_ready = f; hand = hand }) (record s { tasks = s'.tasks }) → Beside w told_only (record w { place = q; root_ready = f; hand = hand }) (record s { tasks = s'.tasks })
-        → ((p : Plan) (vs : Views) → IsWake left spot t n.0 q f hand w s other p vs) → StepsOf left runs holds spot w s e w' s'
+        → ((p : Plan) (vs : Views) → Suits p vs w s → IsWake left spot t n.0 q f hand w s other p vs) → StepsOf left runs holds spot w s e w' s'
     woke q f hand kept items at event sound beside is =
         let u : ℕ = n.0 in
         let m : Shared B = it.middle in
@@ -113,15 +117,15 @@ module _ {B L : Type 0} (left : B → L) (runs : L → Plan → Option ℕ → T
               let moved : after_waking_word all (task_seen left spot slot) ≡ task_seen left spot mid =
               ap (λ b. if b then waits_for all (task_seen left spot slot) Waiting.Yielded else moved_on all (task_seen left spot slot)) (ap asks_yield so.asks)
               ∙ sym (moved_seen left spot all slot b' (Some Said.Pass) who.polled past) in
-              wakes_works left spot t u q f hand w s m s' slot mid other h.sound.here first there items who.waits p vs suits so.asks moved (is p vs)),
+              wakes_works left spot t u q f hand w s m s' slot mid other h.sound.here first there items who.waits p vs suits so.asks moved (is p vs suits)),
           sound,
           record {
             root = refl;
             config = refl;
-            performs = λ p fits.
-                (still_performs left runs holds u w w1 told_only s2 other (woken_slot other) there items refl refl (λ p' fits'. performs_woken p' other fits')).performs p
+            performs = λ p is fits.
+                (still_performs left runs holds u w w1 told_only s2 other (woken_slot other) there items refl refl (λ p' fits'. performs_woken p' other fits')).performs p is
                 ((still_performs left runs holds t w w s told_only slot mid h.made.there mid_leaves.items refl refl
-                (λ p' fits'. performs_passing p' slot b' (Act.Wake n) tt refl who.polled who.waits ((h.asks p' (record { workers = []; calls = [] }) fits').goes_on refl))).performs p fits);
+                (λ p' fits'. performs_passing p' slot b' (Act.Wake n) tt refl who.polled who.waits ((h.asks p' (record { workers = []; calls = [] }) fits').goes_on refl))).performs p is fits);
           },
           record {
             spares = λ j apart. spares_then j s m s' (one.spares j apart) (beside.spares j apart);
@@ -149,15 +153,15 @@ module _ {B L : Type 0} (left : B → L) (runs : L → Plan → Option ℕ → T
         goes : (q : Place) (hand : Option Runnable) → LeadsOn t n.0 w other q hand → w' ≡ record w { place = q; root_ready = w.root_ready; hand = hand } → StepsOf left runs holds spot w s e w' s'
         goes q hand lead at =
             let stirred : Stirs q hand w told_only s' = stirs t n.0 q hand w told_only s' other mid_sound mid_there ordinary items lead in
-            woke q w.root_ready hand kept items at wakes.1 stirred.sound stirred.beside (λ p vs. wakes_ordinary left spot t n.0 q hand w s other ordinary lead p vs)
+            woke q w.root_ready hand kept items at wakes.1 stirred.sound stirred.beside (λ p vs suits. wakes_ordinary left spot t n.0 q hand w s other ordinary lead p vs (pool_seen left spot p vs (Place.Poll t InPoll.Act) w s h.sound suits))
 
         by : (b : Bool) → is_cell_idle other.cell.phase ≡ b → StepsOf left runs holds spot w s e w' s'
         by true idle =
-            goes (Place.Push InPush.LoadPushHead (AfterPush.Act t)) (Some (runnable_of other.cell)) (leads_idle t n.0 w other (mid_sound.homes.number n.0 other mid_there) idle)
-            (wakes.0.worker other there ∙ ap (λ b. if b then record w { place = Place.Push InPush.LoadPushHead (AfterPush.Act t); hand = Some (runnable_of other.cell) } else record w { place = Place.Poll t InPoll.Act }) idle)
+            goes (first_push_of (AfterPush.Act t) w) (Some (runnable_of other.cell)) (leads_idle t n.0 w other (mid_sound.homes.number n.0 other mid_there) idle)
+            (wakes.0.worker other there ∙ ap (λ b. if b then record w { place = first_push_of (AfterPush.Act t) w; hand = Some (runnable_of other.cell) } else record w { place = Place.Poll t InPoll.Act }) idle)
         by false busy =
             goes (Place.Poll t InPoll.Act) None (leads_on t n.0 w other h.sound.hand busy)
-            (wakes.0.worker other there ∙ ap (λ b. if b then record w { place = Place.Push InPush.LoadPushHead (AfterPush.Act t); hand = Some (runnable_of other.cell) } else record w { place = Place.Poll t InPoll.Act }) busy ∙ ap (λ o. record w { place = Place.Poll t InPoll.Act; hand = o }) h.sound.hand)
+            (wakes.0.worker other there ∙ ap (λ b. if b then record w { place = first_push_of (AfterPush.Act t) w; hand = Some (runnable_of other.cell) } else record w { place = Place.Poll t InPoll.Act }) busy ∙ ap (λ o. record w { place = Place.Poll t InPoll.Act; hand = o }) h.sound.hand)
 
     -- the own root
     pub woke_root : n.0 ≡ w.root → other.home ≡ Some w.index → StepsOf left runs holds spot w s e w' s'
@@ -174,25 +178,20 @@ module _ {B L : Type 0} (left : B → L) (runs : L → Plan → Option ℕ → T
         let same : v ≡ record w { root_ready = f } = wakes.wakes.worker ∙ ap (λ o. record w { root_ready = o }) (wakes.wakes.flag other at_root) in
         let at : w' ≡ record w { place = q; root_ready = f; hand = None } =
         ap (λ y. record w' { place = y }) wakes.place ∙ ap (λ (x : Worker). record x { place = q }) same ∙ ap (λ o. record w { place = q; root_ready = f; hand = o }) h.sound.hand in
-        woke q f None kept (items ∙ ap (λ k. slice_set m.tasks.items k (woken_slot other)) (sym root)) at wakes.event flagged.sound flagged.beside (λ p vs. wakes_root left spot t n.0 w s other h.sound.hand home p vs)
+        woke q f None kept (items ∙ ap (λ k. slice_set m.tasks.items k (woken_slot other)) (sym root)) at wakes.event flagged.sound flagged.beside (λ p vs suits. wakes_root left spot t n.0 w s other h.sound.hand home p vs)
 
     -- any task, where a root of another worker is sent its message so
     pub woke_by : ((j : ℕ) → other.home ≡ Some j → j ≢ w.index → StepsOf left runs holds spot w s e w' s') → StepsOf left runs holds spot w s e w' s'
     woke_by elsewhere = by other.home refl
       where
-        -- a root's number is that of its worker
-        rooted : (j : ℕ) → other.home ≡ Some j → n.0 ≡ j
-        rooted j home = by_few (nat_lt n.0 s.config.workers) (sym (mid_sound.homes.home n.0 other mid_there) ∙ home)
-          where
-            by_few : (b : Bool) → (if b then Some n.0 else None) ≡ Some j → n.0 ≡ j
-            by_few true is = same_thing n.0 j is
-            by_few false is = let never : None ≡ Some j = is in absurd (cc)
-
         by : (o : Option ℕ) → other.home ≡ o → StepsOf left runs holds spot w s e w' s'
         by None home = woke_ordinary home
         by (Some j) home =
             by_number j w.index (λ apart. elsewhere j home apart)
-            (λ same. woke_root (rooted j home ∙ same ∙ sym h.sound.at_home) (home ∙ ap (λ i. Some i) same))
+            (λ same.
+            let mine : other.home ≡ Some w.index = home ∙ ap (λ i. Some i) same in
+            let root = mid_sound.runnable in
+            woke_root (mid_sound.homes.once n.0 w.root w.index other root.root mid_there root.there mine root.home) mine)
 
   -- who is woken is there
   pub woken_within : (t : ℕ) (n : TaskNo) (w : Worker) (s s1 : Shared B) → HasActed left runs holds spot gives t w s s1 (Act.Wake n) → n.0 < length s1.tasks.items

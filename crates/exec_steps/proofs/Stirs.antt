@@ -1,14 +1,52 @@
 -- A task wakes an ordinary task, or itself: what holds then, and what the step is to the machine.
 use Rattle.std.proofs.{Common.{◌≡◌, ◌≢◌, ◌⊎◌, inl, inr, ⊎_elim, ℕ, zero, suc, ◌+◌, ◌<◌, ◌≤◌, ◌==◌, ◌&&◌, arith, Bool, true, false, Contains, List, [], ◌∷◌, length, map, Option, Some, None, refl, sym, ap, subst, ◌∙◌, option_to_list, slice_get, slice_index_or, slice_set, if◌then◌else◌}, lemmas.{Bool.{false≢true, eq-eqb}, List.{length-set, map-set}}}
 use Rattle.exec_task.specs.{Phases.{is_polled, runnable_of, woken as cell_woken, is_idle as is_cell_idle}, Sight.Sight, declared.{body.{Act.Act, Said.Said}, runnable.Runnable.Runnable, task.Phase.Phase}}
-use Rattle.exec_machine.specs.{Choice.{Choice.Pays, Payer.ByAct}, declared.{config.ScriptWord.ScriptWord, event.Event.{Event, TheVariants.Wake}, state.{TaskPhase.TaskPhase, Waiting.Waiting}}, Progress.Plan, Same.is_number, Tasks.{after_wake, after_waking_word, is_woken_here, woken}, Tests.is_idle, Words.{acts, asks_wake, asks_yield, moved_on, next_word}, World.{Common, Task, no_task, task_of}}
-use Rattle.exec_moves.specs.{declared.{handing.{AfterPush.AfterPush, InPush.InPush}, place.{InPoll.InPoll, Place.Place}}, Move.move_wake, Seen.polls_at, Send.wake_task, State.{Desk, Moved, Things, goes}}
-use Rattle.exec_steps.{specs.{declared.parts.{shared.Shared.Shared, task_slot.TaskSlot.TaskSlot, worker.Worker.Worker}, Phased.is_complete, Places.{begins_at, claims_at, clears_at, hands_on_at, has_count_at, in_poll_of, is_published_at, one_if, polled_in, removes_at, step_of_poll}, Pooled.{WakesOrdinary, woken_slot}, Rooted.{Holds, ends_poll}, Sound.{AreHome, AreResting, HasGuest, HasRunnable, IsGuest, IsInHand, IsResting, SoundAt, Stands, is_told}, Spares.SparesPolled, Spots.Spot, View.{Views, common_of, desk_of, driver_of, own_of, phase_seen, task_seen, things_with, visible, with_view}, Whole.{HasOne, IsGenuine, is_number as is_counted, runnables_in}, Works.{Beside, Suits, TurnsSlot, Works}}, proofs.{Acting.{acts_so, by_word, me_at}, Cells.{complete_woken, idle_seen, polled_woken, woken_seen}, Facts.{by_number, or_left, same_thing, set_elsewhere, set_there}, Onces.once_queued, Polling.{in_hand_never, in_hand_once, on_in_poll}, PoolKept.unremoved, Slots.{Balances, before_in_poll, spares_slot, task_there, whole_slot}, SlotTasks.{IsAfter, Keeps, Tasked, genuine_set, homes_set, none_in, resting_set, sound_tasked}, Turning.view_found}}
+use Rattle.exec_machine.specs.{Choice.{Choice.Pays, Payer.ByAct}, declared.{config.ScriptWord.ScriptWord, event.Event.{Event, TheVariants.Wake}, state.{Next.Next, TaskPhase.TaskPhase, Waiting.Waiting}}, Progress.Plan, Same.is_number, Tasks.{after_wake, after_waking_word, is_woken_here, woken}, Tests.is_idle, Words.{acts, asks_wake, asks_yield, moved_on, next_word}, World.{Common, Task, no_task, task_of}}
+use Rattle.exec_moves.specs.{Callback.{is_of_pool, to_queue}, declared.{handing.{AfterPush.AfterPush, InGlobal.InGlobal, InPush.InPush}, place.{InPoll.InPoll, Place.Place}}, Move.move_wake, Seen.{next_at, polls_at, serves_at}, Send.wake_task, State.{Desk, Moved, Things, goes}}
+use Rattle.exec_steps.{specs.{Drained.IsBefore, Holding.holder_of, Roles.is_pool, Tests.first_push_of, declared.parts.{shared.Shared.Shared, task_slot.TaskSlot.TaskSlot, worker.Worker.Worker}, Places.{claims_at, clears_at, hands_on_at, has_count_at, in_poll_of, is_pooled_at, is_published_at, one_if, polled_in, removes_at, step_of_poll}, Pooled.woken_slot, Sound.{HasGuest, IsGuest, IsInHand, IsResting, Serves, SoundAt, Stands, Stops, is_told}, Spares.SparesPolled, Spots.Spot, View.{Views, common_of, desk_of, own_of, owed_at, task_seen, things_with, visible, with_view}, Whole.{HasOne, is_number as is_counted, runnables_in}, Works.{Beside, Suits, TurnsSlot, Works}}, proofs.{Acting.{acts_so, by_word, me_at}, Cells.{complete_woken, idle_seen, polled_woken, woken_seen}, Facts.{by_number, or_left, same_thing, set_elsewhere, set_there}, Onces.once_queued, Polling.{in_hand_never, in_hand_once, on_in_poll}, PoolKept.unremoved, Slots.{Balances, before_for, spares_slot, task_there, whole_slot}, SlotTasks.{IsAfter, Keeps, Tasked, homes_set, none_in, resting_set, sound_tasked}, Turning.view_found}}
 
 -- what a hand has
 pub only : (x y : Runnable) → Contains (option_to_list (Some y)) x → x ≡ y
 only x y (zero, few, is) = sym is
 only x y (suc n, few, is) = absurd (omega (arith, few))
+
+-- the way into a queue
+record IsWay (t : ℕ) (q : Place) : Type 0 where
+  pub after : IsAfter q
+  pub polls : polls_at q ≡ Some t
+  pub step : step_of_poll q ≡ InPoll.Act
+  pub removes : removes_at q ≡ None
+  pub unpooled : is_pooled_at q ≡ false
+  pub hands : hands_on_at q ≡ true
+  pub free : next_at q ≡ Next.Free
+  pub unserved : serves_at q ≡ false
+  pub owes : (n : ℕ) → owed_at n q ≡ []
+
+is_way : (t : ℕ) (pool : Bool) → IsWay t (if pool then Place.Push InPush.LoadPushHead (AfterPush.Act t) else Place.Global InGlobal.Append (AfterPush.Act t))
+is_way t true =
+    record {
+      after = record { open_still = refl; closing = refl; served = refl; unarmed = refl; calls = refl; begins = refl; queue = λ x h. h; searching = λ b h. h; aims = λ c i seats. tt; batch = λ ms h. absurd (false≢true h); spare = refl; cancels = refl; sends_cancel = refl; heard = refl; bare = refl; claims = refl; counts = refl; published = refl; clears = refl; passes = refl; joins = refl };
+      polls = refl;
+      step = refl;
+      removes = refl;
+      unpooled = refl;
+      hands = refl;
+      free = refl;
+      unserved = refl;
+      owes = λ n. refl;
+    }
+is_way t false =
+    record {
+      after = record { open_still = refl; closing = refl; served = refl; unarmed = refl; calls = refl; begins = refl; queue = λ x h. h; searching = λ b h. h; aims = λ c i seats. tt; batch = λ ms h. absurd (false≢true h); spare = refl; cancels = refl; sends_cancel = refl; heard = refl; bare = refl; claims = refl; counts = refl; published = refl; clears = refl; passes = refl; joins = refl };
+      polls = refl;
+      step = refl;
+      removes = refl;
+      unpooled = refl;
+      hands = refl;
+      free = refl;
+      unserved = refl;
+      owes = λ n. refl;
+    }
 
 module _ {B : Type 0} where
   -- where the worker goes on, by whether the task was idle, and what is in its hand
@@ -17,23 +55,24 @@ module _ {B : Type 0} where
     pub polls : polls_at q ≡ Some t
     pub step : step_of_poll q ≡ InPoll.Act
     pub removes : removes_at q ≡ None
+    pub unpooled : is_pooled_at q ≡ false
     pub hands : IsInHand None (hands_on_at q) h
     pub genuine : (r : Runnable) → Contains (option_to_list h) r → r ≡ runnable_of slot.cell
     pub mine : (k : ℕ) → k ≢ u → runnables_in k (option_to_list h) ≡ 0
     pub one : (g : Bool) (n : ℕ) → HasOne g slot.cell.phase (n + 0) → HasOne g (cell_woken slot.cell.phase) (n + runnables_in u (option_to_list h))
     pub own : own_of (record w { place = q; hand = h }) ≡ me_at t w
-    pub desk : (phase : TaskPhase) → is_idle phase ≡ is_cell_idle slot.cell.phase
-        → (if is_idle phase then record (desk_of (record w { place = Place.Poll t InPoll.Act })) { hand = Some u; place = Place.Push InPush.LoadPushHead (AfterPush.Act t) } else goes (Place.Poll t InPoll.Act) (desk_of (record w { place = Place.Poll t InPoll.Act })))
+    pub desk : (c : Common) (phase : TaskPhase) → is_of_pool c w.index ≡ is_pool w.role → is_idle phase ≡ is_cell_idle slot.cell.phase
+        → (if is_idle phase then record (desk_of (record w { place = Place.Poll t InPoll.Act })) { hand = Some u; place = to_queue c w.index (AfterPush.Act t) } else goes (Place.Poll t InPoll.Act) (desk_of (record w { place = Place.Poll t InPoll.Act })))
         ≡ desk_of (record w { place = q; hand = h })
 
-  unwoken : (g : Bool) (p : Phase B) (n : ℕ) → is_cell_idle p ≡ false → HasOne g p n → HasOne g (cell_woken p) n
+  pub unwoken : (g : Bool) (p : Phase B) (n : ℕ) → is_cell_idle p ≡ false → HasOne g p n → HasOne g (cell_woken p) n
   unwoken g (Phase.Idle b) n busy h = absurd (false≢true (sym busy))
   unwoken g (Phase.Queued b) n busy h = h
   unwoken g Phase.Running n busy h = h
   unwoken g Phase.Notified n busy h = h
   unwoken g Phase.Complete n busy h = h
 
-  idle_once : (g : Bool) (p : Phase B) (n k : ℕ) → is_cell_idle p ≡ true → k ≡ 1 → HasOne g p (n + 0) → HasOne g (cell_woken p) (n + k)
+  pub idle_once : (g : Bool) (p : Phase B) (n k : ℕ) → is_cell_idle p ≡ true → k ≡ 1 → HasOne g p (n + 0) → HasOne g (cell_woken p) (n + k)
   idle_once g (Phase.Idle b) n k is one h = once_queued g (n + k) (omega (arith, one, h))
   idle_once g (Phase.Queued b) n k is one h = absurd (false≢true is)
   idle_once g Phase.Running n k is one h = absurd (false≢true is)
@@ -41,24 +80,28 @@ module _ {B : Type 0} where
   idle_once g Phase.Complete n k is one h = absurd (false≢true is)
 
   -- an idle task is to be queued
-  pub leads_idle : (t u : ℕ) (w : Worker) (slot : TaskSlot B) → slot.cell.number ≡ record { 0 = u } → is_cell_idle slot.cell.phase ≡ true → LeadsOn t u w slot (Place.Push InPush.LoadPushHead (AfterPush.Act t)) (Some (runnable_of slot.cell))
+  pub leads_idle : (t u : ℕ) (w : Worker) (slot : TaskSlot B) → slot.cell.number ≡ record { 0 = u } → is_cell_idle slot.cell.phase ≡ true → LeadsOn t u w slot (first_push_of (AfterPush.Act t) w) (Some (runnable_of slot.cell))
   leads_idle t u w slot number idle =
       let r : Runnable = runnable_of slot.cell in
       let at : r.task.0 ≡ u = ap (λ n. n.0) number in
+      let q : Place = first_push_of (AfterPush.Act t) w in
+      let way : IsWay t q = is_way t (is_pool w.role) in
       let d = desk_of (record w { place = Place.Poll t InPoll.Act }) in
       record {
-        after = record { open_still = refl; closing = refl; served = refl; unarmed = refl; calls = refl; begins = refl; queue = λ x h. h; searching = λ b h. h; aims = λ c i seats. tt; batch = λ ms h. h; claims = refl; counts = refl; published = refl; clears = refl };
-        polls = refl;
-        step = refl;
-        removes = refl;
-        hands = refl;
+        after = way.after;
+        polls = way.polls;
+        step = way.step;
+        removes = way.removes;
+        unpooled = way.unpooled;
+        hands = subst (λ b. IsInHand None b (Some r)) (sym way.hands) refl;
         genuine = λ x has. only x r has;
         mine = λ k other. in_hand_never k u r at other;
         one = λ g n h. idle_once g slot.cell.phase n (runnables_in u (option_to_list (Some r))) idle (in_hand_once u r at) h;
-        own = refl;
-        desk = λ phase is.
-            ap (λ b. if b then record d { hand = Some u; place = Place.Push InPush.LoadPushHead (AfterPush.Act t) } else goes (Place.Poll t InPoll.Act) d) (is ∙ idle)
-            ∙ ap (λ n. record d { hand = Some n; place = Place.Push InPush.LoadPushHead (AfterPush.Act t) }) (sym at);
+        own = rw (way.polls, way.free, way.unserved, way.owes) refl;
+        desk = λ c phase pool is.
+            ap (λ b. if b then record d { hand = Some u; place = to_queue c w.index (AfterPush.Act t) } else goes (Place.Poll t InPoll.Act) d) (is ∙ idle)
+            ∙ ap (λ b. record d { hand = Some u; place = (if b then Place.Push InPush.LoadPushHead (AfterPush.Act t) else Place.Global InGlobal.Append (AfterPush.Act t)) }) pool
+            ∙ ap (λ n. record d { hand = Some n; place = q }) (sym at);
       }
 
   -- any other remembers the wake
@@ -66,36 +109,35 @@ module _ {B : Type 0} where
   leads_on t u w slot empty busy =
       let d = desk_of (record w { place = Place.Poll t InPoll.Act }) in
       record {
-        after = on_in_poll t InPoll.Act refl;
+        after = on_in_poll t InPoll.Act refl refl;
         polls = refl;
         step = refl;
         removes = refl;
+        unpooled = refl;
         hands = refl;
         genuine = λ x has. absurd (none_in x has);
         mine = λ k other. refl;
         one = λ g n h. unwoken g slot.cell.phase (n + 0) busy h;
         own = refl;
-        desk = λ phase is.
-            ap (λ b. if b then record d { hand = Some u; place = Place.Push InPush.LoadPushHead (AfterPush.Act t) } else goes (Place.Poll t InPoll.Act) d) (is ∙ busy)
+        desk = λ c phase pool is.
+            ap (λ b. if b then record d { hand = Some u; place = to_queue c w.index (AfterPush.Act t) } else goes (Place.Poll t InPoll.Act) d) (is ∙ busy)
             ∙ ap (λ o. desk_of (record w { place = Place.Poll t InPoll.Act; hand = o })) empty;
       }
 
-  keeps_woken : (slot : TaskSlot B) → Keeps slot (woken_slot slot)
+  pub keeps_woken : (slot : TaskSlot B) → Keeps slot (woken_slot slot)
   keeps_woken slot = record { home = refl; number = refl; owner = refl }
 
-  rests_woken : (slot : TaskSlot B) → IsResting slot → IsResting (woken_slot slot)
+  pub rests_woken : (slot : TaskSlot B) → IsResting slot → IsResting (woken_slot slot)
   rests_woken slot it =
       record {
         uncleared = λ h. it.uncleared (sym (complete_woken slot.cell.phase) ∙ h);
-        held = it.held;
-        waits = it.waits;
         told = λ h. it.told (ap (is_told slot.waiting) (sym (complete_woken slot.cell.phase)) ∙ h);
         untold = it.untold;
       }
 
   guest_woken : (x : InPoll) (i : ℕ) (slot : TaskSlot B) → IsGuest x i slot → IsGuest x i (woken_slot slot)
   guest_woken x i slot it =
-      record { ordinary = it.ordinary; polled = polled_woken slot.cell.phase ∙ it.polled; body = it.body; poller = it.poller; cancelled = it.cancelled; held = it.held; waits = it.waits; told = it.told; untold = it.untold; there = it.there }
+      record { ordinary = it.ordinary; polled = polled_woken slot.cell.phase ∙ it.polled; body = it.body; poller = it.poller; cancelled = it.cancelled; told = it.told; untold = it.untold; there = it.there }
 
   -- tasks once an ordinary one was woken
   woken_tasked : (t u : ℕ) (q : Place) (h : Option Runnable) (w : Worker) (s : Shared B) (slot : TaskSlot B) → SoundAt (Place.Poll t InPoll.Act) w s → slice_get s.tasks.items u ≡ Some slot → slot.home ≡ None → LeadsOn t u w slot q h
@@ -117,7 +159,9 @@ module _ {B : Type 0} where
       let is : it.0 ≡ slot = same_thing it.0 slot (sym it.1 ∙ ap (slice_get tasks) same ∙ there) in
       (slot', ap (slice_get (slice_set tasks u slot')) same ∙ found, guest_woken InPoll.Act w.index slot (subst (IsGuest InPoll.Act w.index) is it.2))) in
       record {
-        homes = homes_set s.config.workers tasks u slot slot' there (keeps_woken slot) sound.homes;
+        pooled = λ is. absurd (false≢true (sym lead.unpooled ∙ is));
+        serves = subst (λ o. Serves o w.root w.role) (sym lead.polls) sound.serves;
+        homes = homes_set s.config.workers (length s.seats.items) tasks u slot slot' there (keeps_woken slot) sound.homes;
         runnable = record { root = run.root; there = root ∙ run.there; home = run.home; number = run.number; once = run.once; one = run.one };
         hand = lead.hands;
         genuine = λ r has.
@@ -125,8 +169,8 @@ module _ {B : Type 0} where
             let at : r.task.0 ≡ u = ap (λ x. x.task.0) is ∙ ap (λ n. n.0) number in
             record { slot = slot'; there = ap (slice_get (slice_set tasks u slot')) at ∙ found; ordinary = ordinary; of_it = is };
         guest = subst (λ o. HasGuest o (step_of_poll q) w.index w.root (slice_set tasks u slot')) (sym lead.polls) (subst (λ x. HasGuest (Some t) x w.index w.root (slice_set tasks u slot')) (sym lead.step) guest);
-        resting = resting_set s.config.workers tasks u slot slot' there (λ within unpolled. rests_woken slot (sound.resting u slot there within (sym (polled_woken slot.cell.phase) ∙ unpolled))) sound.resting;
-        rooted = record { root = λ o at_root. subst (λ y. Holds (ends_poll y) w.index w.root o.held.items o.waiting (is_complete o.cell.phase) w.names (driver_of w) w.home.timers s.requests.items s.sleepers.items) (sym own) (sound.rooted.root o (sym root ∙ at_root)) };
+        resting = resting_set tasks u slot slot' there (λ home unpolled. rests_woken slot (sound.resting u slot there ordinary (sym (polled_woken slot.cell.phase) ∙ unpolled))) sound.resting;
+        stops = subst (λ o. Stops o (step_of_poll q) w.index (slice_set tasks u slot') s.requests.items s.sleepers.items) (sym lead.polls) (subst (λ x. Stops (Some t) x w.index (slice_set tasks u slot') s.requests.items s.sleepers.items) (sym lead.step) (λ o found_t. tt));
         going = λ o at_root. (sound.phased sound.seated.seat sound.seated.there).root o (sym root ∙ at_root);
         stands = λ o at_root. subst (λ y. Stands y w.index o) (sym own) (sound.tied.stands o (sym root ∙ at_root));
       }
@@ -136,6 +180,7 @@ module _ {B : Type 0} where
       let polls : polls_at q ≡ polls_at w.place = lead.polls ∙ sym (ap polls_at sound.here) in
       record {
         keeps = keeps_woken slot;
+        holder = ap (λ b. record (holder_of slot) { over = b }) (complete_woken slot.cell.phase);
         apart = λ k other. lead.mine k other ∙ sym (ap (λ o. runnables_in k (option_to_list o)) sound.hand);
         one = λ g home n one. lead.one g n (subst (λ o. HasOne g slot.cell.phase (n + runnables_in u (option_to_list o))) sound.hand one);
         polls_apart = λ k other. ap (λ o. is_counted o k) polls;
@@ -143,6 +188,12 @@ module _ {B : Type 0} where
         remains = λ home. record { cleared = refl; over = λ over. complete_woken slot.cell.phase ∙ over; poller = λ polled. inr (refl, sym (polled_woken slot.cell.phase) ∙ polled) };
         removes = λ u is. absurd (unremoved (removes_at q) lead.removes u is);
       }
+
+  -- who polls an ordinary task hasn't passed the barrier
+  before_woken : (t u : ℕ) (q : Place) (w : Worker) (s : Shared B) (slot : TaskSlot B) → SoundAt (Place.Poll t InPoll.Act) w s → slice_get s.tasks.items u ≡ Some slot → polls_at q ≡ Some t → slot.home ≡ None → polls_at q ≡ Some u → IsBefore w.index s.seats.items
+  before_woken t u q w s slot sound there polls home its =
+      let same : t ≡ u = same_thing t u (sym polls ∙ its) in
+      before_for t InPoll.Act w s slot sound (ap (slice_get s.tasks.items) same ∙ there) home
 
   -- what is sound then, and what others keep
   pub record Stirs (q : Place) (h : Option Runnable) (w : Worker) (s s' : Shared B) : Type 0 where
@@ -158,7 +209,7 @@ module _ {B : Type 0} where
               spares_slot w.index j u s s' slot (woken_slot slot) other there items (keeps_woken slot) (λ is. let never : None ≡ Some j = sym ordinary ∙ is in absurd (cc))
               (λ polled mine. record { polled = polled_woken slot.cell.phase ∙ polled; number = refl; cancelled = λ e. e; kept = refl }) sound.homes;
           whole = λ others whole.
-              whole_slot u q w w.root_ready h s s' slot (woken_slot slot) others (sound.loot.none refl) (ap claims_at sound.here) (ap has_count_at sound.here) (ap is_published_at sound.here) (ap clears_at sound.here) (before_in_poll t InPoll.Act w s sound) lead.after there items (woken_balances t u q h w s slot sound lead) whole;
+              whole_slot u q w w.root_ready h s s' slot (woken_slot slot) others (sound.loot.none refl) (ap claims_at sound.here) (ap has_count_at sound.here) (ap is_published_at sound.here) (ap clears_at sound.here) (before_woken t u q w s slot sound there lead.polls) lead.after there items (woken_balances t u q h w s slot sound lead) whole;
         };
       }
 
@@ -239,8 +290,8 @@ module _ {B L : Type 0} (left : B → L) (spot : L → Option Said → Spot) whe
       })
 
   -- of an ordinary task
-  pub wakes_ordinary : (t u : ℕ) (q : Place) (h : Option Runnable) (w : Worker) (s : Shared B) (other : TaskSlot B) → other.home ≡ None → LeadsOn t u w other q h → (p : Plan) (vs : Views) → IsWake t u q w.root_ready h w s other p vs
-  wakes_ordinary t u q h w s other ordinary lead p vs =
+  pub wakes_ordinary : (t u : ℕ) (q : Place) (h : Option Runnable) (w : Worker) (s : Shared B) (other : TaskSlot B) → other.home ≡ None → LeadsOn t u w other q h → (p : Plan) (vs : Views) → is_of_pool (common_of left spot p vs s) w.index ≡ is_pool w.role → IsWake t u q w.root_ready h w s other p vs
+  wakes_ordinary t u q h w s other ordinary lead p vs pool =
       let all = common_of left spot p vs s in
       let d = desk_of (record w { place = Place.Poll t InPoll.Act }) in
       let by : Desk → Moved Things = λ k. record { event = Wake u; choice = Pays ByAct; desk = k; thing = things_with vs s } in
@@ -249,6 +300,6 @@ module _ {B L : Type 0} (left : B → L) (spot : L → Option Said → Spot) whe
         own = lead.own;
         moves = λ y home idle at.
             ap (move_wake p.config w.index all d (things_with vs s) t u) (home ∙ ordinary)
-            ∙ ap (λ z. by (wake_task t u d z).desk) at
-            ∙ ap by (lead.desk y.phase idle);
+            ∙ ap (λ z. by (wake_task w.index t u all d z).desk) at
+            ∙ ap by (lead.desk all y.phase pool idle);
       }

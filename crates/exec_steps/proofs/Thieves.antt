@@ -3,7 +3,7 @@ use Rattle.std.proofs.{Common.{◌≡◌, ◌≢◌, ℕ, ◌+◌, ◌/◌, ◌<
 use Rattle.exec_words.specs.{Queue.{Queue, published}, declared.head.Head.Head}
 use Rattle.exec_task.specs.declared.runnable.Runnable.{Runnable}
 use Rattle.exec_moves.specs.{declared.place.Place.Place, Pop.same_head, Seen.polls_at}
-use Rattle.exec_steps.{specs.{declared.parts.{seat.Seat.Seat as Chair, shared.Shared.Shared, worker.Worker.Worker}, Phased.stage_of, Places.{claims_at, drops_at, has_count_at, is_published_at, one_if}, Sound.{IsSeated, SoundAt}, View.{queue_seen, tasks_of}, Whole.{HasWhole, is_number, runnables_in, with_worker}}, proofs.{Facts.{same_number, set_elsewhere}, Handed.true_false, Queued.Hands}}
+use Rattle.exec_steps.{specs.{declared.parts.{seat.Seat.Seat as Chair, shared.Shared.Shared, worker.Worker.Worker}, Phased.stage_of, Places.{claims_at, drops_at, has_count_at, is_published_at, one_if}, Sound.{IsSeated, SoundAt}, View.{queue_seen, tasks_of}, Whole.{HasWhole, is_number, runnables_in, with_worker}}, proofs.{Aside.SameTold, Dedicated.as_long, Facts.{same_number, set_elsewhere}, Handed.true_false, Queued.Hands}}
 
 -- HEADS AND HALVES
 
@@ -40,14 +40,14 @@ pub published_seen : (q : Queue Runnable) (more : List Runnable) → published (
 published_seen q more = ap (λ xs. record (queue_seen q) { values = xs }) (sym (map-append (λ (r : Runnable). r.task.0) q.values more))
 
 -- a step that leaves all queues is one of the hands
-pub same_hands : (k : ℕ) (q : Queue Runnable) (w w' : Worker) → w'.hand ≡ w.hand → w'.loot ≡ w.loot → polls_at w'.place ≡ polls_at w.place → w'.searching ≡ w.searching → has_count_at w'.place ≡ has_count_at w.place → w'.index ≡ w.index → is_published_at w'.place ≡ is_published_at w.place → claims_at w'.place ≡ claims_at w.place → drops_at w'.place ≡ drops_at w.place → Hands k q q w w'
-same_hands k q w w' hand loot polls searching counts index shown claims drops =
-    record { runnables = λ t. rw (hand, loot) refl; polls = polls; searching = searching; counts = counts; index = index; published = shown; drops = drops; claims_beside = λ j other. rw claims refl; claims = rw claims refl }
+pub same_hands : (k : ℕ) (q : Queue Runnable) (w w' : Worker) → w'.hand ≡ w.hand → w'.loot ≡ w.loot → polls_at w'.place ≡ polls_at w.place → w'.searching ≡ w.searching → has_count_at w'.place ≡ has_count_at w.place → w'.index ≡ w.index → is_published_at w'.place ≡ is_published_at w.place → claims_at w'.place ≡ claims_at w.place → drops_at w'.place ≡ drops_at w.place → SameTold w w' → Hands k q q w w'
+same_hands k q w w' hand loot polls searching counts index shown claims drops told =
+    record { runnables = λ t. rw (hand, loot) refl; polls = polls; searching = searching; counts = counts; index = index; published = shown; drops = drops; told = told; claims_beside = λ j other. rw claims refl; claims = rw claims refl }
 
 module _ {B : Type 0} where
-  -- the seat of a worker of the pool
-  pub seat_there : (k : ℕ) (p : Place) (w : Worker) (s : Shared B) → SoundAt p w s → k < s.config.workers → (chair : Chair) × (slice_get s.seats.items k ≡ Some chair)
-  seat_there k p w s sound within = (_, slice_get-get_or s.seats.items k sound.seated.seat (omega (arith, within, sound.seated.many)))
+  -- the seat of a worker
+  pub seat_there : (k : ℕ) (p : Place) (w : Worker) (s : Shared B) → SoundAt p w s → k < length s.seats.items → (chair : Chair) × (slice_get s.seats.items k ≡ Some chair)
+  seat_there k p w s sound within = (_, slice_get-get_or s.seats.items k sound.seated.seat within)
 
   -- ANOTHER SEAT: the own one is as it was
 
@@ -57,7 +57,8 @@ module _ {B : Type 0} where
   pub seated_still : (k : ℕ) (chair' : Chair) (armed : Bool) (w : Worker) (s s' : Shared B) → k ≢ w.index → s'.seats.items ≡ slice_set s.seats.items k chair' → IsSeated w.index armed s.config.workers s.seats.items → IsSeated w.index armed s.config.workers s'.seats.items
   seated_still k chair' armed w s s' other set seated =
       record {
-        many = ap length set ∙ length-set s.seats.items k chair' ∙ seated.many;
+        many = as_long (ap length set ∙ length-set s.seats.items k chair') seated.many;
+        pool = seated.pool;
         seat = seated.seat;
         there = own_still k chair' w s s' other set ∙ seated.there;
         unarmed = seated.unarmed;

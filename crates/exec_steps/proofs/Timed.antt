@@ -1,14 +1,14 @@
 -- What holds again once a deadline is on the wheel.
-use Rattle.std.{proofs.{Common.{◌≡◌, ◌≢◌, ℕ, ◌+◌, ◌-◌, ◌^◌, ◌<◌, ◌≤◌, ◌==◌, Bool, true, false, List, [], length, Option, Some, None, IfSome, refl, sym, ap, subst, ◌∙◌, arith, inl, inr, slice_get, Ok}, lemmas.{Bool.false≢true, List.append-nil}}, specs.Prelude.unwrap_or}
+use Rattle.std.{proofs.{Common.{◌≡◌, ◌≢◌, ℕ, ◌+◌, ◌-◌, ◌^◌, ◌<◌, ◌≤◌, ◌==◌, Bool, true, false, List, [], length, Option, Some, None, IfSome, is_some, refl, sym, ap, subst, ◌∙◌, arith, inl, inr, slice_get, Ok}, lemmas.{Bool.false≢true, List.append-nil}}, specs.Prelude.unwrap_or}
 use Rattle.exec_base.specs.{Slab.{Slab, written}, declared.slab.Id.Id}
 use Rattle.exec_outcomes.specs.declared.outcome.Outcome.{Outcome}
 use Rattle.exec_time.specs.{Wheel.{Wheel, scheduled}, declared.timers.Sleeper.Sleeper as Sleeping}
-use Rattle.exec_request.specs.{States.asks_cancel, declared.results.WaiterState.{WaiterState, TheVariants.{Active, CancelRequested}}}
-use Rattle.exec_waiters.specs.{Events.with_tick, States.{takes_tick, tick_in}, Told.{Tells, nothing_told}, declared.{deferred.Deferred.Deferred, waiter.{Entry.TheVariants.Pending, Waiter.Waiter}, waiter_id.WaiterId.WaiterId}}
+use Rattle.exec_request.specs.{Requests.{asked_of, deadline_of}, States.asks_cancel, declared.results.WaiterState.{WaiterState, TheVariants.{Active, CancelRequested}}}
+use Rattle.exec_waiters.specs.{Events.with_tick, States.{needs_permit, takes_tick, tick_in, waiter_at}, Told.{Tells, nothing_told}, declared.{deferred.Deferred.Deferred, waiter.{Entry.TheVariants.Pending, Waiter.Waiter}, waiter_id.WaiterId.WaiterId}}
 use Rattle.exec_driver.{specs.{Driving.Driving, Lists.{first_of, rest_of, is_among, after_enrolment}, Punctual.IsPunctual, Steps.tick_for}, proofs.{Names.same_tells, Expiring.tick_tells}}
-use Rattle.exec_machine.specs.{declared.{state.RequestPhase.RequestPhase, config.Configuration.Configuration, event.Event.TheVariants.Enrol}, Tests.is_staged, World.{Own, Common, request_of}}
-use Rattle.exec_moves.specs.{Callback.told_if_ended, State.{Desk, Moved, Things}, Submit.{due_next, first_due, submits, Due.Enrols}, declared.place.{Service.Service, Place.Place, InService.InService}}
-use Rattle.exec_steps.{specs.{Sound.{has_wakes_at, AreOwed, IsSubmitted, IsTold, served_in}, declared.parts.{mail.Reply.Reply, record.Record.Record, shared.Shared.Shared, sleeping.SleeperRecord.SleeperRecord, worker.Worker.Worker}, Due.IsWheelAt, Flown.{HasFlown, IsPlain, operations}, Records.number_in, Serving.{changed_at, first_tick}, Submitting.IsNewIn, View.{own_of, driver_of}, Ordered.{IsOrdered, went_round}}, proofs.{Changing.{all_go_one, OneGoesOn, changes_one, keeps_one}, Going.{owning_on, GoesOn}, Marking.{known_then, plain_kept, mark_kept, mark_if, marked, was_marked}, Facts.by_name, Carries.carried_still, Enrolled.new_first, Enrolling.enrolled_at, Flown.landed_on, Seeing.makes, Serving.KeepsBy, Staging.{split_first, stages_again}, Orders.ticks_so}}
+use Rattle.exec_machine.specs.{declared.{state.RequestPhase.RequestPhase, config.Configuration.Configuration, event.Event.TheVariants.Enrol}, Tests.{is_kept, is_staged}, World.{Own, Common, request_of}}
+use Rattle.exec_moves.specs.{Told.told_if_ended, State.{Desk, Moved, Things}, Submit.{due_next, first_due, submits, Due.Enrols}, declared.place.{Service.Service, Place.Place, InService.InService}}
+use Rattle.exec_steps.{specs.{Sound.{IsSubmitted, served_in}, declared.parts.{mail.Reply.Reply, record.Record.Record, shared.Shared.Shared, sleeping.SleeperRecord.SleeperRecord, worker.Worker.Worker}, Due.IsWheelAt, Flown.{HasFlown, IsPlain, operations}, Records.number_in, Serving.{changed_at, first_tick}, Submitting.IsNewIn, View.{own_of, driver_of}, Ordered.{IsOrdered, went_round}}, proofs.{Known.known_written, Changing.{all_go_one, OneGoesOn, changes_one, keeps_one}, Going.{owning_on, GoesOn}, Marking.{known_then, plain_kept, mark_kept, mark_if, marked, was_marked}, Facts.by_name, Carries.carried_still, Enrolled.new_first, Enrolling.enrolled_at, Flown.landed_on, Seeing.makes, Serving.KeepsBy, Staging.{split_first, stages_again}, Orders.ticks_so}}
 pub use Rattle.exec_steps.proofs.Untold.{keeps_untold, told_still}
 
 -- THE WHEEL
@@ -31,7 +31,7 @@ abbrev pub times : ℕ → ℕ → Record → Record
 times start tick r = record r { shown = record r.shown { timer = Some (first_tick start tick (unwrap_or r.shown.operation.deadline 0)) } }
 
 times_plain : (start tick : ℕ) (r : Record) → IsPlain r.shown → IsPlain (times start tick r).shown
-times_plain start tick r p = record { bounded = p.bounded; moved = p.moved; first_part = p.first_part; unhinted = p.unhinted; ungated = p.ungated; deadline = p.deadline }
+times_plain start tick r p = record { bounded = p.bounded; moved = p.moved; deadline = p.deadline }
 
 -- no tick was set, and nobody asked for its cancel
 pub unset : (x : WaiterState) → takes_tick x ≡ true → (tick_in x ≡ None) × (asks_cancel x ≡ false)
@@ -55,7 +55,7 @@ comes_to_new c i gate k me s d none new = rw (none, new) refl
 
 -- the move, by what comes of it
 abbrev pub move_enrol : Configuration → ℕ → Own → Common → Desk → Things → ℕ → Service → ℕ → Option Outcome → Moved Things
-move_enrol c i me s d x gate v k outcome = makes (Enrol k outcome) (submits v gate (told_if_ended outcome (request_of s k) d)) x
+move_enrol c i me s d x gate v k outcome = makes (Enrol k outcome) (submits v gate (told_if_ended outcome k (request_of s k) d)) x
 
 -- WHAT HOLDS AGAIN
 
@@ -112,7 +112,11 @@ module _ {B : Type 0} (w : Worker) (s : Shared B) (new : IsNewIn w s) (id : Wait
         staging = flown.staging;
         telling = flown.telling;
         entries = flown.entries;
-        permits = refl;
+        gated = λ other x live needs.
+            by_name other.0 id.0 (λ apart. flown.gated other x (sym (changed.others other.0 apart) ∙ live) needs)
+            (λ eq.
+            let is_it : x ≡ it' = cc (live, eq, changed.is_at) in
+            flown.gated other it (ap (waiter_at d.requests) eq ∙ who.live) (ap needs_permit (sym is_it) ∙ needs));
         plain = plain_kept f rs k (times_plain start c.tick) w.index (λ r. refl) flown.plain;
         landed = landed_on w.names w.names d d' rs rs' (operations d.ring) flown.landed
             (λ other x r given live flies found landed.
@@ -170,7 +174,9 @@ module _ {B : Type 0} (w : Worker) (s : Shared B) (new : IsNewIn w s) (id : Wait
         alike =
             let timer = ap (λ (o : Option ℕ). Some (first_tick start c.tick (unwrap_or o 0))) who.told ∙ ap (λ (n : ℕ). Some n) (sym place.0) in
             let going : false ≡ true → it.in_flight ≡ true = λ h. absurd (false≢true h) in
-            assumption (a.cancelled ∙ free.1, timer, going, a);
+            let dated : true ≡ true → is_some (deadline_of it.request) ≡ true = λ h. ap is_some who.asked in
+            let alone : false ≡ true → is_kept (asked_of it.request).kind ≡ false = λ h. absurd (false≢true h) in
+            assumption (a.cancelled ∙ free.1, timer, going, dated, alone, a);
         start = same_start d.wheel id.0 t;
         tick = same_tick d.wheel id.0 t;
         requests = refl;
@@ -183,3 +189,5 @@ module _ {B : Type 0} (w : Worker) (s : Shared B) (new : IsNewIn w s) (id : Wait
       (subst (IsOrdered (went_round c w.moments) w.names.requests.items d.requests d.wheel d.lists.enrolments) new.due sound.due.order))))
       (one_more c start now d.wheel id.0 t wheel) refl (submitted_timed t) (flown_timed t)
       (carried_still w.names.requests.items d.requests d.ring s.requests.items s.store sound.carried id.0 it it' who.live refl (number_in w.names.requests.items id.0) f (λ r there. refl) (λ r there. refl))
+      refl
+      (known_written w.index w.names.requests.items d.requests s.opens s.opens s.requests.items (number_in w.names.requests.items id.0) f (λ y. record { id = refl; worker = refl; kind = refl; target = refl; unrefused = λ h. h }) (λ file h. h) id.0 it it' who.r refl who.live who.there (inl (λ h. inl h)) sound.known)

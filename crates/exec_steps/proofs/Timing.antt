@@ -1,11 +1,12 @@
 -- A deadline that goes on the wheel is a step.
 use Rattle.std.{proofs.{Common.{◌≡◌, ℕ, ◌+◌, ◌-◌, ◌*◌, ◌^◌, ◌<◌, ◌≤◌, ◌==◌, not, ◌∷◌, map, Option, Some, None, IfSome, refl, sym, ap, subst, ◌∙◌, arith, slice_get, slice_set}, lemmas.{Bool.eq-eqb, List.append-nil}}, specs.{Prelude.unwrap_or, Option.option_map}}
-use Rattle.exec_waiters.specs.{States.flying_count, Told.{Tells, nothing_told}, declared.waiter_id.WaiterId.WaiterId}
+use Rattle.exec_base.specs.Slab.{value_at}
+use Rattle.exec_waiters.{specs.{States.flying_count, Told.{Tells, nothing_told}, declared.{waiter.Entry.TheVariants.Pending, waiter_id.WaiterId.WaiterId}}, proofs.Changes.entry_of}
 use Rattle.exec_driver.specs.{Lists.{first_of, rest_of, after_enrolment}, Punctual.IsPunctual, Steps.{enrolled_by, told_by_enrolment, tick_for, ended_by}}
 use Rattle.exec_task.specs.declared.body.Said.{Said}
 use Rattle.exec_machine.specs.{declared.event.Event.{Event, TheVariants.Enrol}, Deadlines.{fires_at, outcome_at_enrol}, Same.{is_none, is_number, same_end}, Tests.is_queued as is_phase_queued, World.{Common, request_of}}
 use Rattle.exec_moves.specs.{Move.move_submit, Submit.{due_next, first_due, submits, Due.Enrols}, declared.place.{Service.Service, Place.Place, InService.InService}}
-use Rattle.exec_steps.{specs.{declared.parts.{names.Names.Names, shared.Shared.Shared, worker.Worker.Worker}, Due.IsWheelAt, Records.number_in, Serving.outcome_of_error, Spots.Spot, Submitting.IsNewIn, View.{Views, visible, with_view, own_of, desk_of, driver_of, common_of, seat_seen, things_with, numbers_of}, Works.Steps}, proofs.{Serving.{serves_to, IsServed, OthersKept, keeps_home, Serves, SparesRecords, Keeps, KeepsBy, spares_one}, Calling.request_seen, Changing.flying_after, Enrolled.{HasEnrolled, new_first}, Enrolling.{enrol_same, ended_not}, Idling.none_due, Seeing.{makes, shows, served, common_changed, common_same, things_kept}, Staging.{split_first, stages_again}, Timed.{comes_to_new, keeps_timed, keeps_untold, move_enrol, timed_driver, timed_records, timed_waiter, times, unset}}}
+use Rattle.exec_steps.{specs.{declared.parts.{names.Names.Names, shared.Shared.Shared, worker.Worker.Worker}, Due.IsWheelAt, Holding.{nap_of, thing_of}, Places.passes_at, Records.number_in, Serving.outcome_of_error, Spots.Spot, Submitting.IsNewIn, View.{Views, visible, with_view, own_of, desk_of, driver_of, common_of, seat_seen, things_with, numbers_of}, Works.Steps}, proofs.{Serving.{at_large, balances_still, serves_to, IsServed, OthersKept, keeps_home, Serves, SparesRecords, Keeps, KeepsBy, spares_one}, Recorded.request_seen, Lined.{map_changed, opens_same}, Slotted.{awaited_written, slots_written}, Changing.flying_after, Enrolled.{HasEnrolled, new_first}, Enrolling.{enrol_same, ended_not}, Idling.none_due, Seeing.{makes, shows, served, common_changed, common_same, things_kept}, Staging.{split_first, stages_again}, Timed.{comes_to_new, keeps_timed, keeps_untold, move_enrol, timed_driver, timed_records, timed_waiter, times, unset}}}
 
 module _ {B L : Type 0} (left : B → L) (spot : L → Option Said → Spot) where
   pub enrol_stays : (w w' : Worker) (s s' : Shared B) (e : Event) (id : WaiterId) → (new : IsNewIn w s) → first_of (driver_of w).lists.enrolments ≡ Some id → HasEnrolled w w' s s' e id None → w'.names ≡ w.names → Steps left spot w s e w' s'
@@ -53,17 +54,22 @@ module _ {B L : Type 0} (left : B → L) (spot : L → Option Said → Spot) whe
       let untold : KeepsBy w1 d' w.home.timers rs' s.sleepers.items s = keeps_untold w0 d' w.home.timers rs' s.sleepers.items s deferred tells kept in
       let keeps : Keeps w' s' = keeps_home w1 w' s s' rs' d' same2 by.shared driver by.records untold in
       let serves : Serves q w w' s s' = serves_to q q w w' s s' (subst (IsServed w) (sym same) refl) (subst (OthersKept s) (sym by.shared) refl) there (stages_again gate v) in
-      let show = shows q w w' s s' d' serves driver in
+      let show = shows q w w' s s' d' serves driver (ap (λ (x : Worker). x.home.timers) same) in
       let seen : visible w' ≡ visible w = show.seen in
-      let spares : SparesRecords w.index s s' = spares_one w.index s s' k who.r f by.records (ap (λ (y : Shared B). y.sleepers.items) by.shared) who.there who.worker (λ y. refl) in
+      let spares : SparesRecords w.index s s' = spares_one w.index s s' k who.r f (opens_same s.opens s'.opens s.requests.items sound.gates (ap (λ (y : Shared B). y.opens) by.shared)) (record { at = refl; over = λ h. h; sent = refl; forwarded = λ h. h }) by.records (ap (λ (y : Shared B). y.sleepers.items) by.shared) who.there who.worker (λ y. refl) in
       let wakes : deferred.notes.wakes.items ≡ w.home.deferred.notes.wakes.items = tells.notes.wakes_added ∙ append-nil w.home.deferred.notes.wakes.items in
       let outputs : deferred.outputs.items ≡ w.home.deferred.outputs.items = tells.outputs_added ∙ append-nil w.home.deferred.outputs.items in
+      let completions : deferred.notes.completions.items ≡ w.home.deferred.notes.completions.items = tells.notes.completions_added ∙ append-nil w.home.deferred.notes.completions.items in
+      let results : deferred.results.items ≡ w.home.deferred.results.items = tells.results_added ∙ append-nil w.home.deferred.results.items in
+      let was = entry_of (value_at d.requests id.0) it who.live in
+      let slots = slots_written w.names.requests.items d.requests id.0 (Pending it) (Pending it') was in
+      let awaited = awaited_written w.names.requests.items d.requests id.0 (Pending it) (Pending it') was refl in
       let flying : flying_count d'.requests ≡ flying_count d.requests =
       let n = flying_after d.requests id.0 it it' who.live in
       omega (arith, n) in
       let numbers : numbers_of w.names.requests.items d.lists.enrolments ≡ k ∷ numbers_of w.names.requests.items (rest_of d.lists.enrolments) = ap (numbers_of w.names.requests.items) (split_first id d.lists.enrolments first) in
       subst (λ x. Steps left spot w s x w' s') (sym by.event)
-      (served left spot q w w' s s' (Enrol k None) sound serves keeps spares
+      (served left spot q w w' s s' (Enrol k None) sound serves keeps spares (balances_still q w w' s s' sound.here serves spares (ap passes_at there) (ap (λ (x : Worker). x.home.deferred.notes.wakes.items) same ∙ wakes) (ap (map thing_of) by.records ∙ map_changed thing_of rs k who.r f who.there refl) (ap (λ (y : Shared B). map nap_of y.sleepers.items) by.shared))
       (λ p vs suits.
       let cp = p.config in
       let all = common_of left spot p vs s in
@@ -75,15 +81,15 @@ module _ {B L : Type 0} (left : B → L) (spot : L → Option Said → Spot) whe
       (none_due _ w.index w.moments s.config w.names d w.home.timers rs s.sleepers.items sound.due sound.named sound.config.some_tick begun (own_of w0) all refl refl new.due) in
       let due : due_next cp w.index gate (own_of w0) all (desk_of w0) ≡ Enrols k =
       comes_to_new cp w.index gate k (own_of w0) all (desk_of w0) none (ap (λ ks. slice_get ks 0) numbers) in
-      let desk : desk_of w' ≡ desk_of w0 = show.desk ∙ rw (there, ap (λ x. x.put_off) same, wakes, outputs) refl in
+      let desk : desk_of w' ≡ desk_of w0 = show.desk ∙ rw (there, ap (λ x. x.put_off) same, wakes, outputs, completions, results, slots, awaited) refl in
       record {
         moves =
             ap (move_submit cp w.index (own_of w0) all (desk_of w0) (things_with vs s) gate v) due
             ∙ ap (λ o. move_enrol cp w.index (own_of w0) all (desk_of w0) (things_with vs s) gate v k o) ends
             ∙ ap (λ x. makes (Enrol k None) x (things_with vs s)) (sym desk)
-            ∙ ap (makes (Enrol k None) (desk_of w')) (sym (things_kept vs w.index (visible w) (visible w') s s' suits.seen (ap (λ y. y.wakes) seen) serves.shared));
+            ∙ ap (makes (Enrol k None) (desk_of w')) (sym (things_kept vs w.index (visible w) (visible w') s s' suits.seen (ap (λ y. y.wakes) seen) serves.shared spares));
         may = (
-          refl,
+          at_large q w s sound refl,
           (
             ap (λ ks. is_number k (slice_get ks 0)) numbers ∙ eq-eqb k k refl,
             (
@@ -97,7 +103,7 @@ module _ {B L : Type 0} (left : B → L) (spot : L → Option Said → Spot) whe
         );
         own = show.own ∙ rw (there, ap (λ x. x.names.ended) same, ap (λ x. x.names.untold) same, numbers, flying) refl;
         common =
-            common_changed left spot p (with_view vs w.index (visible w')) s s' k who.r f by.shared by.records who.there (λ x. refl)
+            common_changed left spot p (with_view vs w.index (visible w')) s s' k who.r f by.shared by.records who.there refl
             ∙ ap (λ (x : Common). record x { requests = slice_set (map (λ r. r.shown) rs) k (f who.r).shown }) (common_same left spot p vs w w' s suits (λ c'. ap (λ y. seat_seen y c') seen))
             ∙ ap (λ y. record all { requests = slice_set (map (λ r. r.shown) rs) k (record who.r.shown { timer = Some (fires_at y (own_of w0) (unwrap_or who.r.shown.operation.deadline 0)) }) }) suits.config
             ∙ ap (λ x. record all { requests = slice_set (map (λ r. r.shown) rs) k (record x { timer = Some (fires_at cp (own_of w0) (unwrap_or x.operation.deadline 0)) }) }) (sym request);

@@ -1,7 +1,8 @@
 -- A step of one party keeps what holds of an executor: what the party leaves of others is enough for each of them.
-use Rattle.std.proofs.{Common.{◌≡◌, ◌≢◌, ℕ, zero, suc, ◌+◌, ◌*◌, ◌<◌, ◌≤◌, ◌==◌, Bool, true, false, List, [], ◌∷◌, ◌++◌, length, Some, refl, sym, ap, subst, ◌∙◌, arith, option_to_list, slice_get, slice_set, if◌then◌else◌}, lemmas.{List.length-set, Option.slice_get_within}}
-use Rattle.exec_moves.specs.Seen.{polls_at}
-use Rattle.exec_steps.{specs.{declared.parts.{caller.Caller.Caller, seat.Seat.Seat as Chair, shared.Shared.Shared, worker.Worker.Worker}, Calling.{CallBeside, CallSound, HasCallWhole, HaveMailboxes, HoldsForAll, has_count_in, with_caller}, Places.{claims_at, clears_at, drops_at, has_count_at, is_published_at, one_if}, Sound.{AreHome, Sound}, Spares.{IsMailbox, Spares}, Together.{StandTogether, all_have, callers_have}, Whole.{HasWhole, IsWhole, Profile, is_number, runnables_in, with_worker}, Works.Beside}, proofs.{Apart.{apart, holds_for_all}, Counting.at_most, Facts.{by_number, same_number, same_thing, set_elsewhere, set_there}, Outsiders.no_other, Spared.there_within}}
+use Rattle.std.proofs.{Common.{◌≡◌, ◌≢◌, ◌⊎◌, ℕ, zero, suc, ◌+◌, ◌*◌, ◌<◌, ◌≤◌, ◌==◌, Bool, true, false, List, [], ◌∷◌, ◌++◌, length, Some, refl, sym, ap, subst, ◌∙◌, arith, inl, inr, option_to_list, slice_get, slice_set, if◌then◌else◌}, lemmas.{List.{length-append, length-set}, Option.slice_get_within}}
+use Rattle.exec_machine.specs.declared.{config.Configuration.Configuration, event.Event.Event}
+use Rattle.exec_moves.specs.{Seen.polls_at, declared.handing.{CallPlace.CallPlace, InGlobal.InGlobal}}
+use Rattle.exec_steps.{specs.{declared.parts.{caller.Caller.Caller, seat.Seat.Seat as Chair, shared.Shared.Shared, worker.Worker.Worker}, Calling.{CallAims, CallBeside, CallSound, HasCallWhole, HaveMailboxes, HoldsForAll, has_count_in, with_caller}, Places.{claims_at, clears_at, drops_at, has_count_at, is_published_at, one_if}, Sound.{AreHome, Sound}, Spares.{IsMailbox, Spares, SparesMore}, Together.{StandTogether, all_have, callers_have}, Holding.mail_in, Whole.{HasWhole, IsWhole, Profile, is_number, mail_with, runnables_in, wakes_with, with_worker}, Works.{Beside, BesideNewcomer}}, proofs.{Apart.{apart, holds_for_all, with_more}, Counting.at_most, Facts.{by_number, same_number, same_thing, set_elsewhere, set_there}, Outsiders.no_other, Spared.there_within}}
 
 -- NUMBERS
 
@@ -40,6 +41,8 @@ swap_workers o a b apart = λ i.
       clears = λ t. shuffled (o.clears t) (one_if (is_number (clears_at a.place) t)) (one_if (is_number (clears_at b.place) t)) i;
       polled_by = λ j. swap_shown o.polled_by a.index b.index j (polls_at a.place) (polls_at b.place) apart i;
       drops_by = λ j. swap_shown o.drops_by a.index b.index j (drops_at a.place) (drops_at b.place) apart i;
+      mail = λ m. shuffled (o.mail m) (mail_in m (mail_with a)) (mail_in m (mail_with b)) i;
+      wakes = λ j t. swap_shown (λ k. o.wakes k t) a.index b.index j (wakes_with t a) (wakes_with t b) apart i;
     }
 
 -- a worker and a caller
@@ -54,6 +57,8 @@ swap_caller o c w = λ i.
       clears = λ t. o.clears t + one_if (is_number (clears_at w.place) t);
       polled_by = λ j. if j == w.index then polls_at w.place else o.polled_by j;
       drops_by = λ j. if j == w.index then drops_at w.place else o.drops_by j;
+      mail = λ m. o.mail m + mail_in m (mail_with w);
+      wakes = λ j t. if j == w.index then wakes_with t w else o.wakes j t;
     }
   where
     counts : (o.counts + one_if (has_count_in c.place)) + (one_if w.searching + one_if (has_count_at w.place)) ≡ (o.counts + (one_if w.searching + one_if (has_count_at w.place))) + one_if (has_count_in c.place)
@@ -71,6 +76,8 @@ swap_callers o a b = λ i.
       clears = o.clears;
       polled_by = o.polled_by;
       drops_by = o.drops_by;
+      mail = o.mail;
+      wakes = o.wakes;
     }
 
 -- THE OTHERS of one party, whose counts are few
@@ -109,6 +116,25 @@ others_of (x ∷ ws) cs (suc i) w there distinct =
     others_next x ws cs i w (λ same. distinct zero x refl (zero_other i) (sym same))
     (others_of ws cs i w there (λ k y at other. distinct (suc k) y at (suc_other k i other)))
 
+-- who stands last may be taken off first
+all_with_last : (ws : List Worker) (cs : List Caller) (v : Worker) → ((k : ℕ) (x : Worker) → slice_get ws k ≡ Some x → x.index ≢ v.index) → all_have (ws ++ v ∷ []) cs ≡ with_worker (all_have ws cs) v
+all_with_last [] cs v distinct = refl
+all_with_last (w ∷ ws) cs v distinct =
+    ap (λ o. with_worker o w) (all_with_last ws cs v (λ k x there. distinct (suc k) x there)) ∙ swap_workers (all_have ws cs) v w (λ same. distinct zero w refl (sym same))
+
+pub last_or_before : {A : Type 0} (xs : List A) (k : ℕ) (y x : A) → slice_get (xs ++ y ∷ []) k ≡ Some x → (slice_get xs k ≡ Some x) ⊎ ((k ≡ length xs) × (y ≡ x))
+last_or_before [] zero y x there = inr (refl, same_thing y x there)
+last_or_before [] (suc k) y x there = absurd (cc)
+last_or_before (z ∷ xs) zero y x there = inl there
+last_or_before (z ∷ xs) (suc k) y x there =
+    elim (last_or_before xs k y x there) [
+      | inl before ↦ inl before
+      | inr last ↦ inr (ap suc last.0, last.1)
+    ]
+
+one_more : (n : ℕ) → n + 1 ≡ suc n
+one_more n = omega arith
+
 pub record OthersOfCaller (ws : List Worker) (cs : List Caller) (j : ℕ) (c : Caller) : Type 0 where
   pub others : Profile
   pub all : (d : Caller) → all_have ws (slice_set cs j d) ≡ with_caller others d
@@ -140,37 +166,40 @@ others_of_caller (w ∷ ws) cs j c there =
       few = omega (arith, rest.few, at_most w.searching, at_most (has_count_at w.place));
     }
 
+call_aims_apart : (p : CallPlace) (n m : ℕ) → n ≤ m → CallAims p n → CallAims p m
+call_aims_apart (CallPlace.Signal x j) n m more aims = omega (arith, more, aims)
+call_aims_apart (CallPlace.Global (InGlobal.AddGlobalCount set)) n m more aims = aims
+call_aims_apart (CallPlace.ClaimWorker set) n m more aims = aims
+call_aims_apart _ n m more aims = tt
+
 module _ {B : Type 0} where
   -- a step of another party leaves a caller sound
-  call_apart : (c : Caller) (j : ℕ) (s s' : Shared B) → CallSound c s → Spares j s s' → AreHome s'.config.workers s'.tasks.items → CallSound c s'
+  call_apart : (c : Caller) (j : ℕ) (s s' : Shared B) → CallSound c s → SparesMore j s s' → AreHome s'.config.workers (length s'.seats.items) s'.tasks.items → CallSound c s'
   call_apart c j s s' sound spares homes =
       record {
         config = rw spares.config sound.config;
         homes = homes;
-        many = rw spares.config (spares.many ∙ sound.many);
+        many = omega (arith, spares.many, sound.many, ap (λ (c : Configuration). c.workers) spares.config);
         shards = rw spares.config (spares.shards ∙ sound.shards);
         hand = sound.hand;
         genuine = λ r has. spares.genuine r (sound.genuine r has);
-        aims = rw spares.config sound.aims;
+        aims = call_aims_apart c.place (length s.seats.items) (length s'.seats.items) spares.many sound.aims;
       }
 
   module _ (ws : List Worker) (cs : List Caller) (s : Shared B) (stands : StandTogether ws cs s) where
     apart_of : (i : ℕ) (w : Worker) → slice_get ws i ≡ Some w → (k : ℕ) (x : Worker) → slice_get ws k ≡ Some x → k ≢ i → x.index ≢ w.index
     apart_of i w there k x at other same = other (sym (stands.sound k x at).0 ∙ same ∙ (stands.sound i w there).0)
 
-    workers_few : (i : ℕ) (w : Worker) → slice_get ws i ≡ Some w → length ws ≤ 64
-    workers_few i w there = let sound = (stands.sound i w there).1 in omega (arith, stands.seats, sound.seated.many, sound.config.few)
-
     -- each party has its part of the balances
     pub has_whole : (i : ℕ) (w : Worker) → slice_get ws i ≡ Some w → HasWhole w s
     has_whole i w there =
         let rest = others_of ws cs i w there (apart_of i w there) in
-        record { others = rest.others; whole = subst (λ x. IsWhole x s) rest.now stands.whole; few = omega (arith, rest.few, workers_few i w there, stands.few) }
+        record { others = rest.others; whole = subst (λ x. IsWhole x s) rest.now stands.whole; few = omega (arith, rest.few, stands.most, stands.few) }
 
     pub has_call_whole : (i : ℕ) (w : Worker) → slice_get ws i ≡ Some w → (j : ℕ) (c : Caller) → slice_get cs j ≡ Some c → HasCallWhole c s
     has_call_whole i w at j c there =
         let rest = others_of_caller ws cs j c there in
-        record { others = rest.others; whole = subst (λ x. IsWhole x s) rest.now stands.whole; few = omega (arith, rest.few, workers_few i w at, stands.few) }
+        record { others = rest.others; whole = subst (λ x. IsWhole x s) rest.now stands.whole; few = omega (arith, rest.few, stands.most, stands.few) }
 
     -- each seat is a worker's, so there is a place for the one message of each inbox
     pub have_mailboxes : HaveMailboxes s
@@ -199,7 +228,7 @@ module _ {B : Type 0} where
       another_sound : (k : ℕ) (x : Worker) → k ≢ i → slice_get ws k ≡ Some x → (x.index ≡ k) × Sound x s'
       another_sound k x other at =
           let its = stands.sound k x at in
-          (its.0, apart x.place x s s' its.1 (beside.spares x.index (λ e. other (sym its.0 ∙ e ∙ mine))) all)
+          (its.0, apart x.place x s s' its.1 (with_more x.index s s' (beside.spares x.index (λ e. other (sym its.0 ∙ e ∙ mine)))) all)
 
       itself_sound : (k : ℕ) (x : Worker) → k ≡ i → slice_get (slice_set ws i w') k ≡ Some x → (x.index ≡ k) × Sound x s'
       itself_sound k x same at =
@@ -220,9 +249,72 @@ module _ {B : Type 0} where
           record {
             seats = length-set ws i w' ∙ stands.seats ∙ sym spared_too.many;
             few = stands.few;
+            most = rw length-set stands.most;
             sound = workers_sound;
-            calls = λ j c at. call_apart c (w.index + 1) s s' (stands.calls j c at) spared_too all.homes;
+            calls = λ j c at. call_apart c (w.index + 1) s s' (stands.calls j c at) (with_more (w.index + 1) s s' spared_too) all.homes;
             whole = whole_then;
+          }
+
+    -- A STEP OF WORKER i THAT MADE WORKER v
+
+    module _ (i : ℕ) (w w' v : Worker) (s' : Shared B) (e : Event) (there : slice_get ws i ≡ Some w) (index : w'.index ≡ w.index) (sound : Sound w' s') (beside : BesideNewcomer v w s e w' s') where
+      held_for_all : HoldsForAll s'
+      held_for_all = holds_for_all w'.place w' s' sound
+
+      numbered : w.index ≡ i
+      numbered = (stands.sound i w there).0
+
+      its_number : v.index ≡ length ws
+      its_number = beside.last ∙ sym stands.seats
+
+      -- who was there before
+      before_sound : (k : ℕ) (x : Worker) → slice_get (slice_set ws i w') k ≡ Some x → (x.index ≡ k) × Sound x s'
+      before_sound k x at =
+          by_number k i
+          (λ other.
+          let its = stands.sound k x (sym (set_elsewhere ws i k w' other) ∙ at) in
+          (its.0, apart x.place x s s' its.1 (beside.spares x.index (λ e. other (sym its.0 ∙ e ∙ numbered))) held_for_all))
+          (λ same.
+          let is : w' ≡ x = same_thing w' x (sym (set_there ws i w' w there) ∙ subst (λ n. slice_get (slice_set ws i w') n ≡ Some x) same at) in
+          (sym (ap (λ (y : Worker). y.index) is) ∙ index ∙ numbered ∙ sym same, subst (λ y. Sound y s') is sound))
+
+      with_newcomer_sound : (k : ℕ) (x : Worker) → slice_get (slice_set ws i w' ++ v ∷ []) k ≡ Some x → (x.index ≡ k) × Sound x s'
+      with_newcomer_sound k x at =
+          elim (last_or_before (slice_set ws i w') k v x at) [
+            | inl before ↦ before_sound k x before
+            | inr last ↦ (
+              sym (ap (λ (y : Worker). y.index) last.1) ∙ its_number ∙ sym (last.0 ∙ length-set ws i w'),
+              subst (λ y. Sound y s') last.1 beside.sound,
+            )
+          ]
+
+      distinct_from : (k : ℕ) (x : Worker) → slice_get (slice_set ws i w') k ≡ Some x → x.index ≢ v.index
+      distinct_from k x at same =
+          let within = slice_get_within (slice_set ws i w') k x at in
+          let is = (before_sound k x at).0 in
+          let many = length-set ws i w' in
+          omega (arith, within, is, many, same, its_number)
+
+      whole_with : IsWhole (all_have (slice_set ws i w' ++ v ∷ []) cs) s'
+      whole_with =
+          let rest = others_of ws cs i w there (apart_of i w there) in
+          let among : w'.index ≢ v.index = λ same. (let within = slice_get_within ws i w there in omega (arith, within, index, numbered, its_number, same)) in
+          let all : all_have (slice_set ws i w' ++ v ∷ []) cs ≡ with_worker (with_worker rest.others v) w' =
+          all_with_last (slice_set ws i w') cs v distinct_from ∙ ap (λ o. with_worker o v) (rest.all w' index) ∙ swap_workers rest.others w' v among in
+          subst (λ x. IsWhole x s') (sym all) (beside.whole rest.others (subst (λ x. IsWhole x s) rest.now stands.whole))
+
+      pub worker_born : StandTogether (slice_set ws i w' ++ v ∷ []) cs s'
+      worker_born =
+          let many : length (slice_set ws i w' ++ v ∷ []) ≡ length s'.seats.items =
+          length-append (slice_set ws i w') (v ∷ []) ∙ ap (λ n. n + 1) (length-set ws i w' ∙ stands.seats) ∙ one_more (length s.seats.items) ∙ sym beside.many in
+          let apart_from : SparesMore (w.index + 1) s s' = beside.spares (w.index + 1) (λ e. no_other w.index (sym e)) in
+          record {
+            seats = many;
+            few = stands.few;
+            most = omega (arith, many, beside.few);
+            sound = with_newcomer_sound;
+            calls = λ j c at. call_apart c (w.index + 1) s s' (stands.calls j c at) apart_from held_for_all.homes;
+            whole = whole_with;
           }
 
     -- A STEP OF CALLER j
@@ -233,12 +325,13 @@ module _ {B : Type 0} where
         record {
           seats = stands.seats ∙ sym (beside.spares 0).many;
           few = rw length-set stands.few;
+          most = stands.most;
           sound = λ k x at.
               let its = stands.sound k x at in
-              (its.0, apart x.place x s s' its.1 (beside.spares x.index) (beside.for_all (holds_for_all x.place x s its.1)));
+              (its.0, apart x.place x s s' its.1 (with_more x.index s s' (beside.spares x.index)) (beside.for_all (holds_for_all x.place x s its.1)));
           calls = λ k d at.
               by_number k j
-              (λ other. call_apart d 0 s s' (stands.calls k d (sym (set_elsewhere cs j k c' other) ∙ at)) (beside.spares 0) sound.homes)
+              (λ other. call_apart d 0 s s' (stands.calls k d (sym (set_elsewhere cs j k c' other) ∙ at)) (with_more 0 s s' (beside.spares 0)) sound.homes)
               (λ same.
               let is : c' ≡ d = cc (set_there cs j c' c there, subst (λ n. slice_get (slice_set cs j c') n ≡ Some d) same at) in
               subst (λ y. CallSound y s') is sound);

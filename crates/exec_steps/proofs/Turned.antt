@@ -8,33 +8,7 @@ use Rattle.exec_waiters.specs.{States.{file_of, tick_in}, Told.Tells, declared.{
 use Rattle.exec_driver.specs.{Driving.Driving, Opens.{OpenState, account_in, with_account}, Steps.{judged_as_over, landed_at, open_after, opens_after_end, permit_after, swept, taken_out, told_as, told_by_end, with_landings, unscheduled}, declared.driver.reaping.Reaped.Reaped, Lists.{with_queued, withdrawn}}
 use Rattle.exec_machine.specs.Tests.{is_empty}
 use Rattle.exec_moves.specs.{Serve.back_from_reap, declared.place.{AfterPermit.AfterPermit, Reaping.Reaping, Place.Place}}
-use Rattle.exec_steps.{specs.{declared.parts.{mail.Reply.Reply, shared.Shared.Shared, worker.Worker.Worker}, Flown.{IsPlain, IsUpTo, longest, operations}, Records.number_in, Sound.{SoundAt, IsAlike}, View.{driver_of, number_told, trailing, trails_wake}}, proofs.{Finished.GoesOver, Reaped.TellsOf, Requeued.GoesBack, Behind.{after_controls, is_op, none_left, ops_after}, Mine.live_mine, Starting.{fills, reads, simple, writes_bytes}, Swept.{RingAfter, ring_after, some_in_ring}, WokenSwept.{none_there, sweeps}}}
-
--- A REQUEST OF THE FIRST KINDS is of no open
-
-fileless : (q : Asking) (n : ℕ) → IsUpTo (longest (asked_of q).kind) n → (file_of q ≡ None) × (gate_of q ≡ None)
-fileless (Asking.Send x) n h = (refl, refl)
-fileless (Asking.Poll x) n h = (refl, refl)
-fileless (Asking.Recv r) n h = absurd (fills r.exact n h)
-fileless (Asking.ReadAt r) n h = absurd (reads r.way (length r.buf.bytes) n h)
-fileless (Asking.WriteAt x) n h = absurd (writes_bytes x.state n h)
-fileless (Asking.Sync x) n h = absurd h
-fileless (Asking.Connect x) n h = absurd h
-
-openless : (it : Waiter Reply Reply) (given : OpResult) (opens : List OpenState) → file_of it.request ≡ None → hinted_of it.request ≡ false → open_after it given (account_in opens (file_of it.request)) ≡ None
-openless it given opens file plain = ap (λ f. open_after it given (account_in opens f)) file ∙ rw plain refl
-
-same_opens : (it it1 : Waiter Reply Reply) (answer : Option Ended) (opens : List OpenState) (account : Option Account) → file_of it.request ≡ None → file_of it1.request ≡ None → opens_after_end (with_account opens (file_of it.request) account) it1 answer ≡ opens
-same_opens it it1 None opens account file file1 = ap (λ f. with_account opens f account) file
-same_opens it it1 (Some how) opens account file file1 = ap (λ f. with_account (with_account opens (file_of it.request) account) f (record_after it1.request how (account_in (with_account opens (file_of it.request) account) f))) file1 ∙ ap (λ f. with_account opens f account) file
-
-permitless : (it : Waiter Reply Reply) (answer : Option Ended) → gate_of it.request ≡ None → permit_after it answer ≡ None
-permitless it None gate = refl
-permitless it (Some how) gate = gate
-
-told_unkept : (it : Waiter Reply Reply) (answer : Option Ended) (opens : List OpenState) → file_of it.request ≡ None → told_as it answer (account_in opens (file_of it.request)) ≡ answer
-told_unkept it None opens file = refl
-told_unkept it (Some how) opens file = ap (λ f. told_as it (Some how) (account_in opens f)) file
+use Rattle.exec_steps.{specs.{declared.parts.{mail.Reply.Reply, shared.Shared.Shared, worker.Worker.Worker}, Flown.operations, Records.number_in, Sound.{SoundAt, IsAlike}, View.{driver_of, number_told, trailing, trails_wake}}, proofs.{Finished.GoesOver, Reaped.TellsOf, Requeued.GoesBack, Behind.{after_controls, is_op, none_left, ops_after}, Swept.{RingAfter, ring_after, some_in_ring}, WokenSwept.{none_there, sweeps}}}
 
 module _ {B : Type 0} (q : Place) (w : Worker) (s : Shared B) (sound : SoundAt q w s) (d' : Driving Reply Reply) (opens opens' : List OpenState) (before after : Deferred Reply Reply) (done : Reaped) (t : TellsOf w.names (driver_of w) d' s.requests.items opens opens' before after done) where
   abbrev pub turned_waiter : Waiter Reply Reply
@@ -46,42 +20,27 @@ module _ {B : Type 0} (q : Place) (w : Worker) (s : Shared B) (sound : SoundAt q
   turned_alike : IsAlike (driver_of w).wheel.start (driver_of w).wheel.tick t.reaped.has.it t.reaped.has.r.shown
   turned_alike = sound.named.alike t.reaped.has.id t.reaped.has.it t.reaped.has.r t.reaped.has.live t.reaped.has.there
 
-  turned_plain : IsPlain t.reaped.has.r.shown
-  turned_plain = sound.flown.plain (number_in w.names.requests.items t.reaped.has.id) t.reaped.has.r t.reaped.has.there (live_mine w.index w.names (driver_of w) w.home.timers s.requests.items s.sleepers.items sound.named t.reaped.has.id t.reaped.has.it t.reaped.has.r t.reaped.has.live t.reaped.has.there)
-
-  turned_kind : IsUpTo (longest (asked_of t.reaped.has.it.request).kind) t.reaped.has.r.shown.operation.length
-  turned_kind = subst (λ a. IsUpTo (longest a.kind) t.reaped.has.r.shown.operation.length) turned_alike.asked turned_plain.bounded
-
-  turned_after : IsUpTo (longest (asked_of t.reaped.from.reaps.request).kind) t.reaped.has.r.shown.operation.length
-  turned_after = subst (λ a. IsUpTo (longest a.kind) t.reaped.has.r.shown.operation.length) (ap (λ k. k.asked) (sym t.reaped.from.reaps.kept)) turned_kind
-
-  no_account : open_after t.reaped.has.it (result_in t.c.result) (account_in opens (file_of t.reaped.has.it.request)) ≡ None
-  no_account =
-      openless t.reaped.has.it (result_in t.c.result) opens (fileless t.reaped.has.it.request t.reaped.has.r.shown.operation.length turned_kind).0
-      (simple t.reaped.has.it.request t.reaped.has.r.shown.operation.length turned_kind).unhinted
+  -- what is kept of its open then
+  abbrev pub turned_account : Option Account
+  turned_account = open_after t.reaped.has.it (result_in t.c.result) (account_in opens (file_of t.reaped.has.it.request))
 
   abbrev turned_by : Option Ended → Option Account → Driving Reply Reply
   turned_by a account = with_landings t.reaped.from.second (judged_as_over (landed_at (taken_out t.reaped.first) turned_name turned_waiter) turned_name turned_waiter a account)
 
-  second_is : (a : Option Ended) → t.reaped.from.reaps.answer ≡ a → t.reaped.from.second ≡ turned_by a None
-  second_is a is = t.reaped.from.reaps.driver ∙ ap (λ x. turned_by x (open_after t.reaped.has.it (result_in t.c.result) (account_in opens (file_of t.reaped.has.it.request)))) is ∙ ap (turned_by a) no_account
+  second_is : (a : Option Ended) → t.reaped.from.reaps.answer ≡ a → t.reaped.from.second ≡ turned_by a turned_account
+  second_is a is = t.reaped.from.reaps.driver ∙ ap (λ x. turned_by x turned_account) is
 
-  pub opens_turned : opens' ≡ opens
-  opens_turned =
-      t.reaped.from.reaps.opens_after
-      ∙ same_opens t.reaped.has.it turned_waiter t.reaped.from.reaps.answer opens (open_after t.reaped.has.it (result_in t.c.result) (account_in opens (file_of t.reaped.has.it.request)))
-      (fileless t.reaped.has.it.request t.reaped.has.r.shown.operation.length turned_kind).0 (fileless t.reaped.from.reaps.request t.reaped.has.r.shown.operation.length turned_after).0
+  pub opens_turned : (a : Option Ended) → t.reaped.from.reaps.answer ≡ a → opens' ≡ opens_after_end (with_account opens (file_of t.reaped.has.it.request) turned_account) turned_waiter a
+  opens_turned a is = t.reaped.from.reaps.opens_after ∙ ap (opens_after_end (with_account opens (file_of t.reaped.has.it.request) turned_account) turned_waiter) is
 
-  pub permit_turned : done.permit ≡ None
-  permit_turned = t.permit ∙ permitless turned_waiter t.reaped.from.reaps.answer (fileless t.reaped.from.reaps.request t.reaped.has.r.shown.operation.length turned_after).1
+  pub permit_turned : (a : Option Ended) → t.reaped.from.reaps.answer ≡ a → done.permit ≡ permit_after turned_waiter a
+  permit_turned a is = t.permit ∙ ap (permit_after turned_waiter) is
 
-  pub ended_turned : done.ended ≡ t.reaped.from.reaps.answer
-  ended_turned = t.ended ∙ told_unkept t.reaped.has.it t.reaped.from.reaps.answer opens (fileless t.reaped.has.it.request t.reaped.has.r.shown.operation.length turned_kind).0
+  pub ended_turned : (a : Option Ended) → t.reaped.from.reaps.answer ≡ a → done.ended ≡ told_as t.reaped.has.it a (account_in opens (file_of t.reaped.has.it.request))
+  ended_turned a is = t.ended ∙ ap (λ x. told_as t.reaped.has.it x (account_in opens (file_of t.reaped.has.it.request))) is
 
-  pub tells_turned : (a : Option Ended) → t.reaped.from.reaps.answer ≡ a → Tells before after (told_by_end turned_name turned_waiter a None)
-  tells_turned a is =
-      subst (λ x. Tells before after (told_by_end turned_name turned_waiter a x)) no_account
-      (subst (λ x. Tells before after (told_by_end turned_name turned_waiter x (open_after t.reaped.has.it (result_in t.c.result) (account_in opens (file_of t.reaped.has.it.request))))) is t.reaped.from.reaps.tells)
+  pub tells_turned : (a : Option Ended) → t.reaped.from.reaps.answer ≡ a → Tells before after (told_by_end turned_name turned_waiter a turned_account)
+  tells_turned a is = subst (λ x. Tells before after (told_by_end turned_name turned_waiter x turned_account)) is t.reaped.from.reaps.tells
 
   ring_turned : t.reaped.from.second.ring ≡ ring_reaped t.reaped.first.ring → t.reaped.from.second.armed ≡ t.reaped.first.armed → RingAfter (number_told w.names.requests.items) (driver_of w) d' t.cs
   ring_turned ring armed = ring_after (number_told w.names.requests.items) (driver_of w) t.reaped.first t.reaped.from.second d' t.c t.cs t.reaped.swept_first ring armed t.reaped.from.swept_last sound.flown.polled t.operations_are
@@ -110,7 +69,7 @@ module _ {B : Type 0} (q : Place) (w : Worker) (s : Shared B) (sound : SoundAt q
         wheel = ap (λ x. x.wheel) like2 ∙ ap (λ x. x.wheel) shape2 ∙ ap (λ x. x.wheel) by ∙ ap (λ x. x.wheel) like1 ∙ ap (λ x. x.wheel) shape1;
       }
 
-  pub turned_over : (how : Ended) → t.reaped.from.reaps.answer ≡ Some how → GoesOver w s d' t.c t.cs how
+  pub turned_over : (how : Ended) → t.reaped.from.reaps.answer ≡ Some how → GoesOver w s d' t.c t.cs how turned_account
   turned_over how is =
       let d = driver_of w in
       let first = t.reaped.first in
@@ -129,7 +88,7 @@ module _ {B : Type 0} (q : Place) (w : Worker) (s : Shared B) (sound : SoundAt q
         kept = t.reaped.from.reaps.kept;
         ring = ring_turned (ap (λ x. x.ring) by) (ap (λ x. x.armed) by);
         requests = ap (λ x. x.requests) like2 ∙ ap (λ x. x.requests) shape2 ∙ ap (λ x. x.requests) by
-            ∙ ap (λ x. finished (written x t.reaped.has.id (Pending turned_waiter)) t.reaped.has.id turned_waiter how None) (ap (λ x. x.requests) like1 ∙ ap (λ x. x.requests) shape1);
+            ∙ ap (λ x. finished (written x t.reaped.has.id (Pending turned_waiter)) t.reaped.has.id turned_waiter how turned_account) (ap (λ x. x.requests) like1 ∙ ap (λ x. x.requests) shape1);
         lists = ap (λ x. x.lists) like2 ∙ ap (λ x. x.lists) shape2 ∙ ap (λ x. x.lists) by ∙ ap (withdrawn turned_name) (ap (λ x. x.lists) like1 ∙ ap (λ x. x.lists) shape1);
         wheel = ap (λ x. x.wheel) like2 ∙ ap (λ x. x.wheel) shape2 ∙ ap (λ x. x.wheel) by ∙ ap (λ x. unscheduled x (tick_in t.reaped.has.it.state)) (ap (λ x. x.wheel) like1 ∙ ap (λ x. x.wheel) shape1);
       }
@@ -143,7 +102,11 @@ module _ {B : Type 0} (q : Place) (w : Worker) (s : Shared B) (sound : SoundAt q
   unfolding turned_over
   over_has how is = refl
 
-  pub over_tells : (how : Ended) (is : t.reaped.from.reaps.answer ≡ Some how) → Tells before after (told_by_finish (turned_over how is).h.id (record (turned_over how is).h.it { in_flight = false; request = (turned_over how is).request }) how None)
+  pub over_request : (how : Ended) (is : t.reaped.from.reaps.answer ≡ Some how) → (turned_over how is).request ≡ t.reaped.from.reaps.request
+  unfolding turned_over
+  over_request how is = refl
+
+  pub over_tells : (how : Ended) (is : t.reaped.from.reaps.answer ≡ Some how) → Tells before after (told_by_finish (turned_over how is).h.id (record (turned_over how is).h.it { in_flight = false; request = (turned_over how is).request }) how turned_account)
   unfolding turned_over
   over_tells how is = tells_turned (Some how) is
 

@@ -2,8 +2,8 @@
 use Rattle.std.proofs.{Common.{◌≡◌, inl, inr, ℕ, zero, suc, ◌+◌, ◌-◌, ◌==◌, ◌<◌, Bool, true, false, List, [], ◌∷◌, ◌++◌, length, map, take, Option, None, Some, refl, sym, ap, subst, ◌∙◌, arith, slice_get, slice_set, slice_index_or, if◌then◌else◌, ◌≢◌}, lemmas.{Bool.{false≢true, Decides.nat_tests}, List.{length-append, length-map, length-set, map-append, set-get_or}}}
 use Rattle.exec_task.specs.{TaskSet.{AreAtHome, IsFor, Set, TakesNewest, at_number, passed, shard_at}, declared.{body.Said.Said, drain.Drain.Drain}}
 use Rattle.exec_machine.specs.{declared.{event.Event.{Event, TheVariants.Turn}, state.Next.Next}, Choice.Choice.Plain, Progress.Plan}
-use Rattle.exec_moves.specs.{declared.place.{InClosing.InClosing, Place.Place}, Close.{after_visit, visit}, Move.move_at, Pop.shard_count, Seen.{next_in_closing, polls_at}, State.{Moved, turns}, Thing.{set_shard, with_shard}}
-use Rattle.exec_steps.{specs.{Drained.{Duties, IsBefore, IsHeldOnce, in_set}, declared.parts.{shared.Shared.Shared, worker.Worker.Worker}, Phased.{HasPassed, IsGoing, IsPrepared, closes_at, has_left, has_shut, has_stopped, root_over}, Places.{clears_at, drops_at, no_drops, one_if}, Pooled.{PassesShard, TakesTask, Visited}, Sound.{Aims, SoundAt}, Spots.Spot, View.{Views, common_of, desk_of, own_of, owed_at, things_with, visible, with_view}, Whole.{duties_of, is_number, with_worker}, Works.{Steps, Suits}}, proofs.{Aside.queue_of_chair, Closes.{closed_by, follows_in, stays, unset}, Facts.{by_number, not_same, same_number}, Parting.stopped_now, PoolClosing.{Recounts, pool_recounted}, PoolShards.{all_passed, front_none, home_set, newest_taken, passed_on, passed_still, shard_elsewhere}, PoolKept.{chosen_other, chosen_own, gates_same}, Showing.map_set, Shutting.{Closes, GoesOnlyOn, Pools, pools_calm, shown_as}, Slots.before_barrier, Turning.view_found}}
+use Rattle.exec_moves.specs.{declared.place.{InClosing.InClosing, Place.Place}, Close.visit, Move.move_at, Parts.after_visit, Pop.shard_count, Seen.{next_in_closing, polls_at}, State.{Moved, turns}, Thing.{set_shard, with_shard}}
+use Rattle.exec_steps.{specs.{Drained.{Duties, IsBefore, IsHeldOnce, in_set}, declared.parts.{shared.Shared.Shared, worker.Worker.Worker}, Phased.{HasPassed, IsGoing, IsPrepared, closes_at, has_left, has_shut, has_stopped, root_over}, Places.{clears_at, drops_at, no_drops, one_if}, Pooled.{PassesShard, TakesTask, Visited}, Sound.{Aims, HasBatch, LetsGoAt, SoundAt}, Spots.Spot, View.{common_of, desk_of, driver_of, owed_at, own_of, things_with, Views, visible, with_view}, Whole.{duties_of, is_number, with_worker}, Works.{Steps, Suits}}, proofs.{Aside.queue_of_chair, Closes.{closed_by, follows_in, holds_still, stays, unset}, Facts.{by_number, not_same, same_number}, Parting.stopped_now, PoolClosing.{Recounts, pool_recounted}, PoolShards.{all_passed, front_none, home_set, newest_taken, passed_on, passed_still, shard_elsewhere}, PoolKept.{chosen_other, chosen_own, gates_same}, Showing.map_set, Shutting.{Closes, GoesOnlyOn, Pools, pools_calm, shown_as}, Slots.before_barrier, Turning.view_found}}
 
 abbrev numbers : List (ℕ × Unit {0}) → List ℕ
 numbers shard = map (λ e. e.0) shard
@@ -46,16 +46,16 @@ module _ {B L : Type 0} (left : B → L) (spot : L → Option Said → Spot) (w 
 
     -- where it leads, with the set then
     leads : (y : InClosing) → w' ≡ record w { place = Place.Closing y } → e ≡ Turn → set'.closed ≡ s.set.closed → length set'.shards ≡ length s.set.shards → has_left true (Some y) ≡ false → has_shut true (Some y) ≡ false → has_stopped true (Some y) ≡ true → root_over true (Some y) ≡ true → IsPrepared (Some y) w.names.unreleased set' → ((k : ℕ) → shard_at s.set k ≡ [] → shard_at set' k ≡ [])
-        → Pools (Place.Closing y) w.home.closing w.batch w.processed w s s'
+        → Pools (Place.Closing y) w.home.closing w.batch w.processed w s s' → LetsGoAt (Place.Closing y) (driver_of w).requests w.home.timers → HasBatch (Place.Closing y) w.batch.values
         → closes_at (Place.Closing y) ≡ true → Aims (Place.Closing y) s.config w.index s.seats.items → next_in_closing y ≡ Next.Free → owed_at w.workers (Place.Closing y) ≡ []
         → visit (shard_count s.config) drain (desk_of w) (numbers (shard_at s.set drain.at)) ≡ turns (Place.Closing y) (desk_of w) (numbers (shard_at set' drain.at)) → map numbers set'.shards ≡ slice_set (map numbers s.set.shards) drain.at (numbers (shard_at set' drain.at)) → Steps left spot w s e w' s'
-    leads y goes event closed more leaves shuts stops over prepared emptied pools closes aims free owes how shown =
+    leads y goes event closed more leaves shuts stops over prepared emptied pools lets_go batch closes aims free owes how shown =
         let q : Place = Place.Closing y in
         let phased = sound.phased sound.seated.seat sound.seated.there in
         let on : GoesOnlyOn w.index s s' = record { stopped = λ h. h; closed = λ h. closed ∙ h; by_zero = λ other. (refl, closed); shards = more; emptied = λ shut. emptied } in
         closed_by left spot (InClosing.Visit drain) q w.home.closing w.batch w.processed w w' s s' e sound (follows_in y)
-        (stays left spot w w' s s' e (InClosing.Visit drain) y sound going refl refl closed more refl leaves shuts (λ is. stopped_now (InClosing.Visit drain) w s sound refl refl ∙ sym stops) (λ h. h) q closes refl refl over prepared refl aims)
-        on (inl refl) (unset left spot w w' s s' e refl) pools refl goes
+        (stays left spot w w' s s' e (InClosing.Visit drain) y sound going refl refl closed more refl leaves shuts (λ is. stopped_now (InClosing.Visit drain) w s sound refl refl (sound.pooled refl) ∙ sym stops) (λ h. h) q closes refl refl over prepared refl refl lets_go batch aims)
+        on (inl refl) (unset left spot w w' s s' e refl) pools (holds_still left spot w w' s s' e q refl) refl goes
         (λ p vs suits.
         let cs = common_of left spot p vs s in
         let again = view_found vs w.index (visible w) suits.seen in
@@ -113,7 +113,7 @@ module _ {B L : Type 0} (left : B → L) (spot : L → Option Said → Spot) (w 
         is_mine = chosen_own w.index (drops_at w1.place) (others.drops_by w.index)
 
         shut : set'.closed ≡ true
-        shut = ap (λ z. z.closed) it.takes.others ∙ (sound.phased sound.seated.seat sound.seated.there).closed (stopped_now (InClosing.Visit drain) w s sound refl refl)
+        shut = ap (λ z. z.closed) it.takes.others ∙ (sound.phased sound.seated.seat sound.seated.there).closed (stopped_now (InClosing.Visit drain) w s sound refl refl (sound.pooled refl))
 
         clears : (u : ℕ) → 0 < d1.clears u → (j : ℕ) × IsBefore j s.seats.items × ((d1.drops_by j).clears ≡ Some u) × (set'.closed ≡ true)
         clears u some =
@@ -124,7 +124,7 @@ module _ {B L : Type 0} (left : B → L) (spot : L → Option Said → Spot) (w 
             let old = whole.pool.who_clears u (omega (arith, mine, none, some, was_clear u)) in
             let apart : old.0 ≢ w.index = λ same. let never : None ≡ Some u = sym (ap (λ x. x.clears) was_mine) ∙ subst (λ j. (d.drops_by j).clears ≡ Some u) same old.2 in absurd (cc) in
             (old.0, old.1, ap (λ x. x.clears) (others_by old.0 apart) ∙ old.2, shut))
-            (λ same. (w.index, before_barrier (Place.Closing (InClosing.Visit drain)) w s sound refl, ap (λ x. x.clears) is_mine ∙ ap (λ n. Some n) (sym same), shut))
+            (λ same. (w.index, before_barrier (Place.Closing (InClosing.Visit drain)) w s sound (sound.pooled refl) refl, ap (λ x. x.clears) is_mine ∙ ap (λ n. Some n) (sym same), shut))
 
         home_taken : AreAtHome s.set.shards → AreAtHome set'.shards
         home_taken home =
@@ -162,7 +162,7 @@ module _ {B L : Type 0} (left : B → L) (spot : L → Option Said → Spot) (w 
         by_number k drain.at
         (λ other. ap (λ zs. slice_index_or zs k []) shards ∙ shard_elsewhere s.set.shards drain.at k xs other ∙ none)
         (λ same. absurd (never_empty xs (record { 0 = t; 1 = tt }) (sym it.takes.newest ∙ ap (shard_at s.set) (sym same) ∙ none))) in
-        leads (InClosing.Clear t drain) it.worker event (ap (λ z. z.closed) set) (ap (λ z. length z.shards) set ∙ length-set s.set.shards drain.at xs) refl refl refl refl (it.its, passed_still drain s.set set' xs prepared.1 shards prepared.2) emptied (taken_pools it) refl tt refl refl how
+        leads (InClosing.Clear t drain) it.worker event (ap (λ z. z.closed) set) (ap (λ z. length z.shards) set ∙ length-set s.set.shards drain.at xs) refl refl refl refl (it.its, passed_still drain s.set set' xs prepared.1 shards prepared.2) emptied (taken_pools it) (λ no. absurd (false≢true no)) (λ no. absurd (false≢true no)) refl tt refl refl how
         (ap (λ z. map numbers z.shards) set ∙ map_set numbers s.set.shards drain.at xs)
 
     passes : PassesShard drain w w' s.set set' → e ≡ Turn → Steps left spot w s e w' s'
@@ -204,11 +204,11 @@ module _ {B L : Type 0} (left : B → L) (spot : L → Option Said → Spot) (w 
         by : (b : Bool) → (next.left == 0) ≡ b → Steps left spot w s e w' s'
         by true is =
             let goes : after_visit next ≡ InClosing.LeaveBarrier = rw is refl in
-            leads InClosing.LeaveBarrier (it.worker ∙ ap (λ y. record w { place = Place.Closing y }) goes) event (ap (λ z. z.closed) it.same) (ap (λ z. length z.shards) it.same) refl refl refl refl (all_passed next set' fits (same_number next.left 0 is) passed_it) emptied (pools InClosing.LeaveBarrier refl) refl tt refl refl (how InClosing.LeaveBarrier goes) shown
+            leads InClosing.LeaveBarrier (it.worker ∙ ap (λ y. record w { place = Place.Closing y }) goes) event (ap (λ z. z.closed) it.same) (ap (λ z. length z.shards) it.same) refl refl refl refl (all_passed next set' fits (same_number next.left 0 is) passed_it) emptied (pools InClosing.LeaveBarrier refl) (λ no. absurd (false≢true no)) (λ no. absurd (false≢true no)) refl tt refl refl (how InClosing.LeaveBarrier goes) shown
         by false is =
             let goes : after_visit next ≡ InClosing.Visit next = rw is refl in
             leads (InClosing.Visit next) (it.worker ∙ ap (λ y. record w { place = Place.Closing y }) goes) event (ap (λ z. z.closed) it.same) (ap (λ z. length z.shards) it.same) refl refl refl refl
-            (fits, positive next.left is, passed_it) emptied (pools (InClosing.Visit next) refl) refl tt refl refl (how (InClosing.Visit next) goes) shown
+            (fits, positive next.left is, passed_it) emptied (pools (InClosing.Visit next) refl) (λ no. absurd (false≢true no)) (λ no. absurd (false≢true no)) refl tt refl refl (how (InClosing.Visit next) goes) shown
 
     pub shard_visited : Visited drain w w' s.set set' → e ≡ Turn → Steps left spot w s e w' s'
     shard_visited (inl it) event = taken it event

@@ -6,10 +6,10 @@ use Rattle.exec_driver.specs.Driving.{Driving}
 use Rattle.exec_task.specs.{Phases.{is_polled, woken as cell_woken}, Sight.Sight, declared.{body.{Act.Act, Said.Said}, runnable.Runnable.Runnable, task.Phase.Phase}}
 use Rattle.exec_machine.specs.{Choice.{Choice, Choice.{Plain, Pays}, Payer.ByAct}, declared.{config.ScriptWord.ScriptWord, event.Event.{Event, TheVariants.{Pass, Wait, Wake}}, state.{Next.Next, Waiting.Waiting}}, Progress.Plan, Requests.operation_asked, Tasks.{after_taking, after_waking_word, is_woken_here, polls_waiting, waits_for, woken, woken_phase}, Tests.{is_empty, is_resolved, is_woken, waits_for_nothing}, Words.{acts, asks_await, asks_no_sleep, asks_wake, asks_yield, moved_on, next_word}, World.{Own, Task, Common, no_task, task_of}}
 use Rattle.exec_moves.specs.{declared.place.{Place.Place, InPoll.InPoll}, Move.move_act, Poll.{act_asked, await}, Seen.{next_in_poll, polls_at, polls_in}, State.{Moved, Things}}
-use Rattle.exec_steps.{specs.{declared.parts.{mail.Reply.Reply, names.Names.Names, record.Record.Record, shared.Shared.Shared, sleeping.SleeperRecord.SleeperRecord, task_slot.TaskSlot.TaskSlot, worker.Worker.Worker}, Acting.{ActsAs, HasActed, Performs, PerformsAll, PerformsOne, StepsOf}, Hearing.{CanHear, held_once_come}, Phased.is_complete, Places.{begins_at, hands_on_at, in_poll_of, one_if, polled_in}, Polls.{MadeAct, sight_of, yielded_slot}, Records.number_in, Rooted.{Holds, Awaits, ends_poll}, Scripts.{GoesOn, IsAnswered, Plays, is_last}, Sound.{HasGuest, IsGuest, IsInHand, SoundAt, IsRunnable, Stands, WaitsAt, acts_next, is_told, one_of, root_in_hand, waits_for_wakes}, Spots.{Spot, spot_of, standing_at}, View.{Views, own_of, desk_of, driver_of, common_of, phase_seen, task_seen, spot_by, body_in, things_with}, Whole.{HasOne, is_number as is_counted, runnables_in}, Works.{Beside, Suits, TurnsSlot}}, proofs.{Acting.{StaysOn, acted, acted_slot, actor, acts_so, me_at, moved_seen, moves_so, none_held}, Facts.{by_number, same_thing, set_there, or_right, both_true}, Here.{IsHere, going_on, polled_here, unflagged_there}, Pending.{in_poll, polled_none}, Performing.{performs_passed, performs_waiting, performs_yielded, still_performs, wakes_as}, Polling.{at_phase, home_mine, in_own_poll, number_apart, number_there, on_in_poll}, Slots.{Balances, IsEvent, beside_slot, task_there, works_slot}, SlotTasks.{IsAfter, Keeps, Sits, Tasked, Visits, guest_tasked, none_in, root_tasked, sound_tasked}}}
+use Rattle.exec_steps.{specs.{declared.parts.{mail.Reply.Reply, names.Names.Names, record.Record.Record, shared.Shared.Shared, sleeping.SleeperRecord.SleeperRecord, task_slot.TaskSlot.TaskSlot, worker.Worker.Worker}, Acting.{ActsAs, HasActed, Performs, PerformsAll, PerformsOne, StepsOf}, Hearing.{CanHear, held_once_come}, Holding.{awaited_in, holder_of}, Phased.is_complete, Places.{begins_at, hands_on_at, in_poll_of, one_if, polled_in}, Polls.{MadeAct, sight_of, yielded_slot}, Records.{number_in, numbers_held}, Scripts.{GoesOn, IsAnswered, Plays, is_last}, Sound.{HasGuest, IsGuest, IsInHand, SoundAt, IsRunnable, Stands, WaitsAt, acts_next, is_told, one_of, root_in_hand}, Spots.{Spot, spot_of, standing_at}, View.{Views, own_of, desk_of, driver_of, common_of, phase_seen, task_seen, spot_by, body_in, things_with}, Whole.{HasOne, is_number as is_counted, runnables_in}, Works.{Beside, Suits, TurnsSlot}}, proofs.{Acting.{StaysOn, acted, acted_slot, actor, acts_so, me_at, moved_seen, moves_so, none_held}, Facts.{by_number, same_thing, set_there, or_right, both_true}, Here.{IsHere, going_on, polled_here, unflagged_there}, Pending.{in_poll, polled_none}, Performing.{performs_passed, performs_waiting, performs_yielded, still_performs, wakes_as}, Polling.{at_phase, home_mine, in_own_poll, number_apart, number_there, on_in_poll}, TaskAwaits.await_nothing, Slots.{Balances, IsEvent, beside_slot, task_there, works_slot}, SlotTasks.{IsAfter, Keeps, Sits, Tasked, Visits, guest_tasked, none_in, root_tasked, sound_tasked}}}
 
 module _ {B L : Type 0} (left : B → L) (runs : L → Plan → Option ℕ → Type 0) (holds : L → Option Said → List ℕ) (spot : L → Option Said → Spot) (gives : L → Option Sight → Said → Act B → L → Option Sight → Type 0) where
-  wait_event : (t : ℕ) (w : Worker) (s : Shared B) (slot : TaskSlot B) (b' : B) (r : Option ℕ) → w.hand ≡ None → slice_get s.tasks.items t ≡ Some slot → slot.waiting ≡ Waiting.Nothing → is_polled slot.cell.phase ≡ true → slice_get slot.held.items (length slot.held.items - 1) ≡ None
+  wait_event : (t : ℕ) (w : Worker) (s : Shared B) (slot : TaskSlot B) (b' : B) (r : Option ℕ) → w.hand ≡ None → slice_get s.tasks.items t ≡ Some slot → slot.waiting ≡ Waiting.Nothing → is_polled slot.cell.phase ≡ true → slice_get (numbers_held slot.held.items) (length (numbers_held slot.held.items) - 1) ≡ None
       → (p : Plan) (vs : Views) → ActsAs left runs holds spot gives (common_of left spot p vs s) p w.moments.sampled slot b' (Act.Await r)
       → IsEvent left spot (Place.Poll t InPoll.Act) (Place.Poll t InPoll.Pend) t w w.root_ready None s (record slot { body = Some b'; told = None; waiting = Waiting.Wake }) (Wait None) Plain p vs
   wait_event t w s slot b' r empty there waits is none p vs does_so =
@@ -18,16 +18,15 @@ module _ {B L : Type 0} (left : B → L) (runs : L → Plan → Option ℕ → T
       let d = desk_of (record w { place = Place.Poll t InPoll.Act }) in
       let it : task_of all t ≡ task_seen left spot slot = task_there left spot s.tasks.items t slot there in
       let seen = ap (λ (y : Task). record y { waiting = Waiting.Wake }) (moved_seen left spot all slot b' None is does_so.stands) in
-      let by_newest : Option ℕ → Moved Things = λ o. record { event = (await t all d (task_seen left spot slot) o).event; choice = (await t all d (task_seen left spot slot) o).choice; desk = (await t all d (task_seen left spot slot) o).desk; thing = things_with vs s } in
       record {
-        moves = moves_so left spot t p all w s vs slot ScriptWord.Await (λ k q c v x us. refl) it does_so.asks.0 ∙ ap by_newest none
+        moves = await_nothing left spot t p w s vs slot there does_so.asks.0 none
             ∙ ap (λ o. record { event = Wait None; choice = Plain; desk = desk_of (record w { place = Place.Poll t InPoll.Pend; hand = o }); thing = things_with vs s }) empty;
-        may = (acts_so left spot t all w slot asks_await it waits (ap asks_await does_so.asks.0), (ap (λ y. is_empty y.held) it ∙ ap is_empty (none_held slot.held.items none), tt));
+        may = (acts_so left spot t all w slot asks_await it waits (ap asks_await does_so.asks.0), (ap (λ y. is_empty y.held) it ∙ ap is_empty (none_held (numbers_held slot.held.items) none), tt));
         own = refl;
         common = ap (λ y. record all { tasks = slice_set all.tasks t (waits_for all y Waiting.Wake) }) it ∙ ap (λ y. record all { tasks = slice_set all.tasks t y }) (sym seen);
       }
 
-  pub waited_by : (t : ℕ) (w w' : Worker) (s s1 s' : Shared B) (e : Event) (r : Option ℕ) → (h : HasActed left runs holds spot gives t w s s1 (Act.Await r)) → slice_get h.made.slot.held.items (length h.made.slot.held.items - 1) ≡ None
+  pub waited_by : (t : ℕ) (w w' : Worker) (s s1 s' : Shared B) (e : Event) (r : Option ℕ) → (h : HasActed left runs holds spot gives t w s s1 (Act.Await r)) → slice_get (numbers_held h.made.slot.held.items) (length (numbers_held h.made.slot.held.items) - 1) ≡ None
       → e ≡ Wait None → w' ≡ record w { place = Place.Poll t InPoll.Pend } → TurnsSlot t s1 s' (λ slot. record slot { waiting = Waiting.Wake }) → StepsOf left runs holds spot w s e w' s'
   waited_by t w w' s s1 s' e r h none event same turns =
       let m = h.made in
@@ -40,14 +39,16 @@ module _ {B L : Type 0} (left : B → L) (runs : L → Plan → Option ℕ → T
         cancelled = refl;
         cleared = refl;
         held = refl;
+        holder = ap (λ u. record (holder_of m.slot) { awaits = awaited_in u }) (sym it.waits);
         waits = refl;
-        wakes = refl;
         told = λ h. absurd (false≢true h);
         untold = λ h. refl;
-        awaits = λ i held rs ss. tt;
+        stops = λ i rs ss. tt;
         polls = refl;
         begins = refl;
         hands = refl;
+        joins = refl;
+        unpooled = refl;
         free = refl;
       } in
       subst (λ z. StepsOf left runs holds spot w s z w' s') (sym event)

@@ -5,12 +5,13 @@ use Rattle.exec_words.specs.Queue.{tail_of}
 use Rattle.exec_task.specs.{Phases.is_polled, Sight.Sight, declared.body.{Act.Act, Said.Said}}
 use Rattle.exec_machine.specs.{Choice.{Choice, Payer.ByAct}, declared.{config.{Configuration.Configuration, ScriptWord.ScriptWord}, event.Event.Event, state.MailMessage.TheVariants.Root, state.Waiting.Waiting}, After.{own_after, common_after}, Allowed.allowed, Mail.{asks_root_of, has_root_message, meets_closed}, Progress.Plan, Same.is_number, Tests.AllTrue, Words.{moved_on, next_word}, World.{Common, Seat, no_seat, seat_of, task_of}}
 use Rattle.exec_moves.specs.{Move.move_wake, Send.{after_posting, send_root}, State.{Desk, Moved, Things, goes}, Thing.{mailbox_of, set_mailbox, with_mailbox}, declared.{handing.{AfterSend.AfterSend, AfterSignal.AfterSignal, InSignal.InSignal}, place.{InPoll.InPoll, Place.Place}}}
-use Rattle.exec_steps.{specs.{declared.parts.{seat.Seat.Seat as Chair, shared.Shared.Shared, task_slot.TaskSlot.TaskSlot, worker.Worker.Worker}, Acting.{HasActed, StepsOf}, Calling.HaveMailboxes, Polls.OfSlot, Pooled.{WakesBy, WakesHere, WakesTask, WakesThere, asks_in, chair_posted, event_posted}, Scripts.IsAnswered, Sound.{AreHome, SoundAt}, Spares.{IsMailbox, Spares}, Spots.{Spot, spot_of}, View.{Views, Visible, common_of, desk_of, own_of, seat_seen, seats_seen, task_seen, things_with, visible, with_view}, Works.{Beside, Suits, TurnsSlot, Works}}, proofs.{Acting.{Leaves, acts_so, act_leaves, actor, by_word, me_at, moved_seen, tells_on}, Aside.{beside_calm, profile_alike, queues_set, seats_other}, Facts.{not_same, set_elsewhere, set_there}, Performing.still_performs, PoolKept.{gate_spared, gates_set}, Posting.{Arrival, IsArrival, arrival, asks_as, asks_by, chair_by, choice_by, event_as, event_by, inbox_seen, mailbox_by, posted_as, posted_shows, posted_spares, posting_as, root_message_as, seat_as, seat_by}, Seats.{chair_set, seat_there as seen_there}, Showing.own_word_seen, SlotTasks.{Keeps as Same, homes_set}, Slots.task_there, Spared.there_within, Stirred.performs_passing, Stirs.{ToldFirst, before}, Turning.{Fits, GoesOn, Keeps, Lands, arrives, by_place, lands_either, of_kind, set_found, sound_on, view_found}}}
+use Rattle.exec_steps.{specs.{declared.parts.{seat.Seat.Seat as Chair, shared.Shared.Shared, task_slot.TaskSlot.TaskSlot, worker.Worker.Worker}, Acting.{HasActed, StepsOf}, Calling.HaveMailboxes, Holding.{holder_of, nap_of, thing_of}, Polls.OfSlot, Pooled.{WakesBy, WakesHere, WakesTask, WakesThere, asks_in, chair_posted, event_posted}, Scripts.IsAnswered, Sound.{AreHome, SoundAt}, Spares.{IsMailbox, Spares}, Spots.{Spot, spot_of}, View.{Views, Visible, common_of, desk_of, own_of, seat_seen, seats_seen, task_seen, things_with, visible, with_view}, Whole.{hands_of, with_worker}, Works.{Beside, Suits, TurnsSlot, Works}}, proofs.{RootMail.holding_posted, Dedicated.as_long, Acting.{Leaves, acts_so, act_leaves, actor, by_word, me_at, moved_seen, tells_on}, Aside.{beside_boxed, profile_alike, queues_set, seats_other}, Facts.{not_same, set_elsewhere, set_there}, Performing.still_performs, PoolKept.{gate_spared, gates_set}, Posting.{Arrival, IsArrival, arrival, asks_as, asks_by, chair_by, choice_by, event_as, event_by, inbox_seen, mailbox_by, posted_as, posted_shows, posted_spares, posting_as, root_message_as, seat_as, seat_by}, Seats.{chair_set, seat_there as seen_there}, Showing.own_word_seen, SlotTasks.{Keeps as Same, homes_set}, Slots.task_there, Spared.there_within, Stirred.performs_passing, Stirs.{ToldFirst, before}, Turning.{Fits, GoesOn, Keeps, Lands, arrives, by_place, lands_either, of_kind, set_found, sound_on, view_found}}}
 
 same_queue : (a : Arrival) (chair : Chair) → (chair_by a chair).queue ≡ chair.queue
 same_queue Arrival.Shut chair = refl
 same_queue Arrival.LeftOut chair = refl
 same_queue Arrival.First chair = refl
+same_queue Arrival.More chair = refl
 
 other_root_move : (c : Configuration) (i : ℕ) (s : Common) (d : Desk) (x : Things) (t u home : ℕ) → (home == i) ≡ false
     → move_wake c i s d x t u (Some home) ≡ with_mailbox home x (send_root c s home (AfterSend.Act t) d (mailbox_of x home))
@@ -20,7 +21,7 @@ other_root_move c i s d x t u home is = rw is refl
 abbrev pub next_of : ℕ → ℕ → Bool → Place
 next_of t j asks = if asks then Place.Signal InSignal.SetLatch j (AfterSignal.Send (AfterSend.Act t)) else Place.Poll t InPoll.Act
 
-goes_by : (c : Configuration) (t j : ℕ) (w : Worker) (asks : Bool) → goes (after_posting c j (AfterSend.Act t) asks) (desk_of (record w { place = Place.Poll t InPoll.Act })) ≡ desk_of (record w { place = next_of t j asks })
+goes_by : (c : Configuration) (t j : ℕ) (w : Worker) (asks : Bool) → (let d = desk_of (record w { place = Place.Poll t InPoll.Act }) in goes (after_posting c j (AfterSend.Act t) asks d) d) ≡ desk_of (record w { place = next_of t j asks })
 goes_by c t j w true = refl
 goes_by c t j w false = refl
 
@@ -32,18 +33,23 @@ own_then : (c : Configuration) (t j i : ℕ) (w : Worker) (all : Common) (a : Ar
 own_then c t j i w all Arrival.Shut = refl
 own_then c t j i w all Arrival.LeftOut = refl
 own_then c t j i w all Arrival.First = refl
+own_then c t j i w all Arrival.More = refl
 
 module _ {B : Type 0} where
   -- who has a root is a worker
-  pub home_few : (workers t j : ℕ) (tasks : List (TaskSlot B)) (slot : TaskSlot B) → AreHome workers tasks → slice_get tasks t ≡ Some slot → slot.home ≡ Some j → j < workers
-  home_few workers t j tasks slot homes there home = by (nat_lt t workers) refl (sym home ∙ homes.home t slot there)
+  pub home_few : (workers count t j : ℕ) (tasks : List (TaskSlot B)) (slot : TaskSlot B) → AreHome workers count tasks → slice_get tasks t ≡ Some slot → slot.home ≡ Some j → j < count
+  home_few workers count t j tasks slot homes there home = by (nat_lt t workers) refl
     where
-      by : (b : Bool) → nat_lt t workers ≡ b → Some j ≡ (if b then Some t else None) → j < workers
-      by true is same =
+      by : (b : Bool) → nat_lt t workers ≡ b → j < count
+      by true is =
           let less : t < workers = grind (arith, nat_tests, is) in
+          let same : Some j ≡ Some t = sym home ∙ homes.home t slot there less in
           let at : j ≡ t = cc in
-          omega (arith, less, at)
-      by false is same = absurd (cc)
+          let many : workers ≤ count = homes.many in
+          omega (arith, less, at, many)
+      by false is =
+          let past : workers ≤ t = grind (arith, nat_tests, is) in
+          (homes.dedicated t j slot there past home).1
 
   -- one change of tasks, and then another step
   pub spares_on : (j : ℕ) (s m s' : Shared B) → Spares j s (record s { tasks = m.tasks }) → Spares j (record s { tasks = m.tasks }) s' → Spares j s s'
@@ -51,7 +57,8 @@ module _ {B : Type 0} where
       record {
         config = second.config;
         clock = second.clock;
-        opens = second.opens;
+        gates = second.gates;
+        hints = second.hints;
         many = second.many;
         chair = second.chair;
         tails = second.tails;
@@ -59,7 +66,9 @@ module _ {B : Type 0} where
         records_only = second.records_only;
         sleepers = second.sleepers;
         sleepers_only = second.sleepers_only;
-        root = λ slot found home. second.root slot (first.root slot found home) home;
+        endure = second.endure;
+        endure_too = second.endure_too;
+        root = λ t slot found home. second.root t slot (first.root t slot found home) home;
         polled = λ t slot found polled mine.
             let one = first.polled t slot found polled mine in
             let two = second.polled t one.0 one.1 one.2.polled (ap (λ (o : TaskSlot B). o.poller) one.2.kept ∙ mine) in (
@@ -69,10 +78,11 @@ module _ {B : Type 0} where
                 polled = two.2.polled;
                 number = two.2.number ∙ one.2.number;
                 cancelled = λ h. two.2.cancelled (one.2.cancelled h);
-                kept = two.2.kept ∙ ap (λ (o : TaskSlot B). record o { cell = two.0.cell; cleared = two.0.cleared; fresh = two.0.fresh }) one.2.kept;
+                kept = two.2.kept ∙ ap (λ (o : TaskSlot B). record o { cell = two.0.cell; cleared = two.0.cleared; fresh = two.0.fresh; output = two.0.output }) one.2.kept;
               },
             );
         room = second.room;
+        stretch = second.stretch;
         stopped = second.stopped;
         closed = second.closed;
         by_zero = second.by_zero;
@@ -87,46 +97,53 @@ module _ {B : Type 0} where
     abbrev pub then_of : Shared B
     then_of = record s { seats = m.seats }
 
-    lands : (asks : Bool) → j < s.config.workers → Lands (Place.Poll t InPoll.Act) (next_of t j asks) w s
+    lands : (asks : Bool) → j < length s.seats.items → Lands (Place.Poll t InPoll.Act) (next_of t j asks) w s
     lands true few = record { same = refl; queue = sound.queue; aims = (few, tt); batch = sound.batch }
     lands false few = record { same = refl; queue = sound.queue; aims = tt; batch = sound.batch }
 
     own_chair : slice_get m.seats.items w.index ≡ slice_get s.seats.items w.index
     own_chair = ap (λ xs. slice_get xs w.index) set ∙ set_elsewhere s.seats.items j w.index (chair_by a chair) (λ e. apart (sym e))
 
-    fits : (asks : Bool) → j < s.config.workers → Fits (next_of t j asks) w s m.seats.items
+    as_many : length m.seats.items ≡ length s.seats.items
+    as_many = ap length set ∙ length-set s.seats.items j (chair_by a chair)
+
+    fits : (asks : Bool) → j < length s.seats.items → Fits (next_of t j asks) w s m.seats.items
     fits true few =
         record {
-          seated = record { many = ap length set ∙ length-set s.seats.items j (chair_by a chair) ∙ sound.seated.many; seat = sound.seated.seat; there = own_chair ∙ sound.seated.there; unarmed = λ h. sound.seated.unarmed refl; mail = sound.seated.mail };
+          seated = record { many = as_long as_many sound.seated.many; pool = sound.seated.pool; seat = sound.seated.seat; there = own_chair ∙ sound.seated.there; unarmed = λ h. sound.seated.unarmed refl; mail = sound.seated.mail };
           queue = λ c found. sound.queue c (sym own_chair ∙ found);
-          aims = (few, tt);
+          aims = (subst (λ k. j < k) (sym as_many) few, tt);
           batch = sound.batch;
+          batch_place = λ c found. sound.batch_place c (sym own_chair ∙ found);
           phased = λ c found. sound.phased c (sym own_chair ∙ found);
         }
     fits false few =
         record {
-          seated = record { many = ap length set ∙ length-set s.seats.items j (chair_by a chair) ∙ sound.seated.many; seat = sound.seated.seat; there = own_chair ∙ sound.seated.there; unarmed = λ h. sound.seated.unarmed refl; mail = sound.seated.mail };
+          seated = record { many = as_long as_many sound.seated.many; pool = sound.seated.pool; seat = sound.seated.seat; there = own_chair ∙ sound.seated.there; unarmed = λ h. sound.seated.unarmed refl; mail = sound.seated.mail };
           queue = λ c found. sound.queue c (sym own_chair ∙ found);
           aims = tt;
           batch = sound.batch;
+          batch_place = λ c found. sound.batch_place c (sym own_chair ∙ found);
           phased = λ c found. sound.phased c (sym own_chair ∙ found);
         }
 
-    pub posted_sound : (asks : Bool) → j < s.config.workers → SoundAt (next_of t j asks) (record w { place = next_of t j asks }) then_of
+    pub posted_sound : (asks : Bool) → j < length s.seats.items → SoundAt (next_of t j asks) (record w { place = next_of t j asks }) then_of
     posted_sound asks few =
         let q : Place = next_of t j asks in
         let w1 : Worker = record w { place = q } in
-        sound_on (Place.Poll t InPoll.Act) w w1 s then_of sound (by_place w w1 s.clock sound.time refl) refl
+        sound_on (Place.Poll t InPoll.Act) w w1 s then_of sound (by_place w w1 s.clock sound.time refl) refl (omega (arith, as_many))
         (arrives (Place.Poll t InPoll.Act) q w w1 s then_of sound (lands asks few).same (λ h. sound.quiet refl) (record { root_ready = refl; hand = refl; loot = refl; searching = refl }) (fits asks few))
 
-    pub posted_beside : (asks : Bool) → j < s.config.workers → Beside w s (record w { place = next_of t j asks }) then_of
+    pub posted_beside : (asks : Bool) → j < length s.seats.items → Beside w s (record w { place = next_of t j asks }) then_of
     posted_beside asks few =
         let q : Place = next_of t j asks in
         let w1 : Worker = record w { place = q } in
-        beside_calm w w1 s then_of (profile_alike (Place.Poll t InPoll.Act) q w w1 sound.here refl (lands asks few).same (record { root_ready = refl; hand = refl; loot = refl; searching = refl }) refl) refl
+        beside_boxed w w1 s then_of
+        (profile_alike (Place.Poll t InPoll.Act) q w w1 sound.here refl (lands asks few).same (record { root_ready = refl; hand = refl; loot = refl; searching = refl }) refl (record { batch = refl; letters = refl; left = refl })) refl
         (seats_other w.index j s.seats.items m.seats.items chair (chair_by a chair) set seated (subst (λ x. tail_of chair.queue ≤ tail_of x) (sym (same_queue a chair)) (omega arith)) (posted_spares a chair is))
         (gates_set j s.seats.items m.seats.items chair (chair_by a chair) set seated (gate_spared chair (chair_by a chair) (posted_spares a chair is)))
-        (ap (λ xs. map (λ c. c.queue) xs) set ∙ queues_set s.seats.items j chair (chair_by a chair) seated (same_queue a chair)) refl refl
+        (ap (λ xs. map (λ c. c.queue) xs) set ∙ queues_set s.seats.items j chair (chair_by a chair) seated (same_queue a chair))
+        (λ others whole. holding_posted a (hands_of (with_worker others w)) s.config.workers (map holder_of s.tasks.items) (map thing_of s.requests.items) (map nap_of s.sleepers.items) s.seats.items m.seats.items j chair is seated set whole.holding) refl refl
 
 -- WHAT IT IS TO THE MACHINE: the task that woke goes on past its word, and the seat was posted to
 
@@ -161,7 +178,7 @@ module _ {B L : Type 0} (left : B → L) (spot : L → Option Said → Spot) (t 
         let x = things_with vs s in
         ap (move_wake p.config w.index all d x t u) home_seen
         ∙ other_root_move p.config w.index all d x t u j elsewhere
-        ∙ ap (λ y. with_mailbox j x (record { event = y.event; choice = y.choice; desk = goes (after_posting p.config j (AfterSend.Act t) y.signals) d; thing = y.mailbox })) (posting_as a all j ByAct (mailbox_of x j) chair view is seat (inbox_seen vs j s chair seated) (own_word_seen j s chair seated))
+        ∙ ap (λ y. with_mailbox j x (record { event = y.event; choice = y.choice; desk = goes (after_posting p.config j (AfterSend.Act t) y.signals d) d; thing = y.mailbox })) (posting_as a all j ByAct (mailbox_of x j) chair view is seat (inbox_seen vs j s chair seated) (own_word_seen j s chair seated))
         ∙ ap (λ k. record { event = event_by j a; choice = choice_by a ByAct; desk = k; thing = set_mailbox j x (mailbox_by a (mailbox_of x j)) }) (goes_by p.config t j w (asks_by a chair.mailbox))
         ∙ ap (λ y. record { event = event_by j a; choice = choice_by a ByAct; desk = desk_of (record w { place = next_of t j (asks_by a chair.mailbox) }); thing = y }) (sym (shows a is set))
 
@@ -173,6 +190,9 @@ module _ {B L : Type 0} (left : B → L) (spot : L → Option Said → Spot) (t 
         let asks : asks_root_of all j (ScriptWord.Wake u) ≡ true = rw home_seen (eq-eqb j j refl) in
         (acts_so left spot t all w slot (asks_root_of all j) it waits (ap (asks_root_of all j) word ∙ asks), (ap not elsewhere, (ap (λ y. not y.mailbox_closed) seat ∙ ap not so.0, (ap has_root_message seat ∙ root_message_as view chair so, tt))))
     may Arrival.First so =
+        let asks : asks_root_of all j (ScriptWord.Wake u) ≡ true = rw home_seen (eq-eqb j j refl) in
+        (acts_so left spot t all w slot (asks_root_of all j) it waits (ap (asks_root_of all j) word ∙ asks), (ap not elsewhere, (ap (λ y. not y.mailbox_closed) seat ∙ ap not so.0, (refl, tt))))
+    may Arrival.More so =
         let asks : asks_root_of all j (ScriptWord.Wake u) ≡ true = rw home_seen (eq-eqb j j refl) in
         (acts_so left spot t all w slot (asks_root_of all j) it waits (ap (asks_root_of all j) word ∙ asks), (ap not elsewhere, (ap (λ y. not y.mailbox_closed) seat ∙ ap not so.0, (refl, tt))))
 
@@ -199,6 +219,9 @@ module _ {B L : Type 0} (left : B → L) (spot : L → Option Said → Spot) (t 
     common Arrival.First so now =
         ap (λ ts. record all { tasks = ts; seats = seats_seen vs.workers tasks.seats.items }) tasks_then
         ∙ ap (λ ss. record all { tasks = slice_set all.tasks t (moved_on all (task_of all t)); seats = ss }) (seats_then Arrival.First so now)
+    common Arrival.More so now =
+        ap (λ ts. record all { tasks = ts; seats = seats_seen vs.workers tasks.seats.items }) tasks_then
+        ∙ ap (λ ss. record all { tasks = slice_set all.tasks t (moved_on all (task_of all t)); seats = ss }) (seats_then Arrival.More so now)
 
   pub posts : w.place ≡ Place.Poll t InPoll.Act → (p : Plan) (vs : Views) → Suits p vs w s → next_word (common_of left spot p vs s) (task_seen left spot slot) ≡ ScriptWord.Wake u → moved_on (common_of left spot p vs s) (task_seen left spot slot) ≡ task_seen left spot mid
       → Works left spot p vs w s (event_by j a) (record w { place = next_of t j (asks_by a chair.mailbox) }) s2
@@ -230,12 +253,12 @@ module _ {B L : Type 0} (left : B → L) (runs : L → Plan → Option ℕ → T
   may_wake t u w s s1 a h mailboxes =
       let m = h.made in
       let keeps : Same m.slot m.slot' = subst (Same m.slot) (sym m.acts.slot) (record { home = refl; number = refl; owner = refl }) in
-      let homes : AreHome s.config.workers s1.tasks.items = subst (AreHome s.config.workers) (sym m.tasks) (homes_set s.config.workers s.tasks.items t m.slot m.slot' m.there keeps h.sound.homes) in
+      let homes : AreHome s.config.workers (length s.seats.items) s1.tasks.items = subst (AreHome s.config.workers (length s.seats.items)) (sym m.tasks) (homes_set s.config.workers (length s.seats.items) s.tasks.items t m.slot m.slot' m.there keeps h.sound.homes) in
       record {
         root = rw (m.tasks, length-set) (slice_get_within s.tasks.items w.root h.sound.runnable.root h.sound.runnable.there);
         homes = λ slot there home is.
-            let few : home < s.config.workers = home_few s.config.workers u home s1.tasks.items slot homes there is in
-            subst (λ (x : Shared B). home < length x.seats.items) (sym m.kept) (omega (arith, few, h.sound.seated.many));
+            let few : home < length s.seats.items = home_few s.config.workers (length s.seats.items) u home s1.tasks.items slot homes there is in
+            subst (λ (x : Shared B). home < length x.seats.items) (sym m.kept) few;
         mail = λ j chair there. mailboxes j chair (ap (λ (x : Shared B). slice_get x.seats.items j) (sym m.kept) ∙ there);
       }
 
@@ -259,14 +282,13 @@ module _ {B L : Type 0} (left : B → L) (runs : L → Plan → Option ℕ → T
       let one : Beside w s w told_only = subst (λ v. Beside w s v told_only) still leaves.beside in
       let first : ToldFirst left spot t s m slot mid = record { there = h.made.there; items = leaves.items; kept = leaves.kept; cell = refl; home = refl } in
       let was = before left spot t n.0 s m slot mid other first there in
-      let few : j < s.config.workers = home_few s.config.workers n.0 j s.tasks.items was.0 h.sound.homes was.1 (was.2 ∙ home) in
-      let found = there_within s.seats.items j (subst (λ k. j < k) (sym sound.seated.many) few) in
+      let few : j < length s.seats.items = home_few s.config.workers (length s.seats.items) n.0 j s.tasks.items was.0 h.sound.homes was.1 (was.2 ∙ home) in
+      let found = there_within s.seats.items j few in
       let chair : Chair = found.0 in
       let seated : slice_get s.seats.items j ≡ Some chair = found.1 in
-      let mail : IsMailbox chair.mailbox = mailboxes j chair seated in
       let sends : WakesThere t j w w' told_only s' e = subst (λ x. WakesThere t j w w' x s' e) leaves.kept
       (subst (λ b. MatchBool b (WakesHere t n.0 w w' m s' e) (WakesThere t j w w' m s' e)) (not_same j w.index apart) (subst (λ o. WakesBy o t n.0 w w' m s' e) home (it.wakes other there))) in
-      let at = arrival chair.mailbox mail in
+      let at = arrival chair.mailbox in
       let a : Arrival = at.0 in
       let asks : Bool = asks_by a chair.mailbox in
       let set : s'.seats.items ≡ slice_set s.seats.items j (chair_by a chair) = sends.chair chair seated ∙ ap (slice_set s.seats.items j) (posted_as a chair at.1) in

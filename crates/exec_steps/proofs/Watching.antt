@@ -1,19 +1,19 @@
 -- Who waits for a request changes, or nobody does any more, by which it may be cancelled: what that leaves as it was.
-use Rattle.std.proofs.{Common.{◌≡◌, ◌≢◌, ◌⊎◌, ⊎_elim, ℕ, ◌==◌, Bool, true, false, List, [], length, Option, Some, None, IsSome, refl, sym, ap, subst, ◌∙◌, slice_get, is_some}, lemmas.{Bool.{false≢true, eq-eqb}, List.length-set}}
-use Rattle.exec_base.{specs.{Slab.{Slab, value_at, written}, declared.slab.{Id.Id, Slot.TheVariants.Live}}, proofs.Slots.Updates-write}
+use Rattle.std.proofs.{Common.{◌≡◌, ◌≢◌, ◌⊎◌, inl, ⊎_elim, ℕ, ◌==◌, Bool, true, false, List, [], length, Option, Some, None, IsSome, refl, sym, ap, subst, ◌∙◌, slice_get, is_some}, lemmas.{Bool.{false≢true, eq-eqb}, List.length-set}}
+use Rattle.exec_base.{specs.{Slab.{IsPast, Slab, value_at, written}, declared.slab.{Id.Id, Slot.TheVariants.Live}}, proofs.Slots.{Updates-write, past-write}}
 use Rattle.exec_time.specs.declared.timers.Sleeper.{Sleeper as Sleeping}
-use Rattle.exec_request.specs.{declared.output.RequestOutput.RequestOutput, Requests.deadline_of}
+use Rattle.exec_request.specs.{declared.output.RequestOutput.RequestOutput, Requests.{cursor_of, deadline_of}}
 use Rattle.exec_ring.specs.declared.store.Store.{Store}
-use Rattle.exec_waiters.{specs.{States.{waiter_at, waiter_of, takes_tick, tick_in}, declared.{waiter.{Waiter.Waiter, Entry.{Entry, TheVariants.{Pending, Ready}}}, waiter_id.WaiterId.WaiterId}}, proofs.Changes.entry_of}
-use Rattle.exec_driver.specs.{Driving.Driving, Lists.is_among, Punctual.IsPunctual}
+use Rattle.exec_waiters.{specs.{States.{needs_permit, waiter_at, waiter_of, takes_tick, tick_in}, declared.{waiter.{Waiter.Waiter, Entry.{Entry, TheVariants.{Pending, Ready}}}, waiter_id.WaiterId.WaiterId}}, proofs.Changes.entry_of}
+use Rattle.exec_driver.specs.{Driving.Driving, Lists.is_among, Opens.OpenState, Punctual.IsPunctual}
 use Rattle.exec_machine.specs.{declared.config.Configuration.Configuration, Tests.{is_resolved, is_staged}}
 use Rattle.exec_moves.specs.declared.place.InService.{InService}
-use Rattle.exec_steps.{specs.{declared.parts.{mail.Reply.Reply, names.Names.Names, record.Record.Record, sleeping.SleeperRecord.SleeperRecord, worker.Moments.Moments}, Due.{IsDue, IsWheelAt, AreTimed}, Flown.{AreLanded, IsPlain, IsPolled, HasFlown, operations}, Records.number_in, Serving.{AreKnown, changed_at}, Sound.{IsNamed, IsAlike, IsSubmitted, AreOver}, Carried.IsCarried}, proofs.{Facts.{by_name, same_number}, Flown.{FliesOn, landed_on}, Marking.{known_then, mark_if, marked, was_marked}, Orders.{Eases, eases_written, IsPartOf, TurnsAlike, eased, part_none, part_self}, Carries.{carried_marked, carried_slab, carried_waiter}, Changing.changes_one}}
+use Rattle.exec_steps.{specs.{declared.parts.{mail.Reply.Reply, names.Names.Names, record.Record.Record, sleeping.SleeperRecord.SleeperRecord, worker.Moments.Moments}, Due.{IsDue, IsWheelAt, AreTimed}, Gates.IsKnown, Flown.{AreLanded, IsPlain, IsPolled, HasFlown, operations}, Records.number_in, Serving.{AreKnown, changed_at}, Sound.{IsNamed, IsAlike, IsSubmitted, AreOver}, Carried.IsCarried}, proofs.{Known.known_on, Facts.{by_name, same_number}, Flown.{FliesOn, landed_on}, Marking.{known_then, mark_if, marked, marked_length, was_marked}, Orders.{Eases, eases_written, IsPartOf, TurnsAlike, eased, part_none, part_self}, Carries.{carried_marked, carried_slab, carried_waiter}, Changing.changes_one}}
 
--- a request that isn't over stays so, in flight or not, with no deadline to be enrolled that it hadn't
+-- a request that isn't over stays so, in flight or not, with no deadline to be enrolled and no permit to come that it hadn't
 abbrev pub Rewatched : Option (Waiter Reply Reply) → Option (Waiter Reply Reply) → Type 0
 Rewatched None now = now ≡ None
-Rewatched (Some it) now = (it' : Waiter Reply Reply) × (now ≡ Some it') × (it'.in_flight ≡ it.in_flight) × ((it'.request ≡ it.request) × (takes_tick it'.state ≡ true → takes_tick it.state ≡ true))
+Rewatched (Some it) now = (it' : Waiter Reply Reply) × (now ≡ Some it') × (it'.in_flight ≡ it.in_flight) × ((it'.request ≡ it.request) × (takes_tick it'.state ≡ true → takes_tick it.state ≡ true) × (needs_permit it' ≡ true → needs_permit it ≡ true))
 
 -- The record of the request with this name becomes what f makes of it, and of the driver what it has of that request alone
 -- changes, with its place in the wheel and among the cancels.
@@ -22,7 +22,7 @@ pub record Watched (n : Names) (d d' : Driving Reply Reply) (rs rs' : List Recor
   pub name : r.id.0 ≡ id
   pub live : IsSome (value_at d.requests id)
   pub records : rs' ≡ changed_at rs (number_in n.requests.items id) f
-  pub keeps : f r ≡ record r { shown = record r.shown { timer = (f r).shown.timer; observed = (f r).shown.observed; cancelled = (f r).shown.cancelled; waiter = (f r).shown.waiter } }
+  pub keeps : f r ≡ record r { shown = record r.shown { timer = (f r).shown.timer; observed = (f r).shown.observed; cancelled = (f r).shown.cancelled; waiter = (f r).shown.waiter; forwarding = (f r).shown.forwarding } }
   pub timer : is_resolved r.shown.phase ≡ true → (f r).shown.timer ≡ r.shown.timer
   pub others : (x : Id) → x ≢ id → value_at d'.requests x ≡ value_at d.requests x
   pub waits : Rewatched (waiter_at d.requests id) (waiter_at d'.requests id)
@@ -32,6 +32,8 @@ pub record Watched (n : Names) (d d' : Driving Reply Reply) (rs rs' : List Recor
   pub start : d'.wheel.start ≡ d.wheel.start
   pub tick : d'.wheel.tick ≡ d.wheel.tick
   pub enrolments : d'.lists.enrolments ≡ d.lists.enrolments
+  pub gated : d'.lists.gated ≡ d.lists.gated
+  pub back : (x : Id) → IsPast d'.requests x → IsPast d.requests x
   pub eases : Eases d.requests d'.requests
   pub turns : TurnsAlike d.wheel d'.wheel
   pub slots : length d'.requests.slots ≡ length d.requests.slots
@@ -41,14 +43,14 @@ pub record Watched (n : Names) (d d' : Driving Reply Reply) (rs rs' : List Recor
 pub record WasThere (rs : List Record) (j : ℕ) (x : Record) : Type 0 where
   pub o : Record
   pub at : slice_get rs j ≡ Some o
-  pub is : x ≡ record o { shown = record o.shown { timer = x.shown.timer; observed = x.shown.observed; cancelled = x.shown.cancelled; waiter = x.shown.waiter } }
+  pub is : x ≡ record o { shown = record o.shown { timer = x.shown.timer; observed = x.shown.observed; cancelled = x.shown.cancelled; waiter = x.shown.waiter; forwarding = x.shown.forwarding } }
   pub timer : is_resolved o.shown.phase ≡ true → x.shown.timer ≡ o.shown.timer
 
-module _ (i : ℕ) (n : Names) (h : ℕ) (d d' : Driving Reply Reply) (zs : Slab (Sleeping Reply)) (rs rs' : List Record) (ss : List SleeperRecord) (id : Id) (r : Record) (f : Record → Record) (by : Watched n d d' rs rs' id r f) where
-  was_if : (j : ℕ) (b : Bool) (o : Record) → (number_in n.requests.items id == j) ≡ b → slice_get rs j ≡ Some o → mark_if f b o ≡ record o { shown = record o.shown { timer = (mark_if f b o).shown.timer; observed = (mark_if f b o).shown.observed; cancelled = (mark_if f b o).shown.cancelled; waiter = (mark_if f b o).shown.waiter } }
+module _ (i : ℕ) (n : Names) (d d' : Driving Reply Reply) (zs : Slab (Sleeping Reply)) (rs rs' : List Record) (ss : List SleeperRecord) (id : Id) (r : Record) (f : Record → Record) (by : Watched n d d' rs rs' id r f) where
+  was_if : (j : ℕ) (b : Bool) (o : Record) → (number_in n.requests.items id == j) ≡ b → slice_get rs j ≡ Some o → mark_if f b o ≡ record o { shown = record o.shown { timer = (mark_if f b o).shown.timer; observed = (mark_if f b o).shown.observed; cancelled = (mark_if f b o).shown.cancelled; waiter = (mark_if f b o).shown.waiter; forwarding = (mark_if f b o).shown.forwarding } }
   was_if j true o is at =
       let same : r ≡ o = cc (by.there, at, same_number (number_in n.requests.items id) j is) in
-      subst (λ y. f y ≡ record y { shown = record y.shown { timer = (f y).shown.timer; observed = (f y).shown.observed; cancelled = (f y).shown.cancelled; waiter = (f y).shown.waiter } }) same by.keeps
+      subst (λ y. f y ≡ record y { shown = record y.shown { timer = (f y).shown.timer; observed = (f y).shown.observed; cancelled = (f y).shown.cancelled; waiter = (f y).shown.waiter; forwarding = (f y).shown.forwarding } }) same by.keeps
   was_if j false o is at = refl
 
   timer_kept : (j : ℕ) (b : Bool) (o : Record) → (number_in n.requests.items id == j) ≡ b → slice_get rs j ≡ Some o → is_resolved o.shown.phase ≡ true → (mark_if f b o).shown.timer ≡ o.shown.timer
@@ -64,11 +66,11 @@ module _ (i : ℕ) (n : Names) (h : ℕ) (d d' : Driving Reply Reply) (zs : Slab
       record {
         o = old.0;
         at = old.1;
-        is = subst (λ y. y ≡ record old.0 { shown = record old.0.shown { timer = y.shown.timer; observed = y.shown.observed; cancelled = y.shown.cancelled; waiter = y.shown.waiter } }) (sym old.2) (was_if j (k == j) old.0 refl old.1);
+        is = subst (λ y. y ≡ record old.0 { shown = record old.0.shown { timer = y.shown.timer; observed = y.shown.observed; cancelled = y.shown.cancelled; waiter = y.shown.waiter; forwarding = y.shown.forwarding } }) (sym old.2) (was_if j (k == j) old.0 refl old.1);
         timer = λ over. ap (λ y. y.shown.timer) old.2 ∙ timer_kept j (k == j) old.0 refl old.1 over;
       }
 
-  pub after : (j : ℕ) (o : Record) → slice_get rs j ≡ Some o → (x : Record) × (slice_get rs' j ≡ Some x) × (x ≡ record o { shown = record o.shown { timer = x.shown.timer; observed = x.shown.observed; cancelled = x.shown.cancelled; waiter = x.shown.waiter } })
+  pub after : (j : ℕ) (o : Record) → slice_get rs j ≡ Some o → (x : Record) × (slice_get rs' j ≡ Some x) × (x ≡ record o { shown = record o.shown { timer = x.shown.timer; observed = x.shown.observed; cancelled = x.shown.cancelled; waiter = x.shown.waiter; forwarding = x.shown.forwarding } })
   after j o at =
       (mark_if f (number_in n.requests.items id == j) o, ap (λ xs. slice_get xs j) by.records ∙ marked f rs (number_in n.requests.items id) j o at, was_if j (number_in n.requests.items id == j) o refl at)
 
@@ -134,7 +136,7 @@ module _ (i : ℕ) (n : Names) (h : ℕ) (d d' : Driving Reply Reply) (zs : Slab
             sub.all j old.o old.at (sym (ap (λ y. y.shown.worker) old.is) ∙ mine) (sym (ap (λ y. is_staged y.shown.phase) old.is) ∙ staged);
       })
 
-  pub named_watched : IsNamed i n d zs rs ss → IsNamed i (record n { held = h }) d' zs rs' ss
+  pub named_watched : IsNamed i n d zs rs ss → IsNamed i n d' zs rs' ss
   named_watched named =
       record {
         requests = λ x some.
@@ -165,9 +167,9 @@ module _ (i : ℕ) (n : Names) (h : ℕ) (d d' : Driving Reply Reply) (zs : Slab
         counted = over.counted;
       }
 
-  pub due_watched : (m : Moments) (c : Configuration) → IsPunctual d' → d'.lists.due ≡ [] → IsWheelAt c m.start m.sampled d'.wheel → IsDue None i m c n d zs rs ss → IsDue None i m c (record n { held = h }) d' zs rs' ss
+  pub due_watched : {closing : Bool} (m : Moments) (c : Configuration) → IsPunctual d' → d'.lists.due ≡ [] → IsWheelAt c m.start m.sampled d'.wheel → IsDue None closing i m c n d zs rs ss → IsDue None closing i m c n d' zs rs' ss
   due_watched m c punctual told wheel due =
-      let timed : AreTimed i (record n { held = h }) rs' = λ j y found mine.
+      let timed : AreTimed i n rs' = λ j y found mine.
       let old = before j y found in
       let t = due.timed j old.o old.at (sym (ap (λ z. z.shown.worker) old.is) ∙ mine) in
       record {
@@ -175,7 +177,7 @@ module _ (i : ℕ) (n : Names) (h : ℕ) (d d' : Driving Reply Reply) (zs : Slab
         over = λ over. let was = sym (ap (λ z. is_resolved z.shown.phase) old.is) ∙ over in old.timer was ∙ t.over was;
       } in
       let order = eased by.eases by.turns (subst (λ xs. IsPartOf xs d.lists.enrolments) (sym by.enrolments) (part_self d.lists.enrolments)) (subst (λ xs. IsPartOf xs d.lists.due) (sym told) (part_none d.lists.due)) due.order in
-      record { punctual = punctual; told = λ e. told; wheel = wheel; timed = timed; asleep = record { alike = due.asleep.alike; there = due.asleep.there; named = due.asleep.named }; order = order }
+      record { punctual = punctual; told = λ e. told; wheel = wheel; timed = timed; asleep = record { alike = due.asleep.alike; there = due.asleep.there; named = due.asleep.named; lets_go = due.asleep.lets_go; counted = due.asleep.counted; names = due.asleep.names }; order = order }
 
   -- its operation stays, in the ring and out of it
   pub carried_watched : (st : Store) → IsCarried n.requests.items d.requests d.ring rs st → IsCarried n.requests.items d'.requests d'.ring rs' st
@@ -200,7 +202,7 @@ module _ (i : ℕ) (n : Names) (h : ℕ) (d d' : Driving Reply Reply) (zs : Slab
           (λ x. by_name x id (λ differs. ap waiter_of (by.others x differs) ∙ sym (one.others x differs)) (λ same. ap (waiter_at d'.requests) same ∙ now.1 ∙ sym (ap (waiter_at s1) same ∙ one.is_at)))
 
   -- the request itself, by what waited for it
-  flies_here : (o : Option (Waiter Reply Reply)) → Rewatched o (waiter_at d'.requests id) → (it : Waiter Reply Reply) → o ≡ Some it → (x : Record) → slice_get rs (number_in n.requests.items id) ≡ Some x → FliesOn n (record n { held = h }) d d' rs rs' id it x
+  flies_here : (o : Option (Waiter Reply Reply)) → Rewatched o (waiter_at d'.requests id) → (it : Waiter Reply Reply) → o ≡ Some it → (x : Record) → slice_get rs (number_in n.requests.items id) ≡ Some x → FliesOn n n d d' rs rs' id it x
   flies_here None waits it is x at = absurd (let no : None ≡ Some it = is in cc)
   flies_here (Some y) waits it is x at =
       let same : y ≡ it = cc in
@@ -214,26 +216,39 @@ module _ (i : ℕ) (n : Names) (h : ℕ) (d d' : Driving Reply Reply) (zs : Slab
       let same : waits.0 ≡ it = cc (waits.1, live) in
       (x, is, waits.3.1 (ap (λ z. takes_tick z.state) same ∙ takes), ap (λ z. z.request) (sym same) ∙ waits.3.0)
 
-  pub flown_watched : (x : Option InService) → HasFlown x i n d rs → HasFlown x i (record n { held = h }) d' rs'
+  needs_here : (o : Option (Waiter Reply Reply)) → waiter_at d.requests id ≡ o → Rewatched o (waiter_at d'.requests id) → (it : Waiter Reply Reply) → waiter_at d'.requests id ≡ Some it → needs_permit it ≡ true
+      → (x : Waiter Reply Reply) × (waiter_at d.requests id ≡ Some x) × (needs_permit x ≡ true)
+  needs_here None is waits it live needs = absurd (let no : None ≡ Some it = sym waits ∙ live in cc)
+  needs_here (Some x) is waits it live needs =
+      let same : waits.0 ≡ it = cc (waits.1, live) in
+      (x, is, waits.3.2 (ap needs_permit same ∙ needs))
+
+  pub flown_watched : (x : Option InService) → HasFlown x i n d rs → HasFlown x i n d' rs'
   flown_watched place flown =
-      let lands = landed_on n (record n { held = h }) d d' rs rs' (operations d.ring) flown.landed
+      let lands = landed_on n n d d' rs rs' (operations d.ring) flown.landed
       (λ x it y given live flies at landed.
       by_name x id
       (λ differs.
       let new = after (number_in n.requests.items x) y at in
       record { it' = it; r' = new.0; live = ap waiter_of (by.others x differs) ∙ live; flies = refl; same = refl; number = refl; there = new.1; phase = ap (λ z. z.shown.phase) new.2 })
-      (λ same. subst (λ z. FliesOn n (record n { held = h }) d d' rs rs' z it y) (sym same)
+      (λ same. subst (λ z. FliesOn n n d d' rs rs' z it y) (sym same)
       (flies_here (waiter_at d.requests id) by.waits it (ap (waiter_at d.requests) (sym same) ∙ live) y (ap (λ z. slice_get rs (number_in n.requests.items z)) (sym same) ∙ at)))) in
       record {
         ending = flown.ending;
         staging = rw by.ring flown.staging;
         telling = rw by.ring flown.telling;
         entries = rw by.ring flown.entries;
-        permits = flown.permits;
+        gated = λ x it live needs.
+            rw by.gated
+            (by_name x.0 id
+            (λ differs. flown.gated x it (ap waiter_of (sym (by.others x.0 differs)) ∙ live) needs)
+            (λ same.
+            let old = needs_here (waiter_at d.requests id) refl by.waits it (ap (waiter_at d'.requests) (sym same) ∙ live) needs in
+            flown.gated x old.0 (ap (waiter_at d.requests) same ∙ old.1) old.2));
         plain = λ j y found mine.
             let old = before j y found in
             subst (λ z. IsPlain z.shown) (sym old.is) (assumption (flown.plain j old.o old.at (sym (ap (λ z. z.shown.worker) old.is) ∙ mine)));
-        landed = subst (λ x. AreLanded (record n { held = h }) d' rs' (operations x)) (sym by.ring) lands;
+        landed = subst (λ x. AreLanded n d' rs' (operations x)) (sym by.ring) lands;
         enrolling = λ x it live takes has.
             rw by.enrolments
             (by_name x.0 id
@@ -255,6 +270,42 @@ module _ (i : ℕ) (n : Names) (h : ℕ) (d d' : Driving Reply Reply) (zs : Slab
             (by.cancels x among);
       }
 
+  -- who waits for what is there still asks for its hint
+  asks_here : (o : Option (Waiter Reply Reply)) → waiter_at d.requests id ≡ o → Rewatched o (waiter_at d'.requests id) → (it : Waiter Reply Reply) → waiter_at d'.requests id ≡ Some it → (x : Waiter Reply Reply) × (waiter_at d.requests id ≡ Some x) × (it.request ≡ x.request)
+  asks_here None is waits it live = absurd (let no : None ≡ Some it = sym waits ∙ live in cc)
+  asks_here (Some x) is waits it live =
+      let same : waits.0 ≡ it = cc (waits.1, live) in
+      (x, is, ap (λ z. z.request) (sym same) ∙ waits.3.0)
+
+  pub known_watched : (opens : List OpenState) → IsKnown i n.requests.items d.requests opens rs → IsKnown i n.requests.items d'.requests opens rs'
+  known_watched opens known =
+      known_on i n.requests.items n.requests.items d.requests d'.requests opens opens rs rs' by.eases.past by.back
+      (ap length by.records ∙ marked_length f rs (number_in n.requests.items id))
+      (λ j y found mine.
+      let old = before j y found in
+      (old.o, old.at, sym (ap (λ z. z.shown.worker) old.is) ∙ mine, ap (λ z. z.id) old.is))
+      (λ file h. h)
+      (λ x it y live found.
+      let old = before (number_in n.requests.items x) y found in
+      by_name x id
+      (λ differs. inl (record {
+        it = it;
+        r = old.o;
+        live = ap waiter_of (sym (by.others x differs)) ∙ live;
+        there = old.at;
+        asks = record { driver = λ h. inl h; kind = ap (λ z. z.shown.operation.kind) old.is; target = ap (λ z. z.shown.operation.target) old.is; unrefused = λ h. sym (ap (λ z. z.shown.operation.unrefused) old.is) ∙ h };
+      }))
+      (λ same.
+      let was = asks_here (waiter_at d.requests id) refl by.waits it (ap (waiter_at d'.requests) (sym same) ∙ live) in
+      inl (record {
+        it = was.0;
+        r = old.o;
+        live = ap (waiter_at d.requests) same ∙ was.1;
+        there = old.at;
+        asks = record { driver = λ h. inl (ap (λ q. (cursor_of q).hinted) (sym was.2) ∙ h); kind = ap (λ z. z.shown.operation.kind) old.is; target = ap (λ z. z.shown.operation.target) old.is; unrefused = λ h. sym (ap (λ z. z.shown.operation.unrefused) old.is) ∙ h };
+      })))
+      known
+
 -- A REQUEST THAT ISN'T OVER, of which what waits for it becomes this
 
 not_taken : (a b : Bool) → (b ≡ true → a ≡ true) → a ≡ false → b ≡ false
@@ -262,13 +313,13 @@ not_taken a false h is = refl
 not_taken a true h is = absurd (false≢true (sym is ∙ h refl))
 
 pub watched : (n : Names) (d d' : Driving Reply Reply) (rs : List Record) (id : Id) (it it' : Waiter Reply Reply) (r : Record) (f : Record → Record) → waiter_at d.requests id ≡ Some it → slice_get rs (number_in n.requests.items id) ≡ Some r → r.id.0 ≡ id
-    → f r ≡ record r { shown = record r.shown { timer = (f r).shown.timer; observed = (f r).shown.observed; cancelled = (f r).shown.cancelled; waiter = (f r).shown.waiter } }
-    → is_resolved r.shown.phase ≡ false → d'.requests ≡ written d.requests id (Pending it') → it'.in_flight ≡ it.in_flight → it'.request ≡ it.request → (takes_tick it'.state ≡ true → takes_tick it.state ≡ true)
+    → f r ≡ record r { shown = record r.shown { timer = (f r).shown.timer; observed = (f r).shown.observed; cancelled = (f r).shown.cancelled; waiter = (f r).shown.waiter; forwarding = (f r).shown.forwarding } }
+    → is_resolved r.shown.phase ≡ false → d'.requests ≡ written d.requests id (Pending it') → it'.in_flight ≡ it.in_flight → it'.request ≡ it.request → (takes_tick it'.state ≡ true → takes_tick it.state ≡ true) → (needs_permit it' ≡ true → needs_permit it ≡ true)
     → ((t : ℕ) → tick_in it'.state ≡ Some t → tick_in it.state ≡ Some t)
-    → IsAlike d.wheel.start d.wheel.tick it' (f r).shown → d'.ring ≡ d.ring → d'.armed ≡ d.armed → d'.wheel.start ≡ d.wheel.start → d'.wheel.tick ≡ d.wheel.tick → TurnsAlike d.wheel d'.wheel → d'.lists.enrolments ≡ d.lists.enrolments
+    → IsAlike d.wheel.start d.wheel.tick it' (f r).shown → d'.ring ≡ d.ring → d'.armed ≡ d.armed → d'.wheel.start ≡ d.wheel.start → d'.wheel.tick ≡ d.wheel.tick → TurnsAlike d.wheel d'.wheel → d'.lists.enrolments ≡ d.lists.enrolments → d'.lists.gated ≡ d.lists.gated
     → ((x : WaiterId) → is_among x d'.lists.cancels ≡ true → (is_among x d.lists.cancels ≡ true) ⊎ ((x.0 ≡ id) × (r.shown.cancel_staged ≡ false)))
     → Watched n d d' rs (changed_at rs (number_in n.requests.items id) f) id r f
-watched n d d' rs id it it' r f at there name keeps open_still slab flies request takes ticks alike ring armed start tick turns enrolments cancels =
+watched n d d' rs id it it' r f at there name keeps open_still slab flies request takes needs ticks alike ring armed start tick turns enrolments gated cancels =
     let some : IsSome (value_at d.requests id) = rw (entry_of (value_at d.requests id) it at) refl in
     let map = Updates-write d.requests id (Pending it') some in
     let now : waiter_at d'.requests id ≡ Some it' = ap (λ s. waiter_at s id) slab ∙ ap waiter_of map.changed in
@@ -280,13 +331,15 @@ watched n d d' rs id it it' r f at there name keeps open_still slab flies reques
       keeps = keeps;
       timer = λ over. absurd (false≢true (sym open_still ∙ over));
       others = λ x apart. ap (λ s. value_at s x) slab ∙ map.others x apart;
-      waits = subst (λ o. Rewatched o (waiter_at d'.requests id)) (sym at) (it', now, flies, (request, takes));
+      waits = subst (λ o. Rewatched o (waiter_at d'.requests id)) (sym at) (it', now, flies, (request, takes, needs));
       alike = λ x live. let same : it' ≡ x = cc (now, live) in subst (λ y. IsAlike d.wheel.start d.wheel.tick y (f r).shown) same alike;
       ring = ring;
       armed = armed;
       start = start;
       tick = tick;
       enrolments = enrolments;
+      gated = gated;
+      back = λ x past. (past-write d.requests id (Pending it') some x).0 (subst (λ s. IsPast s x) slab past);
       eases = subst (Eases d.requests) (sym slab) (eases_written d.requests id it it' at ticks (not_taken (takes_tick it.state) (takes_tick it'.state) takes));
       turns = turns;
       slots = ap (λ s. length s.slots) slab ∙ length-set d.requests.slots id.index (Live id.generation (Pending it'));

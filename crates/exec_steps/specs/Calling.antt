@@ -2,7 +2,7 @@
 --
 -- A caller has a place and a runnable in its hand, and its call is half done from its first step on until it returns. Its
 -- steps are those of the moves; what only a worker touches they leave, and the balances of all parties hold again.
-use Rattle.std.specs.Prelude.{◌≡◌, ℕ, ◌+◌, ◌^◌, ◌<◌, ◌==◌, ◌&&◌, nat_lt, Bool, true, false, Contains, List, [], ◌∷◌, length, slice_get, slice_set, Option, option_map, option_to_list, Some, None, IsSome, if◌then◌else◌}
+use Rattle.std.specs.Prelude.{◌≡◌, ℕ, ◌+◌, ◌^◌, ◌<◌, ◌≤◌, ◌==◌, ◌&&◌, nat_lt, Bool, true, false, Contains, List, [], ◌∷◌, length, slice_get, slice_set, Option, option_map, option_to_list, Some, None, IsSome, if◌then◌else◌}
 use Rattle.exec_words.specs.{Idle.{Idle, lowest_of}, Word.asks_signal, declared.{mailbox.Mailbox.Mailbox, word.PureWord.PureWord}}
 use Rattle.exec_task.specs.{Phases.{is_idle, runnable_of}, declared.{body.Said.Said, runnable.Runnable.Runnable}}
 use Rattle.exec_machine.specs.{declared.{event.Event.Event, state.Call.Call, step.Action.Action}, Callers.{common_by, may_call, may_go_on, may_go_on_by, may_spawn_by_call, may_wake_by_call}, Choice.Choice, Progress.Plan, Tests.{AllTrue, is_resolved}, World.Common}
@@ -39,12 +39,12 @@ has_count_in (call.Global global.ReturnGlobalCount) = true
 has_count_in (call.ClaimWorker set) = true
 has_count_in _ = false
 
--- In a set that was loaded for a claim somebody is; who is signalled is a worker.
+-- In a set that was loaded for a claim somebody is; who is signalled is one of so many workers.
 abbrev pub CallAims : CallPlace → ℕ → Type 0
-CallAims (call.Global (global.AddGlobalCount set)) workers = IsSome (lowest_of set.has)
-CallAims (call.ClaimWorker set) workers = IsSome (lowest_of set.has)
-CallAims (call.Signal x j) workers = j < workers
-CallAims _ workers = Unit {0}
+CallAims (call.Global (global.AddGlobalCount set)) count = IsSome (lowest_of set.has)
+CallAims (call.ClaimWorker set) count = IsSome (lowest_of set.has)
+CallAims (call.Signal x j) count = j < count
+CallAims _ count = Unit {0}
 
 -- what parties have: others, and this caller
 abbrev pub with_caller : Profile → Caller → Profile
@@ -87,12 +87,12 @@ module _ {B : Type 0} where
 
   pub record CallSound (c : Caller) (s : Shared B) : Type 0 where
     pub config : IsConfig s.config
-    pub homes : AreHome s.config.workers s.tasks.items
-    pub many : length s.seats.items ≡ s.config.workers
+    pub homes : AreHome s.config.workers (length s.seats.items) s.tasks.items
+    pub many : s.config.workers ≤ length s.seats.items
     pub shards : length s.set.shards ≡ shard_count s.config
     pub hand : IsInHand None (hands_on_in c.place) c.hand
     pub genuine : (r : Runnable) → Contains (option_to_list c.hand) r → IsGenuine s.tasks.items r
-    pub aims : CallAims c.place s.config.workers
+    pub aims : CallAims c.place (length s.seats.items)
 
   -- what holds of it together with all other parties, whose counts are few
   pub record HasCallWhole (c : Caller) (s : Shared B) : Type 0 where
@@ -102,10 +102,11 @@ module _ {B : Type 0} where
 
   -- what holds of what is shared, whichever worker is asked
   pub record HoldsForAll (s : Shared B) : Type 0 where
-    pub homes : AreHome s.config.workers s.tasks.items
-    pub resting : AreResting s.config.workers s.tasks.items
+    pub homes : AreHome s.config.workers (length s.seats.items) s.tasks.items
+    pub resting : AreResting s.tasks.items
     pub owning : (k : ℕ) (r : Record) → slice_get s.requests.items k ≡ Some r → is_resolved r.shown.phase ≡ false → r.shown.released ≡ false
     pub closed : s.stopped ≡ true → s.set.closed ≡ true
+    pub few : length s.requests.items ≤ 2 ^ 32
 
   -- What a step leaves of what other parties rely on: the own things of each worker are spared, the same holds whichever
   -- worker is asked, the balances of all hold again, and no task made an act.

@@ -3,17 +3,17 @@
 -- A task that is neither over nor cleared stands once in the set, or who took it out clears it next; one that is over stays
 -- there until one worker, who polled it, takes it out, unless a drain of the closed set did so before. Who has passed the
 -- shutdown barrier polls nothing and clears nothing, and found the closed set empty; it goes on only once all have passed.
--- All ordinary tasks are over then; so no mailbox closes while somebody may still send there.
-use Rattle.std.specs.Prelude.{◌≡◌, ◌⊎◌, ℕ, ◌+◌, ◌<◌, ◌≤◌, ◌==◌, ◌||◌, Bool, true, false, not, List, [], ◌∷◌, count_by, sum_by, slice_get, Option, Some, None}
-use Rattle.exec_words.specs.declared.{inbox.Message.Message, mailbox.Mailbox.Mailbox}
+-- All ordinary tasks are over then; so no mailbox of the pool closes while an ordinary task may still send there.
+use Rattle.std.specs.Prelude.{◌≡◌, ◌⊎◌, ℕ, ◌+◌, ◌<◌, ◌≤◌, ◌==◌, ◌||◌, Bool, true, false, not, List, [], count_by, length, sum_by, slice_get, Option, Some, None}
+use Rattle.exec_words.specs.{Inbox.is_wake_root, declared.mailbox.Mailbox.Mailbox}
 use Rattle.exec_task.specs.{Phases.is_polled, TaskSet.{AreAtHome, Set}}
 use Rattle.exec_steps.specs.{declared.parts.{mail.Subject.Subject, seat.Seat.Seat as Chair, task_slot.TaskSlot.TaskSlot}, Phased.is_complete, Places.Drops}
 
--- the inbox has no message but one wake of the root, and there is a place for that; a closed one has none
+-- an inbox has one wake of the root at most, and a place for that where it has none; a closed one has no message
 pub record IsMailbox (m : Mailbox Subject Subject) : Type 0 where
-  pub mail : (m.inbox.messages ≡ []) ⊎ (m.inbox.messages ≡ Message.WakeRoot ∷ [])
+  pub roots : count_by is_wake_root m.inbox.messages ≤ 1
   pub empty : m.inbox.closed ≡ true → m.inbox.messages ≡ []
-  pub place : 0 < m.inbox.places
+  pub place : count_by is_wake_root m.inbox.messages ≡ 0 → length m.inbox.messages < m.inbox.places
 
 -- how often task t stands in the set
 abbrev pub in_set : ℕ → Set (Unit {0}) → ℕ
@@ -67,4 +67,4 @@ module _ {B : Type 0} where
     pub alone : (i j t : ℕ) → (d.drops_by i).removes ≡ Some t → (d.drops_by j).removes ≡ Some t → i ≡ j
     pub drained : (j : ℕ) (chair : Chair) → slice_get seats j ≡ Some chair → chair.left ≡ true → (set.closed ≡ true) × ((t : ℕ) → in_set t set ≡ 0)
     pub mail : (j : ℕ) (chair : Chair) → slice_get seats j ≡ Some chair → IsMailbox chair.mailbox
-    pub shut : (j : ℕ) (chair : Chair) → slice_get seats j ≡ Some chair → chair.mailbox.inbox.closed ≡ true → HaveLeft seats
+    pub shut : (j : ℕ) (chair : Chair) → slice_get seats j ≡ Some chair → chair.pool ≡ true → chair.mailbox.inbox.closed ≡ true → HaveLeft seats

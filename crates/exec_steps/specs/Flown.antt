@@ -1,38 +1,18 @@
 -- WHAT HAS LANDED: the completions in a worker's ring, what its requests may be yet, and room for what ends.
 use Rattle.std.specs.{Prelude.{◌≡◌, ℕ, ◌+◌, ◌%◌, ◌^◌, ◌<◌, ◌≤◌, Bool, true, false, not, List, [], ◌∷◌, length, map, filter, slice_get, Option, Some, None, is_some, IfSome}, Vec.vec_capacity, VecDeque.deque_capacity}
 use Rattle.exec_base.specs.declared.slab.Id.{Id}
-use Rattle.exec_outcomes.specs.declared.outcome.Kind.{Kind}
 use Rattle.exec_request.specs.{Requests.deadline_of, declared.window.Opcode.Opcode}
 use Rattle.exec_ring.specs.{Completions.result_in, Rings.{RingState, completions}, declared.completion.{Completion.Completion, Submission.Submission}}
-use Rattle.exec_waiters.specs.{Ids.{index_in, generation_in}, Events.is_lawful_for, States.{waiter_at, takes_tick}, declared.{waiter.Waiter.Waiter, waiter_id.WaiterId.WaiterId}}
+use Rattle.exec_waiters.specs.{Ids.{index_in, generation_in}, Events.is_lawful_for, States.{needs_permit, waiter_at, takes_tick}, declared.{waiter.Waiter.Waiter, waiter_id.WaiterId.WaiterId}}
 use Rattle.exec_driver.specs.{Driving.Driving, Lists.is_among, Steps.is_control}
-use Rattle.exec_machine.specs.{declared.state.{Request.Request, RequestPhase.TheVariants.Landed}, Tests.{is_gated, is_resolved}}
+use Rattle.exec_machine.specs.{declared.state.{Request.Request, RequestPhase.TheVariants.Landed}, Tests.is_resolved}
 use Rattle.exec_moves.specs.declared.place.InService.{InService}
 use Rattle.exec_steps.specs.{declared.parts.{mail.Reply.Reply, names.Names.Names, record.Record.Record}, Places.one_if, Records.number_in, Serving.is_one_of, View.{is_end, number_told}}
 
--- no durable request is there, so no permit is given up
-abbrev pub passes_permit : Option InService → Bool
-passes_permit (Some (InService.PassPermit file back)) = true
-passes_permit (Some (InService.Signal worker back)) = true
-passes_permit _ = false
-
--- So long a request of this kind is at most; no other kind is there yet.
-abbrev pub longest : Kind → Option ℕ
-longest Kind.Poll = Some 1
-longest Kind.Send = Some 18446744073709551615
-longest _ = None
-
-abbrev pub IsUpTo : Option ℕ → ℕ → Type 0
-IsUpTo None n = ⊥
-IsUpTo (Some most) n = n ≤ most
-
--- a request whose operations count bytes within its length, at no gate
+-- A request whose operations count bytes within its pages, and whose deadline is near.
 pub record IsPlain (r : Request) : Type 0 where
-  pub bounded : IsUpTo (longest r.operation.kind) r.operation.length
-  pub moved : r.operation.moved ≤ r.operation.length
-  pub first_part : r.operation.switched ≡ false
-  pub unhinted : r.operation.hinted ≡ false
-  pub ungated : is_gated r.phase ≡ false
+  pub bounded : r.operation.skip + r.operation.length + 4095 < 2 ^ 63
+  pub moved : r.operation.moved ≤ r.operation.skip + r.operation.length + 4095
   pub deadline : IfSome r.operation.deadline (λ moment. moment < 2 ^ 63)
 
 -- the completions of operations, in order
@@ -84,7 +64,7 @@ pub record HasFlown (x : Option InService) (i : ℕ) (n : Names) (d : Driving Re
   pub staging : d.ring.size ≤ vec_capacity n.staged
   pub telling : d.ring.size ≤ vec_capacity n.untold
   pub entries : length n.staged.items + length n.untold.items ≤ length d.ring.staged
-  pub permits : passes_permit x ≡ false
+  pub gated : (id : WaiterId) (it : Waiter Reply Reply) → waiter_at d.requests id.0 ≡ Some it → needs_permit it ≡ true → is_among id d.lists.gated ≡ true
   pub plain : (k : ℕ) (r : Record) → slice_get records k ≡ Some r → r.shown.worker ≡ i → IsPlain r.shown
   pub landed : AreLanded n d records (operations d.ring)
   pub enrolling : (id : WaiterId) (it : Waiter Reply Reply) → waiter_at d.requests id.0 ≡ Some it → takes_tick it.state ≡ true → is_some (deadline_of it.request) ≡ true → is_among id d.lists.enrolments ≡ true

@@ -1,8 +1,8 @@
 -- What a task can be told next, and what it holds then.
-use Rattle.std.specs.Prelude.{◌≡◌, ℕ, List, length, Option, Some, None, slice_get}
+use Rattle.std.specs.Prelude.{◌≡◌, ◌⊎◌, ℕ, true, false, List, length, Option, Some, None, slice_get}
 use Rattle.exec_task.specs.declared.body.Said.{Said}
 use Rattle.exec_machine.specs.{declared.state.Waiting.Waiting, Tasks.without_newest}
-use Rattle.exec_steps.specs.{declared.parts.{shared.Shared.Shared, task_slot.TaskSlot.TaskSlot, worker.Worker.Worker}, View.body_in}
+use Rattle.exec_steps.specs.{Phased.is_complete, Records.numbers_held, declared.parts.{shared.Shared.Shared, task_slot.TaskSlot.TaskSlot, worker.Worker.Worker}, View.body_in}
 
 -- what a task is told that waits for this; where it is known already, that
 abbrev pub CanHear : Option Said → Waiting → Said → Type 0
@@ -23,11 +23,12 @@ module _ {B : Type 0} where
   pub record Hears (slot slot' : TaskSlot B) : Type 0 where
     pub home : slot'.home ≡ slot.home
     pub body : body_in slot'.cell.phase slot'.body ≡ body_in slot.cell.phase slot.body
-    pub told : (answer : Said) → CanHear slot'.told slot'.waiting answer → CanHear slot.told slot.waiting answer × (held_once_come slot.waiting slot.held.items ≡ held_once_come slot'.waiting slot'.held.items)
+    pub going : is_complete slot'.cell.phase ≡ false → is_complete slot.cell.phase ≡ false
+    pub told : (answer : Said) → CanHear slot'.told slot'.waiting answer → CanHear slot.told slot.waiting answer × (held_once_come slot.waiting (numbers_held slot.held.items) ≡ held_once_come slot'.waiting (numbers_held slot'.held.items))
 
-  -- No task made an act, and none is new; the worker's root and the configuration stay.
+  -- No task made an act, and none is new, but one may be over; the worker's root and the configuration stay.
   pub record StillHears (w : Worker) (s : Shared B) (w' : Worker) (s' : Shared B) : Type 0 where
     pub root : w'.root ≡ w.root
     pub config : s'.config ≡ s.config
     pub many : length s'.tasks.items ≡ length s.tasks.items
-    pub hears : (t : ℕ) (slot slot' : TaskSlot B) → slice_get s.tasks.items t ≡ Some slot → slice_get s'.tasks.items t ≡ Some slot' → Hears slot slot'
+    pub hears : (t : ℕ) (slot slot' : TaskSlot B) → slice_get s.tasks.items t ≡ Some slot → slice_get s'.tasks.items t ≡ Some slot' → Hears slot slot' ⊎ (is_complete slot'.cell.phase ≡ true)

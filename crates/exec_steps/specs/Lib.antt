@@ -12,6 +12,7 @@ pub mod Phased
 pub mod Rooted
 pub mod Carried
 pub mod Places
+pub mod Gates
 pub mod Whole
 pub mod Spares
 pub mod Sound
@@ -28,7 +29,12 @@ pub mod Firsts
 pub mod Roles
 pub mod Calling
 pub mod Pooled
+pub mod MailPosts
+pub mod MailTakes
 pub mod Kinds
 pub mod Raises
 pub mod Drained
 pub mod Together
+pub mod Dedicated
+pub mod Holding
+pub mod HoldPlaces

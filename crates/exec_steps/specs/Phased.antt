@@ -1,5 +1,5 @@
 -- HOW FAR A WORKER HAS COME: it is open until it closes, which it does once its root is over; and a closing has its order.
-use Rattle.std.specs.Prelude.{◌≡◌, ◌⊎◌, ℕ, ◌+◌, ◌<◌, ◌≤◌, Bool, true, false, not, List, [], length, Option, Some, None, slice_get, slice_set}
+use Rattle.std.specs.Prelude.{◌≡◌, ◌⊎◌, ℕ, ◌+◌, ◌<◌, ◌≤◌, ◌&&◌, Bool, true, false, not, List, [], length, Option, Some, None, slice_get, slice_set}
 use Rattle.exec_base.specs.Slab.{Slab, live_count}
 use Rattle.exec_time.specs.declared.timers.Sleeper.{Sleeper as Sleeping}
 use Rattle.exec_task.specs.{TaskSet.{Set, IsFor, shard_at}, declared.{drain.Drain.Drain, task.Phase.Phase}}
@@ -9,11 +9,14 @@ use Rattle.exec_moves.specs.declared.handing.AfterCallbacks.TheVariants as after
 use Rattle.exec_moves.specs.declared.handing.AfterPop.TheVariants as pop
 use Rattle.exec_moves.specs.declared.handing.AfterSend.TheVariants as send
 use Rattle.exec_moves.specs.declared.handing.AfterSignal.TheVariants as signal
+use Rattle.exec_moves.specs.declared.handing.AfterCancels.TheVariants as cancels
 use Rattle.exec_moves.specs.declared.handing.AfterClaim.TheVariants as claim
+use Rattle.exec_moves.specs.declared.handing.AfterPush.TheVariants as push
 use Rattle.exec_moves.specs.declared.handing.AfterKick.TheVariants as kick
 use Rattle.exec_moves.specs.declared.handing.AfterLeave.TheVariants as leave
-use Rattle.exec_moves.specs.declared.handing.{AfterCallbacks.AfterCallbacks, AfterClaim.AfterClaim, AfterKick.AfterKick, AfterLeave.AfterLeave, AfterSignal.AfterSignal}
+use Rattle.exec_moves.specs.declared.handing.{AfterCallbacks.AfterCallbacks, AfterCancels.AfterCancels, AfterClaim.AfterClaim, AfterKick.AfterKick, AfterLeave.AfterLeave, AfterPush.AfterPush, AfterSend.AfterSend, AfterSignal.AfterSignal}
 use Rattle.exec_moves.specs.declared.place.{AfterService.AfterService, InClosing.InClosing, Place.Place}
+use Rattle.exec_moves.specs.Parts.{after_visit}
 use Rattle.exec_moves.specs.declared.place.AfterService.TheVariants as back
 use Rattle.exec_moves.specs.declared.place.InClosing.TheVariants as closing
 use Rattle.exec_moves.specs.declared.place.Place.TheVariants as at
@@ -34,23 +37,40 @@ abbrev pub closes_after_leave : AfterLeave → Bool
 closes_after_leave (leave.CallBack n) = closes_before n
 closes_after_leave _ = false
 
+-- and so is a push of a task that a callback woke
+abbrev pub closes_after_push : AfterPush → Bool
+closes_after_push (push.CallBack n) = closes_before n
+closes_after_push _ = false
+
 abbrev pub closes_after_kick : AfterKick → Bool
 closes_after_kick (kick.Leave b) = closes_after_leave b
-closes_after_kick (kick.Push b) = false
+closes_after_kick (kick.Push b) = closes_after_push b
 
 abbrev pub closes_after_claim : AfterClaim → Bool
 closes_after_claim (claim.Kick b) = closes_after_kick b
-closes_after_claim (claim.Global b) = false
+closes_after_claim (claim.Global b) = closes_after_push b
+
+-- what a task held that a drain cleared is told to whom it is of
+abbrev pub closes_after_cancels : AfterCancels → Bool
+closes_after_cancels (cancels.Visit drain) = true
+closes_after_cancels _ = false
+
+abbrev pub closes_after_send : AfterSend → Bool
+closes_after_send (send.Tell worker) = true
+closes_after_send (send.Cancels b) = closes_after_cancels b
+closes_after_send _ = false
 
 abbrev pub closes_after_signal : AfterSignal → Bool
 closes_after_signal (signal.Claim b) = closes_after_claim b
-closes_after_signal (signal.Send (send.Tell worker)) = true
-closes_after_signal _ = false
+closes_after_signal (signal.Send b) = closes_after_send b
 
 -- the worker is closing there
 abbrev pub closes_at : Place → Bool
 closes_at (at.Closing closing.Close) = false
 closes_at (at.Pop x pop.Discard) = true
+closes_at (at.Push x b) = closes_after_push b
+closes_at (at.Global x b) = closes_after_push b
+closes_at (at.SendCancel b) = closes_after_cancels b
 closes_at (at.LeaveSearch b) = closes_after_leave b
 closes_at (at.Kick x b) = closes_after_kick b
 closes_at (at.ClaimWorker set b) = closes_after_claim b
@@ -61,11 +81,24 @@ closes_at (at.RingWait x stay.Closing) = true
 closes_at (at.Callbacks x n) = closes_before n
 closes_at _ = false
 
--- where the closing is: the signal of a told root, and the emptying of the own run queue, count as the telling
+-- where the closing is: the signal of a told root, and the emptying of the own run queue, count as the telling; letters of a
+-- cleared task count as what follows them
+abbrev pub closing_after_cancels : AfterCancels → Option InClosing
+closing_after_cancels (cancels.Visit drain) = Some (after_visit drain)
+closing_after_cancels _ = None
+
+abbrev pub closing_after_signal : AfterSignal → Option InClosing
+closing_after_signal (signal.Claim b) = None
+closing_after_signal (signal.Send (send.Tell worker)) = Some (closing.TellRoot worker)
+closing_after_signal (signal.Send (send.Cancels b)) = closing_after_cancels b
+closing_after_signal (signal.Send (send.Act t)) = None
+closing_after_signal (signal.Send (send.Pend t)) = None
+
 abbrev pub closing_in : Place → Option InClosing
 closing_in (at.Closing x) = Some x
 closing_in (at.Pop x pop.Discard) = Some (closing.TellRoot 0)
-closing_in (at.Signal x j (signal.Send (send.Tell worker))) = Some (closing.TellRoot worker)
+closing_in (at.Signal x j b) = closing_after_signal b
+closing_in (at.SendCancel b) = closing_after_cancels b
 closing_in _ = None
 
 -- the root is over where the worker is about to close, and then
@@ -104,10 +137,12 @@ pub record Stage : Type 0 where
   pub shut : Bool
   pub stopped : Bool
   pub set : Set (Unit {0})
+  -- how many of its requests and sleepers the worker has made
+  pub made : ℕ
 
 abbrev pub stage_of : {B : Type 0} → Chair → Shared B → Stage
 stage_of chair s =
-    record { phase = chair.phase; pool = chair.pool; left = chair.left; shut = chair.mailbox.inbox.closed; stopped = s.stopped; set = s.set }
+    record { phase = chair.phase; pool = chair.pool; left = chair.left; shut = chair.mailbox.inbox.closed; stopped = s.stopped; set = s.set; made = chair.made }
 
 -- The shards that a drain has passed are empty: those before it, and those behind all that it has to visit, round all.
 abbrev pub HasPassed : Drain → Set (Unit {0}) → Type 0
@@ -121,32 +156,23 @@ abbrev pub IsPrepared : Option InClosing → ℕ → Set (Unit {0}) → Type 0
 IsPrepared (Some (closing.Visit drain)) unreleased set = IsFor drain set × (0 < drain.left) × HasPassed drain set
 IsPrepared (Some (closing.Clear t drain)) unreleased set = IsFor drain set × HasPassed drain set
 IsPrepared (Some closing.LeaveBarrier) unreleased set = (k : ℕ) → shard_at set k ≡ []
-IsPrepared (Some closing.Orphan) unreleased set = ⊥
-IsPrepared (Some closing.CloseSleeper) unreleased set = ⊥
 IsPrepared (Some closing.End) unreleased set = unreleased ≡ 0
 IsPrepared _ unreleased set = Unit {0}
 
 module _ {B : Type 0} where
-  -- Worker zero closes the set and stops the pool; the root of any other is over only once that is so.
+  -- Worker zero closes the set and stops the pool; the root of any other of the pool is over only once that is so.
   pub record IsPhased (i : ℕ) (closes : Bool) (x : Option InClosing) (home_closes : Bool) (t unreleased : ℕ) (at : Stage) (tasks : List (TaskSlot B)) : Type 0 where
     pub told : home_closes ≡ closes
     pub opened : is_open at.phase ≡ not closes
     pub ended : has_ended at.phase ≡ true → x ≡ Some closing.End
     pub root : (slot : TaskSlot B) → slice_get tasks t ≡ Some slot → is_complete slot.cell.phase ≡ root_over closes x
-    pub pool : at.pool ≡ true
-    pub left : at.left ≡ has_left closes x
+    -- a dedicated worker passes no barrier
+    pub left : at.left ≡ (at.pool && has_left closes x)
     pub shut : at.shut ≡ has_shut closes x
     pub by_zero : i ≡ 0 → (at.stopped ≡ has_stopped closes x) × (at.set.closed ≡ closes)
-    pub by_other : 0 < i → root_over closes x ≡ true → at.stopped ≡ true
+    pub by_other : 0 < i → at.pool ≡ true → root_over closes x ≡ true → at.stopped ≡ true
     pub closed : at.stopped ≡ true → at.set.closed ≡ true
     pub prepared : IsPrepared x unreleased at.set
-
--- A root that is over has let go of all that it held and slept for on worker i.
-pub record HoldsNothing (i : ℕ) (n : Names) (zs : Slab (Sleeping Reply)) (records : List Record) (sleepers : List SleeperRecord) : Type 0 where
-  pub held : n.held ≡ 0
-  pub timers : live_count zs ≡ 0
-  pub unobserved : (k : ℕ) (r : Record) → slice_get records k ≡ Some r → r.shown.worker ≡ i → r.shown.observed ≡ false
-  pub awake : (k : ℕ) (z : SleeperRecord) → slice_get sleepers k ≡ Some z → is_asleep i z.shown ≡ false
 
 -- the worker of this number has not ended
 abbrev pub IsGoing : ℕ → List Chair → Type 0

@@ -1,12 +1,14 @@
 -- What a place says of its worker: which poll it is in, what is in its hands, whether its bit is published, how many search
 -- counts it carries, and which run queue it has claimed.
 use Rattle.std.specs.Prelude.{ℕ, ◌+◌, ◌==◌, ◌||◌, Bool, true, false, not, Option, Some, None, if◌then◌else◌}
-use Rattle.exec_moves.specs.{Seen.polls_at, declared.{handing.{AfterCallbacks.AfterCallbacks, AfterClaim.AfterClaim, AfterKick.AfterKick, AfterLeave.AfterLeave, AfterPush.AfterPush, AfterSignal.AfterSignal, InGlobal.InGlobal, InKick.InKick}, idling.{AfterWait.AfterWait, InLook.InLook, InRingWait.InRingWait, InScan.InScan, InWordWait.InWordWait, Stay.Stay}, place.{AfterService.AfterService, InPoll.InPoll, Place.Place}}}
+use Rattle.exec_moves.specs.{Seen.polls_at, declared.{handing.{AfterCallbacks.AfterCallbacks, AfterCancels.AfterCancels, AfterClaim.AfterClaim, AfterKick.AfterKick, AfterLeave.AfterLeave, AfterPush.AfterPush, AfterSend.AfterSend, AfterSignal.AfterSignal, InGlobal.InGlobal, InKick.InKick}, idling.{AfterWait.AfterWait, InLook.InLook, InRingWait.InRingWait, InScan.InScan, InWordWait.InWordWait, Stay.Stay}, place.{AfterService.AfterService, InClosing.InClosing, InPoll.InPoll, Place.Place}}}
 use Rattle.exec_moves.specs.declared.handing.AfterCallbacks.TheVariants as after
 use Rattle.exec_moves.specs.declared.handing.AfterClaim.TheVariants as claim
 use Rattle.exec_moves.specs.declared.handing.AfterKick.TheVariants as kick
 use Rattle.exec_moves.specs.declared.handing.AfterLeave.TheVariants as leave
 use Rattle.exec_moves.specs.declared.handing.AfterPop.TheVariants as pop
+use Rattle.exec_moves.specs.declared.handing.AfterCancels.TheVariants as cancels
+use Rattle.exec_moves.specs.declared.handing.AfterSend.TheVariants as send
 use Rattle.exec_moves.specs.declared.handing.AfterSignal.TheVariants as signal
 use Rattle.exec_moves.specs.declared.handing.InGlobal.TheVariants as global
 use Rattle.exec_moves.specs.declared.handing.InKick.TheVariants as kicks
@@ -20,12 +22,18 @@ use Rattle.exec_moves.specs.declared.place.AfterService.TheVariants as back
 use Rattle.exec_moves.specs.declared.place.InCallbacks.TheVariants as callback
 use Rattle.exec_moves.specs.declared.place.InClosing.TheVariants as closing
 use Rattle.exec_moves.specs.declared.place.InPoll.TheVariants as poll
+use Rattle.exec_moves.specs.declared.place.InService.TheVariants as service
 use Rattle.exec_moves.specs.declared.place.Place.TheVariants as at
 
 -- THE POLL that a worker is in, once it has begun: what is handed on for an act is within it
 
+abbrev pub step_after_signal : AfterSignal → InPoll
+step_after_signal (signal.Send (send.Pend t)) = poll.Pend
+step_after_signal _ = poll.Act
+
 abbrev pub step_of_poll : Place → InPoll
 step_of_poll (at.Poll t x) = x
+step_of_poll (at.Signal x j b) = step_after_signal b
 step_of_poll _ = poll.Act
 
 abbrev pub in_poll_of : ℕ → Option ℕ → InPoll → Option InPoll
@@ -181,12 +189,76 @@ searches_at (at.Global x b) = Some false
 searches_at (at.Kick x b) = Some false
 searches_at (at.ClaimWorker set b) = Some false
 searches_at (at.Signal x j b) = Some false
+searches_at (at.SendCancel b) = Some false
 searches_at (at.Closing x) = Some false
 searches_at (at.Pop x pop.Discard) = Some false
-searches_at (at.Callbacks callback.CallBack n) = Some false
 searches_at (at.Callbacks callback.TakeBatch n) = searches_before n
+searches_at (at.Callbacks x n) = Some false
 searches_at (at.Service x v) = searches_for v.back
 searches_at _ = None
+
+-- ONLY A WORKER OF THE POOL has a run queue that it picks from and pushes into, searches, publishes its bit, takes ordinary
+-- tasks out of the task set, and drains it. Any other place may be a dedicated worker's.
+
+abbrev pub pooled_push : AfterPush → Bool
+pooled_push AfterPush.Pick = true
+pooled_push _ = false
+
+abbrev pub pooled_kick : AfterKick → Bool
+pooled_kick (kick.Push b) = pooled_push b
+pooled_kick (kick.Leave b) = false
+
+abbrev pub pooled_claim : AfterClaim → Bool
+pooled_claim (claim.Kick b) = pooled_kick b
+pooled_claim (claim.Global b) = pooled_push b
+
+abbrev pub pooled_send : AfterSend → Bool
+pooled_send (AfterSend.Tell worker) = true
+pooled_send (AfterSend.Cancels b) = true
+pooled_send _ = false
+
+abbrev pub pooled_signal : AfterSignal → Bool
+pooled_signal (signal.Claim b) = pooled_claim b
+pooled_signal (signal.Send b) = pooled_send b
+
+abbrev pub pooled_in_closing : InClosing → Bool
+pooled_in_closing closing.CloseQueue = true
+pooled_in_closing closing.OpenBarrier = true
+pooled_in_closing closing.Stop = true
+pooled_in_closing (closing.TellRoot worker) = true
+pooled_in_closing (closing.Visit drain) = true
+pooled_in_closing (closing.Clear t drain) = true
+pooled_in_closing closing.LeaveBarrier = true
+pooled_in_closing _ = false
+
+abbrev pub pooled_in_poll : InPoll → Bool
+pooled_in_poll poll.RemoveTask = true
+pooled_in_poll _ = false
+
+abbrev pub is_pooled_at : Place → Bool
+is_pooled_at (at.Pick x) = true
+is_pooled_at (at.Pop x b) = true
+is_pooled_at (at.Search x) = true
+is_pooled_at (at.Scan x) = true
+is_pooled_at (at.Look x) = true
+is_pooled_at (at.Withdraw n) = true
+is_pooled_at (at.SendCancel b) = true
+is_pooled_at (at.Poll t x) = pooled_in_poll x
+is_pooled_at (at.Push x b) = pooled_push b
+is_pooled_at (at.Global x b) = pooled_push b
+is_pooled_at (at.Kick x b) = pooled_kick b
+is_pooled_at (at.ClaimWorker set b) = pooled_claim b
+is_pooled_at (at.Signal x j b) = pooled_signal b
+is_pooled_at (at.Closing x) = pooled_in_closing x
+is_pooled_at _ = false
+
+-- the task that it polls, or polls next
+abbrev pub or_polls : Option ℕ → Option ℕ → Option ℕ
+or_polls (Some t) polls = Some t
+or_polls None polls = polls
+
+abbrev pub task_at : Place → Option ℕ
+task_at p = or_polls (begins_at p) (polls_at p)
 
 -- it has a search count in the place beside the one that it may hold
 abbrev pub has_count_at : Place → Bool
@@ -210,16 +282,39 @@ abbrev pub clears_at : Place → Option ℕ
 clears_at (at.Closing (closing.Clear t drain)) = Some t
 clears_at _ = None
 
+-- or once what it held is told
+abbrev pub removes_after_cancels : AfterCancels → Option ℕ
+removes_after_cancels (cancels.Remove t) = Some t
+removes_after_cancels _ = None
+
+abbrev pub removes_after_signal : AfterSignal → Option ℕ
+removes_after_signal (signal.Claim b) = None
+removes_after_signal (signal.Send (send.Cancels b)) = removes_after_cancels b
+removes_after_signal (signal.Send _) = None
+
 abbrev pub removes_at : Place → Option ℕ
+removes_at (at.SendCancel b) = removes_after_cancels b
+removes_at (at.Signal x j b) = removes_after_signal b
 removes_at (at.Poll t poll.RemoveTask) = Some t
 removes_at _ = None
+
+-- THE GATES: the open whose permit it passes on, and the request that it has join a gate
+abbrev pub passes_at : Place → Option ℕ
+passes_at (at.Service (service.PassPermit file b) v) = Some file
+passes_at _ = None
+
+abbrev pub joins_at : Place → Option ℕ
+joins_at (at.Poll t (poll.JoinGate r)) = Some r
+joins_at _ = None
 
 pub record Drops : Type 0 where
   pub clears : Option ℕ
   pub removes : Option ℕ
+  pub passes : Option ℕ
+  pub joins : Option ℕ
 
 abbrev pub no_drops : Drops
-no_drops = record { clears = None; removes = None }
+no_drops = record { clears = None; removes = None; passes = None; joins = None }
 
 abbrev pub drops_at : Place → Drops
-drops_at p = record { clears = clears_at p; removes = removes_at p }
+drops_at p = record { clears = clears_at p; removes = removes_at p; passes = passes_at p; joins = joins_at p }

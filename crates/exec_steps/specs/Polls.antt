@@ -1,5 +1,5 @@
 -- What the steps of a poll do to the slot of the polled task.
-use Rattle.std.specs.Prelude.{◌≡◌, ℕ, ◌-◌, Bool, true, false, List, [], ◌++◌, length, map, is_some, Option, Some, None, IsSome, option_to_list, slice_get, slice_set, if◌then◌else◌}
+use Rattle.std.specs.Prelude.{◌≡◌, ℕ, ◌-◌, Bool, true, false, List, [], ◌++◌, length, map, is_some, Option, Some, None, IsSome, option_to_list, slice_get, take, slice_set, if◌then◌else◌}
 use Rattle.exec_base.specs.Slab.{value_at}
 use Rattle.exec_outcomes.specs.declared.outcome.Outcome.{Outcome}
 use Rattle.exec_request.specs.declared.output.RequestOutput.{RequestOutput}
@@ -8,7 +8,7 @@ use Rattle.exec_driver.specs.{Driving.Driving, Opens.OpenState, Punctual.IsPunct
 use Rattle.exec_task.specs.{Phases.{begun, queued_body, pended, woken}, Sight.Sight, declared.{body.{Act.Act, Said.Said}, runnable.{AfterPoll.AfterPoll, Runnable.Runnable}}}
 use Rattle.exec_machine.specs.{declared.{event.Event.{Event, TheVariants.Got}, state.{RequestPhase.TheVariants.Resolved, Waiting.Waiting}}, Tasks.begun_waiting}
 use Rattle.exec_moves.specs.declared.place.{InPoll.InPoll, Place.Place}
-use Rattle.exec_steps.specs.{declared.parts.{mail.Reply.Reply, record.Record.Record, shared.Shared.Shared, task_slot.TaskSlot.TaskSlot, worker.Worker.Worker}, View.{account_seen, driver_of}}
+use Rattle.exec_steps.specs.{Records.numbers_held, declared.parts.{mail.Reply.Reply, record.Record.Record, shared.Shared.Shared, task_slot.TaskSlot.TaskSlot, worker.Worker.Worker}, View.{account_seen, driver_of}}
 
 -- a runnable that comes back goes into the flag
 abbrev pub flag_after : AfterPoll → Option Runnable → Option Runnable
@@ -108,7 +108,7 @@ module _ {B : Type 0} where
     pub outcome : Outcome
     pub is : r.shown.phase ≡ Resolved outcome
     pub event : e ≡ Got k outcome
-    pub worker : w' ≡ record w { place = Place.Poll t InPoll.Act; names = record w.names { held = w.names.held - 1 }; home = record w.home { driver = w'.home.driver } }
+    pub worker : w' ≡ record w { place = Place.Poll t InPoll.Act; home = record w.home { driver = w'.home.driver } }
     pub driver : driver_of w' ≡ record (driver_of w) { requests = taken (driver_of w).requests r.id.0 }
     pub punctual : IsPunctual (driver_of w) → IsPunctual (driver_of w')
     pub requests : s'.requests.items ≡ slice_set s.requests.items k (unobserved r)
@@ -116,6 +116,7 @@ module _ {B : Type 0} where
     pub kept : s' ≡ record s { tasks = s'.tasks; requests = s'.requests }
     pub output : RequestOutput
     pub took : slot' ≡ record slot { held = slot'.held; waiting = Waiting.Nothing; told = Some (Said.Output output) }
+    pub all : slot'.held.items ≡ take (length slot.held.items - 1) slot.held.items
     pub newest : Option ℕ
     pub some : IsSome newest
-    pub held : slot.held.items ≡ slot'.held.items ++ option_to_list newest
+    pub held : numbers_held slot.held.items ≡ (numbers_held slot'.held.items) ++ option_to_list newest

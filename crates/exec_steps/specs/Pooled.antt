@@ -7,7 +7,8 @@ use Rattle.exec_words.specs.{Inbox.{is_dropped, opens_batch, sent, spare_places,
 use Rattle.exec_task.specs.{Phases.{cleared, is_idle, runnable_of, woken}, TaskSet.{IsFor, inserted, passed, shard_at, Set, TakesNewest}, declared.{body.Said.Said, drain.Drain.Drain, runnable.{AfterPoll.AfterPoll, Runnable.Runnable}}}
 use Rattle.exec_base.specs.declared.{error.Error.Error, task_no.TaskNo.TaskNo}
 use Rattle.exec_machine.specs.{declared.{config.Configuration.Configuration, event.Event.{Event, TheVariants.{Turn, Rouse, Send, Closed, Spawn, Wake}}, state.{MailMessage.TheVariants.Root, Rest.Rest, Waiting.Waiting}}, Tests.{is_awake, is_empty}}
-use Rattle.exec_moves.specs.{declared.{handing.{AfterLeave.AfterLeave, AfterPop.AfterPop, AfterPush.AfterPush, First.First}, place.Place.Place}, Claim.Claimed as Exchanged, Close.after_visit, Pick.after_empty_look, Pop.{after_empty_pop, judge_pop}, Send.after_spawn, Parts.{after_send, first_pop}}
+use Rattle.exec_moves.specs.{declared.{handing.{AfterLeave.AfterLeave, AfterPop.AfterPop, AfterPush.AfterPush, First.First}, place.Place.Place}, Claim.Claimed as Exchanged, Pick.after_empty_look, Pop.{after_empty_pop, judge_pop}, Parts.{after_send, after_visit, first_pop}, Send.after_spawn}
+use Rattle.exec_base.specs.declared.one_shot.OneShotState.TheVariants as shot
 use Rattle.exec_task.specs.declared.body.Said.TheVariants as said
 use Rattle.exec_task.specs.declared.task.Phase.TheVariants as cell
 use Rattle.exec_moves.specs.declared.handing.AfterCallbacks.TheVariants as after
@@ -22,7 +23,7 @@ use Rattle.exec_moves.specs.declared.place.InClosing.TheVariants as closing
 use Rattle.exec_moves.specs.declared.place.InPoll.TheVariants as poll
 use Rattle.exec_moves.specs.declared.place.Place.TheVariants as at
 use Rattle.exec_steps.specs.declared.kick.Claimed.{Claimed}
-use Rattle.exec_steps.specs.{declared.parts.{mail.{Reply.Reply, Subject.Subject}, seat.Seat.Seat as Chair, shared.Shared.Shared, task_slot.TaskSlot.TaskSlot, worker.Worker.Worker}, Phased.TurnsChair, Tests.leave_of, View.body_in, Works.TurnsSlot}
+use Rattle.exec_steps.specs.{Records.numbers_held, declared.parts.{mail.{Reply.Reply, Subject.Subject}, seat.Seat.Seat as Chair, shared.Shared.Shared, task_slot.TaskSlot.TaskSlot, worker.Worker.Worker}, Phased.TurnsChair, Tests.{after_spawn_of, first_push_of, leave_of}, View.body_in, Works.TurnsSlot}
 
 -- the chair of the worker of this number has this
 abbrev pub OfChair : {B : Type 0} → ℕ → Shared B → (Chair → Type 0) → Type 0
@@ -147,7 +148,8 @@ module _ {B : Type 0} where
   -- a new task of this body: nobody's root, queued for its first poll
   pub record IsNewTask (number : TaskNo) (body : B) (slot : TaskSlot B) : Type 0 where
     pub cell : slot.cell ≡ record { number = number; owner = slot.cell.owner; phase = cell.Queued body; cancelled = false }
-    pub held : slot.held.items ≡ []
+    pub held : numbers_held slot.held.items ≡ []
+    pub output : slot.output ≡ shot.Open
     pub rest : slot ≡ record slot { body = None; told = Some said.Start; waiting = Waiting.Nothing; fresh = false; cleared = false; home = None }
 
   -- A task of this body was made, or the set is closed. A place in the global queue is kept for it.
@@ -199,7 +201,7 @@ told_of_made (Some r) = said.Spawned r.task
 -- the worker of the task t goes on so
 abbrev pub with_made : Configuration → ℕ → Option Runnable → Worker → Worker
 with_made c t None w = record w { place = at.Poll t poll.Act }
-with_made c t (Some r) w = record w { place = after_spawn c t; hand = Some r }
+with_made c t (Some r) w = record w { place = after_spawn_of c.workers t w; hand = Some r }
 
 abbrev pub event_of_made : ℕ → Option Runnable → Event
 event_of_made name None = Closed
@@ -225,7 +227,7 @@ module _ {B : Type 0} where
   -- task t wakes the ordinary task u: an idle one is to be queued
   pub record WakesOrdinary (t u : ℕ) (w w' : Worker) (s s' : Shared B) : Type 0 where
     pub worker : (slot : TaskSlot B) → slice_get s.tasks.items u ≡ Some slot
-        → w' ≡ (if is_idle slot.cell.phase then record w { place = at.Push pushes.LoadPushHead (push.Act t); hand = Some (runnable_of slot.cell) }
+        → w' ≡ (if is_idle slot.cell.phase then record w { place = first_push_of (push.Act t) w; hand = Some (runnable_of slot.cell) }
         else record w { place = at.Poll t poll.Act })
     pub task : TurnsSlot u s s' woken_slot
 

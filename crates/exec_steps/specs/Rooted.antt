@@ -1,89 +1,114 @@
--- WHAT THE ROOT HOLDS AND WAITS FOR: it alone holds requests and sleeps.
-use Rattle.std.specs.Prelude.{◌≡◌, ℕ, ◌-◌, Bool, true, false, List, [], length, Option, Some, Result, Ok, Err, IsSome, slice_get}
+-- WHAT A WORKER KEEPS of what was made on it: outputs for who takes them, who waits for what, and ends to be sent elsewhere.
+use Rattle.std.specs.Prelude.{◌≡◌, ◌⊎◌, ℕ, ◌+◌, ◌==◌, ◌&&◌, ◌||◌, ◌≤◌, Bool, true, false, not, Contains, List, count_by, map, Option, Some, None, Result, Ok, Err, IsSome, slice_get}
 use Rattle.exec_base.specs.{Slab.{Slab, value_at}, declared.{error.Error.Error, slab.Id.Id}}
-use Rattle.exec_outcomes.specs.declared.outcome.Outcome.{Outcome, TheVariants.{Success, Failure}}
-use Rattle.exec_time.specs.declared.timers.Sleeper.{Sleeper as Sleeping}
-use Rattle.exec_request.specs.{States.as_outcome, declared.output.RequestOutput.RequestOutput}
-use Rattle.exec_waiters.specs.declared.{observer.Observer.{Observer, TheVariants.{Local, Orphaned}}, waiter.Entry.TheVariants.Ready}
-use Rattle.exec_driver.specs.Driving.{Driving}
-use Rattle.exec_machine.specs.{declared.state.{Forwarding.TheVariants.Unsent, RequestPhase.TheVariants.Resolved, Waiting.Waiting}, Tests.is_resolved}
-use Rattle.exec_moves.specs.declared.place.InPoll.{InPoll}
-use Rattle.exec_steps.specs.{declared.parts.{mail.Reply.Reply, names.Names.Names, record.Record.Record, sleeping.SleeperRecord.SleeperRecord, task_slot.TaskSlot.TaskSlot}, Phased.is_complete, Records.number_in, Serving.is_one_of}
+use Rattle.exec_request.specs.declared.output.RequestOutput.{RequestOutput}
+use Rattle.exec_time.specs.declared.{notes.ForwardedResult.ForwardedResult, timers.{Observer.Observer as Watching, Sleeper.Sleeper as Sleeping}}
 use Rattle.exec_time.specs.declared.timers.Observer.TheVariants as sleep
+use Rattle.exec_waiters.specs.{States.waiter_at, declared.{deferred.{Answer.Answer, Deferred.Deferred}, observer.Observer.{Observer, TheVariants.{Local, Forwarded, DetachedSync, Orphaned}}, waiter.{Entry.TheVariants.Ready, Waiter.Waiter}}}
+use Rattle.exec_driver.specs.Driving.{Driving}
+use Rattle.exec_machine.specs.{declared.state.{Forwarding.Forwarding, RequestPhase.TheVariants.Resolved}, Tests.{is_applied, is_resolved}}
+use Rattle.exec_moves.specs.declared.handing.Heard.{Heard}
+use Rattle.exec_steps.specs.{declared.parts.{mail.Reply.Reply, names.Names.Names, record.Record.Record, sleeping.SleeperRecord.SleeperRecord}, Holding.{IsAnswerOf, outcome_told, thing_of}, HoldPlaces.Hearing, Places.one_if, Records.number_in}
+pub use Rattle.exec_steps.specs.Holding.{outcome_told}
 
--- the observer of a request is a task of its worker, or nobody
-abbrev pub IsNear : Observer Reply Reply → Type 0
-IsNear (Local waker) = Unit {0}
-IsNear Orphaned = Unit {0}
-IsNear _ = ⊥
+-- Who waits for a request is a task of its worker, or nobody; or one elsewhere, just where that was told to its worker.
+abbrev pub IsNear : Observer Reply Reply → Forwarding → Type 0
+IsNear (Local waker) f = is_applied f ≡ false
+IsNear (Forwarded reply) f = is_applied f ≡ true
+IsNear (DetachedSync reply) f = ⊥
+IsNear Orphaned f = Unit {0}
 
--- how a request ended that has this output
-abbrev pub outcome_by : {A C : Type 0} → Result A (C × Error) → Outcome
-outcome_by (Ok filled) = Success
-outcome_by (Err back) = Failure back.1
-
-abbrev pub outcome_told : RequestOutput → Outcome
-outcome_told (RequestOutput.Send ended) = as_outcome ended
-outcome_told (RequestOutput.Recv received) = outcome_by received
-outcome_told (RequestOutput.ReadAt read) = outcome_by read
-outcome_told (RequestOutput.WriteAt ended) = as_outcome ended
-outcome_told (RequestOutput.Sync ended) = as_outcome ended
-outcome_told (RequestOutput.Connect ended) = as_outcome ended
-outcome_told (RequestOutput.Poll ended) = as_outcome ended
-
--- the request of an output that is kept is over so, and held
+-- the request of an output that is kept is over so, and held, and no end of it goes elsewhere
 pub record IsKept (told : RequestOutput) (r : Record) : Type 0 where
   pub over : r.shown.phase ≡ Resolved (outcome_told told)
   pub observed : r.shown.observed ≡ true
+  pub unapplied : is_applied r.shown.forwarding ≡ false
 
--- a held request is of worker i and stands at its driver by this number
-pub record IsHeld (i k : ℕ) (n : Names) (d : Driving Reply Reply) (r : Record) : Type 0 where
-  pub worker : r.shown.worker ≡ i
-  pub observed : r.shown.observed ≡ true
-  pub unsent : r.shown.forwarding ≡ Unsent
+-- it stands at its driver under this number
+pub record StandsAt (k : ℕ) (n : Names) (d : Driving Reply Reply) (r : Record) : Type 0 where
   pub named : number_in n.requests.items r.id.0 ≡ k
   pub live : IsSome (value_at d.requests r.id.0)
-  pub unpaid : is_resolved r.shown.phase ≡ false → r.shown.wakes_paid ≡ 0
 
--- What it waits for owes it a wake once it is over; as a poll ends it isn't over.
-pub record AwaitsRequest (ends : Bool) (t k : ℕ) (held : List ℕ) (r : Record) : Type 0 where
-  pub newest : slice_get held (length held - 1) ≡ Some k
-  pub waiter : r.shown.waiter ≡ Some t
-  pub unpaid : is_resolved r.shown.phase ≡ false → r.shown.wakes_paid ≡ 0
-  pub open_still : ends ≡ true → is_resolved r.shown.phase ≡ false
+-- what a result is sent by names the request, and the task that waits for it
+pub record IsReplyFor (k : ℕ) (reply : Reply) (r : Record) : Type 0 where
+  pub of : reply.of ≡ Heard.Request k
+  pub task : r.shown.waiter ≡ Some reply.task.0
 
-pub record AwaitsTimer (ends : Bool) (i t : ℕ) (z : SleeperRecord) : Type 0 where
+-- a sleeper wakes its task, or has its end sent to that
+abbrev pub Watches : ℕ → Watching Reply → SleeperRecord → Type 0
+Watches n (sleep.Local t) z = (t ≡ record { 0 = z.shown.task }) × (is_applied z.shown.forwarding ≡ false)
+Watches n (sleep.Forwarded reply) z =
+    (reply ≡ record { task = record { 0 = z.shown.task }; of = Heard.Timer n }) × (is_applied z.shown.forwarding ≡ true)
+
+-- WAKES: one that is held, or asleep, pays none before its end; and as long as its end doesn't go elsewhere it pays one at most
+
+pub record Pays (r : Record) : Type 0 where
+  pub unpaid : is_resolved r.shown.phase ≡ false → r.shown.observed ≡ true → r.shown.wakes_paid ≡ 0
+  pub once : is_applied r.shown.forwarding ≡ false → r.shown.wakes_paid ≤ 1
+
+pub record SleeperPays (z : SleeperRecord) : Type 0 where
+  pub unpaid : z.shown.fired ≡ false → (z.shown.removed || z.closed) ≡ false → z.shown.wakes_paid ≡ 0
+  pub once : is_applied z.shown.forwarding ≡ false → z.shown.wakes_paid ≤ 1
+
+-- ENDS that go elsewhere: each is to be sent, or was, once, just where it has come or nobody holds the thing any more
+
+abbrev pub is_of_request : ℕ → Heard → Bool
+is_of_request k (Heard.Request j) = j == k
+is_of_request k (Heard.Timer n) = false
+
+abbrev pub is_of_timer : ℕ → Heard → Bool
+is_of_timer n (Heard.Timer m) = m == n
+is_of_timer n (Heard.Request k) = false
+
+abbrev pub results_of : ℕ → Deferred Reply Reply → ℕ
+results_of k left = count_by (λ a. is_of_request k a.sender.of) left.results.items
+
+abbrev pub completions_of : ℕ → Deferred Reply Reply → ℕ
+completions_of n left = count_by (λ c. is_of_timer n c.sender.of) left.notes.completions.items
+
+abbrev pub goes_elsewhere : Record → Bool
+goes_elsewhere r = is_applied r.shown.forwarding && (is_resolved r.shown.phase || not r.shown.observed)
+
+abbrev pub ends_elsewhere : SleeperRecord → Bool
+ends_elsewhere z = is_applied z.shown.forwarding && (z.shown.fired || (z.shown.removed || z.closed))
+
+-- one that is to be sent is of a request of worker i that was forwarded and has paid one wake at most
+pub record IsResult (i : ℕ) (a : Answer Reply) (records : List Record) : Type 0 where
+  pub k : ℕ
+  pub r : Record
+  pub there : slice_get records k ≡ Some r
+  pub worker : r.shown.worker ≡ i
+  pub reply : IsReplyFor k a.sender r
+  pub answer : IsAnswerOf a.result (thing_of r)
+  pub paid : r.shown.wakes_paid ≤ 1
+
+pub record IsCompletion (i : ℕ) (c : ForwardedResult Reply) (sleepers : List SleeperRecord) : Type 0 where
+  pub n : ℕ
+  pub z : SleeperRecord
+  pub there : slice_get sleepers n ≡ Some z
   pub worker : z.shown.worker ≡ i
-  pub task : z.shown.task ≡ t
-  pub unsent : z.shown.forwarding ≡ Unsent
-  pub kept : z.shown.removed ≡ false
-  pub unpaid : z.shown.fired ≡ false → z.shown.wakes_paid ≡ 0
-  pub asleep : ends ≡ true → z.shown.fired ≡ false
+  pub reply : c.sender ≡ record { task = record { 0 = z.shown.task }; of = Heard.Timer n }
+  pub paid : z.shown.wakes_paid ≤ 1
 
-abbrev pub Awaits : Bool → ℕ → ℕ → List ℕ → Waiting → List Record → List SleeperRecord → Type 0
-Awaits ends i t held (Waiting.Request k) records sleepers = (r : Record) × (slice_get records k ≡ Some r) × AwaitsRequest ends t k held r
-Awaits ends i t held (Waiting.Timer k) records sleepers = (z : SleeperRecord) × (slice_get sleepers k ≡ Some z) × AwaitsTimer ends i t z
-Awaits ends i t held _ records sleepers = Unit {0}
+-- the task that is woken next was sent the end of this
+abbrev pub HasHeard : ℕ → ℕ → Heard → List Record → List SleeperRecord → Type 0
+HasHeard i t (Heard.Request k) records sleepers =
+    (r : Record) × (slice_get records k ≡ Some r) × (r.shown.worker ≡ i) × (r.shown.waiter ≡ Some t) × (goes_elsewhere r ≡ true) × (r.shown.wakes_paid ≤ 1) × (r.sent ≡ true)
+HasHeard i t (Heard.Timer n) records sleepers =
+    (z : SleeperRecord) × (slice_get sleepers n ≡ Some z) × (z.shown.worker ≡ i) × (z.shown.task ≡ t) × (ends_elsewhere z ≡ true) × (z.shown.wakes_paid ≤ 1) × (z.sent ≡ true)
 
--- A task that holds these requests and waits for this has all that is observed of worker i, each once; nobody else is
--- woken, and nobody else sleeps. Once it is over it has nothing.
-pub record Holds (ends : Bool) (i t : ℕ) (holding : List ℕ) (what : Waiting) (ended : Bool) (n : Names) (d : Driving Reply Reply) (zs : Slab (Sleeping Reply)) (records : List Record) (sleepers : List SleeperRecord) : Type 0 where
-  pub counted : n.held ≡ length holding
-  pub held : (j k : ℕ) → slice_get holding j ≡ Some k → (r : Record) × (slice_get records k ≡ Some r) × IsHeld i k n d r
-  pub once : (j l k : ℕ) → slice_get holding j ≡ Some k → slice_get holding l ≡ Some k → j ≡ l
-  pub all : (k : ℕ) (r : Record) → slice_get records k ≡ Some r → r.shown.worker ≡ i → r.shown.observed ≡ true → is_one_of k holding ≡ true
-  pub awaited : (k : ℕ) (r : Record) (u : ℕ) → slice_get records k ≡ Some r → r.shown.worker ≡ i → is_resolved r.shown.phase ≡ false → r.shown.observed ≡ true → r.shown.waiter ≡ Some u → (u ≡ t) × (what ≡ Waiting.Request k)
+abbrev pub HearsNext : Option Hearing → ℕ → List Record → List SleeperRecord → Type 0
+HearsNext None i records sleepers = Unit {0}
+HearsNext (Some h) i records sleepers = HasHeard i h.task h.of records sleepers
+
+pub record IsRooted (i : ℕ) (n : Names) (d : Driving Reply Reply) (zs : Slab (Sleeping Reply)) (left : Deferred Reply Reply) (records : List Record) (sleepers : List SleeperRecord) : Type 0 where
   pub kept : (id : Id) (told : RequestOutput) (r : Record) → value_at d.requests id ≡ Some (Ready told) → slice_get records (number_in n.requests.items id) ≡ Some r → IsKept told r
-  pub waits : Awaits ends i t holding what records sleepers
-  pub sleeping : (id : Id) (it : Sleeping Reply) → value_at zs id ≡ Some it → (it.observer ≡ sleep.Local (record { 0 = t })) × (what ≡ Waiting.Timer (number_in n.timers.items id))
-  pub asleep : (k : ℕ) (z : SleeperRecord) → slice_get sleepers k ≡ Some z → z.shown.worker ≡ i → z.shown.fired ≡ false → z.shown.removed ≡ false → what ≡ Waiting.Timer k
-  pub over : ended ≡ true → (holding ≡ []) × (what ≡ Waiting.Nothing)
-
--- the poll is about to end
-abbrev pub ends_poll : Option InPoll → Bool
-ends_poll (Some InPoll.Pend) = true
-ends_poll _ = false
-
-module _ {B : Type 0} where
-  pub record IsRooted (x : Option InPoll) (i t : ℕ) (n : Names) (d : Driving Reply Reply) (zs : Slab (Sleeping Reply)) (tasks : List (TaskSlot B)) (records : List Record) (sleepers : List SleeperRecord) : Type 0 where
-    pub root : (slot : TaskSlot B) → slice_get tasks t ≡ Some slot → Holds (ends_poll x) i t slot.held.items slot.waiting (is_complete slot.cell.phase) n d zs records sleepers
+  pub ready : (k : ℕ) (r : Record) → slice_get records k ≡ Some r → r.shown.worker ≡ i → is_resolved r.shown.phase ≡ true → r.shown.observed ≡ true → is_applied r.shown.forwarding ≡ false → StandsAt k n d r
+  pub replies : (id : Id) (it : Waiter Reply Reply) (reply : Reply) (r : Record) → waiter_at d.requests id ≡ Some it → it.observer ≡ Forwarded reply → slice_get records (number_in n.requests.items id) ≡ Some r → IsReplyFor (number_in n.requests.items id) reply r
+  pub watches : (id : Id) (it : Sleeping Reply) (z : SleeperRecord) → value_at zs id ≡ Some it → slice_get sleepers (number_in n.timers.items id) ≡ Some z → Watches (number_in n.timers.items id) it.observer z
+  pub pays : (k : ℕ) (r : Record) → slice_get records k ≡ Some r → r.shown.worker ≡ i → Pays r
+  pub sleeper_pays : (k : ℕ) (z : SleeperRecord) → slice_get sleepers k ≡ Some z → z.shown.worker ≡ i → SleeperPays z
+  pub results : (a : Answer Reply) → Contains left.results.items a → IsResult i a records
+  pub completions : (c : ForwardedResult Reply) → Contains left.notes.completions.items c → IsCompletion i c sleepers
+  pub sent : (k : ℕ) (r : Record) → slice_get records k ≡ Some r → r.shown.worker ≡ i → results_of k left + one_if r.sent ≡ one_if (goes_elsewhere r)
+  pub sleeper_sent : (k : ℕ) (z : SleeperRecord) → slice_get sleepers k ≡ Some z → z.shown.worker ≡ i → completions_of k left + one_if z.sent ≡ one_if (ends_elsewhere z)

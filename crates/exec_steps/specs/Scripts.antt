@@ -1,23 +1,30 @@
 -- A body that does what its script says.
-use Rattle.std.specs.Prelude.{◌≡◌, ℕ, zero, suc, ◌-◌, ◌^◌, ◌<◌, ◌≤◌, Bool, true, false, List, [], ◌∷◌, ◌++◌, length, slice_get, Option, Some, None, if◌then◌else◌}
+use Rattle.std.specs.Prelude.{◌≡◌, ℕ, zero, suc, ◌-◌, ◌^◌, ◌<◌, ◌≤◌, Bool, true, false, List, [], ◌∷◌, ◌++◌, length, map, slice_get, Option, Some, None, if◌then◌else◌}
 use Rattle.exec_base.specs.declared.{error.Error.TheVariants.{Closed, NoMemory}, limits.TheConstants.LAST_MOMENT}
-use Rattle.exec_request.specs.declared.{buffers.WriteBuffers.{WriteBuffers, TheVariants.Single}, request.Request.Request}
+use Rattle.exec_outcomes.specs.Accounts.{is_durable}
+use Rattle.exec_request.specs.{Requests.{asked_of, target_of}, declared.{buffers.WriteBuffers.{WriteBuffers, TheVariants.Single}, read_at.TheConstants.DIRECT_CHUNK, request.Request.Request}}
 use Rattle.exec_task.specs.{Sight.Sight, declared.body.{Act.Act, Said.Said}}
-use Rattle.exec_machine.specs.{declared.{config.{Configuration.Configuration, ScriptWord.ScriptWord}, state.{Code.{Code, TheVariants.{Root, Script, Waits}}, Operation.Operation}}, Progress.Plan, Requests.operation_asked, Tasks.without_newest, World.{Task, Common}, Words.{next_word, moved_on}}
-use Rattle.exec_steps.specs.Spots.{Spot, IsAskedFor, spot_of}
+use Rattle.exec_machine.specs.{declared.{config.{Configuration.Configuration, ScriptWord.ScriptWord}, state.{Code.{Code, TheVariants.{Root, Script, Waits}}, Operation.Operation}}, Progress.Plan, Requests.operation_asked, Tasks.without_newest, World.{Task, Common, open_of}, Words.{next_word, moved_on}}
+use Rattle.exec_steps.specs.{Records.seen_in, Spots.{Spot, IsAskedFor, spot_of}}
 
--- WHAT A BODY MAY DO YET: it makes polls, and sends of one part, waits for them, lets go of them, sleeps, makes and wakes
--- others, and ends. Only the first worker's root makes requests and sleeps; any other worker's root waits for the stop.
+-- WHAT A BODY MAY DO. It makes requests, waits for them, lets go of them, sleeps, makes and wakes others, and ends. Any task
+-- may do so; the root of a worker of the pool but the first only waits for the stop.
 
 -- bytes in one buffer that an operation can take whole, of which none has gone
 abbrev pub IsOnePart : WriteBuffers → Type 0
 IsOnePart (Single bytes offset) = (offset ≡ 0) × (length bytes < 2 ^ 32)
 IsOnePart _ = ⊥
 
+-- So are the bytes of a request that a body makes: one operation can move all that it asks for. A direct one takes at most
+-- the whole pages below 2^31.
 abbrev pub IsPlainRequest : Request → Type 0
-IsPlainRequest (Request.Poll r) = Unit {0}
 IsPlainRequest (Request.Send r) = IsOnePart r.write
-IsPlainRequest _ = ⊥
+IsPlainRequest (Request.Recv r) = r.len - r.start < 2 ^ 32
+IsPlainRequest (Request.ReadAt r) = length r.buf.bytes ≤ DIRECT_CHUNK
+IsPlainRequest (Request.WriteAt r) = IsOnePart r.write
+IsPlainRequest (Request.Sync r) = Unit {0}
+IsPlainRequest (Request.Connect r) = Unit {0}
+IsPlainRequest (Request.Poll r) = Unit {0}
 
 module _ {B : Type 0} where
   -- The act is that of the word, by the worker's moment, for a task that holds these requests.
@@ -30,14 +37,13 @@ module _ {B : Type 0} where
   Asks c moment held w (Act.Done n) = w ≡ ScriptWord.End
   Asks c moment held w (Act.Fault n) = w ≡ ScriptWord.Fault n
   Asks c moment held w (Act.Spawn b) = (k : ℕ) × (w ≡ ScriptWord.Spawn k)
-  Asks c moment held w (Act.Dedicated b) = ⊥
+  Asks c moment held w (Act.Dedicated b) = (k : ℕ) × (w ≡ ScriptWord.Dedicated k)
   Asks c moment held w (Act.Wake t) = w ≡ ScriptWord.Wake t.0
 
-  -- an act of a task that makes no request and doesn't sleep
-  abbrev pub Stays : Act B → Type 0
-  Stays (Act.Register r) = ⊥
-  Stays (Act.Sleep (suc time)) = ⊥
-  Stays a = Unit {0}
+  -- A request that needs the permit of its open covers the changes that the open has.
+  abbrev pub Covers : Common → Act B → Type 0
+  Covers s (Act.Register r) = is_durable (asked_of r).kind ≡ true → seen_in r ≡ (open_of s (target_of r)).account.mutations
+  Covers s a = Unit {0}
 
   -- the body is through by this act
   abbrev pub is_last : Act B → Bool
@@ -52,6 +58,8 @@ module _ {B : Type 0} where
   IsAnswer (Act.Sleep time) Said.Slept = Unit {0}
   IsAnswer (Act.Spawn b) (Said.Spawned n) = Unit {0}
   IsAnswer (Act.Spawn b) (Said.Refused Closed) = Unit {0}
+  IsAnswer (Act.Dedicated b) (Said.Spawned n) = Unit {0}
+  IsAnswer (Act.Dedicated b) (Said.Refused Closed) = Unit {0}
   IsAnswer a Said.Pass = Unit {0}
   IsAnswer a told = ⊥
 
@@ -67,11 +75,18 @@ module _ {B : Type 0} where
 abbrev pub IsAnswered : {L : Type 0} → (L → Option Said → Spot) → Type 0
 IsAnswered {L} spot = (l : L) (answer : Said) → (answer ≡ Said.Refused NoMemory → ⊥) → spot l (Some answer) ≡ spot l None
 
--- Which script the task runs, by whose root it is: the first worker's, another's, or nobody's.
-abbrev pub IsCodeOf : Option ℕ → Code → Type 0
-IsCodeOf None code = (k : ℕ) × (code ≡ Script k)
-IsCodeOf (Some zero) code = code ≡ Root
-IsCodeOf (Some (suc i)) code = code ≡ Waits
+-- A task runs one of the scripts where it is no root of the pool's workers, of which there are so many: it is an ordinary
+-- task, or the root of a dedicated worker.
+abbrev pub MayRunScript : ℕ → Option ℕ → Type 0
+MayRunScript workers None = Unit {0}
+MayRunScript workers (Some zero) = ⊥
+MayRunScript workers (Some (suc i)) = workers ≤ suc i
+
+-- Which script the task runs, by whose root it is: the first worker's, another's of the pool, or any other task.
+abbrev pub IsCodeOf : ℕ → Option ℕ → Code → Type 0
+IsCodeOf workers (Some zero) code = code ≡ Root
+IsCodeOf workers (Some (suc i)) code = (suc i < workers → code ≡ Waits) × (workers ≤ suc i → (k : ℕ) × (code ≡ Script k))
+IsCodeOf workers None code = (k : ℕ) × (code ≡ Script k)
 
 -- What a body sees is what the machine has.
 pub record IsSeen (sight : Sight) (s : Common) : Type 0 where
@@ -79,6 +94,7 @@ pub record IsSeen (sight : Sight) (s : Common) : Type 0 where
   pub tasks : sight.tasks ≡ length s.tasks
   pub few : length s.tasks ≤ 2 ^ 32
   pub stopped : sight.stopped ≡ s.stopped
+  pub opens : sight.opens ≡ map (λ o. o.account) s.opens
 
 -- It begins the script of this number.
 abbrev pub Begins : (Option Said → Spot) → ℕ → Type 0
@@ -89,9 +105,9 @@ abbrev pub IsNamed : {L : Type 0} → (L → Plan → Option ℕ → Type 0) →
 IsNamed {L} runs spot name_of = (p : Plan) (l : L) (k : ℕ) → runs l p None → Begins (spot l) k → name_of l ≡ k
 
 module _ {L : Type 0} (runs : L → Plan → Option ℕ → Type 0) (holds : L → Option Said → List ℕ) (spot : L → Option Said → Spot) where
-  -- A body that is new begins the script of this number in the plan, and holds nothing.
+  -- A body that is new begins the script of this number in the plan, wherever that may run, and holds nothing.
   pub record IsBorn (p : Plan) (k : ℕ) (l : L) : Type 0 where
-    pub runs_it : runs l p None
+    pub runs_it : (home : Option ℕ) → MayRunScript p.config.workers home → runs l p home
     pub begins : Begins (spot l) k
     pub holding : holds l (Some Said.Start) ≡ []
 
@@ -99,6 +115,7 @@ module _ {B L : Type 0} (left : B → L) (runs : L → Plan → Option ℕ → T
   -- the body that the act makes, if any, is that of the word
   abbrev pub MakesBody : Plan → ScriptWord → Act B → Type 0
   MakesBody p w (Act.Spawn b) = (k : ℕ) → w ≡ ScriptWord.Spawn k → IsBorn runs holds spot p k (left b)
+  MakesBody p w (Act.Dedicated b) = (k : ℕ) → w ≡ ScriptWord.Dedicated k → IsBorn runs holds spot p k (left b)
   MakesBody p w a = Unit {0}
 
 module _ {B L : Type 0} (runs : L → Plan → Option ℕ → Type 0) (holds : L → Option Said → List ℕ) (spot : L → Option Said → Spot) (gives : L → Option Sight → Said → Act B → L → Option Sight → Type 0) where
@@ -116,8 +133,8 @@ module _ {B L : Type 0} (left : B → L) (runs : L → Plan → Option ℕ → T
     pub asks : Asks p.config moment t.held (next_word s t) a
     pub makes : MakesBody left runs holds spot p (next_word s t) a
     pub stands : spot l' None ≡ (if is_last a then spot_of t else spot_of (moved_on s t))
-    pub code : IsCodeOf t.home t.code
-    pub stays : t.home ≡ None → Stays a
+    pub covers : Covers s a
+    pub code : IsCodeOf p.config.workers t.home t.code
     pub goes_on : is_last a ≡ false → GoesOn runs holds spot gives p t a l'
 
   abbrev pub Plays : Type 0

@@ -1,15 +1,34 @@
 -- What the stagings of a service do to a worker and to the records of its requests, and where a request that is over leads.
 use Rattle.std.specs.Prelude.{◌≡◌, ◌≢◌, ℕ, ◌<◌, ◌&&◌, ◌||◌, Bool, true, false, not, List, [], ◌∷◌, ◌++◌, length, map, Option, Some, None, if◌then◌else◌}
+use Rattle.exec_outcomes.specs.Accounts.{Account}
 use Rattle.exec_waiters.specs.{States.file_of, declared.{waiter.Waiter.Waiter, waiter_id.WaiterId.WaiterId}}
-use Rattle.exec_driver.specs.{Driving.{Driving, request_at, is_full, may_stage_one}, Lists.{first_of, has_first}, Opens.account_in, Placed.ListsRequests, Steps.{cancel_staged, poll_staged, StagesOne}}
-use Rattle.exec_machine.specs.{declared.{event.Event.{Event, TheVariants.{Cancel, Stage}}, state.RequestPhase.RequestPhase}, Deadlines.is_first_due}
+use Rattle.exec_driver.specs.{Driving.{Driving, request_at, is_full, may_stage_one}, Lists.{first_of, has_first}, Opens.{OpenState, account_in}, Placed.ListsRequests, Steps.{cancel_staged, lowest_gate, poll_staged, StagesOne}}
+use Rattle.exec_machine.specs.{declared.{event.Event.{Event, TheVariants.{Cancel, Stage}}, state.RequestPhase.RequestPhase}, Deadlines.is_first_due, Requests.with_hint}
 use Rattle.exec_moves.specs.{Serve.{after_permit, first_numbered}, declared.place.{AfterPermit.AfterPermit, InService.InService, Service.Service, Place.Place}}
-use Rattle.exec_steps.specs.{declared.parts.{mail.Reply.Reply, record.Record.Record, shared.Shared.Shared, worker.Worker.Worker}, Records.number_in, Serving.{changed_at, with_staging_ended}, Sound.SoundAt, View.{driver_of, own_of}}
+use Rattle.exec_steps.specs.{declared.parts.{mail.Reply.Reply, record.Record.Record, shared.Shared.Shared, worker.Worker.Worker}, Records.{file_named, number_in}, Serving.{changed_at, with_staging_ended}, Sound.SoundAt, View.{driver_of, own_of}}
 
 -- a request that gives a permit up, and one that doesn't
 abbrev pub after_giving_up : Option ℕ → AfterPermit → InService
 after_giving_up None b = after_permit b
 after_giving_up (Some file) b = InService.PassPermit file b
+
+-- no hint of the open was refused, where there is such an open
+abbrev pub is_hinted : Option Account → Bool
+is_hinted None = false
+is_hinted (Some account) = account.hinted
+
+abbrev pub takes_hint : List OpenState → ℕ → Bool
+takes_hint opens file = is_hinted (account_in opens (file_named file))
+
+-- its operation is in the submission queue, with the hint where it asks for that and its open takes it
+abbrev pub staged_with : List OpenState → Record → Record
+staged_with opens r =
+    record r {
+      shown = record r.shown {
+        operation = with_hint (takes_hint opens r.shown.operation.target) r.shown.operation;
+        phase = RequestPhase.Staged;
+      };
+    }
 
 -- each of these has the number of a record
 abbrev pub AreNamed : List ℕ → List WaiterId → List Record → Type 0
@@ -43,22 +62,23 @@ module _ {B : Type 0} where
     pub worker : w' ≡ record w { home = record w.home { driver = w'.home.driver }; names = record w.names { untold = w'.names.untold } }
     pub shared : s' ≡ record s { requests = s'.requests }
 
-  -- its operation, without a hint
+  -- its operation did
   pub record StagesRequest (w : Worker) (s : Shared B) (e : Event) (w' : Worker) (s' : Shared B) (id : WaiterId) : Type 0 where
     pub event : e ≡ Stage (number_in w.names.requests.items id.0)
     pub driver : (it : Waiter Reply Reply) → request_at (driver_of w) id ≡ Some it → StagesOne (driver_of w) (driver_of w') id it (account_in s.opens (file_of it.request))
     pub staged : w'.names.staged.items ≡ w.names.staged.items ++ number_in w.names.requests.items id.0 ∷ []
-    pub records : s'.requests.items ≡ changed_at s.requests.items (number_in w.names.requests.items id.0) (λ r. record r { shown = record r.shown { operation = record r.shown.operation { hinted = false }; phase = RequestPhase.Staged } })
+    pub records : s'.requests.items ≡ changed_at s.requests.items (number_in w.names.requests.items id.0) (staged_with s.opens)
     pub worker : w' ≡ record w { home = record w.home { driver = w'.home.driver }; names = record w.names { staged = w'.names.staged } }
     pub shared : s' ≡ record s { requests = s'.requests }
 
-  -- No deadline has come, none is new, and no request waits at a gate.
+  -- No deadline has come, none is new, and no request waits at a gate from this one on.
   pub record IsIdle (v : Service) (w : Worker) (s : Shared B) : Type 0 where
     pub gate : ℕ
     pub sound : SoundAt (Place.Service (InService.Submit gate) v) w s
     pub lists : ListsRequests (driver_of w)
     pub due : (driver_of w).lists.due ≡ []
     pub enrolments : (driver_of w).lists.enrolments ≡ []
+    pub ungated : lowest_gate gate (driver_of w).requests (driver_of w).lists.gated None ≡ None
 
   -- The middle of a service, where a deadline has come; where none has, and one is new; and where a request waits at a gate.
   pub record Submits (w : Worker) (s : Shared B) : Type 0 where
@@ -82,6 +102,10 @@ module _ {B : Type 0} where
     pub due : (driver_of w).lists.due ≡ []
     pub enrolments : has_first (driver_of w).lists.enrolments ≡ true
 
-  pub record IsGatedIn (w : Worker) (s : Shared B) : Type 0 where
-    pub submits : Submits w s
-    pub gated : (driver_of w).lists.gated ≢ []
+  pub record IsGatedIn (v : Service) (file : ℕ) (w : Worker) (s : Shared B) : Type 0 where
+    pub gate : ℕ
+    pub sound : SoundAt (Place.Service (InService.Submit gate) v) w s
+    pub lists : ListsRequests (driver_of w)
+    pub due : (driver_of w).lists.due ≡ []
+    pub enrolments : (driver_of w).lists.enrolments ≡ []
+    pub gated : lowest_gate gate (driver_of w).requests (driver_of w).lists.gated None ≡ Some file

@@ -1,6 +1,6 @@
 -- WHAT HOLDS OF AN EXECUTOR between two steps: each worker and each outside caller is sound with what all share, and the
 -- balances of all of them hold.
-use Rattle.std.specs.Prelude.{◌≡◌, ℕ, ◌≤◌, false, List, [], ◌∷◌, length, slice_get, Some, None}
+use Rattle.std.specs.Prelude.{◌≡◌, ℕ, ◌≤◌, ◌^◌, false, List, [], ◌∷◌, length, slice_get, Some, None}
 use Rattle.exec_steps.specs.{declared.parts.{caller.Caller.Caller, shared.Shared.Shared, worker.Worker.Worker}, Calling.{CallSound, with_caller}, Places.no_drops, Sound.Sound, Whole.{IsWhole, Profile, with_worker}}
 
 abbrev pub nobody : Profile
@@ -14,6 +14,8 @@ nobody =
       clears = λ t. 0;
       polled_by = λ j. None;
       drops_by = λ j. no_drops;
+      mail = λ m. 0;
+      wakes = λ j t. 0;
     }
 
 -- what all callers have, and all workers
@@ -29,6 +31,7 @@ module _ {B : Type 0} where
   pub record StandTogether (ws : List Worker) (cs : List Caller) (s : Shared B) : Type 0 where
     pub seats : length ws ≡ length s.seats.items
     pub few : length cs ≤ 16
+    pub most : length ws ≤ 2 ^ 32
     pub sound : (i : ℕ) (w : Worker) → slice_get ws i ≡ Some w → (w.index ≡ i) × Sound w s
     pub calls : (j : ℕ) (c : Caller) → slice_get cs j ≡ Some c → CallSound c s
     pub whole : IsWhole (all_have ws cs) s

@@ -1,25 +1,28 @@
 -- What a worker, and what all share, shows: of the abstract machine, and of what stands beside it.
-use Rattle.std.specs.Prelude.{◌≡◌, ℕ, zero, suc, Bool, true, false, not, ◌-◌, ◌==◌, ◌&&◌, ◌||◌, if◌then◌else◌, List, [], ◌∷◌, length, map, filter, slice_get, slice_index_or, slice_set, ◌++◌, is_some, Option, Some, None}
+use Rattle.std.specs.Prelude.{◌≡◌, ℕ, zero, suc, Bool, true, false, not, ◌-◌, ◌==◌, ◌&&◌, ◌||◌, if◌then◌else◌, List, [], ◌∷◌, drop, length, map, filter, slice_get, slice_index_or, slice_set, ◌++◌, is_some, Option, Some, None, option_to_list}
 use Rattle.std.specs.Option.{option_map}
-use Rattle.exec_base.specs.{Slab.Slab, declared.{slab.Id.Id, task_no.TaskNo.TaskNo}}
-use Rattle.exec_outcomes.specs.Accounts.{Account, fresh_account}
+use Rattle.exec_base.specs.{Slab.{Slab, is_live}, declared.{slab.{Id.Id, Slot.Slot}, task_no.TaskNo.TaskNo}}
+use Rattle.exec_base.specs.declared.slab.Slot.TheVariants as slot
+use Rattle.exec_outcomes.specs.Accounts.{Account, fresh_account, is_durable}
 use Rattle.exec_ring.specs.{Completions.is_wake, Rings.{RingState, completions}, declared.completion.Completion.Completion}
-use Rattle.exec_waiters.specs.{Ids.{user_data_of, index_in}, States.flying_count, declared.waiter_id.WaiterId.WaiterId}
+use Rattle.exec_time.specs.declared.notes.ForwardedResult.{ForwardedResult}
+use Rattle.exec_waiters.specs.{Events.waker_in, Ids.{user_data_of, index_in}, States.flying_count, declared.{deferred.Answer.Answer, waiter.Entry.Entry, waiter_id.WaiterId.WaiterId}}
+use Rattle.exec_waiters.specs.declared.waiter.Entry.TheVariants as entry
 use Rattle.exec_driver.specs.{Driving.{Driving, seen}, Opens.OpenState, Steps.is_control, declared.opens.WaiterKey.WaiterKey}
 use Rattle.exec_words.specs.{declared.{inbox.Message.Message as Letter, word.PureWord.PureWord}, Queue.Queue}
 use Rattle.exec_words.specs.declared.inbox.Message.TheVariants as letter
 use Rattle.exec_task.specs.declared.{body.Said.Said, runnable.Runnable.Runnable, task.Phase.Phase}
 use Rattle.exec_task.specs.declared.task.Phase.TheVariants as cell
-use Rattle.exec_machine.specs.{declared.{config.ScriptWord.ScriptWord, state.{Call.Call, Code.Code, Letter.Letter as Owed, MailMessage.MailMessage, Request.Request, Sleeper.Sleeper, TaskPhase.TaskPhase}}, World.{Own, Seat, Task, Adapter, AdapterCall, Open, Common}, Closing.letters_to_roots, Progress.Plan}
+use Rattle.exec_machine.specs.{declared.{config.ScriptWord.ScriptWord, state.{Call.Call, Code.Code, Letter.Letter as Owed, MailMessage.MailMessage, Request.Request, Sleeper.Sleeper, TaskPhase.TaskPhase}}, World.{Own, Seat, Task, Adapter, AdapterCall, Open, Common}, Tests.is_resolved, Closing.letters_to_roots, Progress.Plan}
 use Rattle.exec_machine.specs.declared.state.Code.TheVariants as code
 use Rattle.exec_machine.specs.declared.state.MailMessage.TheVariants as message
 use Rattle.exec_machine.specs.declared.state.TaskPhase.TheVariants as task
-use Rattle.exec_moves.specs.{State.{Desk, Things, WakePoll, raised}, Seen.{polls_at, next_at, serves_at}, declared.place.Place.Place}
+use Rattle.exec_moves.specs.{Slots.Slots, State.{Desk, Things, WakePoll, raised}, Seen.{polls_at, next_at, serves_at}, declared.{handing.Heard.Heard, place.Place.Place}}
 use Rattle.exec_moves.specs.declared.handing.AfterSend.TheVariants as send
 use Rattle.exec_moves.specs.declared.handing.AfterSignal.TheVariants as signal
 use Rattle.exec_moves.specs.declared.place.InClosing.TheVariants as closing
 use Rattle.exec_moves.specs.declared.place.Place.TheVariants as at
-use Rattle.exec_steps.specs.{declared.parts.{mail.{Subject.Subject, Reply.Reply}, record.Record.Record, seat.Seat.Seat as Chair, shared.Shared.Shared, sleeping.SleeperRecord.SleeperRecord, task_slot.TaskSlot.TaskSlot, worker.Worker.Worker}, Records.number_in, Spots.{Spot, no_spot}}
+use Rattle.exec_steps.specs.{declared.parts.{held.Held.Held, letters.Letters.Letters, mail.{Subject.Subject, Reply.Reply}, record.Record.Record, seat.Seat.Seat as Chair, shared.Shared.Shared, sleeping.SleeperRecord.SleeperRecord, task_slot.TaskSlot.TaskSlot, worker.Worker.Worker}, Records.{number_in, numbers_held}, Spots.{Spot, no_spot}}
 use Rattle.exec_steps.specs.declared.parts.mail.Subject.TheVariants as subject
 
 -- NUMBERS
@@ -89,12 +92,66 @@ message_of letter.WakeRoot = message.Root
 message_of (letter.Forward x) = forward_of x
 message_of (letter.Cancel x) = cancel_of x
 
+-- and as its worker takes it
+abbrev pub mail_of : MailMessage → Letter Subject Subject
+mail_of message.Root = letter.WakeRoot
+mail_of (message.ForwardRequest r) = letter.Forward (subject.Request r)
+mail_of (message.ForwardTimer z) = letter.Forward (subject.Timer z)
+mail_of (message.CancelRequest r) = letter.Cancel (subject.Request r)
+mail_of (message.CancelTimer z) = letter.Cancel (subject.Timer z)
+
+-- THE SLOTS of requests or of sleepers, from this one on: the number that has each
+
+module _ {T : Type 0} where
+  abbrev pub slots_from : ℕ → List ℕ → List (Slot T) → List (Option ℕ)
+  slots_from k numbers [] = []
+  slots_from k numbers (s ∷ slots) =
+      (if is_live s then Some (slice_index_or numbers k 0) else None) ∷ slots_from (suc k) numbers slots
+
+  abbrev pub slots_seen : List ℕ → Slab T → Slots
+  slots_seen numbers s = record { held = slots_from 0 numbers s.slots; vacant = s.vacant }
+
+-- a task of the worker is woken once the request in the slot is over
+abbrev pub awaits_entry : Entry Reply Reply → Bool
+awaits_entry (entry.Pending w) = is_some (waker_in w.observer)
+awaits_entry (entry.Ready output) = false
+
+abbrev pub is_awaited : Slot (Entry Reply Reply) → Bool
+is_awaited (slot.Live generation e) = awaits_entry e
+is_awaited _ = false
+
+abbrev pub awaited_from : ℕ → List ℕ → List (Slot (Entry Reply Reply)) → List ℕ
+awaited_from k numbers [] = []
+awaited_from k numbers (s ∷ slots) =
+    if is_awaited s then slice_index_or numbers k 0 ∷ awaited_from (suc k) numbers slots else awaited_from (suc k) numbers slots
+
+-- WHAT IS SENT ELSEWHERE: the ends of sleepers and of requests, and the messages about what a task held that is over
+
+abbrev pub number_heard : Heard → ℕ
+number_heard (Heard.Request r) = r
+number_heard (Heard.Timer z) = z
+
+abbrev pub completions_in : List (ForwardedResult Reply) → List ℕ
+completions_in cs = map (λ c. number_heard c.sender.of) cs
+
+abbrev pub results_in : List (Answer Reply) → List ℕ
+results_in answers = map (λ a. number_heard a.sender.of) answers
+
+abbrev pub letter_of_request : Held → Owed
+letter_of_request h = record { to = h.worker; message = message.CancelRequest h.number }
+
+abbrev pub letter_of_timer : Held → Owed
+letter_of_timer h = record { to = h.worker; message = message.CancelTimer h.number }
+
+abbrev pub letters_in : Letters → List Owed
+letters_in l = map letter_of_request l.requests.items ++ option_to_list (option_map letter_of_timer l.timer)
+
 -- A WORKER
 
 abbrev pub driver_of : Worker → Driving Reply Reply
 driver_of w = seen w.home.driver
 
--- what it has to send, in a pool of so many workers: the stop, to the roots of all from one on
+-- what it has to send of the stop, in a pool of so many workers: to the roots of all from one on
 abbrev pub owed_at : ℕ → Place → List Owed
 owed_at n (at.Closing (closing.TellRoot worker)) = letters_to_roots (n - worker) worker
 owed_at n (at.Signal x j (signal.Send (send.Tell worker))) = letters_to_roots (n - worker) worker
@@ -111,7 +168,7 @@ own_of w =
       serving = serves_at w.place;
       polls = polls_at w.place;
       next = next_at w.place;
-      owed = owed_at w.workers w.place;
+      owed = owed_at w.workers w.place ++ letters_in w.letters;
       ready = numbers_of w.names.requests.items (driver_of w).lists.queued;
       unenrolled = numbers_of w.names.requests.items (driver_of w).lists.enrolments;
       cancels = numbers_of w.names.requests.items (driver_of w).lists.cancels;
@@ -132,6 +189,11 @@ desk_of w =
       put_off = w.put_off.«enter»;
       wakes = map (λ t. t.0) w.home.deferred.notes.wakes.items;
       outputs = length w.home.deferred.outputs.items;
+      completions = completions_in w.home.deferred.notes.completions.items;
+      results = results_in w.home.deferred.results.items;
+      requests = slots_seen w.names.requests.items (driver_of w).requests;
+      timers = slots_seen w.names.timers.items w.home.timers;
+      awaited = awaited_from 0 w.names.requests.items (driver_of w).requests.slots;
       entries = length (driver_of w).ring.staged;
       polled = (driver_of w).armed;
       others = trailing 0 (completions (driver_of w).ring);
@@ -145,6 +207,7 @@ desk_of w =
       rng = w.rng;
       hand = option_map (λ r. r.task.0) w.hand;
       loot = map (λ r. r.task.0) w.loot.values;
+      letters = letters_in w.letters;
     }
 
 -- what others see of it, though only it touches that: its ring was set busy, what has landed there, the wake poll but for
@@ -206,9 +269,21 @@ number_of_key n (r ∷ rs) key =
     if (r.shown.worker == key.worker) && ((r.id.0.index == key.id.0.index) && (r.id.0.generation == key.id.0.generation))
     then n else number_of_key (suc n) rs key
 
-abbrev pub holder_seen : List Record → Option WaiterKey → Option ℕ
-holder_seen rs None = None
-holder_seen rs (Some key) = Some (number_of_key 0 rs key)
+-- who is at the gate of an open, the holder of its permit first
+abbrev pub gate_seen : List Record → OpenState → List ℕ
+gate_seen rs o = map (number_of_key 0 rs) (option_to_list o.holder ++ o.waiting)
+
+-- The machine passes a permit on as its holder is over, which stands in the gate until its worker has left that.
+abbrev pub gives_up : Record → Bool
+gives_up r = is_resolved r.shown.phase && is_durable r.shown.operation.kind
+
+abbrev pub has_given_up : Option Record → Bool
+has_given_up None = false
+has_given_up (Some r) = gives_up r
+
+abbrev pub line_of : List Record → List ℕ → List ℕ
+line_of rs [] = []
+line_of rs (n ∷ later) = if has_given_up (slice_get rs n) then later else n ∷ later
 
 abbrev pub account_seen : Option Account → Account
 account_seen None = fresh_account
@@ -216,10 +291,11 @@ account_seen (Some account) = account
 
 abbrev pub open_seen : List Record → OpenState → Open
 open_seen rs o =
+    let line = line_of rs (gate_seen rs o) in
     record {
       account = account_seen o.account;
-      holder = holder_seen rs o.holder;
-      waiting = map (number_of_key 0 rs) o.waiting;
+      holder = slice_get line 0;
+      waiting = drop 1 line;
     }
 
 -- TASKS, by what a body is left to do and where that is in its script
@@ -251,7 +327,7 @@ module _ {B L : Type 0} (left : B → L) (spot : L → Option Said → Spot) whe
         place = stands.place;
         adapters = stands.adapters;
         call = stands.call;
-        held = t.held.items;
+        held = numbers_held t.held.items;
         phase = phase_seen t.cell.phase t.poller;
         cleared = t.cleared;
         home = t.home;
@@ -297,6 +373,12 @@ word_at seat = seat.mailbox.waker
 abbrev pub inbox_at : Chair → List MailMessage
 inbox_at seat = map message_of seat.mailbox.inbox.messages
 
+-- the numbers, from this one on, of what passes a test
+abbrev pub numbers_of_passing : {T : Type 0} → (T → Bool) → ℕ → List T → List ℕ
+numbers_of_passing test n [] = []
+numbers_of_passing test n (x ∷ xs) =
+    if test x then n ∷ numbers_of_passing test (suc n) xs else numbers_of_passing test (suc n) xs
+
 -- all but the wake polls
 abbrev pub things_of : {B : Type 0} → Shared B → Things
 things_of s =
@@ -309,6 +391,9 @@ things_of s =
       idle = s.idle;
       barrier = s.barrier_open;
       shards = map (map (λ e. e.0)) s.set.shards;
+      gates = map (gate_seen s.requests.items) s.opens;
+      answers = numbers_of_passing (λ r. r.sent) 0 s.requests.items;
+      alarms = numbers_of_passing (λ z. z.sent) 0 s.sleepers.items;
     }
 
 -- with the wake polls, as they are visible

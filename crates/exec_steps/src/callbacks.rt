@@ -2,16 +2,17 @@
 //!
 //! Nothing is added to the batch while it is worked off: only this worker adds to what it has to tell, and it does
 //! nothing else meanwhile. So the batch is what there is. Wakes come first, then outputs that nobody takes, then what
-//! requests owned that are over.
+//! requests owned that are over, then the ends of sleepers and the outputs that are sent to tasks elsewhere, each with
+//! the wake of its task.
 //!
 //! A wake is paid by what its task waits for: a task waits for one thing at a time, so that is the thing that has ended.
 
-ghost use Rattle.std.specs.Prelude.{◌≡◌, ℕ, ◌+◌, ◌<◌, ◌≤◌, [], ◌∷◌, length, drop, slice_get, slice_set, Some, if◌then◌else◌};
-ghost use Rattle.std.specs.VecDeque.{deque_capacity};
+ghost use Rattle.std.specs.Prelude.{◌≡◌, ℕ, ◌+◌, ◌<◌, ◌≤◌, [], length, drop, slice_get, slice_set, Some, if◌then◌else◌};
+ghost use Rattle.std.specs.{Vec.vec_capacity, VecDeque.deque_capacity};
 ghost use Rattle.exec_moves.specs.Callback.{serve as place_of_service};
-ghost use Rattle.exec_task.specs.Phases.{is_idle, runnable_of};
-ghost use Rattle.exec_steps.specs.{Calls.{IsUnpaid, KeepsRoom, awake, records_paid, releasing, sleepers_paid}, Polls.OfSlot, Serving.changed_at, Sound.{SoundAt, IsTold, OwesWake}, Tests.{after_callbacks_of, is_anything_told, leave_of, next_callback_of}, Works.{Goes, Steps}};
+ghost use Rattle.exec_steps.specs.{Calls.{IsUnpaid, KeepsRoom, records_paid, releasing, sleepers_paid}, MailTakes.{IsSentEnd, IsSentOutput, MaySendEnd, MaySendOutput, MayWakeNext, WakesHearer, WakesNext, WakesWaiter, after_sending_of, queued_after, thing_heard}, Serving.changed_at, Sound.{SoundAt, IsTold}, Tests.{after_callbacks_of, is_anything_told, leave_of, next_callback_of}, Whole.HasWhole, Works.{Goes, Steps}};
 
+use crate::parts::mail::Reply;
 use crate::parts::record::Record;
 use crate::parts::shared::Shared;
 use crate::parts::sleeping::SleeperRecord;
@@ -19,11 +20,12 @@ use crate::parts::worker::Worker;
 use crate::scripted::Scripted;
 use exec_machine::event::Event;
 use exec_machine::state::Waiting;
-use exec_moves::handing::{AfterCallbacks, AfterLeave};
+use exec_moves::handing::{AfterCallbacks, AfterLeave, AfterPush, Heard};
 use exec_moves::idling::Stay;
-use exec_moves::place::{
-    AfterService, InCallbacks, InClosing, InLoads, InService, Place, Round, Service,
-};
+use exec_moves::place::{AfterService, InCallbacks, InClosing, InService, Place, Round, Service};
+use exec_task::runnable::Runnable;
+use exec_time::notes::ForwardedResult;
+use exec_waiters::deferred::Answer;
 
 impl Worker {
     /// Takes the next step of the callbacks.
@@ -34,11 +36,13 @@ impl Worker {
         shared: &mut Shared<B>,
     ) -> Event
         requires sound { SoundAt (Place.Callbacks at next) self.old shared.old }
+        requires whole { HasWhole self.old shared.old }
         ensures steps { Steps B.left B.spot self.old shared.old result self.new shared.new }
     {
         match at {
             InCallbacks::TakeBatch => self.take_batch(next),
             InCallbacks::CallBack => self.call_back(next, shared),
+            InCallbacks::WakeWaiter { task, of } => self.wake_hearer(task, of, next, shared),
         }
     }
 
@@ -65,6 +69,7 @@ impl Worker {
         shared: &mut Shared<B>,
     ) -> Event
         requires sound { SoundAt (Place.Callbacks InCallbacks.CallBack next) self.old shared.old }
+        requires whole { HasWhole self.old shared.old }
         ensures steps { Steps B.left B.spot self.old shared.old result self.new shared.new }
     {
         if !self.home.deferred.notes.wakes.is_empty() {
@@ -73,39 +78,132 @@ impl Worker {
         if !self.home.deferred.outputs.is_empty() {
             return self.let_go_output(next);
         }
-        self.release_next(next, shared)
+        if !self.home.deferred.resources.is_empty() {
+            return self.release_next(next, shared);
+        }
+        if !self.home.deferred.notes.completions.is_empty() {
+            return self.send_end(next, shared);
+        }
+        self.send_output(next, shared)
     }
 
-    /// Wakes the root, for which something ended, and marks it as ready. Any other task waits for wakes of tasks alone.
+    /// Wakes the next task for which something ended, and goes on to queue it where it was idle.
     fn wake_next<B: Scripted + Drop>(
         &mut self,
         next: AfterCallbacks,
         shared: &mut Shared<B>,
     ) -> Event
-        requires only { self.old.home.deferred.notes.wakes.items ≡ record { 0 = self.old.root } ∷ [] }
-        requires there { self.old.root < length shared.old.tasks.items }
-        requires owed { OfSlot self.old.root shared.old (λ slot. OwesWake self.old.index self.old.root slot.waiting shared.old.requests.items shared.old.sleepers.items) }
-        ensures event { result ≡ Event.Wake self.old.root }
-        ensures place { self.new.place ≡ next_callback_of next self.new }
-        ensures only { self.old.home.deferred.notes.wakes.items ≡ record { 0 = self.old.root } ∷ [] }
-        ensures wakes { self.new.home.deferred.notes.wakes.items ≡ [] }
-        ensures told { KeepsRoom self.old.home.deferred self.new.home.deferred }
-        ensures flag { OfSlot self.old.root shared.old (λ slot. self.new.root_ready ≡ (if is_idle slot.cell.phase then Some (runnable_of slot.cell) else self.old.root_ready)) }
-        ensures worker { self.new ≡ record self.old { place = self.new.place; root_ready = self.new.root_ready; home = record self.old.home { deferred = record self.old.home.deferred { notes = record self.old.home.deferred.notes { wakes = self.new.home.deferred.notes.wakes } } } } }
-        ensures tasks { OfSlot self.old.root shared.old (λ slot. shared.new.tasks.items ≡ slice_set shared.old.tasks.items self.old.root (awake slot)) }
-        ensures requests { OfSlot self.old.root shared.old (λ slot. shared.new.requests.items ≡ records_paid slot.waiting shared.old.requests.items) }
-        ensures sleepers { OfSlot self.old.root shared.old (λ slot. shared.new.sleepers.items ≡ sleepers_paid slot.waiting shared.old.sleepers.items) }
-        ensures kept { shared.new ≡ record shared.old { tasks = shared.new.tasks; requests = shared.new.requests; sleepers = shared.new.sleepers } }
+        requires may { MayWakeNext self.old shared.old }
+        ensures wakes { WakesNext next self.old self.new shared.old shared.new result }
     {
-        self.home.deferred.notes.wakes.remove(0);
-        let task = self.root;
+        let number = self.home.deferred.notes.wakes.remove(0);
+        let task = number.0 as usize;
         let waited = shared.tasks[task].waiting();
         pay(waited, &mut shared.requests, &mut shared.sleepers);
-        if let Some(runnable) = shared.tasks[task].wake() {
-            self.root_ready = Some(runnable);
+        self.wake_waiter(task, next, shared)
+    }
+
+    /// Wakes a task to which a result was sent, and goes on to queue it where it was idle.
+    fn wake_hearer<B: Scripted + Drop>(
+        &mut self,
+        task: usize,
+        of: Heard,
+        next: AfterCallbacks,
+        shared: &mut Shared<B>,
+    ) -> Event
+        requires there { task < length shared.old.tasks.items }
+        requires unpaid { IsUnpaid (thing_heard of) shared.old.requests.items shared.old.sleepers.items }
+        ensures wakes { WakesHearer task of next self.old self.new shared.old shared.new result }
+    {
+        pay(waited_for(of), &mut shared.requests, &mut shared.sleepers);
+        self.wake_waiter(task, next, shared)
+    }
+
+    /// Wakes a task. The own root is flagged where it was idle, any other is queued.
+    fn wake_waiter<B: Scripted + Drop>(
+        &mut self,
+        task: usize,
+        next: AfterCallbacks,
+        shared: &mut Shared<B>,
+    ) -> Event
+        requires there { task < length shared.old.tasks.items }
+        ensures wakes { WakesWaiter task next self.old self.new shared.old shared.new result }
+    {
+        match shared.tasks[task].wake() {
+            Some(runnable) => self.queue_woken(task, runnable, next),
+            None => self.place = self.next_callback(next),
         }
-        self.place = self.next_callback(next);
         Event::Wake { task }
+    }
+
+    /// A task that was woken is to be polled: the own root is flagged, and any other goes into a queue.
+    fn queue_woken(&mut self, task: usize, runnable: Runnable, next: AfterCallbacks)
+        ensures { self.new ≡ queued_after task runnable next self.old }
+    {
+        if task == self.root {
+            self.root_ready = Some(runnable);
+            self.place = self.next_callback(next);
+        } else {
+            self.hand = Some(runnable);
+            self.place = self.first_push(AfterPush::CallBack { next });
+        }
+    }
+
+    /// Sends a task elsewhere the end of its sleeper. Who isn't over is woken next.
+    fn send_end<B: Scripted + Drop>(
+        &mut self,
+        next: AfterCallbacks,
+        shared: &mut Shared<B>,
+    ) -> Event
+        requires may { MaySendEnd self.old shared.old }
+        ensures sends { IsSentEnd next self.old self.new shared.old shared.new result }
+    {
+        let ForwardedResult { sender, result: _ } = self.home.deferred.notes.completions.remove(0);
+        let Reply { task, of } = sender;
+        let Heard::Timer(timer) = of else {
+            unreachable!()
+        };
+        let task = task.0 as usize;
+        shared.sleepers[timer].sent = true;
+        let hears = !shared.tasks[task].is_over();
+        self.place = self.after_sending(hears, task, of, next);
+        Event::Turn
+    }
+
+    /// Sends a task elsewhere the output of its request. Who isn't over is woken next.
+    fn send_output<B: Scripted + Drop>(
+        &mut self,
+        next: AfterCallbacks,
+        shared: &mut Shared<B>,
+    ) -> Event
+        requires may { MaySendOutput self.old shared.old }
+        ensures sends { IsSentOutput next self.old self.new shared.old shared.new result }
+    {
+        let Answer {
+            id: _,
+            sender,
+            result,
+        } = self.home.deferred.results.remove(0);
+        let Reply { task, of } = sender;
+        let Heard::Request(request) = of else {
+            unreachable!()
+        };
+        let task = task.0 as usize;
+        shared.requests[request].sent = true;
+        let hears = shared.tasks[task].send_output(result);
+        self.place = self.after_sending(hears, task, of, next);
+        Event::Turn
+    }
+
+    /// What follows a result that was sent: the wake of its task, where that hears of it.
+    fn after_sending(&self, hears: bool, task: usize, of: Heard, next: AfterCallbacks) -> Place
+        ensures { result ≡ after_sending_of hears task of next self.now }
+    {
+        if hears {
+            Place::Callbacks(InCallbacks::WakeWaiter { task, of }, next)
+        } else {
+            self.next_callback(next)
+        }
     }
 
     /// Lets go of the first output that nobody takes.
@@ -118,6 +216,7 @@ impl Worker {
         ensures some { 0 < length self.old.home.deferred.outputs.items }
         ensures outputs { self.new.home.deferred.outputs.items ≡ drop 1 self.old.home.deferred.outputs.items }
         ensures told { KeepsRoom self.old.home.deferred self.new.home.deferred }
+        ensures wide { vec_capacity self.new.home.deferred.outputs ≡ vec_capacity self.old.home.deferred.outputs }
         ensures same { self.new ≡ record self.old { place = self.new.place; home = record self.old.home { deferred = record self.old.home.deferred { outputs = self.new.home.deferred.outputs } } } }
     {
         self.home.deferred.outputs.remove(0);
@@ -141,6 +240,7 @@ impl Worker {
         ensures ended { self.new.names.ended.items ≡ drop 1 self.old.names.ended.items }
         ensures capacity { deque_capacity self.new.names.ended ≡ deque_capacity self.old.names.ended }
         ensures unreleased { self.new.names.unreleased + 1 ≡ self.old.names.unreleased }
+        ensures wide { vec_capacity self.new.home.deferred.resources ≡ vec_capacity self.old.home.deferred.resources }
         ensures told { (live : ℕ) → IsTold self.old.names.ended.items self.old.home.deferred live → IsTold self.new.names.ended.items self.new.home.deferred live }
         ensures worker { self.new ≡ record self.old { place = self.new.place; names = record self.old.names { ended = self.new.names.ended; unreleased = self.new.names.unreleased }; home = record self.old.home { deferred = record self.old.home.deferred { resources = self.new.home.deferred.resources } } } }
         ensures requests { (n : ℕ) → slice_get self.old.names.ended.items 0 ≡ Some n → shared.new.requests.items ≡ changed_at shared.old.requests.items n releasing }
@@ -156,7 +256,7 @@ impl Worker {
     }
 
     /// The next item of the batch, or where the callbacks lead.
-    fn next_callback(&self, next: AfterCallbacks) -> Place
+    pub(crate) fn next_callback(&self, next: AfterCallbacks) -> Place
         ensures { result ≡ next_callback_of next self.now }
     {
         if self.has_callbacks() {
@@ -171,8 +271,8 @@ impl Worker {
         ensures { result ≡ after_callbacks_of next self.now }
     {
         match next {
-            AfterCallbacks::Look => Place::Loads(InLoads::LoadOwnHead, Round::First),
-            AfterCallbacks::Test => Place::Loads(InLoads::LoadOwnHead, Round::Second),
+            AfterCallbacks::Look => Place::Loads(self.first_load(), Round::First),
+            AfterCallbacks::Test => Place::Loads(self.first_load(), Round::Second),
             AfterCallbacks::Begin => Place::BeginTurn,
             AfterCallbacks::Drain => serve(AfterService::Finish),
             AfterCallbacks::Finish if self.has_requests() => self.ring_wait(Stay::Closing),
@@ -181,7 +281,7 @@ impl Worker {
     }
 }
 
-/// What a task waited for pays a wake. The caller must know that it owes one.
+/// What a task waited for pays a wake. The caller must know that it has paid one at most.
 fn pay(waited: Waiting, requests: &mut Vec<Record>, sleepers: &mut Vec<SleeperRecord>)
     requires owed { IsUnpaid waited requests.old.items sleepers.old.items }
     ensures requests { requests.new.items ≡ records_paid waited requests.old.items }
@@ -191,6 +291,16 @@ fn pay(waited: Waiting, requests: &mut Vec<Record>, sleepers: &mut Vec<SleeperRe
         Waiting::Request(request) => requests[request].pay(),
         Waiting::Timer(timer) => sleepers[timer].pay(),
         Waiting::Nothing | Waiting::Wake | Waiting::Woken | Waiting::Yielded => unreachable!(),
+    }
+}
+
+/// What a task waits for that hears of this.
+fn waited_for(of: Heard) -> Waiting
+    ensures { result ≡ thing_heard of }
+{
+    match of {
+        Heard::Request(request) => Waiting::Request(request),
+        Heard::Timer(timer) => Waiting::Timer(timer),
     }
 }
 

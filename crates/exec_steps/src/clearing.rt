@@ -4,15 +4,16 @@
 //! before the next visit. One that is polled meanwhile ends with its poll, and the runnable of one that waits for its
 //! poll is stale from then on.
 
-ghost use Rattle.std.specs.Prelude.{◌≡◌, ◌<◌, true, length, IfSome, IfNone};
+ghost use Rattle.std.specs.Prelude.{◌≡◌, ◌<◌, ◌&&◌, not, true, length, IfSome, IfNone};
 ghost use Rattle.exec_task.specs.TaskSet.{IsFor, TakesNewest, passed, shard_at};
-ghost use Rattle.exec_moves.specs.Close.{after_visit};
-ghost use Rattle.exec_steps.specs.{Phased.TurnsChair, Pooled.{Visited, cleared_slot}};
+ghost use Rattle.exec_moves.specs.Parts.{after_visit};
+ghost use Rattle.exec_steps.specs.{Ending.{ClearsTask, MayClear}, Phased.TurnsChair, Pooled.Visited};
 
 use crate::parts::shared::Shared;
-use crate::parts::task_slot::TaskSlot;
 use crate::parts::worker::Worker;
+use crate::scripted::Scripted;
 use exec_machine::event::Event;
+use exec_moves::handing::AfterCancels;
 use exec_moves::place::{InClosing, Place};
 use exec_task::drain::Drain;
 use exec_task::tasks::Tasks;
@@ -37,19 +38,24 @@ impl Worker {
         Event::Turn
     }
 
-    /// Clears the task that a visit has taken.
-    pub(crate) fn clear<B: Drop>(
+    /// Clears the task that a visit has taken, and lets go of what it holds where that ends it: one that was over before has let
+    /// go of that already.
+    pub(crate) fn clear<B: Scripted + Drop>(
         &mut self,
         task: usize,
         drain: Drain,
-        slot: &mut TaskSlot<B>,
+        shared: &mut Shared<B>,
     ) -> Event
+        requires may { MayClear task self.old shared.old }
         ensures event { result ≡ Event.Clear task }
-        ensures goes { self.new ≡ record self.old { place = Place.Closing (after_visit drain) } }
-        ensures slot { slot.new ≡ cleared_slot slot.old }
+        ensures clears { ClearsTask task drain self.old self.new shared.old shared.new }
     {
+        let slot = &mut shared.tasks[task];
+        let was = slot.is_over();
         slot.clear();
-        self.place = Place::Closing(after_a_visit(drain));
+        let over = ends_so(was, slot.is_over());
+        self.let_go_if(over, task, shared);
+        self.place = self.after_cancels(AfterCancels::Visit { drain });
         Event::Clear { task }
     }
 
@@ -67,8 +73,15 @@ impl Worker {
     }
 }
 
+/// Whether a task ends by what it has become.
+fn ends_so(was: bool, is: bool) -> bool
+    ensures { result ≡ (is && not was) }
+{
+    is && !was
+}
+
 /// The next visit, or what follows the last.
-fn after_a_visit(drain: Drain) -> InClosing
+pub(crate) fn after_a_visit(drain: Drain) -> InClosing
     ensures { result ≡ after_visit drain }
 {
     if drain.is_over() {

@@ -3,17 +3,16 @@
 //! Worker zero closes the task set and the global queue, opens the shutdown barrier and stops the pool. Each worker of
 //! the pool empties its run queue, drains the task set, passes the barrier, and closes its mailbox. Then it lets go of
 //! what tasks still hold and sleep for, and serves its requests until none is left.
-//!
-//! Only the root line makes requests and sleepers, and its task lets go of them as it ends; so a worker that closes has
-//! none that is still observed.
 
-ghost use Rattle.std.specs.Prelude.{◌≡◌, ◌+◌, ◌<◌, ◌||◌, [], true, length, map, if◌then◌else◌};
+ghost use Rattle.std.specs.Prelude.{◌≡◌, ◌+◌, ◌<◌, ◌||◌, [], true, length, map, None, if◌then◌else◌};
 ghost use Rattle.exec_words.specs.{Inbox.{batch_handed, batch_taken, shut}, Word.next_batch as batch_after};
 ghost use Rattle.exec_moves.specs.{Close.batches_closed, Parts.{first_pop, tells_from}, declared.handing.{AfterSignal.AfterSignal, InSignal.InSignal}};
-ghost use Rattle.exec_steps.specs.{Drained.IsLetOn, Phased.{IsGoing, TurnsChair}, Pooled.{HasRootPlace, OfChair, asks_in, chair_posted, event_posted}, Roles.owns_runner, Sound.SoundAt, View.message_of, Whole.HasWhole, Works.Steps};
+ghost use Rattle.exec_steps.specs.{Drained.IsLetOn, Calls.sleeper_gone_with, Ending.{ClosesOn, ClosesSleeper, MayCloseSleeper, MayOrphan, Orphans}, Phased.{IsGoing, TurnsChair}, Pooled.{HasRootPlace, OfChair, asks_in, chair_posted, event_posted}, Records.outcome_in, Roles.{is_pool, owns_runner}, Sound.SoundAt, View.{driver_of, message_of}, Whole.HasWhole, Works.Steps};
 
 use crate::parts::mail::Subject;
+use crate::parts::record::Record;
 use crate::parts::shared::Shared;
+use crate::parts::sleeping::remove_all_of;
 use crate::parts::worker::Worker;
 use crate::pop::first_pop;
 use crate::scripted::Scripted;
@@ -22,6 +21,7 @@ use exec_machine::event::Event;
 use exec_machine::state::WorkerPhase;
 use exec_moves::handing::{AfterCallbacks, AfterPop, AfterSend};
 use exec_moves::place::{InCallbacks, InClosing, Place};
+use exec_outcomes::outcome::Outcome;
 use exec_words::inbox::Message;
 use exec_words::reserved::Reserved;
 use exec_words::word::next_batch;
@@ -48,10 +48,11 @@ impl Worker {
             InClosing::Stop => self.stop(shared),
             InClosing::TellRoot { worker } => self.tell_root(worker, shared),
             InClosing::Visit { drain } => self.visit(drain, &mut shared.set),
-            InClosing::Clear { task, drain } => self.clear(task, drain, &mut shared.tasks[task]),
+            InClosing::Clear { task, drain } => self.clear(task, drain, shared),
             InClosing::LeaveBarrier => self.leave_barrier(shared),
             InClosing::CloseMailbox => self.close_mailbox(shared),
-            InClosing::Orphan | InClosing::CloseSleeper => unreachable!(),
+            InClosing::Orphan => self.orphan_next(shared),
+            InClosing::CloseSleeper => self.close_sleeper(shared),
             InClosing::End => self.end(shared),
         }
     }
@@ -61,8 +62,9 @@ impl Worker {
         requires there { self.old.index < length shared.old.seats.items }
         ensures event { result ≡ Event.Close }
         ensures worker { self.new ≡ record self.old {
-          place = (if owns_runner self.old.role
-              then Place.Closing InClosing.CloseQueue else first_pop shared.old.config AfterPop.Discard);
+          place = (if owns_runner self.old.role then Place.Closing InClosing.CloseQueue
+              else if is_pool self.old.role then first_pop shared.old.config AfterPop.Discard
+              else Place.Closing InClosing.CloseMailbox);
           home = record self.old.home { closing = true };
         } }
         ensures chair { TurnsChair self.old.index (λ chair. record chair { phase = WorkerPhase.Closing }) shared.old shared.new }
@@ -76,8 +78,10 @@ impl Worker {
         self.place = if self.role.owns_runner() {
             shared.set.close();
             Place::Closing(InClosing::CloseQueue)
-        } else {
+        } else if self.role.is_pool() {
             first_pop(shared.config.workers, AfterPop::Discard)
+        } else {
+            Place::Closing(InClosing::CloseMailbox)
         };
         Event::Close
     }
@@ -139,11 +143,12 @@ impl Worker {
         ensures event { result ≡ Event.Turn }
         ensures worker { OfChair self.old.index shared.old (λ chair. self.new
             ≡ record self.old {
-              place = Place.Callbacks InCallbacks.TakeBatch AfterCallbacks.Drain;
+              place = self.new.place;
               batch = self.new.batch;
               processed = batches_closed
                   (map message_of chair.mailbox.inbox.messages) self.old.processed;
             }) }
+        ensures place { ClosesOn (driver_of self.new) self.new.home.timers self.new.place }
         ensures batch { OfChair self.old.index shared.old (λ chair. self.new.batch
             ≡ record (batch_handed chair.mailbox.inbox (record self.old.batch { values = [] })) { values = [] }) }
         ensures chair { TurnsChair self.old.index (λ chair. record chair {
@@ -161,22 +166,77 @@ impl Worker {
             .close(&mut self.batch);
         let_go_all(&mut self.batch);
         self.processed = after_closing(self.processed, had_mail);
-        self.place = Place::Callbacks(InCallbacks::TakeBatch, AfterCallbacks::Drain);
+        self.place = self.next_of_closing();
         Event::Turn
     }
 
-    /// The worker has ended.
+    /// What is let go next: a request that somebody holds, then a sleeper, and then the callbacks follow.
+    fn next_of_closing(&self) -> Place
+        ensures { ClosesOn (driver_of self.now) self.now.home.timers result }
+    {
+        if self.home.driver.first_observed().is_some() {
+            Place::Closing(InClosing::Orphan)
+        } else if self.home.timers.len() > 0 {
+            Place::Closing(InClosing::CloseSleeper)
+        } else {
+            Place::Callbacks(InCallbacks::TakeBatch, AfterCallbacks::Drain)
+        }
+    }
+
+    /// Lets go of the request in the first slot that somebody holds. The caller must know that there is one.
+    fn orphan_next<B: Drop>(&mut self, shared: &mut Shared<B>) -> Event
+        requires may { MayOrphan self.old shared.old }
+        ensures orphans { Orphans self.old self.new shared.old shared.new result }
+    {
+        self.home.driver.lists_requests();
+        let Some(id) = self.home.driver.close(&mut self.home.deferred) else {
+            unreachable!()
+        };
+        let request = self.names.request(id);
+        let record = &mut shared.requests[request];
+        let ended = record.let_go();
+        let outcome = outcome_if(ended, record);
+        self.names.end_if(ended, request);
+        self.place = self.next_of_closing();
+        Event::Orphan { request, outcome }
+    }
+
+    /// Lets go of the sleeper in the first slot that has one, and tells its task. It counts as removed once the worker
+    /// has ended. The caller must know that there is one.
+    fn close_sleeper<B: Drop>(&mut self, shared: &mut Shared<B>) -> Event
+        requires may { MayCloseSleeper self.old shared.old }
+        ensures closes { ClosesSleeper self.old self.new shared.old shared.new result }
+    {
+        let notes = &mut self.home.deferred.notes;
+        let Some(id) = self.home.timers.close_next(notes) else {
+            unreachable!()
+        };
+        shared.sleepers[self.names.timer(id)].close();
+        self.place = self.next_of_closing();
+        Event::Turn
+    }
+
+    /// The worker has ended, and none of its sleepers is there any more.
     fn end<B: Drop>(&mut self, shared: &mut Shared<B>) -> Event
         requires there { self.old.index < length shared.old.seats.items }
         ensures event { result ≡ Event.End }
         ensures worker { self.new ≡ record self.old { place = Place.Closing InClosing.End } }
         ensures chair { TurnsChair self.old.index (λ chair. record chair { phase = WorkerPhase.Ended }) shared.old shared.new }
-        ensures kept { shared.new ≡ record shared.old { seats = shared.new.seats } }
+        ensures sleepers { shared.new.sleepers.items ≡ map (sleeper_gone_with self.old.index) shared.old.sleepers.items }
+        ensures kept { shared.new ≡ record shared.old { seats = shared.new.seats; sleepers = shared.new.sleepers } }
     {
         shared.seats[self.index].phase = WorkerPhase::Ended;
+        remove_all_of(self.index, &mut shared.sleepers);
         self.place = Place::Closing(InClosing::End);
         Event::End
     }
+}
+
+/// How a request ended by being let go, where it did.
+fn outcome_if(ended: bool, record: &Record) -> Option<Outcome>
+    ensures { result ≡ (if ended then outcome_in record.now.shown.phase else None) }
+{
+    if ended { record.outcome() } else { None }
 }
 
 /// How many batches were taken, once what stood in the mailbox counts as one.

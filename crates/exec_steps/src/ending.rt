@@ -3,16 +3,15 @@
 ghost use Rattle.std.specs.Prelude.{◌≡◌, ◌<◌, ◌^◌, ◌⊎◌, [], true, IsSome};
 ghost use Rattle.exec_task.specs.TaskSet.{held, removed};
 ghost use Rattle.exec_moves.specs.Parts.{next_pick as place_of_pick};
-ghost use Rattle.exec_steps.specs.{Ending.{EndsTask, LetsGoAll, MayEndTask, MayLetGoAll, ended_place}, View.desk_of};
+ghost use Rattle.exec_steps.specs.{Ending.{EndsTask, MayEndTask, ended_place}, View.desk_of};
 
-use crate::parts::record::Record;
 use crate::parts::shared::Shared;
-use crate::parts::task_slot::TaskSlot;
 use crate::parts::worker::Worker;
 use crate::scripted::Scripted;
 use exec_base::task_no::TaskNo;
 use exec_machine::event::Event;
-use exec_moves::place::{InClosing, InPoll, Place};
+use exec_moves::handing::AfterCancels;
+use exec_moves::place::{InClosing, Place};
 use exec_task::body::Ended;
 use exec_task::runnable::AfterPoll;
 use exec_task::tasks::Tasks;
@@ -52,9 +51,8 @@ impl Worker {
         requires may { MayEndTask task self.old shared.old }
         ensures ends { EndsTask task self.old self.new shared.old shared.new }
     {
-        let slot = &mut shared.tasks[task];
-        self.drop_all(slot, &mut shared.requests);
-        match slot.done(how) {
+        self.let_go_of(task, shared);
+        match shared.tasks[task].done(how) {
             AfterPoll::Retire(_, _) => {}
             AfterPoll::Done | AfterPoll::Requeue(_) => unreachable!(),
         }
@@ -68,7 +66,7 @@ impl Worker {
         if task == self.root {
             Place::Closing(InClosing::Close)
         } else {
-            Place::Poll(task, InPoll::RemoveTask)
+            self.after_cancels(AfterCancels::Remove { task })
         }
     }
 
@@ -83,18 +81,5 @@ impl Worker {
         let _held = set.remove(TaskNo(task as u32));
         self.place = self.next_pick();
         Event::Turn
-    }
-
-    /// Lets go of all requests that a task holds, the oldest first.
-    fn drop_all<B: Drop>(&mut self, slot: &mut TaskSlot<B>, requests: &mut Vec<Record>)
-        requires may { MayLetGoAll slot.old.held.items requests.old.items self.old }
-        ensures lets { LetsGoAll slot.old.held.items requests.old.items requests.new.items self.old self.new }
-        ensures still { slot.old.held.items ≡ [] → requests.new ≡ requests.old }
-        ensures none { slot.new.held.items ≡ [] }
-        ensures slot { slot.new ≡ record slot.old { held = slot.new.held } }
-    {
-        while let Some(request) = slot.let_go_oldest() {
-            self.orphan_request(request, requests);
-        }
     }
 }

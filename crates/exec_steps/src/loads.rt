@@ -7,11 +7,11 @@
 //! Ready is what the worker can do without its ring: a value in its own queue or in the global one, its root, a callback,
 //! a message that it took, a batch of messages. A latch alone is none.
 
-ghost use Rattle.std.specs.Prelude.{◌≡◌, ℕ, ◌<◌, ◌^◌, ◌||◌, length, Option, if◌then◌else◌};
-ghost use Rattle.exec_moves.specs.{Load.{first_search as place_of_search, load_own_head, load_own_mirror, load_own_word, has_mail, is_ready, has_come}, State.{queue_of, word_of}};
+ghost use Rattle.std.specs.Prelude.{◌≡◌, ℕ, ◌<◌, ◌^◌, ◌||◌, length, Option, true, false, if◌then◌else◌};
+ghost use Rattle.exec_moves.specs.{Load.{load_own_head, load_own_mirror, load_own_word, has_mail, is_ready, has_come}, State.{queue_of, word_of}};
 ghost use Rattle.exec_driver.specs.Driving.{has_pending};
 ghost use Rattle.exec_machine.specs.declared.config.Configuration.{Configuration};
-ghost use Rattle.exec_steps.specs.{View.{driver_of, own_of, desk_of, things_of}, Tests.{has_put_off, leaves_turn_of, next_turn_of, HasToldDue, IsNextMoment}, Sound.{SoundAt, IsTold}, Works.{Makes, Goes, Steps}};
+ghost use Rattle.exec_steps.specs.{Roles.is_pool, View.{driver_of, own_of, desk_of, things_of}, Tests.{has_put_off, leaves_turn_of, next_turn_of, HasToldDue, IsNextMoment, IsSearch}, Sound.{SoundAt, IsTold}, Works.{Makes, Goes, Steps}};
 
 use crate::callbacks::serve;
 use crate::parts::shared::Shared;
@@ -37,6 +37,20 @@ impl Worker {
             InLoads::LoadOwnHead => self.load_own_head(round, shared),
             InLoads::LoadOwnMirror { found } => self.load_own_mirror(round, found, shared),
             InLoads::LoadOwnWord { found } => self.load_own_word(round, found, shared),
+        }
+    }
+
+    /// The first of the loads. A dedicated worker has no queues to look at.
+    pub(crate) fn first_load(&self) -> InLoads
+        ensures { result ≡ (if is_pool self.now.role then InLoads.LoadOwnHead
+            else InLoads.LoadOwnWord (record { ready = false })) }
+    {
+        if self.role.is_pool() {
+            InLoads::LoadOwnHead
+        } else {
+            InLoads::LoadOwnWord {
+                found: Found { ready: false },
+            }
         }
     }
 
@@ -128,24 +142,40 @@ impl Worker {
     }
 
     /// Reads the clock. A deadline that is due begins the next turn.
-    pub(crate) fn read_clock(&mut self, clock: u64, workers: usize) -> Event
+    pub(crate) fn read_clock(&mut self, clock: u64, workers: usize, longest_spin: u64) -> Event
         requires told { HasToldDue self.old }
         requires workers { 0 < workers }
         ensures event { result ≡ Event.Turn }
-        ensures goes { (c : Configuration) → c.workers ≡ workers → (moment : Option ℕ) × IsNextMoment self.old moment
-            × (self.new ≡ record self.old {
-              place = (if has_come clock moment then leaves_turn_of self.old
-                  else place_of_search c (desk_of self.old));
-              moments = record self.old.moments { read = clock };
-            }) }
+        ensures goes { self.new ≡ record self.old {
+          place = self.new.place;
+          moments = record self.old.moments { read = clock };
+        } }
+        ensures due { (moment : Option ℕ) × IsNextMoment self.old moment
+            × (has_come clock moment ≡ true → self.new.place ≡ leaves_turn_of self.old)
+            × (has_come clock moment ≡ false → IsSearch workers longest_spin
+            (record self.old { moments = record self.old.moments { read = clock } }) self.new.place) }
     {
         self.moments.read = clock;
-        self.place = if self.is_due(clock) {
-            self.next_turn()
-        } else {
-            self.first_search(workers)
-        };
+        let due = self.is_due(clock);
+        self.place = self.after_clock(due, workers, longest_spin);
         Event::Turn
+    }
+
+    /// Where it goes on, by whether something is due. A dedicated worker has no queue to search.
+    fn after_clock(&mut self, due: bool, workers: usize, longest_spin: u64) -> Place
+        requires told { HasToldDue self.old }
+        requires workers { 0 < workers }
+        ensures next { due ≡ true → result ≡ leaves_turn_of self.old }
+        ensures search { due ≡ false → IsSearch workers longest_spin self.old result }
+        ensures same { self.new ≡ self.old }
+    {
+        if due {
+            self.next_turn()
+        } else if self.role.is_pool() {
+            self.first_search(workers)
+        } else {
+            self.wait(longest_spin)
+        }
     }
 
     /// Whether a deadline or a sleeper is due at this moment of the clock.

@@ -11,7 +11,7 @@
 ghost use Rattle.std.specs.Prelude.{◌≡◌, ℕ, Option, ◌+◌, ◌-◌, ◌<◌, ◌≤◌, ◌==◌, ◌||◌, not, true, false, length, nat_lt, slice_set, if◌then◌else◌};
 ghost use Rattle.exec_words.specs.{Head.is_stealable_at, Idle.is_in, Queue.tail_of};
 ghost use Rattle.exec_moves.specs.{Look.{look_at_head, past_own, publish, return_claimed, return_look_count}, State.queue_of};
-ghost use Rattle.exec_steps.specs.{Sound.SoundAt, Tests.{HasToldDue, IsLook, IsNextMoment, IsWait, has_open_requests, place_withdrawn, ring_wait_of, word_wait_of}, View.{desk_of, things_of}, Whole.HasWhole, Works.{Goes, Makes, Steps}};
+ghost use Rattle.exec_steps.specs.{Sound.SoundAt, Tests.{HasToldDue, IsLook, IsNextMoment, IsWait, after_waiting_of, has_open_requests, place_withdrawn, ring_wait_of, word_wait_of}, View.{desk_of, things_of}, Whole.HasWhole, Works.{Goes, Makes, Steps}};
 
 use crate::callbacks::serve;
 use crate::parts::shared::Shared;
@@ -208,7 +208,7 @@ impl Worker {
     }
 
     /// The first step of a wait: on the ring with requests, else on the wake word.
-    fn wait(&mut self, longest_spin: u64) -> Place
+    pub(crate) fn wait(&mut self, longest_spin: u64) -> Place
         requires told { HasToldDue self.old }
         ensures on_ring { has_open_requests self.old ≡ true → result ≡ ring_wait_of Stay.Turn self.old }
         ensures on_word { has_open_requests self.old ≡ false → (moment : Option ℕ) × IsNextMoment self.old moment × (result ≡ word_wait_of longest_spin moment self.old) }
@@ -218,6 +218,17 @@ impl Worker {
             self.ring_wait(Stay::Turn)
         } else {
             self.word_wait(longest_spin)
+        }
+    }
+
+    /// What follows a wait. A dedicated worker has no bit in the idle set to take out.
+    pub(crate) fn after_waiting(&self, next: AfterWait) -> Place
+        ensures { result ≡ after_waiting_of next self.now }
+    {
+        if self.role.is_pool() {
+            Place::Withdraw(next)
+        } else {
+            self.after_withdrawal(false, next)
         }
     }
 

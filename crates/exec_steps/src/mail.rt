@@ -1,30 +1,35 @@
 //! The mailbox: messages that others sent are taken in batches, and applied one a step.
 //!
-//! A turn applies 64 messages at most; what is left of a batch comes first in the next turn. A message wakes the root;
-//! no other is sent yet.
+//! A turn applies 64 messages at most; what is left of a batch comes first in the next turn. A message wakes the root, or
+//! is about a request or a sleeper of this worker: that a task waits for it elsewhere, or that nobody holds it any more.
 
-ghost use Rattle.std.specs.Prelude.{◌≡◌, ◌+◌, ◌<◌, ◌^◌, [], All, drop, length, map};
+ghost use Rattle.std.specs.Prelude.{◌≡◌, ◌+◌, ◌<◌, ◌^◌, [], length, map, slice_get, Some};
 ghost use Rattle.exec_words.specs.Inbox.{batch_handed, batch_taken};
 ghost use Rattle.exec_moves.specs.{Mail.{after_message, load_mail_word, take_mail, to_callbacks as place_of_callbacks}, State.{inbox_of, word_of}};
-ghost use Rattle.exec_steps.specs.{Phased.TurnsChair, Pooled.{IsRootMail, OfChair, WakesOwnRoot}, Sound.SoundAt, View.{desk_of, message_of, things_of}, Works.{Goes, Makes, Steps}};
+ghost use Rattle.exec_steps.specs.{Phased.TurnsChair, MailTakes.{ForwardsRequest, ForwardsTimer, Applies, MayForward, MayForwardTimer, MayTake, Takes}, Pooled.OfChair, Sound.SoundAt, View.{cancel_of, desk_of, forward_of, message_of, things_of}, Whole.HasWhole, Works.{Goes, Makes, Steps}};
 
+use crate::parts::mail::{Mail, Reply, Subject};
+use crate::parts::record::Record;
 use crate::parts::shared::Shared;
+use crate::parts::sleeping::SleeperRecord;
 use crate::parts::worker::Worker;
 use crate::scripted::Scripted;
+use exec_base::task_no::TaskNo;
 use exec_machine::event::Event;
-use exec_machine::state::MailMessage;
-use exec_moves::handing::AfterCallbacks;
+use exec_machine::state::{Forwarding, MailMessage};
+use exec_moves::handing::{AfterCallbacks, Heard};
 use exec_moves::place::{InCallbacks, InMail, Place};
 use exec_words::inbox::Message;
 use exec_words::word::next_batch;
 
 /// How many messages a turn applies at most.
-const MESSAGES: usize = 64;
+pub(crate) const MESSAGES: usize = 64;
 
 impl Worker {
     /// Takes the next step at the mailbox.
     pub(crate) fn mail<B: Scripted + Drop>(&mut self, at: InMail, shared: &mut Shared<B>) -> Event
         requires sound { SoundAt (Place.Mail at) self.old shared.old }
+        requires whole { HasWhole self.old shared.old }
         ensures steps { Steps B.left B.spot self.old shared.old result self.new shared.new }
     {
         match at {
@@ -79,24 +84,100 @@ impl Worker {
     fn apply<B: Scripted + Drop>(&mut self, applied: usize, shared: &mut Shared<B>) -> Event
         requires some { 0 < length self.old.batch.values }
         requires few { applied < 64 }
-        requires roots { All IsRootMail self.old.batch.values }
-        requires there { self.old.root < length shared.old.tasks.items }
-        ensures event { result ≡ Event.Apply MailMessage.Root }
-        ensures wakes { WakesOwnRoot (record self.old {
-          batch = self.new.batch;
-          place = self.new.place;
-        }) self.new shared.old shared.new }
-        ensures batch { self.new.batch ≡ record self.old.batch { values = drop 1 self.old.batch.values } }
-        ensures place { self.new.place ≡ after_message (applied + 1) (map message_of self.new.batch.values) }
+        requires may { (mail : Message Subject Subject) → slice_get self.old.batch.values 0 ≡ Some mail → MayTake (message_of mail) self.old shared.old }
+        ensures applies { Applies applied self.old self.new shared.old shared.new result }
     {
-        match self.batch.pop() {
-            Some(Message::WakeRoot) => self.wake_own_root(shared),
-            Some(Message::Forward(_) | Message::Cancel(_)) | None => unreachable!(),
-        }
+        let Some(mail) = self.batch.pop() else {
+            unreachable!()
+        };
+        let message = self.take_effect(mail, shared);
         self.place = self.after_message(applied + 1);
-        Event::Apply {
-            message: MailMessage::Root,
+        Event::Apply { message }
+    }
+
+    /// A message takes effect.
+    fn take_effect<B: Scripted + Drop>(&mut self, mail: Mail, shared: &mut Shared<B>) -> MailMessage
+        requires may { MayTake (message_of mail) self.old shared.old }
+        ensures message { result ≡ message_of mail }
+        ensures takes { Takes (message_of mail) self.old self.new shared.old shared.new }
+    {
+        match mail {
+            Message::WakeRoot => {
+                self.wake_own_root(shared);
+                MailMessage::Root
+            }
+            Message::Forward(subject) => self.take_forward(subject, shared),
+            Message::Cancel(subject) => self.take_cancel(subject, shared),
         }
+    }
+
+    /// A task waits for this elsewhere.
+    fn take_forward<B: Drop>(&mut self, subject: Subject, shared: &mut Shared<B>) -> MailMessage
+        requires may { MayTake (forward_of subject) self.old shared.old }
+        ensures message { result ≡ forward_of subject }
+        ensures takes { Takes (forward_of subject) self.old self.new shared.old shared.new }
+    {
+        match subject {
+            Subject::Request(request) => {
+                self.forward_request(request, &mut shared.requests[request]);
+                MailMessage::ForwardRequest(request)
+            }
+            Subject::Timer(timer) => {
+                self.forward_timer(timer, &mut shared.sleepers[timer]);
+                MailMessage::ForwardTimer(timer)
+            }
+        }
+    }
+
+    /// Nobody holds this any more.
+    fn take_cancel<B: Drop>(&mut self, subject: Subject, shared: &mut Shared<B>) -> MailMessage
+        requires may { MayTake (cancel_of subject) self.old shared.old }
+        ensures message { result ≡ cancel_of subject }
+        ensures takes { Takes (cancel_of subject) self.old self.new shared.old shared.new }
+    {
+        match subject {
+            Subject::Request(request) => {
+                self.orphan_request(request, shared);
+                MailMessage::CancelRequest(request)
+            }
+            Subject::Timer(timer) => {
+                self.remove_sleeper(timer, shared);
+                MailMessage::CancelTimer(timer)
+            }
+        }
+    }
+
+    /// The output of a request will be sent to the task that waits for it elsewhere. Where it is there, it is told next.
+    fn forward_request(&mut self, request: usize, record: &mut Record)
+        requires may { MayForward record.old self.old }
+        ensures forwards { ForwardsRequest request record.old record.new self.old self.new }
+    {
+        let Some(task) = record.shown.waiter else {
+            unreachable!()
+        };
+        let reply = Reply {
+            task: TaskNo(task as u32),
+            of: Heard::Request(request),
+        };
+        self.home.driver.lists_requests();
+        self.home
+            .driver
+            .forward(record.id, reply, &mut self.home.deferred);
+        record.shown.forwarding = Forwarding::Applied;
+    }
+
+    /// The end of a sleeper will be sent to the task that waits for it elsewhere. Where it has come, it is told next.
+    fn forward_timer(&mut self, timer: usize, record: &mut SleeperRecord)
+        requires may { MayForwardTimer record.old self.old }
+        ensures forwards { ForwardsTimer timer record.old record.new self.old self.new }
+    {
+        let reply = Reply {
+            task: TaskNo(record.shown.task as u32),
+            of: Heard::Timer(timer),
+        };
+        let notes = &mut self.home.deferred.notes;
+        self.home.timers.forward(record.id, reply, notes);
+        record.shown.forwarding = Forwarding::Applied;
     }
 
     /// The next message, or the callbacks once so many were applied that the rest waits for the next turn.

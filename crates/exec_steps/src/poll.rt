@@ -7,23 +7,24 @@
 //! An act that wants memory and gets none changes nothing that can be seen: the body has asked, and is told that it was
 //! refused, so it stands where it stood.
 
-ghost use Rattle.std.specs.Prelude.{◌≡◌, ◌<◌, length, is_some, IfOk, OnErr, Some, None, IsSome, IsTrue, if◌then◌else◌};
+ghost use Rattle.std.specs.Prelude.{◌≡◌, ◌<◌, true, length, is_some, IfOk, OnErr, Some, None, IsSome, if◌then◌else◌};
 ghost use Rattle.exec_base.specs.declared.error.Error.TheVariants.{NoMemory};
-ghost use Rattle.exec_task.specs.Phases.{is_polled, queued_body, runnable_of, pend_answer};
+ghost use Rattle.exec_task.specs.Phases.{queued_body, runnable_of};
 ghost use Rattle.exec_task.specs.declared.body.Said.TheVariants as said;
 ghost use Rattle.exec_machine.specs.declared.state.Waiting.TheVariants as waiting;
 ghost use Rattle.exec_machine.specs.Tasks.{begun_waiting};
 ghost use Rattle.exec_moves.specs.{Parts.next_pick as place_of_pick, Poll.after_begin};
-ghost use Rattle.exec_steps.specs.{Acting.{PerformsOne, StepsOf}, Awaits.{AwaitsNewest, DropsRequest, HasNewest, OfNewest, newest_of}, Polls.{MadeAct, OfSlot, begun_slot_if, pended_slot, yielded_slot}, Pooled.queued_again, Sound.SoundAt, Tests.after_poll_of, View.desk_of, Whole.HasWhole, Works.{Same, TurnsSlot}};
+ghost use Rattle.exec_steps.specs.{Acting.{PerformsOne, StepsWith}, Awaits.{AwaitsNewest, DropsRequest, HasNewest, OfNewest, newest_of}, Ending.{MayPend, PendsTask}, Polls.{MadeAct, OfSlot, begun_slot_if, yielded_slot}, Pooled.queued_again, Sound.SoundAt, Tests.after_poll_of, View.desk_of, Whole.HasWhole, Works.{Same, TurnsSlot}};
 
 use crate::parts::around::Sighted;
+use crate::parts::nursery::Nursery;
 use crate::parts::shared::Shared;
 use crate::parts::worker::Worker;
 use crate::scripted::Scripted;
 use exec_base::error::Error;
 use exec_machine::event::Event;
-use exec_machine::state::Waiting;
-use exec_moves::handing::{AfterCallbacks, AfterPush, InPush};
+use exec_machine::state::{MailMessage, Waiting};
+use exec_moves::handing::{AfterCallbacks, AfterCancels, AfterPush, AfterSend, InPush};
 use exec_moves::place::{InCallbacks, InPoll, Place};
 use exec_task::body::{Act, Said};
 use exec_task::runnable::{AfterPoll, Runnable};
@@ -37,18 +38,22 @@ impl Worker {
         task: usize,
         at: InPoll,
         shared: &mut Shared<B>,
+        nursery: &mut Nursery,
     ) -> Result<Event, AllocError>
         requires sound { SoundAt (Place.Poll task at) self.old shared.old }
         requires performs { PerformsOne B.left B.runs B.holds shared.old }
         requires whole { HasWhole self.old shared.old }
-        ensures steps { IfOk result (λ event. StepsOf B.left B.runs B.holds B.spot self.old shared.old event self.new shared.new) }
+        requires none_yet { nursery.old.born ≡ None }
+        ensures steps { IfOk result (λ event. StepsWith B.left B.runs B.holds B.spot nursery.new.born self.old shared.old event self.new shared.new) }
+        ensures room { IsSome nursery.new.born → nursery.old.has_room ≡ true }
         ensures same { OnErr result (Same B.left B.spot self.old shared.old self.new shared.new) }
+        ensures nobody { OnErr result (nursery.new.born ≡ None) }
     {
         match at {
             InPoll::BeginPoll => Ok(self.begin_poll(task, shared)),
             InPoll::Resume => Ok(self.resume(task, shared)),
-            InPoll::Act => self.act(alloc, task, shared),
-            InPoll::JoinGate { .. } => unreachable!(),
+            InPoll::Act => self.act(alloc, task, shared, nursery),
+            InPoll::JoinGate { request } => Ok(self.join_gate(task, request, shared)),
             InPoll::LoadSpawnHead => Ok(self.load_spawn_head(task, shared)),
             InPoll::Pend => Ok(self.pend(task, shared)),
             InPoll::RemoveTask => Ok(self.remove_task(task, &mut shared.set)),
@@ -85,12 +90,16 @@ impl Worker {
         alloc: Global,
         task: usize,
         shared: &mut Shared<B>,
+        nursery: &mut Nursery,
     ) -> Result<Event, AllocError>
         requires sound { SoundAt (Place.Poll task InPoll.Act) self.old shared.old }
         requires performs { PerformsOne B.left B.runs B.holds shared.old }
         requires whole { HasWhole self.old shared.old }
-        ensures steps { IfOk result (λ event. StepsOf B.left B.runs B.holds B.spot self.old shared.old event self.new shared.new) }
+        requires none_yet { nursery.old.born ≡ None }
+        ensures steps { IfOk result (λ event. StepsWith B.left B.runs B.holds B.spot nursery.new.born self.old shared.old event self.new shared.new) }
+        ensures room { IsSome nursery.new.born → nursery.old.has_room ≡ true }
         ensures same { OnErr result (Same B.left B.spot self.old shared.old self.new shared.new) }
+        ensures nobody { OnErr result (nursery.new.born ≡ None) }
     {
         match self.next_act(alloc, task, shared)? {
             Act::Register(request) => self.register(alloc, task, request, shared),
@@ -103,7 +112,7 @@ impl Worker {
             Act::Fault(code) => Ok(self.fail(task, code, shared)),
             Act::Spawn(body) => self.spawn(alloc, task, body, shared),
             Act::Wake(other) => Ok(self.wake_task(task, other, shared)),
-            Act::Dedicated(_) => unreachable!(),
+            Act::Dedicated(body) => self.dedicate(alloc, task, body, shared, nursery),
         }
     }
 
@@ -152,7 +161,15 @@ impl Worker {
         let Some(request) = shared.tasks[task].newest() else {
             unreachable!()
         };
-        self.drop_request(task, request, shared)
+        let worker = shared.requests[request].shown.worker;
+        if worker == self.index {
+            return self.drop_request(task, request, shared);
+        }
+        let slot = &mut shared.tasks[task];
+        slot.let_go();
+        slot.tell(Said::Pass);
+        let message = MailMessage::CancelRequest(request);
+        self.send(worker, message, AfterSend::Act { task }, shared)
     }
 
     /// The task waits for a wake alone.
@@ -197,16 +214,17 @@ impl Worker {
     /// The poll ends. A root that was woken meanwhile has its flag set again, and any other task is queued again; one
     /// that was cleared is over.
     pub(crate) fn pend<B: Scripted + Drop>(&mut self, task: usize, shared: &mut Shared<B>) -> Event
-        requires there { task < length shared.old.tasks.items }
-        requires polled { OfSlot task shared.old (λ slot. IsTrue (is_polled slot.cell.phase)) }
-        requires body { OfSlot task shared.old (λ slot. IsSome slot.body) }
-        requires agrees { OfSlot task shared.old (λ slot. slot.cell.cancelled ≡ slot.cleared) }
+        requires may { MayPend task self.old shared.old }
         ensures event { result ≡ Event.Pend task }
-        ensures worker { OfSlot task shared.old (λ slot. self.new
-            ≡ queued_again task (pend_answer slot.cell) (record self.old { place = after_poll_of task self.old })) }
-        ensures task { TurnsSlot task shared.old shared.new pended_slot }
+        ensures pends { PendsTask task self.old self.new shared.old shared.new }
     {
-        let after = shared.tasks[task].pend();
+        let slot = &mut shared.tasks[task];
+        let after = slot.pend();
+        if slot.is_over() {
+            self.let_go_of(task, shared);
+            self.place = self.after_cancels(AfterCancels::Pick);
+            return Event::Pend { task };
+        }
         self.place = self.after_poll(task);
         if let AfterPoll::Requeue(runnable) = after {
             self.queue_again(task, runnable);

@@ -7,10 +7,10 @@
 //! Who has appended to the global queue looks for a published worker afterwards, and claims it: so of the two, who
 //! appends and who goes to sleep, one sees the other.
 
-ghost use Rattle.std.specs.Prelude.{◌≡◌, ◌+◌, ◌-◌, ◌^◌, ◌<◌, ◌≤◌, ◌==◌, ◌∷◌, ◌++◌, [], false, length, option_to_list, IsSome, None, if◌then◌else◌};
+ghost use Rattle.std.specs.Prelude.{◌≡◌, ◌+◌, ◌-◌, ◌^◌, ◌<◌, ◌≤◌, ◌==◌, ◌&&◌, nat_le, nat_lt, ◌∷◌, ◌++◌, [], false, length, option_to_list, IsSome, None, if◌then◌else◌};
 ghost use Rattle.exec_words.specs.{Head.is_spent, Idle.lowest_of, Global.spare_places, Queue.{head_of, published, restored, room_of, tail_of}, Reserved.spare};
-ghost use Rattle.exec_moves.specs.{Global.{add_global_count, load_global_set, return_global_count}, Parts.after_push as place_after_push, Pop.same_head, Push.{load_push_head, store_oldest, store_value}, State.queue_of};
-ghost use Rattle.exec_steps.specs.{Phased.TurnsChair, Pooled.{OfChair, overflowed_if, with_overflow}, Sound.SoundAt, View.{desk_of, things_of}, Whole.HasWhole, Works.{Goes, Makes, Steps}};
+ghost use Rattle.exec_moves.specs.{Claim.set_of, Global.{add_global_count, has_any}, Pop.same_head, Push.{load_push_head, store_oldest}, State.queue_of};
+ghost use Rattle.exec_steps.specs.{Phased.TurnsChair, Pooled.{OfChair, overflowed_if, with_overflow}, Sound.SoundAt, Tests.{after_push_of, first_push_of}, View.{desk_of, things_of}, Whole.HasWhole, Works.{Goes, Makes, Steps}};
 
 use crate::parts::shared::Shared;
 use crate::parts::worker::Worker;
@@ -71,9 +71,12 @@ impl Worker {
         requires hand { IsSome self.old.hand }
         requires room { OfChair self.old.index shared.old (λ chair. 0 < room_of chair.queue) }
         requires whole { OfChair self.old.index shared.old (λ chair. chair.queue.held ≡ []) }
-        ensures makes { Makes (store_value shared.old.config count back (desk_of self.old)
-            (queue_of (things_of shared.old) self.old.index)) result self.new }
-        ensures same { self.new ≡ record self.old { place = self.new.place; hand = None } }
+        ensures event { result ≡ Event.Turn }
+        ensures goes { self.new ≡ record self.old {
+          place = (if nat_le 2 count && nat_lt 1 shared.old.config.workers
+              then Place.Kick InKick.LoadKickCount (AfterKick.Push back) else after_push_of back self.old);
+          hand = None;
+        } }
         ensures chair { TurnsChair self.old.index (λ chair. record chair {
           queue = published chair.queue
               (option_to_list self.old.hand);
@@ -133,13 +136,26 @@ impl Worker {
         Event::Turn
     }
 
+    /// The first step of the way of a runnable in the hand into a queue: a worker of the pool has its own, any other
+    /// takes the global one.
+    pub(crate) fn first_push(&self, back: AfterPush) -> Place
+        ensures { result ≡ first_push_of back self.now }
+    {
+        if self.role.is_pool() {
+            Place::Push(InPush::LoadPushHead, back)
+        } else {
+            Place::Global(InGlobal::Append, back)
+        }
+    }
+
     /// Where a push leads.
     pub(crate) fn after_push(&self, back: AfterPush) -> Place
-        ensures { result ≡ place_after_push back (desk_of self.now) }
+        ensures { result ≡ after_push_of back self.now }
     {
         match back {
             AfterPush::Act { task } => Place::Poll(task, InPoll::Act),
             AfterPush::Pick => self.next_pick(),
+            AfterPush::CallBack { next } => self.next_callback(next),
         }
     }
 
@@ -170,7 +186,7 @@ impl Worker {
         ensures event { result ≡ Event.Turn }
         ensures goes { self.new ≡ record self.old {
           place = (if shared.old.global.closed
-              then place_after_push back (desk_of self.old) else Place.Global InGlobal.LoadGlobalSet back);
+              then after_push_of back self.old else Place.Global InGlobal.LoadGlobalSet back);
           hand = None;
           loot = record self.old.loot { values = [] };
         } }
@@ -182,6 +198,7 @@ impl Worker {
               };
         } }
     {
+        let gone = self.after_push(back);
         if let Some(runnable) = self.hand.take() {
             self.loot.push(runnable);
         }
@@ -189,7 +206,7 @@ impl Worker {
             Place::Global(InGlobal::LoadGlobalSet, back)
         } else {
             self.let_loot_go();
-            self.after_push(back)
+            gone
         };
         Event::Turn
     }
@@ -205,8 +222,11 @@ impl Worker {
 
     /// Loads the idle set.
     fn load_global_set(&mut self, back: AfterPush, idle: &PureIdle) -> Event
-        ensures makes { Makes (load_global_set back (desk_of self.old) idle.now) result self.new }
-        ensures goes { Goes self.old self.new }
+        ensures event { result ≡ Event.Turn }
+        ensures goes { self.new ≡ record self.old {
+          place = (if has_any idle.now
+              then Place.Global (InGlobal.AddGlobalCount (set_of idle.now)) back else after_push_of back self.old);
+        } }
     {
         let set = idle.set();
         self.place = match set.lowest() {
@@ -231,8 +251,10 @@ impl Worker {
     /// Returns the search count, since nobody was claimed. Who returned the last looks at the set again.
     fn return_global_count(&mut self, back: AfterPush, idle: &mut PureIdle) -> Event
         requires holds { 0 < idle.old.count }
-        ensures makes { Makes (return_global_count back (desk_of self.old) idle.old) result self.new }
-        ensures goes { Goes self.old self.new }
+        ensures event { result ≡ Event.Turn }
+        ensures goes { self.new ≡ record self.old {
+          place = (if idle.old.count == 1 then Place.Global InGlobal.LoadGlobalSet back else after_push_of back self.old);
+        } }
         ensures idle { idle.new ≡ record idle.old { count = idle.old.count - 1 } }
     {
         self.place = if idle.subtract() == 1 {

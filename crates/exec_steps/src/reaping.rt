@@ -5,24 +5,27 @@
 //! reaping. The permit of an open that a request gives up goes to the next that waits for it, and the worker of that one
 //! is signalled, the own one too.
 
-ghost use Rattle.std.specs.Prelude.{◌≡◌, ◌+◌, ◌^◌, ◌<◌, true, false, length, is_some, None};
+ghost use Rattle.std.specs.Prelude.{◌≡◌, ◌+◌, ◌^◌, ◌<◌, true, length, is_some, None, if◌then◌else◌};
 ghost use Rattle.std.specs.VecDeque.{deque_capacity};
 ghost use Rattle.exec_machine.specs.Requests.{joined_if, reaped};
-ghost use Rattle.exec_moves.specs.{Serve.after_permit as place_after_permit, State.word_of};
+ghost use Rattle.exec_machine.specs.Tests.{is_awake};
+ghost use Rattle.exec_moves.specs.{Claim.latched, Serve.{after_permit as place_after_permit, signal}, State.word_of};
 ghost use Rattle.exec_outcomes.specs.Outcomes.{bytes_of};
 ghost use Rattle.exec_request.specs.States.{as_answer};
-ghost use Rattle.exec_steps.specs.{Records.has_one_part, Submitting.after_giving_up, Sound.SoundAt, View.things_of, Works.{TurnsWord, Steps}};
+ghost use Rattle.exec_steps.specs.{Phased.TurnsChair, Pooled.{OfChair, chair_raised}, Records.IsCountable, Submitting.after_giving_up, Sound.SoundAt, View.{desk_of, things_of}, Works.{Goes, Makes, TurnsWord, Steps}};
 
 use crate::parts::record::Record;
 use crate::parts::shared::Shared;
 use crate::parts::worker::Worker;
 use crate::scripted::Scripted;
+use crate::signal::rouse;
 use exec_base::error::Error;
 use exec_driver::driver::Reaped;
 use exec_machine::event::Event;
 use exec_moves::place::{AfterPermit, InService, Place, Reaping, Service};
 use exec_outcomes::outcome::Outcome;
 use exec_request::output::to_outcome;
+use exec_words::word::WaitTarget;
 
 impl Worker {
     /// Judges the next completion of an operation.
@@ -71,11 +74,11 @@ impl Worker {
     ) -> Event
         requires room { length self.old.names.ended.items < deque_capacity self.old.names.ended }
         requires lawful { bytes_of done.given + it.old.shown.operation.moved < 2 ^ 64 }
-        requires one_part { has_one_part it.old.shown.operation.kind ≡ true }
-        requires plain { it.old.shown.operation.hinted ≡ false }
+        requires bytes { IsCountable it.old.shown.operation }
         ensures event { result ≡ Event.Reap request done.given (as_answer done.ended) }
         ensures shown { it.new.shown ≡ reaped done.given (as_answer done.ended) it.old.shown }
         ensures id { it.new.id ≡ it.old.id }
+        ensures sent { it.new.sent ≡ it.old.sent }
         ensures capacity { deque_capacity self.new.names.ended ≡ deque_capacity self.old.names.ended }
         ensures ended { self.new.names.ended.items ≡ joined_if (is_some (as_answer done.ended)) self.old.names.ended.items request }
         ensures still { done.ended ≡ None → self.new.names ≡ self.old.names }
@@ -123,15 +126,40 @@ impl Worker {
         shared: &mut Shared<B>,
     ) -> Event
         requires there { worker < length shared.old.seats.items }
-        ensures event { result ≡ Event.Serve }
-        ensures goes { self.new ≡ record self.old { place = Place.Service (place_after_permit back) service } }
-        ensures word { TurnsWord worker shared.old shared.new
-            (record (word_of (things_of shared.old) worker) { latch = true }) }
+        ensures makes { Makes (signal worker service back (desk_of self.old) (word_of (things_of shared.old) worker)) result self.new }
+        ensures goes { Goes self.old self.new }
+        ensures word { TurnsWord worker shared.old shared.new (latched (word_of (things_of shared.old) worker)) }
     {
-        let word = &mut shared.seats[worker].mailbox.waker;
-        let _found = word.wake();
-        self.after_permit(service, back);
+        match shared.seats[worker].signal() {
+            Some(target) => {
+                let ring = target == WaitTarget::Ring;
+                self.go(service, InService::Raise { ring, worker, back });
+            }
+            None => self.after_permit(service, back),
+        }
         Event::Serve
+    }
+
+    /// Ends the wait of the worker that has the permit of an open next.
+    pub(crate) fn raise_holder<B: Drop>(
+        &mut self,
+        service: Service,
+        ring: bool,
+        worker: usize,
+        back: AfterPermit,
+        shared: &mut Shared<B>,
+    ) -> Event
+        requires there { worker < length shared.old.seats.items }
+        ensures event { OfChair worker shared.old (λ chair. result ≡ (if is_awake chair.rest then Event.Serve else Event.Rouse worker)) }
+        ensures goes { self.new ≡ record self.old { place = Place.Service (place_after_permit back) service } }
+        ensures chair { TurnsChair worker (chair_raised ring) shared.old shared.new }
+        ensures kept { shared.new ≡ record shared.old { seats = shared.new.seats } }
+    {
+        self.after_permit(service, back);
+        match rouse(ring, worker, &mut shared.seats[worker]) {
+            Event::Turn => Event::Serve,
+            roused => roused,
+        }
     }
 }
 

@@ -5,7 +5,7 @@
 
 ghost use Rattle.std.specs.Prelude.{◌≡◌, ◌<◌, length, slice_get, Some};
 ghost use Rattle.exec_machine.specs.declared.state.Waiting.TheVariants as waiting;
-ghost use Rattle.exec_steps.specs.{Awaits.{AwaitsRequest, HasNewest}, Polls.{IsReady, OfSlot, TookOutput, passed_slot, slept_slot}, Sound.SoundAt, View.driver_of, Works.{Steps, TurnsSlot}, declared.parts.record.Record.Record};
+ghost use Rattle.exec_steps.specs.{Records.numbers_held, Awaits.{AwaitsRequest, HasNewest}, Polls.{IsReady, OfSlot, TookOutput, passed_slot, slept_slot}, Sound.SoundAt, View.driver_of, Whole.HasWhole, Works.{Steps, TurnsSlot}, declared.parts.record.Record.Record};
 
 use crate::parts::shared::Shared;
 use crate::parts::worker::Worker;
@@ -25,6 +25,7 @@ impl Worker {
         shared: &mut Shared<B>,
     ) -> Event
         requires sound { SoundAt (Place.Poll task InPoll.Resume) self.old shared.old }
+        requires whole { HasWhole self.old shared.old }
         ensures steps { Steps B.left B.spot self.old shared.old result self.new shared.new }
     {
         match shared.tasks[task].waiting() {
@@ -55,11 +56,19 @@ impl Worker {
         shared: &mut Shared<B>,
     ) -> Event
         requires sound { SoundAt (Place.Poll task InPoll.Resume) self.old shared.old }
+        requires whole { HasWhole self.old shared.old }
         requires waits { OfSlot task shared.old (λ slot. slot.waiting ≡ waiting.Request request) }
         requires there { request < length shared.old.requests.items }
         ensures steps { Steps B.left B.spot self.old shared.old result self.new shared.new }
     {
-        if shared.requests[request].is_over() {
+        let record = &shared.requests[request];
+        if record.was_forwarded() {
+            return self.hear_output(task, request, shared);
+        }
+        if record.shown.worker != self.index {
+            return self.ask_output(task, request, shared);
+        }
+        if record.is_over() {
             return self.take_output(task, request, shared);
         }
         self.pend(task, shared)
@@ -75,6 +84,9 @@ impl Worker {
         requires newest { HasNewest task request self.old shared.old }
         ensures awaits { AwaitsRequest task request self.old self.new shared.old shared.new result }
     {
+        if shared.requests[request].shown.worker != self.index {
+            return self.ask_output(task, request, shared);
+        }
         if shared.requests[request].is_over() {
             return self.take_output(task, request, shared);
         }
@@ -98,8 +110,7 @@ impl Worker {
     ) -> Event
         requires there { task < length shared.old.tasks.items }
         requires known { request < length shared.old.requests.items }
-        requires held { 0 < self.old.names.held }
-        requires holds { OfSlot task shared.old (λ slot. 0 < length slot.held.items) }
+        requires holds { OfSlot task shared.old (λ slot. 0 < length (numbers_held slot.held.items)) }
         requires ready { (r : Record) → slice_get shared.old.requests.items request ≡ Some r → IsReady r (driver_of self.old) }
         ensures took { TookOutput task request self.old self.new shared.old shared.new result }
     {
@@ -113,7 +124,6 @@ impl Worker {
         let Observation::Ready(output) = self.home.driver.observe(id, TaskNo(0)) else {
             unreachable!()
         };
-        self.names.let_go();
         let slot = &mut shared.tasks[task];
         slot.let_go();
         slot.take(Said::Output(output));
@@ -129,18 +139,26 @@ impl Worker {
         shared: &mut Shared<B>,
     ) -> Event
         requires sound { SoundAt (Place.Poll task InPoll.Resume) self.old shared.old }
+        requires whole { HasWhole self.old shared.old }
         requires waits { OfSlot task shared.old (λ slot. slot.waiting ≡ waiting.Timer timer) }
         requires asleep { timer < length shared.old.sleepers.items }
         ensures steps { Steps B.left B.spot self.old shared.old result self.new shared.new }
     {
-        if shared.sleepers[timer].shown.fired {
+        let record = &shared.sleepers[timer];
+        if record.was_forwarded() {
+            return self.hear_end(task, timer, shared);
+        }
+        if record.shown.worker != self.index {
+            return self.ask_end(task, timer, shared);
+        }
+        if record.shown.fired {
             return self.take_sleep(task, timer, shared);
         }
         self.pend(task, shared)
     }
 
     /// The task takes the end of its sleep.
-    fn take_sleep<B: Scripted + Drop>(
+    pub(crate) fn take_sleep<B: Scripted + Drop>(
         &mut self,
         task: usize,
         timer: usize,

@@ -6,9 +6,9 @@
 //! another batch, serves first.
 
 ghost use Rattle.std.specs.Prelude.{◌≡◌, ◌<◌, ◌^◌, Bool, true, length, if◌then◌else◌};
-ghost use Rattle.exec_moves.specs.{State.word_of, Wait.{arm_ring, disarm_ring, after_wait as place_after_wait}};
+ghost use Rattle.exec_moves.specs.{State.word_of, Wait.{arm_ring, disarmed}};
 ghost use Rattle.exec_ring.specs.Kernels.{is_quiet};
-ghost use Rattle.exec_steps.specs.{Pooled.OfChair, View.{driver_of, desk_of, things_of}, Sound.SoundAt, Tests.{ring_wait_of, after_enter_of, HasToldDue, TestsRing}, Raises.Enters, Serving.AreKnown, Waits.Sleeps, Works.{Makes, Goes, TurnsWord, Steps}};
+ghost use Rattle.exec_steps.specs.{Pooled.OfChair, View.{driver_of, desk_of, things_of}, Sound.SoundAt, Tests.{ring_wait_of, after_enter_of, after_wait_of, HasToldDue, TestsRing}, Raises.Enters, Serving.AreKnown, Waits.Sleeps, Works.{Makes, Goes, TurnsWord, Steps}};
 
 use crate::callbacks::serve;
 use crate::parts::shared::Shared;
@@ -69,9 +69,10 @@ impl Worker {
         ensures event { result ≡ Event.Turn }
         ensures tests { TestsRing stay self.old self.new }
     {
+        let after = self.after_ring_wait(stay, AfterWait::Serve);
         let driver = &mut self.home.driver;
         self.place = if driver.has_pending_submissions() || !driver.stage_wake_poll() {
-            after_wait(stay, AfterWait::Serve)
+            after
         } else {
             Place::RingWait(InRingWait::ArmRing, stay)
         };
@@ -154,15 +155,23 @@ impl Worker {
     /// Takes the wait bits out of the wake word.
     fn disarm_ring<B: Drop>(&mut self, stay: Stay, next: AfterWait, shared: &mut Shared<B>) -> Event
         requires there { self.old.index < length shared.old.seats.items }
-        ensures makes { Makes (disarm_ring stay next (desk_of self.old)
-            (word_of (things_of shared.old) self.old.index)) result self.new }
-        ensures goes { Goes self.old self.new }
-        ensures word { TurnsWord self.old.index shared.old shared.new
-            (disarm_ring stay next (desk_of self.old) (word_of (things_of shared.old) self.old.index)).thing }
+        ensures event { result ≡ Event.Turn }
+        ensures goes { self.new ≡ record self.old { place = after_wait_of stay next self.old } }
+        ensures word { TurnsWord self.old.index shared.old shared.new (disarmed (word_of (things_of shared.old) self.old.index)) }
     {
         let _found = shared.seats[self.index].mailbox.waker.disarm();
-        self.place = after_wait(stay, next);
+        self.place = self.after_ring_wait(stay, next);
         Event::Turn
+    }
+
+    /// What follows a wait on the ring. A closing worker has no bit to withdraw, and serves again.
+    fn after_ring_wait(&self, stay: Stay, next: AfterWait) -> Place
+        ensures { result ≡ after_wait_of stay next self.now }
+    {
+        match stay {
+            Stay::Turn => self.after_waiting(next),
+            Stay::Closing => serve(AfterService::Finish),
+        }
     }
 }
 
@@ -176,15 +185,5 @@ fn after_arming(idle: bool) -> InRingWait
         InRingWait::DisarmRing {
             next: AfterWait::Serve,
         }
-    }
-}
-
-/// What follows a wait on the ring. A closing worker has no bit to withdraw, and serves again.
-fn after_wait(stay: Stay, next: AfterWait) -> Place
-    ensures { result ≡ place_after_wait stay next }
-{
-    match stay {
-        Stay::Turn => Place::Withdraw(next),
-        Stay::Closing => serve(AfterService::Finish),
     }
 }

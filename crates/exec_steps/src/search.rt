@@ -9,8 +9,8 @@
 ghost use Rattle.std.specs.Prelude.{◌≡◌, ◌+◌, ◌-◌, ◌*◌, ◌%◌, ◌^◌, ◌<◌, ◌≤◌, [], length, true};
 ghost use Rattle.exec_words.specs.{Head.claim_at, Queue.{claimed as claimed_queue, head_of, published, released, room_of, tail_of}, Reserved.{extended, spare}};
 ghost use Rattle.exec_machine.specs.declared.config.Configuration.{Configuration};
-ghost use Rattle.exec_moves.specs.{Load.first_search as place_of_search, Pop.same_head, Search.{add_search_count, claim_half, from_of as number_from, judge_head as judged, load_scan_head, load_search_count, load_their_head, load_their_tail, looks_at, move_half, past as scan_past, release_half, stirred as number_stirred}, State.queue_of};
-ghost use Rattle.exec_steps.specs.{Phased.TurnsChair, Pooled.{OfChair, claimed_if, released_if, taken_if}, Sound.SoundAt, Tests.leaves_turn_of, View.{desk_of, things_of}, Whole.HasWhole, Works.{Goes, Makes, Steps}};
+ghost use Rattle.exec_moves.specs.{Pop.same_head, Search.{add_search_count, claim_half, from_of as number_from, judge_head as judged, load_scan_head, load_search_count, load_their_head, load_their_tail, looks_at, move_half, past as scan_past, release_half, stirred as number_stirred}, State.queue_of};
+ghost use Rattle.exec_steps.specs.{Phased.TurnsChair, Pooled.{OfChair, claimed_if, released_if, taken_if}, Sound.SoundAt, Tests.{first_search_of, leaves_turn_of}, View.{desk_of, things_of}, Whole.HasWhole, Works.{Goes, Makes, Steps}};
 
 use crate::parts::shared::Shared;
 use crate::parts::worker::Worker;
@@ -26,7 +26,7 @@ impl Worker {
     /// The first step of a worker that has nothing to do and isn't due: a search, or the look where it is alone.
     pub(crate) fn first_search(&self, workers: usize) -> Place
         requires workers { 0 < workers }
-        ensures { (c : Configuration) → c.workers ≡ workers → result ≡ place_of_search c (desk_of self.now) }
+        ensures { result ≡ first_search_of workers self.now }
     {
         if workers == 1 {
             Place::Look(InLook::Publish)

@@ -10,7 +10,7 @@ ghost use Rattle.std.specs.Option.{option_map};
 ghost use Rattle.std.specs.Vec.{vec_capacity};
 ghost use Rattle.exec_moves.specs.{Serve.{sample, unlatched, after_passing, after_service}, State.word_of};
 ghost use Rattle.exec_driver.specs.{Opens.{next_at, passed, with_open}, Punctual.IsPunctual, Steps.advanced_to};
-ghost use Rattle.exec_steps.specs.{Records.number_in, Raises.Enters, Serving.{AreKnown, flown_in, with_staging_ended}, declared.parts.sleeping.SleeperRecord.SleeperRecord as Sleeper, Sound.SoundAt, View.{driver_of, desk_of, things_of}, Works.{Makes, TurnsWord, Steps}};
+ghost use Rattle.exec_steps.specs.{Records.number_in, Raises.Enters, Serving.{AreKnown, flown_in, with_staging_ended}, declared.parts.sleeping.SleeperRecord.SleeperRecord as Sleeper, Sound.SoundAt, View.{driver_of, desk_of, things_of}, Whole.HasWhole, Works.{Makes, TurnsWord, Steps}};
 
 use crate::parts::names::Names;
 use crate::parts::record::Record;
@@ -34,6 +34,7 @@ impl Worker {
         shared: &mut Shared<B>,
     ) -> Event
         requires sound { SoundAt (Place.Service at service) self.old shared.old }
+        requires whole { HasWhole self.old shared.old }
         ensures steps { Steps B.left B.spot self.old shared.old result self.new shared.new }
     {
         match at {
@@ -43,6 +44,9 @@ impl Worker {
                 self.pass_permit(service, file, back, &mut shared.opens)
             }
             InService::Signal { worker, back } => self.signal_holder(service, worker, back, shared),
+            InService::Raise { ring, worker, back } => {
+                self.raise_holder(service, ring, worker, back, shared)
+            }
             InService::AdvanceWheel => self.advance_wheel(service),
             InService::Submit { gate } => self.submit(service, gate, shared),
             InService::EnterLast => self.enter_last(service, shared),

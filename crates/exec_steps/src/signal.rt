@@ -8,7 +8,7 @@ ghost use Rattle.std.specs.Prelude.{◌≡◌, ◌+◌, ◌<◌, ◌≤◌, ◌&
 ghost use Rattle.exec_machine.specs.declared.config.Configuration.{Configuration};
 ghost use Rattle.exec_words.specs.Word.{asks_signal};
 ghost use Rattle.exec_moves.specs.{Claim.is_ring, Parts.{after_send as place_after_send, tells_from}, Send.{is_left_out, posted}};
-ghost use Rattle.exec_steps.specs.{Phased.TurnsChair, Pooled.{OfChair, HasRootPlace, chair_latched, chair_raised, chair_posted, event_posted, event_rousing, asks_in}, Sound.SoundAt, Tests.after_signal_of, Works.Steps};
+ghost use Rattle.exec_steps.specs.{Phased.TurnsChair, Pooled.{OfChair, HasRootPlace, chair_latched, chair_raised, chair_posted, event_posted, event_rousing, asks_in}, Sound.SoundAt, Tests.after_signal_of, View.desk_of, Works.Steps};
 
 use crate::parts::seat::Seat;
 use crate::parts::shared::Shared;
@@ -93,7 +93,7 @@ impl Worker {
         match back {
             AfterSignal::Claim(AfterClaim::Kick(back)) => self.after_kick(back),
             AfterSignal::Claim(AfterClaim::Global(back)) => self.after_push(back),
-            AfterSignal::Send(back) => after_send(back, workers),
+            AfterSignal::Send(back) => self.after_send(back, workers),
         }
     }
 
@@ -111,19 +111,24 @@ impl Worker {
             ≡ record self.old {
               place = (if asks_in chair.mailbox
                   then Place.Signal InSignal.SetLatch home (AfterSignal.Send back)
-                  else place_after_send shared.old.config back);
+                  else place_after_send shared.old.config back (desk_of self.old));
             }) }
         ensures chair { TurnsChair home chair_posted shared.old shared.new }
         ensures kept { shared.new ≡ record shared.old { seats = shared.new.seats } }
     {
-        let workers = shared.config.workers;
-        let (event, asks) = mail_root(home, &mut shared.seats[home]);
-        self.place = if asks {
-            Place::Signal(InSignal::SetLatch, home, AfterSignal::Send(back))
-        } else {
-            after_send(back, workers)
-        };
-        event
+        self.send(home, MailMessage::Root, back, shared)
+    }
+
+    /// Where a message leads.
+    pub(crate) fn after_send(&self, back: AfterSend, workers: usize) -> Place
+        ensures { (c : Configuration) → c.workers ≡ workers → result ≡ place_after_send c back (desk_of self.now) }
+    {
+        match back {
+            AfterSend::Act { task } => Place::Poll(task, InPoll::Act),
+            AfterSend::Tell { worker } => tell_from(worker, workers),
+            AfterSend::Pend { task } => Place::Poll(task, InPoll::Pend),
+            AfterSend::Cancels(back) => self.after_cancels(back),
+        }
     }
 }
 
@@ -157,16 +162,6 @@ pub(crate) fn mail_root(home: usize, seat: &mut Seat) -> (Event, bool)
             (sent, asks)
         }
         Err(_) => (Event::Closed, false),
-    }
-}
-
-/// Where a message leads.
-fn after_send(back: AfterSend, workers: usize) -> Place
-    ensures { (c : Configuration) → c.workers ≡ workers → result ≡ place_after_send c back }
-{
-    match back {
-        AfterSend::Act { task } => Place::Poll(task, InPoll::Act),
-        AfterSend::Tell { worker } => tell_from(worker, workers),
     }
 }
 

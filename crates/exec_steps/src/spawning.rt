@@ -8,8 +8,8 @@ ghost use Rattle.std.specs.Prelude.{◌≡◌, ℕ, ◌<◌, length, Some, None,
 ghost use Rattle.exec_task.specs.TaskSet.{held};
 ghost use Rattle.exec_task.specs.declared.body.Said.TheVariants as said;
 ghost use Rattle.exec_machine.specs.declared.config.Configuration.{Configuration};
-ghost use Rattle.exec_moves.specs.{Poll.load_spawn_head, Send.after_spawn as place_after_spawn, State.queue_of};
-ghost use Rattle.exec_steps.specs.{Calling.HaveMailboxes, Polls.OfSlot, Pooled.{Spawns, SpawnsNone, WakesOrdinary, WakesOwnRoot, WakesTask}, View.{desk_of, things_of}, Works.{Goes, Makes, TurnsSlot}};
+ghost use Rattle.exec_moves.specs.{Poll.load_spawn_head, State.queue_of};
+ghost use Rattle.exec_steps.specs.{Calling.HaveMailboxes, Polls.OfSlot, Pooled.{Spawns, SpawnsNone, WakesOrdinary, WakesOwnRoot, WakesTask}, Tests.after_spawn_of, View.{desk_of, things_of}, Works.{Goes, Makes, TurnsSlot}};
 
 use crate::parts::shared::Shared;
 use crate::parts::worker::Worker;
@@ -67,7 +67,7 @@ impl Worker {
         requires workers { 0 < shared.old.config.workers }
         ensures event { result ≡ Event.Spawn runnable.task.0 script }
         ensures goes { self.new ≡ record self.old {
-          place = place_after_spawn shared.old.config task;
+          place = after_spawn_of shared.old.config.workers task self.old;
           hand = Some runnable;
         } }
         ensures task { TurnsSlot task shared.old shared.new (λ slot.
@@ -76,7 +76,7 @@ impl Worker {
         let made = runnable.task();
         shared.tasks[task].tell(Said::Spawned(made));
         self.hand = Some(runnable);
-        self.place = after_spawn(task, shared.config.workers);
+        self.place = self.after_spawn(task, shared.config.workers);
         Event::Spawn {
             task: made.0 as usize,
             script,
@@ -149,22 +149,23 @@ impl Worker {
         self.place = match shared.tasks[woken].wake() {
             Some(runnable) => {
                 self.hand = Some(runnable);
-                Place::Push(InPush::LoadPushHead, AfterPush::Act { task })
+                self.first_push(AfterPush::Act { task })
             }
             None => Place::Poll(task, InPoll::Act),
         };
     }
-}
 
-/// Where it leads that a task made another: the only worker queues that, and any other looks first whether its own
-/// queue is empty. The caller must have some workers.
-fn after_spawn(task: usize, workers: usize) -> Place
-    requires { 0 < workers }
-    ensures { (c : Configuration) → c.workers ≡ workers → result ≡ place_after_spawn c task }
-{
-    if workers == 1 {
-        Place::Push(InPush::LoadPushHead, AfterPush::Act { task })
-    } else {
-        Place::Poll(task, InPoll::LoadSpawnHead)
+    /// Where it leads that a task made another: a dedicated worker queues that in the global queue and the only worker
+    /// of a pool in its own, and any other looks first whether its own queue is empty. The caller must have some
+    /// workers.
+    fn after_spawn(&self, task: usize, workers: usize) -> Place
+        requires { 0 < workers }
+        ensures { result ≡ after_spawn_of workers task self.now }
+    {
+        if workers == 1 || !self.role.is_pool() {
+            self.first_push(AfterPush::Act { task })
+        } else {
+            Place::Poll(task, InPoll::LoadSpawnHead)
+        }
     }
 }

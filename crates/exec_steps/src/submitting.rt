@@ -12,7 +12,7 @@ ghost use Rattle.std.specs.VecDeque.{deque_capacity};
 ghost use Rattle.exec_machine.specs.{Deadlines.{outcome_at_expiry, expired, enrolled}, Requests.{joined_if, granted}};
 ghost use Rattle.exec_moves.specs.Submit.{after_grant};
 ghost use Rattle.exec_driver.specs.{Driving.{is_full, may_stage_one}, Lists.{has_first, first_of}, Punctual.IsPunctual};
-ghost use Rattle.exec_steps.specs.{Raises.Enters, Serving.{AreKnown, IsOnWheel, first_tick, outcome_of_error, with_staging_ended}, Submitting.{AreNamed, EndsStaging, IsDueIn, IsGatedIn, IsIdle, IsNewIn, StagesCancel, StagesRequest, must_flush, after_flush}, View.{driver_of, desk_of}, Sound.SoundAt, Works.Steps, declared.parts.worker.Worker.Worker};
+ghost use Rattle.exec_steps.specs.{Raises.Enters, Serving.{AreKnown, IsOnWheel, first_tick, outcome_of_error, with_staging_ended}, Submitting.{AreNamed, EndsStaging, IsDueIn, IsGatedIn, IsIdle, IsNewIn, StagesCancel, StagesRequest, must_flush, after_flush, takes_hint}, View.{driver_of, desk_of}, Sound.SoundAt, Works.Steps, declared.parts.worker.Worker.Worker};
 ghost use Rattle.exec_waiters.specs.declared.waiter_id.WaiterId.{WaiterId};
 
 use crate::parts::record::Record;
@@ -21,6 +21,7 @@ use crate::parts::worker::Worker;
 use crate::reaping::outcome_of;
 use crate::scripted::Scripted;
 use exec_driver::driver::Enrolled;
+use exec_driver::opens::Opens;
 use exec_machine::event::Event;
 use exec_moves::place::{AfterPermit, InService, Place, Service};
 use exec_outcomes::outcome::Outcome;
@@ -85,6 +86,7 @@ impl Worker {
         ensures event { result ≡ Event.Expire request (outcome_at_expiry it.old.shown) }
         ensures shown { it.new.shown ≡ expired (outcome_at_expiry it.old.shown) it.old.shown }
         ensures id { it.new.id ≡ it.old.id }
+        ensures sent { it.new.sent ≡ it.old.sent }
         ensures capacity { deque_capacity self.new.names.ended ≡ deque_capacity self.old.names.ended }
         ensures ended { self.new.names.ended.items ≡ joined_if (is_some (outcome_at_expiry it.old.shown)) self.old.names.ended.items request }
         ensures still { outcome_at_expiry it.old.shown ≡ None → self.new.names ≡ self.old.names }
@@ -105,6 +107,7 @@ impl Worker {
         ensures event { result ≡ Event.Enrol request (outcome_of_error done.ended) }
         ensures shown { it.new.shown ≡ enrolled (first_tick self.old.moments.start tick (unwrap_or it.old.shown.operation.deadline 0)) (outcome_of_error done.ended) it.old.shown }
         ensures id { it.new.id ≡ it.old.id }
+        ensures sent { it.new.sent ≡ it.old.sent }
         ensures capacity { deque_capacity self.new.names.ended ≡ deque_capacity self.old.names.ended }
         ensures ended { self.new.names.ended.items ≡ joined_if (is_some done.ended) self.old.names.ended.items request }
         ensures still { done.ended ≡ None → self.new.names ≡ self.old.names }
@@ -137,7 +140,7 @@ impl Worker {
         file: u32,
         shared: &mut Shared<B>,
     ) -> Event
-        requires gated { IsGatedIn self.old shared.old }
+        requires gated { IsGatedIn service file self.old shared.old }
         ensures steps { Steps B.left B.spot self.old shared.old result self.new shared.new }
     {
         self.go(service, InService::Submit { gate: file + 1 });
@@ -175,8 +178,10 @@ impl Worker {
         ensures event { result ≡ Event.Grant request outcome }
         ensures shown { it.new.shown ≡ granted outcome it.old.shown }
         ensures id { it.new.id ≡ it.old.id }
+        ensures sent { it.new.sent ≡ it.old.sent }
         ensures capacity { deque_capacity self.new.names.ended ≡ deque_capacity self.old.names.ended }
         ensures ended { self.new.names.ended.items ≡ joined_if (is_some outcome) self.old.names.ended.items request }
+        ensures still { outcome ≡ None → self.new.names ≡ self.old.names }
         ensures same { self.new ≡ record self.old { place = (after_grant service file outcome (desk_of self.old)).place; names = record self.old.names { ended = self.new.names.ended } } }
     {
         it.grant(outcome);
@@ -268,7 +273,9 @@ impl Worker {
         };
         let request = self.names.request(id);
         self.names.stage(request);
-        shared.requests[request].stage(false);
+        let record = &mut shared.requests[request];
+        let hinted = record.asks_hint() && has_hint(&shared.opens, record.shown.operation.target);
+        record.stage(hinted);
         Event::Stage { request }
     }
 
@@ -297,6 +304,16 @@ fn timer_of(start: u64, tick: u64, deadline: Option<u64>) -> Option<u64>
     let deadline = deadline?;
     let ticks = (deadline - start + (tick - 1)) / tick;
     Some(start + ticks * tick)
+}
+
+/// Whether no hint of an open was refused.
+fn has_hint(opens: &Opens, file: usize) -> bool
+    ensures { result ≡ takes_hint opens.now file }
+{
+    match opens.account(u32::try_from(file).ok()) {
+        Some(account) => account.hinted(),
+        None => false,
+    }
 }
 
 /// A name has a generation of 64 bits.

@@ -6,8 +6,8 @@
 ghost use Rattle.std.specs.Prelude.{◌≡◌, ◌-◌, ◌<◌, ◌≤◌, [], length, slice_get};
 ghost use Rattle.exec_machine.specs.declared.config.Configuration.{Configuration};
 ghost use Rattle.exec_words.specs.{Global.{share_queued, share_taken}, Queue.{published, room_of}};
-ghost use Rattle.exec_moves.specs.{Parts.next_pick as place_of_pick, Pick.{after_empty_look as place_after_look, begin_turn, count_down, load_head, load_mirror}, State.queue_of};
-ghost use Rattle.exec_steps.specs.{Phased.TurnsChair, Pooled.{OfChair, polling, with_flag, with_share}, Sound.SoundAt, View.{desk_of, things_of}, Whole.HasWhole, Works.{Goes, Makes, Steps}};
+ghost use Rattle.exec_moves.specs.{Parts.next_pick as place_of_pick, Pick.{after_empty_look as place_after_look, count_down, load_head, load_mirror}, State.queue_of};
+ghost use Rattle.exec_steps.specs.{Phased.TurnsChair, Pooled.{OfChair, polling, with_flag, with_share}, Sound.SoundAt, Tests.first_pick_of, View.{desk_of, things_of}, Whole.HasWhole, Works.{Goes, Makes, Steps}};
 
 use crate::parts::shared::Shared;
 use crate::parts::worker::Worker;
@@ -24,11 +24,15 @@ const PICKS: u64 = 64;
 impl Worker {
     /// A turn begins.
     pub(crate) fn begin_turn(&mut self) -> Event
-        ensures makes { Makes (begin_turn (desk_of self.old)) result self.new }
-        ensures same { self.new ≡ record self.old { place = self.new.place; picks = 64 } }
+        ensures event { result ≡ Event.Turn }
+        ensures goes { self.new ≡ record self.old { place = first_pick_of self.old; picks = 64 } }
     {
         self.picks = PICKS;
-        self.place = Place::Pick(InPick::CountDown);
+        self.place = if self.role.is_pool() {
+            Place::Pick(InPick::CountDown)
+        } else {
+            Place::TakeRootFlag
+        };
         Event::Turn
     }
 

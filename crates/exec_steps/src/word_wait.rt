@@ -5,8 +5,8 @@
 //! sleep. Whoever signals after the bit went in rouses the worker.
 
 ghost use Rattle.std.specs.Prelude.{◌≡◌, ◌<◌, ◌≤◌, ◌^◌, length, true, false, None, Option, ℕ, IfSome, if◌then◌else◌};
-ghost use Rattle.exec_moves.specs.{State.word_of, Wait.{spin_on_batch, spin_on_latch, take_latch, arm_word, after_sleep, disarmed}};
-ghost use Rattle.exec_steps.specs.{Pooled.OfChair, View.{driver_of, desk_of, things_of}, Tests.{HasToldDue, IsNextMoment, is_within, word_wait_of, slept_after}, Sound.SoundAt, Works.{Makes, Goes, TurnsWord, Steps}};
+ghost use Rattle.exec_moves.specs.{State.word_of, Wait.{spin_on_batch, spin_on_latch, arm_word, after_sleep, disarmed}};
+ghost use Rattle.exec_steps.specs.{Pooled.OfChair, View.{driver_of, desk_of, things_of}, Tests.{HasToldDue, IsNextMoment, after_waiting_of, is_within, word_wait_of, slept_after}, Sound.SoundAt, Works.{Makes, Goes, TurnsWord, Steps}};
 
 use crate::parts::shared::Shared;
 use crate::parts::worker::Worker;
@@ -104,14 +104,13 @@ impl Worker {
     /// Takes the latch out of the wake word.
     fn take_latch<B: Drop>(&mut self, shared: &mut Shared<B>) -> Event
         requires there { self.old.index < length shared.old.seats.items }
-        ensures makes { Makes (take_latch (desk_of self.old)
-            (word_of (things_of shared.old) self.old.index)) result self.new }
-        ensures goes { Goes self.old self.new }
+        ensures event { result ≡ Event.Turn }
+        ensures goes { self.new ≡ record self.old { place = after_waiting_of AfterWait.Begin self.old } }
         ensures word { TurnsWord self.old.index shared.old shared.new
-            (take_latch (desk_of self.old) (word_of (things_of shared.old) self.old.index)).thing }
+            (record (word_of (things_of shared.old) self.old.index) { latch = false }) }
     {
         let _found = shared.seats[self.index].mailbox.waker.consume_signal();
-        self.place = Place::Withdraw(AfterWait::Begin);
+        self.place = self.after_waiting(AfterWait::Begin);
         Event::Turn
     }
 
@@ -179,14 +178,15 @@ impl Worker {
         ensures event { result ≡ Event.Turn }
         ensures desk { desk_of self.new ≡ record (after_sleep shared.old.clock
             (word_of (things_of shared.old) self.old.index).latch self.old.slept
-            (desk_of self.old)) { place = Place.Withdraw AfterWait.Begin } }
+            (desk_of self.old)) { place = after_waiting_of AfterWait.Begin self.old } }
         ensures same { self.new ≡ record self.old { place = self.new.place; spinner = self.new.spinner; slept = None } }
         ensures word { TurnsWord self.old.index shared.old shared.new
             (disarmed (word_of (things_of shared.old) self.old.index)) }
     {
+        let next = self.after_waiting(AfterWait::Begin);
         let found = shared.seats[self.index].mailbox.waker.disarm();
         self.wake_up(found.latch, shared.clock);
-        self.place = Place::Withdraw(AfterWait::Begin);
+        self.place = next;
         Event::Turn
     }
 }

@@ -4,7 +4,8 @@
 //! sleepers in the order of making, and gives no number twice. Here stands the number of what has each slot now. What
 //! has ended keeps its number until it is released, in the order of ending, since its slot may be given again before.
 
-ghost use Rattle.std.specs.Prelude.{◌≡◌, ◌≢◌, ℕ, ◌+◌, ◌-◌, ◌<◌, ◌≤◌, [], ◌∷◌, ◌++◌, length, drop, nat_lt, slice_get, option_to_list, Some, IfNone, IfOk, OnOk, OnSome};
+ghost use Rattle.std.specs.Prelude.{◌≡◌, ◌≢◌, ℕ, ◌+◌, ◌-◌, ◌<◌, ◌≤◌, [], true, false, ◌∷◌, ◌++◌, length, drop, nat_lt, slice_get, option_to_list, Some, IfNone, IfOk, OnOk, OnSome};
+ghost use Rattle.exec_machine.specs.Requests.{joined_if};
 ghost use Rattle.std.specs.Vec.{vec_capacity};
 ghost use Rattle.std.specs.VecDeque.{deque_capacity};
 ghost use Rattle.exec_steps.specs.Records.{SameNames, HasNoNames, HasRequestRoom, HasTimerRoom, number_in};
@@ -29,8 +30,6 @@ pub struct Names {
     untold: Vec<usize>,
     // How many are not released.
     unreleased: usize,
-    // How many somebody holds.
-    held: usize,
 }
 
 impl Names {
@@ -45,7 +44,6 @@ impl Names {
             staged: Vec::with_capacity(alloc, entries)?,
             untold: Vec::with_capacity(alloc, entries)?,
             unreleased: 0,
-            held: 0,
         })
     }
 
@@ -55,7 +53,6 @@ impl Names {
         ensures room { OnOk result (HasRequestRoom self.new) }
     {
         let unreleased = self.unreleased.checked_add(1).ok_or(AllocError)?;
-        let _held = self.held.checked_add(1).ok_or(AllocError)?;
         self.requests.reserve(1)?;
         self.ended
             .reserve(unreleased.saturating_sub(self.ended.len()))
@@ -76,11 +73,10 @@ impl Names {
         ensures number { slice_get self.new.requests.items id.0.index ≡ Some number }
         ensures others { (k : ℕ) → k ≢ id.0.index → slice_get self.new.requests.items k ≡ slice_get self.old.requests.items k }
         ensures longer { length self.old.requests.items ≤ length self.new.requests.items }
-        ensures same { self.new ≡ record self.old { requests = self.new.requests; unreleased = self.old.unreleased + 1; held = self.old.held + 1 } }
+        ensures same { self.new ≡ record self.old { requests = self.new.requests; unreleased = self.old.unreleased + 1 } }
     {
         set_or_push(&mut self.requests, id.0.index as usize, number);
         self.unreleased += 1;
-        self.held += 1;
     }
 
     /// The sleeper of this number has this slot now. The caller must have made room for it.
@@ -115,21 +111,6 @@ impl Names {
         }
     }
 
-    /// Nobody holds one of the requests any more. The caller must tell each once.
-    pub fn let_go(&mut self)
-        requires { 0 < self.old.held }
-        ensures { self.new ≡ record self.old { held = self.old.held - 1 } }
-    {
-        self.held -= 1;
-    }
-
-    /// Whether somebody holds a request.
-    pub fn has_held(&self) -> bool
-        ensures { result ≡ nat_lt 0 self.now.held }
-    {
-        self.held > 0
-    }
-
     /// How many slots the requests have had at most: no more of them can have something to tell at once.
     pub fn slots(&self) -> usize
         ensures { result ≡ length self.now.requests.items }
@@ -145,6 +126,19 @@ impl Names {
         ensures same { self.new ≡ record self.old { ended = self.new.ended } }
     {
         self.ended.push_back_reserved(number);
+    }
+
+    /// The request is over, where it is. The caller must have made room for it, and tell each once.
+    pub fn end_if(&mut self, over: bool, number: usize)
+        requires room { over ≡ true → length self.old.ended.items < deque_capacity self.old.ended }
+        ensures ended { self.new.ended.items ≡ joined_if over self.old.ended.items number }
+        ensures capacity { deque_capacity self.new.ended ≡ deque_capacity self.old.ended }
+        ensures still { over ≡ false → self.new.ended ≡ self.old.ended }
+        ensures same { self.new ≡ record self.old { ended = self.new.ended } }
+    {
+        if over {
+            self.end(number);
+        }
     }
 
     /// The request that ended first of those that aren't released, which is so now.

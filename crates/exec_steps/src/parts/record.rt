@@ -5,19 +5,18 @@
 //! record says the same as the driver; each event of a request changes both. Results are not kept: as the request
 //! itself, its record has a cursor that stands for all of them.
 
-ghost use Rattle.std.specs.Prelude.{◌≡◌, ◌+◌, ◌^◌, ◌<◌, ◌&&◌, true, false, if◌then◌else◌};
-ghost use Rattle.exec_outcomes.specs.{Lawful.{is_lawful, window_of}, Accounts.is_durable, Outcomes.{bytes_of, moves_bytes, at_the_start, part_now}};
-ghost use Rattle.exec_request.specs.Requests.{asked_of, deadline_of, target_of};
+ghost use Rattle.std.specs.Prelude.{◌≡◌, ◌≤◌, not, ◌+◌, ◌^◌, ◌<◌, ◌&&◌, false};
+ghost use Rattle.exec_outcomes.specs.{Lawful.{is_lawful, window_of}, Accounts.is_durable, Outcomes.bytes_of};
+ghost use Rattle.exec_request.specs.Requests.{asked_of, target_of};
 ghost use Rattle.exec_machine.specs.declared.state.RequestPhase.TheVariants as phase;
-ghost use Rattle.exec_machine.specs.{Tests.{is_in_flight, is_flying, is_kept, is_resolved}, Requests.{new_request, resolved, resolved_if, dropped, ends_by_drop, flown, granted, reaped, asked_of as asked_in, cursor_of as cursor_in}, Deadlines.{expired, outcome_at_expiry}};
-ghost use Rattle.exec_steps.specs.{Records.{outcome_in, has_one_part, plain_operation, IsInRange}, Scripts.IsPlainRequest, Calls.{paying, releasing}};
+ghost use Rattle.exec_machine.specs.{Tests.{is_in_flight, is_flying, is_kept, is_of_file, is_resolved, is_unsent}, Requests.{new_request, resolved, resolved_if, dropped, ends_by_drop, flown, granted, reaped, asks_hint, asked_of as asked_in, cursor_of as cursor_in}, Deadlines.{expired, outcome_at_expiry}};
+ghost use Rattle.exec_steps.specs.{Records.{outcome_in, offset_in, operation_in, seen_in, IsCountable, IsInRange}, Calls.{paying, releasing, forwarded_for}};
 
+use crate::parts::cursor::{gone_on, is_within, window};
 use exec_base::error::Error;
 use exec_machine::state::{Forwarding, Operation, Request, RequestPhase};
 use exec_outcomes::outcome::{Kind, OpResult, Outcome};
-use exec_request::read_at::DIRECT_CHUNK;
 use exec_request::request::Request as Asked;
-use exec_request::results::{LARGEST_COUNT, LARGEST_ERRNO, LARGEST_WINDOW};
 use exec_request::way::Way;
 use exec_waiters::waiter_id::WaiterId;
 
@@ -28,6 +27,8 @@ pub struct Record {
     pub shown: Request,
     /// Its name in the driver of its worker, as long as it has one.
     pub id: WaiterId,
+    /// Whether its output was sent to the task that waits for it elsewhere.
+    pub sent: bool,
 }
 
 impl Record {
@@ -35,6 +36,7 @@ impl Record {
     pub fn new(worker: usize, id: WaiterId, operation: Operation) -> Self
         ensures shown { result.shown ≡ new_request worker operation }
         ensures id { result.id ≡ id }
+        ensures sent { result.sent ≡ false }
     {
         let phase = if is_durable(operation.kind) {
             RequestPhase::Gated
@@ -56,6 +58,7 @@ impl Record {
                 forwarding: Forwarding::Unsent,
             },
             id,
+            sent: false,
         }
     }
 
@@ -63,6 +66,7 @@ impl Record {
     pub fn resolve(&mut self, outcome: Outcome)
         ensures shown { self.new.shown ≡ resolved outcome self.old.shown }
         ensures id { self.new.id ≡ self.old.id }
+        ensures sent { self.new.sent ≡ self.old.sent }
     {
         self.shown.phase = RequestPhase::Resolved(outcome);
         self.shown.timer = None;
@@ -72,6 +76,7 @@ impl Record {
     pub fn resolve_if(&mut self, outcome: Option<Outcome>)
         ensures shown { self.new.shown ≡ resolved_if outcome self.old.shown }
         ensures id { self.new.id ≡ self.old.id }
+        ensures sent { self.new.sent ≡ self.old.sent }
     {
         if let Some(outcome) = outcome {
             self.resolve(outcome);
@@ -107,7 +112,7 @@ impl Record {
 
     /// Whether the kernel has its operation, and may end it with this result.
     pub fn may_land(&self, given: OpResult) -> bool
-        requires bytes { self.now.shown.operation.kind ≡ Kind.Direct → self.now.shown.operation.skip + self.now.shown.operation.length + 4095 < 2 ^ 64 }
+        requires bytes { IsCountable self.now.shown.operation }
         ensures { result ≡ (is_flying self.now.shown.phase && is_lawful (window_of (asked_in self.now.shown.operation) (cursor_in self.now.shown.operation)) given) }
     {
         matches!(self.shown.phase, RequestPhase::Flying)
@@ -120,6 +125,7 @@ impl Record {
         ensures ended { result ≡ ends_by_drop self.old.shown }
         ensures shown { self.new.shown ≡ dropped self.old.shown }
         ensures id { self.new.id ≡ self.old.id }
+        ensures sent { self.new.sent ≡ self.old.sent }
     {
         self.shown.observed = false;
         if is_kept(self.shown.operation.kind) {
@@ -142,6 +148,7 @@ impl Record {
         ensures outcome { result ≡ outcome_at_expiry self.old.shown }
         ensures shown { self.new.shown ≡ expired result self.old.shown }
         ensures id { self.new.id ≡ self.old.id }
+        ensures sent { self.new.sent ≡ self.old.sent }
     {
         if matches!(self.shown.phase, RequestPhase::Queued) {
             let outcome = Outcome::Failure(Error::Timeout);
@@ -157,14 +164,15 @@ impl Record {
     pub fn stage(&mut self, hinted: bool)
         ensures shown { self.new.shown ≡ record self.old.shown { operation = record self.old.shown.operation { hinted = hinted }; phase = phase.Staged } }
         ensures id { self.new.id ≡ self.old.id }
+        ensures sent { self.new.sent ≡ self.old.sent }
     {
         self.shown.operation.hinted = hinted;
         self.shown.phase = RequestPhase::Staged;
     }
 
-    /// It pays a wake. The caller must know that it owes one.
+    /// It pays a wake. The caller must know that it has paid one at most.
     pub fn pay(&mut self)
-        requires { self.old.shown.wakes_paid ≡ 0 }
+        requires { self.old.shown.wakes_paid ≤ 1 }
         ensures { self.new ≡ paying self.old }
     {
         self.shown.wakes_paid += 1;
@@ -190,18 +198,48 @@ impl Record {
     pub fn grant(&mut self, outcome: Option<Outcome>)
         ensures shown { self.new.shown ≡ granted outcome self.old.shown }
         ensures id { self.new.id ≡ self.old.id }
+        ensures sent { self.new.sent ≡ self.old.sent }
     {
         self.shown.phase = RequestPhase::Queued;
         self.resolve_if(outcome);
     }
 
+    /// Whether its next operation asks for the hint, where its open has that: a read that was made so, or one that was
+    /// direct and isn't any more, as long as no hint of it was refused.
+    pub fn asks_hint(&self) -> bool
+        ensures { result ≡ (asks_hint self.now.shown.operation && self.now.shown.operation.unrefused) }
+    {
+        let operation = &self.shown.operation;
+        let asks = match operation.kind {
+            Kind::Hint => true,
+            Kind::Direct => operation.switched,
+            _ => false,
+        };
+        asks && operation.unrefused
+    }
+
+    /// A task of another worker waits for it, and its worker is told so.
+    pub fn forward(&mut self, task: usize)
+        ensures { self.new ≡ forwarded_for task self.old }
+    {
+        self.shown.waiter = Some(task);
+        self.shown.forwarding = Forwarding::Sent;
+    }
+
+    /// Whether a task of another worker waited for it at any time.
+    pub fn was_forwarded(&self) -> bool
+        ensures { result ≡ not (is_unsent self.now.shown.forwarding) }
+    {
+        !matches!(self.shown.forwarding, Forwarding::Unsent)
+    }
+
     /// A result of it was judged, and what it gives.
     pub fn judge(&mut self, given: OpResult, outcome: Option<Outcome>)
         requires lawful { bytes_of given + self.old.shown.operation.moved < 2 ^ 64 }
-        requires one_part { has_one_part self.old.shown.operation.kind ≡ true }
-        requires plain { self.old.shown.operation.hinted ≡ false }
+        requires bytes { IsCountable self.old.shown.operation }
         ensures shown { self.new.shown ≡ reaped given outcome self.old.shown }
         ensures id { self.new.id ≡ self.old.id }
+        ensures sent { self.new.sent ≡ self.old.sent }
     {
         self.shown.operation = gone_on(self.shown.operation, given);
         self.shown.phase = RequestPhase::Queued;
@@ -212,11 +250,7 @@ impl Record {
 /// What a request asks for, as its record has it. The caller must know that the range of a direct read ends below 2^64.
 pub fn operation_of(asked: &Asked) -> Operation
     requires range { IsInRange asked.now }
-    ensures asked { asked_in result ≡ asked_of asked.now }
-    ensures target { result.target ≡ target_of asked.now }
-    ensures cursor { cursor_in result ≡ at_the_start }
-    ensures deadline { result.deadline ≡ deadline_of asked.now }
-    ensures plain { IsPlainRequest asked.now → result ≡ plain_operation asked.now }
+    ensures { result ≡ operation_in asked.now }
 {
     let (target, offset, length) = footprint(asked);
     Operation {
@@ -238,8 +272,8 @@ pub fn operation_of(asked: &Asked) -> Operation
 fn footprint(asked: &Asked) -> (u32, u64, u64)
     requires range { IsInRange asked.now }
     ensures target { result.0 ≡ target_of asked.now }
+    ensures offset { result.1 ≡ offset_in asked.now }
     ensures length { result.2 ≡ (asked_of asked.now).length }
-    ensures plain { IsPlainRequest asked.now → result.1 ≡ 0 }
 {
     match asked {
         Asked::Send(send) => (send.fd, 0, send.write.total_len() as u64),
@@ -272,30 +306,12 @@ fn skip_of(asked: &Asked) -> u64
 
 /// The mutations of its open that a sync of it covers.
 fn seen_by(asked: &Asked) -> u64
-    ensures plain { IsPlainRequest asked.now → result ≡ 0 }
+    ensures { result ≡ seen_in asked.now }
 {
     match asked {
         Asked::WriteAt(write) => write.seen,
         Asked::Sync(sync) => sync.seen,
         _ => 0,
-    }
-}
-
-/// The operation by one more result, of a request that has one part alone and moves bytes or none.
-fn gone_on(operation: Operation, given: OpResult) -> Operation
-    requires { bytes_of given + operation.moved < 2 ^ 64 }
-    ensures { result ≡ record operation { moved = operation.moved + (if moves_bytes operation.kind then bytes_of given else 0) } }
-{
-    let count = match given {
-        OpResult::Count(count) => count,
-        OpResult::Errno(_) => 0,
-    };
-    match operation.kind {
-        Kind::Poll | Kind::Connect | Kind::Sync => operation,
-        _ => Operation {
-            moved: operation.moved + count,
-            ..operation
-        },
     }
 }
 
@@ -306,52 +322,19 @@ pub fn is_durable(kind: Kind) -> bool
     matches!(kind, Kind::Dsync | Kind::Many | Kind::Sync)
 }
 
+/// Whether a request of this kind is one of an open.
+pub fn is_of_file(kind: Kind) -> bool
+    ensures { result ≡ is_of_file kind }
+{
+    !matches!(
+        kind,
+        Kind::Poll | Kind::Send | Kind::Recv | Kind::Fill | Kind::Connect
+    )
+}
+
 /// Whether a request of this kind goes on where nobody holds it.
 fn is_kept(kind: Kind) -> bool
     ensures { result ≡ is_kept kind }
 {
     matches!(kind, Kind::Write | Kind::Dsync | Kind::Many | Kind::Sync)
-}
-
-/// The kind of the part that a request is in, and how many bytes that has.
-fn part(operation: &Operation) -> (Kind, u64)
-    requires bytes { operation.now.kind ≡ Kind.Direct → operation.now.skip + operation.now.length < 2 ^ 64 }
-    ensures kind { result.0 ≡ (part_now (asked_in operation.now) (cursor_in operation.now)).kind }
-    ensures length { result.1 ≡ (part_now (asked_in operation.now) (cursor_in operation.now)).length }
-{
-    match operation.kind {
-        Kind::Direct if operation.switched => (Kind::Read, operation.length),
-        Kind::Direct => (
-            Kind::Direct,
-            operation.skip.saturating_add(operation.length),
-        ),
-        Kind::Many if operation.switched => (Kind::Sync, operation.length),
-        kind => (kind, operation.length),
-    }
-}
-
-/// The most that the next operation may answer.
-fn window(operation: &Operation) -> u64
-    requires bytes { operation.now.kind ≡ Kind.Direct → operation.now.skip + operation.now.length + 4095 < 2 ^ 64 }
-    ensures { result ≡ window_of (asked_in operation.now) (cursor_in operation.now) }
-{
-    let (kind, length) = part(operation);
-    match kind {
-        Kind::Poll | Kind::Connect | Kind::Sync => LARGEST_COUNT,
-        Kind::Direct => {
-            let pages = length.saturating_add(4095) / 4096 * 4096;
-            pages.saturating_sub(operation.moved).min(DIRECT_CHUNK)
-        }
-        _ => length.saturating_sub(operation.moved).min(LARGEST_WINDOW),
-    }
-}
-
-/// Whether a kernel may give this result where the operation may answer so much.
-fn is_within(window: u64, given: OpResult) -> bool
-    ensures { result ≡ is_lawful window given }
-{
-    match given {
-        OpResult::Count(count) => count <= window && count <= LARGEST_COUNT,
-        OpResult::Errno(code) => 1 <= code && code <= LARGEST_ERRNO,
-    }
 }

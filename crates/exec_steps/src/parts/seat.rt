@@ -3,16 +3,17 @@
 //! Other workers steal from its run queue, signal its wake word and send to its inbox; callers do the latter two. The
 //! kernel and the clock wake it, and who closes asks whether it has passed the barrier.
 
-ghost use Rattle.std.specs.Prelude.{◌≡◌, map, not, Some, None, IfOk, if◌then◌else◌};
+ghost use Rattle.std.specs.Prelude.{◌≡◌, ◌+◌, ◌^◌, ◌<◌, map, not, Some, None, IfOk, OnOk, if◌then◌else◌};
 ghost use Rattle.exec_words.specs.Word.{asks_signal};
 ghost use Rattle.exec_machine.specs.Tests.{is_awake, has_ended, is_open};
-ghost use Rattle.exec_steps.specs.{Pooled.{chair_latched, chair_raised}, Records.{reached, IsFreshSeat}};
+ghost use Rattle.exec_steps.specs.{Pooled.{chair_latched, chair_raised}, Records.{reached, HasMailRoom, IsFreshSeat, MakesMail}};
 
-use crate::parts::mail::Post;
+use crate::parts::mail::{Mail, Post};
 use exec_machine::state::{Rest, WorkerPhase};
 use exec_task::runnable::Runnable;
 use exec_words::mailbox::Mailbox;
 use exec_words::queue::PureQueue;
+use exec_words::reserved::Reserved;
 use exec_words::word::WaitTarget;
 use std::alloc::{AllocError, Global};
 
@@ -33,6 +34,8 @@ pub struct Seat {
     pub mailbox: Post,
     /// How many wakes were raised for its ring that the ring hasn't got yet.
     pub raised: u64,
+    /// How many requests and sleepers it has made: two messages may come about each.
+    pub made: usize,
 }
 
 impl Seat {
@@ -48,6 +51,7 @@ impl Seat {
             queue: PureQueue::at(alloc, 0)?,
             mailbox: Mailbox::new(alloc)?,
             raised: 0,
+            made: 0,
         })
     }
 
@@ -97,6 +101,31 @@ impl Seat {
         let slept = !self.is_awake();
         self.rest = Rest::Awake;
         slept
+    }
+
+    /// Makes places for the messages that may come about its requests and sleepers and about one more, and for the wake
+    /// of its root, in its inbox and in the batch that its worker takes. Where there is no memory all stays as it is.
+    pub fn reserve_mail(
+        &mut self,
+        alloc: Global,
+        batch: &mut Reserved<Mail>,
+    ) -> Result<(), AllocError>
+        ensures kept { MakesMail self.old self.new batch.old batch.new }
+        ensures room { OnOk result (HasMailRoom self.new batch.new) }
+    {
+        let made = self.made.checked_add(1).ok_or(AllocError)?;
+        let places = made.checked_mul(2).ok_or(AllocError)?;
+        let all = places.checked_add(1).ok_or(AllocError)?;
+        self.mailbox.reserve(alloc, all)?;
+        batch.reserve(alloc, all)
+    }
+
+    /// It has made one more request or sleeper. The caller must have made room for it.
+    pub fn count_made(&mut self)
+        requires { self.old.made + 1 < 2 ^ 64 }
+        ensures { self.new ≡ record self.old { made = self.old.made + 1 } }
+    {
+        self.made += 1;
     }
 
     /// The clock has come to this moment, in nanoseconds.

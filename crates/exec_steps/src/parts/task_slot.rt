@@ -7,21 +7,29 @@
 //!
 //! Who polls a task acts for it; others wake it or clear it, each by one section on the cell.
 
-ghost use Rattle.std.specs.Prelude.{◌≡◌, ◌-◌, ◌<◌, [], ◌∷◌, ◌++◌, length, slice_get, option_to_list, is_some, Some, None, IsSome, IsTrue, IfNone, IfOk, OnErr, OnOk, true, false, if◌then◌else◌};
+ghost use Rattle.std.specs.Prelude.{◌≡◌, ◌-◌, ◌<◌, [], ◌∷◌, ◌++◌, length, not, slice_get, take, option_to_list, is_some, Some, None, IsSome, IsTrue, IfNone, IfOk, OnErr, OnOk, true, false, if◌then◌else◌};
 ghost use Rattle.std.specs.Vec.{vec_capacity};
+ghost use Rattle.exec_base.specs.OneShot.{polled, sent};
+ghost use Rattle.exec_base.specs.declared.one_shot.OneShotState.TheVariants as shot;
 ghost use Rattle.exec_machine.specs.declared.state.Waiting.TheVariants as waiting;
 ghost use Rattle.exec_machine.specs.Tasks.{begun_waiting};
+ghost use Rattle.exec_base.specs.declared.one_shot.OneShotState.TheVariants as shot;
 ghost use Rattle.exec_task.specs.declared.body.Said.TheVariants as said;
 ghost use Rattle.exec_task.specs.declared.runnable.AfterPoll.TheVariants as after;
 ghost use Rattle.exec_task.specs.declared.task.Phase.TheVariants as cell;
 ghost use Rattle.exec_task.specs.Phases.{is_idle, is_polled, queued_body, begun, woken, over, pended, pend_answer, runnable_of};
 
+use crate::parts::held::Held;
+use exec_base::error::Error;
+use exec_base::one_shot::OneShot;
 use exec_base::task_no::TaskNo;
 use exec_machine::state::{TaskPhase, Waiting};
+use exec_request::output::RequestOutput;
 use exec_task::body::{Act, Around, Body, Ended, Said};
 use exec_task::runnable::{AfterPoll, Runnable};
 use exec_task::task::{Phase, Task};
 use std::alloc::{AllocError, Global};
+use std::mem;
 
 /// A task with all that is kept of it.
 #[derive(Drop)]
@@ -33,9 +41,11 @@ pub struct TaskSlot<B> {
     // What its body is told next, where that is known. What it waits for may tell it else.
     told: Option<Said>,
     // The requests that it has neither taken nor dropped, the oldest first.
-    held: Vec<usize>,
+    held: Vec<Held>,
     // What it waits for.
     waiting: Waiting,
+    // Where the output comes of a request of another worker that it waits for.
+    output: OneShot<Result<RequestOutput, Error>>,
     // Whether its last poll began after its last wake.
     fresh: bool,
     // Whether it was cleared.
@@ -47,7 +57,7 @@ pub struct TaskSlot<B> {
 }
 
 impl<B: Drop> TaskSlot<B> {
-    ghost use Rattle.exec_steps.specs.View.{phase_seen};
+    ghost use Rattle.exec_steps.specs.{Calls.{heard_in, sleeper_in}, Phased.is_complete, Records.numbers_held, View.phase_seen};
     ghost use Rattle.exec_steps.specs.Pooled.{cleared_slot};
     ghost use Rattle.exec_steps.specs.Polls.{pended_slot};
 
@@ -63,7 +73,7 @@ impl<B: Drop> TaskSlot<B> {
         ensures runnable { result.1 ≡ runnable_of result.0.cell }
         ensures cell { result.0.cell ≡ record { number = number; owner = owner; phase = cell.Queued body; cancelled = false } }
         ensures held { result.0.held.items ≡ [] }
-        ensures slot { result.0 ≡ record { cell = result.0.cell; body = None; told = Some said.Start; held = result.0.held; waiting = waiting.Nothing; fresh = false; cleared = false; home = home; poller = 0 } }
+        ensures slot { result.0 ≡ record { cell = result.0.cell; body = None; told = Some said.Start; held = result.0.held; waiting = waiting.Nothing; output = shot.Open; fresh = false; cleared = false; home = home; poller = 0 } }
     {
         let (cell, runnable) = Task::new(number, owner, body);
         let slot = TaskSlot {
@@ -72,6 +82,7 @@ impl<B: Drop> TaskSlot<B> {
             told: Some(Said::Start),
             held: Vec::new(alloc),
             waiting: Waiting::Nothing,
+            output: OneShot::new(),
             fresh: false,
             cleared: false,
             home,
@@ -116,9 +127,12 @@ impl<B: Drop> TaskSlot<B> {
 
     /// The newest request that it holds.
     pub fn newest(&self) -> Option<usize>
-        ensures { result ≡ slice_get self.now.held.items (length self.now.held.items - 1) }
+        ensures { result ≡ slice_get (numbers_held self.now.held.items) (length (numbers_held self.now.held.items) - 1) }
     {
-        self.held.last().copied()
+        match self.held.last() {
+            Some(held) => Some(held.number),
+            None => None,
+        }
     }
 
     /// Begins a poll by this worker, with the task's runnable. False where the runnable is stale, since the task was
@@ -174,34 +188,83 @@ impl<B: Drop> TaskSlot<B> {
         self.held.reserve(1)
     }
 
-    /// It holds one more request. The caller must have made room for it.
-    pub fn hold(&mut self, request: usize)
+    /// It holds one more request of this worker. The caller must have made room for it.
+    pub fn hold(&mut self, request: usize, worker: usize)
         requires room { length self.old.held.items < vec_capacity self.old.held }
-        ensures held { self.new.held.items ≡ self.old.held.items ++ request ∷ [] }
+        ensures all { self.new.held.items ≡ self.old.held.items ++ record { number = request; worker = worker } ∷ [] }
+        ensures held { numbers_held self.new.held.items ≡ numbers_held self.old.held.items ++ request ∷ [] }
         ensures same { self.new ≡ record self.old { held = self.new.held } }
     {
-        self.held.push_reserved(request);
+        self.held.push_reserved(Held {
+            number: request,
+            worker,
+        });
     }
 
     /// It holds the newest of its requests no more.
     pub fn let_go(&mut self) -> Option<usize>
-        ensures held { self.old.held.items ≡ self.new.held.items ++ option_to_list result }
-        ensures some { 0 < length self.old.held.items → IsSome result }
+        ensures all { self.new.held.items ≡ take (length self.old.held.items - 1) self.old.held.items }
+        ensures held { numbers_held self.old.held.items ≡ numbers_held self.new.held.items ++ option_to_list result }
+        ensures some { 0 < length (numbers_held self.old.held.items) → IsSome result }
         ensures same { self.new ≡ record self.old { held = self.new.held } }
     {
-        self.held.pop()
+        match self.held.pop() {
+            Some(held) => Some(held.number),
+            None => None,
+        }
     }
 
-    /// It holds the oldest of its requests no more.
-    pub fn let_go_oldest(&mut self) -> Option<usize>
-        ensures held { self.old.held.items ≡ option_to_list result ++ self.new.held.items }
-        ensures none { IfNone result (self.new.held.items ≡ []) }
-        ensures same { self.new ≡ record self.old { held = self.new.held } }
+    /// Changes the requests that it holds for these.
+    pub fn swap_held(&mut self, others: &mut Vec<Held>)
+        ensures new { self.new ≡ record self.old { held = others.old } }
+        ensures others { others.new ≡ self.old.held }
     {
-        if self.held.is_empty() {
-            return None;
+        mem::swap(&mut self.held, others);
+    }
+
+    /// The sleeper that it waits for.
+    pub fn sleeper(&self) -> Option<usize>
+        ensures { result ≡ sleeper_in self.now.waiting }
+    {
+        match self.waiting {
+            Waiting::Timer(timer) => Some(timer),
+            _ => None,
         }
-        Some(self.held.remove(0))
+    }
+
+    /// Whether it is over.
+    pub fn is_over(&self) -> bool
+        ensures { result ≡ is_complete self.now.cell.phase }
+    {
+        matches!(self.cell.phase(), Phase::Complete)
+    }
+
+    /// The polled task waits for this request of another worker, whose output will be sent.
+    pub fn await_output(&mut self, request: usize)
+        ensures { self.new ≡ record self.old { waiting = waiting.Request request; output = shot.Open } }
+    {
+        self.waiting = Waiting::Request(request);
+        self.output = OneShot::new();
+    }
+
+    /// Sends it the output that it waits for. Answers whether it isn't over, and so takes that.
+    pub fn send_output(&mut self, output: Result<RequestOutput, Error>) -> bool
+        ensures hears { result ≡ not (is_complete self.old.cell.phase) }
+        ensures sent { self.new ≡ record self.old { output = sent self.old.output output } }
+    {
+        let _given_back = self.output.send(output);
+        !self.is_over()
+    }
+
+    /// Takes the output that was sent. None where none was sent yet, `Closed` where none will be.
+    pub fn hear_output(&mut self) -> Option<Result<RequestOutput, Error>>
+        ensures heard { result ≡ heard_in self.old.output }
+        ensures polled { self.new ≡ record self.old { output = polled self.old.output } }
+    {
+        match self.output.poll() {
+            Ok(output) => output,
+            Err(error) => Some(Err(error)),
+        }
     }
 
     /// Wakes it. Answers its runnable where it was idle; a task that is polled remembers the wake.

@@ -3,6 +3,7 @@
 ghost use Rattle.std.specs.Prelude.{◌≡◌};
 ghost use Rattle.exec_machine.specs.Deadlines.{earlier as earlier_moment};
 
+use crate::parts::letters::Letters;
 use crate::parts::mail::{Mail, Reply};
 use crate::parts::names::Names;
 use crate::parts::role::Role;
@@ -37,15 +38,15 @@ pub struct PutOff {
 }
 
 impl Moments {
-    /// Those of a worker that begins now.
+    /// Those of a worker that begins now, and has yet to wait.
     pub fn new(now: u64) -> Self
-        ensures { result ≡ record { start = now; sampled = now; before = now; read = now } }
+        ensures { result ≡ record { start = now; sampled = now; before = now; read = 0 } }
     {
         Moments {
             start: now,
             sampled: now,
             before: now,
-            read: now,
+            read: 0,
         }
     }
 }
@@ -93,6 +94,8 @@ pub struct Worker {
     pub spinner: Spinner,
     /// The moment at which it went to sleep on its wake word, where it did.
     pub slept: Option<u64>,
+    /// The messages that it has yet to send about what a task held that is over.
+    pub letters: Letters,
 }
 
 impl Worker {

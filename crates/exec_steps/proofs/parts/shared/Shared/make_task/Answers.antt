@@ -1,6 +1,6 @@
 use Rattle.std.proofs.{Common.{◌≡◌, ◌+◌, ◌≤◌, ◌++◌, ◌∷◌, [], refl, sym, ap, subst, ◌∙◌, arith, length}, lemmas.{Bool.false≢true, List.length-append}}
 use Rattle.exec_task.specs.{TaskSet.inserted, declared.runnable.Runnable.Runnable}
-use Rattle.exec_steps.specs.Pooled.{IsNewTask}
+use Rattle.exec_steps.specs.{Pooled.IsNewTask, Records.numbers_held}
 use Rattle.exec_steps.proofs.{Facts.same_thing, Newborn.new_task}
 use Rattle.exec_steps.proofs.parts.shared.Shared.make_task.Goals as goal
 
@@ -23,7 +23,7 @@ returns-clause-made g c =
       number = λ r h. subst (λ (z : Runnable). z.task.0 ≡ length s.tasks.items) (same_thing c.new-slot.result.1 r h) (ap (λ n. n.0) task ∙ number);
       slot = λ r h.
           let same = same_thing c.new-slot.result.1 r h in
-          (x, items, sym same ∙ of_x.runnable, subst (λ (z : Runnable). IsNewTask z.task c.args.body x) same (subst (λ n. IsNewTask n c.args.body x) (sym task) (new_task x _ _ c.args.body of_x.cell of_x.held of_x.slot)));
+          (x, items, sym same ∙ of_x.runnable, subst (λ (z : Runnable). IsNewTask z.task c.args.body x) same (subst (λ n. IsNewTask n c.args.body x) (sym task) (new_task x _ _ c.args.body of_x.cell (ap numbers_held of_x.held) of_x.slot)));
       set = λ r h.
           let same = same_thing c.new-slot.result.1 r h in
           c.in-Ok-insert.ensures.inserted ∙ ap (λ n. inserted s.set n tt) (sym task ∙ ap (λ (z : Runnable). z.task) same);

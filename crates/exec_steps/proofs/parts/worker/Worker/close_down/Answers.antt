@@ -1,7 +1,6 @@
-use Rattle.std.proofs.{Common.{◌≡◌, ⊎_elim, arith, Some, refl, ap, ◌∙◌, slice_get, slice_set}, lemmas.Option.get_or_from_slice_get}
+use Rattle.std.proofs.{Common.{◌≡◌, Some, refl, slice_get}, lemmas.Option.slice_get_within}
 use Rattle.exec_moves.specs.declared.place.InClosing.{InClosing}
-use Rattle.exec_steps.specs.Pooled.{cleared_slot}
-use Rattle.exec_steps.proofs.{Clears.{cleared_there, task_cleared}, Closes.{closing_began, queue_closed, barrier_opened, pool_stopped}, Parting.{barrier_left, mailbox_closed, worker_ended}, Stopping.{has_root_place, root_told}, Visiting.shard_visited}
+use Rattle.exec_steps.proofs.{ClosesMail.mailbox_closed, ClosingOrphan.request_orphaned, ClosingSleeper.sleeper_let_go, Closes.{closing_began, queue_closed, barrier_opened, pool_stopped}, LetsMay.{may_close_sleeper, may_orphan}, Parting.{barrier_left, worker_ended}, FiringRemoved.removes_seen, Stopping.{has_root_place, root_told}, TaskCleared.{may_clear, task_cleared}, TaskOverLets.lets_seen, Visiting.shard_visited}
 use Rattle.exec_steps.proofs.parts.worker.Worker.close_down.Goals as goal
 
 pub returns-in-Close : goal.returns-in-Close
@@ -30,11 +29,11 @@ returns-in-LeaveBarrier g c =
 
 pub returns-in-CloseMailbox : goal.returns-in-CloseMailbox
 returns-in-CloseMailbox g c =
-    record { steps = mailbox_closed g.B.Body.left g.B.Scripted.spot c.args.self.now c.close_mailbox.new.self c.args.shared.now c.close_mailbox.new.shared c.close_mailbox.result (rw c.in-CloseMailbox.is at c.requires.sound) c.requires.going c.requires.let_on c.close_mailbox.ensures.event c.close_mailbox.ensures.worker c.close_mailbox.ensures.batch c.close_mailbox.ensures.chair c.close_mailbox.ensures.kept }
+    record { steps = mailbox_closed g.B.Body.left g.B.Scripted.spot c.args.self.now c.close_mailbox.new.self c.args.shared.now c.close_mailbox.new.shared c.close_mailbox.result (rw c.in-CloseMailbox.is at c.requires.sound) c.requires.going c.requires.let_on c.close_mailbox.ensures.event c.close_mailbox.ensures.worker c.close_mailbox.ensures.place c.close_mailbox.ensures.batch c.close_mailbox.ensures.chair c.close_mailbox.ensures.kept }
 
 pub returns-in-End : goal.returns-in-End
 returns-in-End g c =
-    record { steps = worker_ended g.B.Body.left g.B.Scripted.spot c.args.self.now c.end.new.self c.args.shared.now c.end.new.shared c.end.result (rw c.in-End.is at c.requires.sound) c.requires.whole c.requires.going c.end.ensures.event c.end.ensures.worker c.end.ensures.chair c.end.ensures.kept }
+    record { steps = worker_ended g.B.Body.left g.B.Scripted.spot c.args.self.now c.end.new.self c.args.shared.now c.end.new.shared c.end.result (rw c.in-End.is at c.requires.sound) c.requires.whole c.requires.going c.end.ensures.event c.end.ensures.worker c.end.ensures.chair c.end.ensures.sleepers c.end.ensures.kept }
 
 pub visit-requires-clause-its : goal.visit-requires-clause-its
 visit-requires-clause-its g c =
@@ -53,23 +52,38 @@ returns-in-TellRoot g c =
 pub tell_root-requires-clause-place : goal.tell_root-requires-clause-place
 tell_root-requires-clause-place g c = λ chair there. has_root_place chair.mailbox (c.requires.whole.whole.pool.mail c.in-TellRoot.worker chair there)
 
+pub clear-requires : goal.clear-requires
+clear-requires g c =
+    record { may = may_clear g.B.Body.left g.B.Scripted.spot c.in-Clear.task c.in-Clear.drain c.args.self.now c.args.shared.now (rw c.in-Clear.is at c.requires.sound) c.requires.whole c.requires.going lets_seen }
+
 pub returns-in-Clear : goal.returns-in-Clear
 returns-in-Clear g c =
-    let w = c.args.self.now in
-    let s = c.args.shared.now in
-    let t = c.in-Clear.task in
     record {
-      steps = task_cleared g.B.Body.left g.B.Scripted.spot w c.clear.new.self s _ c.clear.result t c.in-Clear.drain (rw c.in-Clear.is at c.requires.sound) c.requires.whole c.requires.going
-          (record { kept = refl; tasks = λ slot there. ap (slice_set s.tasks.items t) (c.clear.ensures.slot ∙ ap cleared_slot (c.index_mut.ensures.value ∙ get_or_from_slice_get s.tasks.items t slot c.index_mut.result.now there)) })
-          c.clear.ensures.event c.clear.ensures.goes;
+      steps = task_cleared g.B.Body.left g.B.Scripted.spot c.in-Clear.task c.in-Clear.drain c.args.self.now c.args.shared.now (rw c.in-Clear.is at c.requires.sound) c.requires.whole c.requires.going c.clear.new.self c.clear.new.shared c.clear.result c.clear.ensures.event c.clear.ensures.clears lets_seen (removes_seen g.row.B.Denot);
     }
 
-pub unreachable-requires : goal.unreachable-requires
-unreachable-requires g c =
-    ⊎_elim (λ (h : c.args.at ≡ InClosing.Orphan). let sound = rw h at c.requires.sound in (sound.phased sound.seated.seat sound.seated.there).prepared)
-    (λ (h : c.args.at ≡ InClosing.CloseSleeper). let sound = rw h at c.requires.sound in (sound.phased sound.seated.seat sound.seated.there).prepared) c.in-Orphan.is
+pub leave_barrier-requires : goal.leave_barrier-requires
+leave_barrier-requires g c =
+    record { there = slice_get_within c.args.shared.now.seats.items c.args.self.now.index c.requires.sound.seated.seat c.requires.sound.seated.there }
 
-pub index_mut-requires : goal.index_mut-requires
-index_mut-requires g c =
-    let within = cleared_there c.in-Clear.task c.in-Clear.drain c.args.self.now c.args.shared.now (rw c.in-Clear.is at c.requires.sound) c.requires.whole in
-    omega (arith, within, c.args.shared.now.tasks.ok.0)
+pub close_mailbox-requires : goal.close_mailbox-requires
+close_mailbox-requires g c =
+    record { there = slice_get_within c.args.shared.now.seats.items c.args.self.now.index c.requires.sound.seated.seat c.requires.sound.seated.there }
+
+pub end-requires : goal.end-requires
+end-requires g c =
+    record { there = slice_get_within c.args.shared.now.seats.items c.args.self.now.index c.requires.sound.seated.seat c.requires.sound.seated.there }
+
+pub orphan_next-requires : goal.orphan_next-requires
+orphan_next-requires g c = record { may = may_orphan c.args.self.now c.args.shared.now (rw c.in-Orphan.is at c.requires.sound) }
+
+pub close_sleeper-requires : goal.close_sleeper-requires
+close_sleeper-requires g c = record { may = may_close_sleeper c.args.self.now c.args.shared.now (rw c.in-CloseSleeper.is at c.requires.sound) }
+
+pub returns-in-Orphan : goal.returns-in-Orphan
+returns-in-Orphan g c =
+    record { steps = request_orphaned g.B.Body.left g.B.Scripted.spot c.args.self.now c.orphan_next.new.self c.args.shared.now c.orphan_next.new.shared c.orphan_next.result (rw c.in-Orphan.is at c.requires.sound) c.requires.going c.orphan_next.ensures.orphans }
+
+pub returns-in-CloseSleeper : goal.returns-in-CloseSleeper
+returns-in-CloseSleeper g c =
+    record { steps = sleeper_let_go g.B.Body.left g.B.Scripted.spot c.args.self.now c.close_sleeper.new.self c.args.shared.now c.close_sleeper.new.shared c.close_sleeper.result (rw c.in-CloseSleeper.is at c.requires.sound) c.requires.going c.close_sleeper.ensures.closes }

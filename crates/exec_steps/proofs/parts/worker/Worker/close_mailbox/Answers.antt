@@ -1,6 +1,6 @@
 use Rattle.std.proofs.{Common.{◌≡◌, ℕ, List, [], ◌∷◌, map, refl, ap, ◌∙◌, slice_set, if◌then◌else◌}, lemmas.Option.get_or_from_slice_get}
 use Rattle.exec_words.specs.{Inbox.{batch_handed, batch_taken, has_any, has_mail, shut}, Reserved.Reserved, Word.next_batch, declared.inbox.Message.Message}
-use Rattle.exec_moves.specs.{declared.{handing.AfterCallbacks.AfterCallbacks, place.{InCallbacks.InCallbacks, Place.Place}}, Close.batches_closed}
+use Rattle.exec_moves.specs.Close.{batches_closed}
 use Rattle.exec_steps.specs.{declared.parts.{mail.Subject.Subject, seat.Seat.Seat as Chair}, View.message_of}
 use Rattle.exec_steps.proofs.parts.worker.Worker.close_mailbox.Goals as goal
 
@@ -16,7 +16,7 @@ returns-clause-worker g c = λ chair there.
     c.after_closing-self.ensures
     ∙ ap (λ b. if b then next_batch w.processed else w.processed) (c.close-had_mail.ensures.answer ∙ ap (λ (x : Chair). has_mail x.mailbox.inbox) is)
     ∙ counted chair.mailbox.inbox.messages w.processed in
-    ap (λ n. record w { place = Place.Callbacks InCallbacks.TakeBatch AfterCallbacks.Drain; batch = c.let_go_all-2.new.batch; processed = n }) count
+    ap (λ n. record w { place = c.next_of_closing-self.result; batch = c.let_go_all-2.new.batch; processed = n }) count
 
 pub returns-clause-batch : goal.returns-clause-batch
 returns-clause-batch g c = λ chair there.

@@ -1,4 +1,4 @@
-use Rattle.std.proofs.Common.{◌≡◌, refl, sym, subst}
+use Rattle.std.proofs.Common.{◌≡◌, arith, refl, sym, subst}
 use Rattle.exec_steps.{specs.{declared.parts.worker.Worker.Worker, Works.Steps}, proofs.{Firing.{gone_on, gone_same, service_over}, Telling.{sleeper_fired, notes_one, timer_within}}}
 use Rattle.exec_steps.proofs.parts.worker.Worker.end_service.Goals as goal
 
@@ -19,7 +19,7 @@ returns-in-Some g c =
     record {
       steps = subst (λ x. Steps g.B.Body.left g.B.Scripted.spot w s c.tell_fired.result x s1) (sym same)
           (sleeper_fired g.B.Body.left g.B.Scripted.spot c.args.service w w1 s s1 c.tell_fired.result c.in-Some.id.0 c.requires.sound c.tell_fired.ensures.event
-          (record { deadline = first.0; due = first.1; first = first.2; ends = c.in-Some.ensures.fired; worker = refl; sleepers = c.tell_fired.ensures.fired; shared = refl }));
+          (record { deadline = first.0; due = first.1; first = first.2; ends = c.in-Some.ensures.fired; worker = refl; sleepers = c.tell_fired.ensures.fired; shared = refl; few = omega (arith, s.sleepers.small, s.sleepers.ok.0) }));
     }
 
 pub returns-in-None : goal.returns-in-None

@@ -1,26 +1,35 @@
-use Rattle.std.proofs.{Common.{◌≡◌, Some, refl, sym, ap, ◌∙◌}, lemmas.Option.slice_get-get_or}
-use Rattle.exec_task.specs.Phases.{over}
-use Rattle.exec_steps.specs.declared.parts.task_slot.TaskSlot.{TaskSlot}
+use Rattle.std.proofs.Common.{◌≡◌, ◌<◌, Some, refl, sym, ap, subst, ◌∙◌, arith, slice_set, IsTrue}
+use Rattle.exec_task.specs.Phases.{is_polled, over}
+use Rattle.exec_steps.{specs.declared.parts.task_slot.TaskSlot.TaskSlot, proofs.{Facts.same_thing, MailHeld.{slot_gone, within_gone}, MailLets.found_at}}
 use Rattle.exec_steps.proofs.parts.worker.Worker.end_task.Goals as goal
+
+pub index_mut-requires : goal.index_mut-requires
+index_mut-requires g c =
+    let within = within_gone c.args.task c.args.self.now c.let_go_of.new.self c.args.shared.now c.let_go_of.new.shared c.let_go_of.ensures.lets in
+    omega (arith, within, c.let_go_of.new.shared.tasks.ok.0)
+
+pub done-requires : goal.done-requires
+done-requires g c =
+    let lets = c.let_go_of.ensures.lets in
+    let within = within_gone c.args.task c.args.self.now c.let_go_of.new.self c.args.shared.now c.let_go_of.new.shared lets in
+    let there = slot_gone c.args.task c.args.self.now c.let_go_of.new.self c.args.shared.now c.let_go_of.new.shared lets in
+    let x = c.index_mut.result.now in
+    let is = same_thing lets.slot' x (sym there ∙ found_at c.let_go_of.new.shared.tasks.items c.args.task x within c.index_mut.ensures.value) in
+    record { polled = subst (λ (y : TaskSlot g.row.B.Denot). IsTrue (is_polled y.cell.phase)) is (subst (λ (y : TaskSlot g.row.B.Denot). IsTrue (is_polled y.cell.phase)) (sym lets.emptied) (c.requires.may.polled lets.slot lets.there)) }
 
 pub returns : goal.returns
 returns g c =
-    let o = c.index_mut-slot.result.now in
-    let there = slice_get-get_or c.args.shared.now.tasks.items c.args.task o c.requires.may.there ∙ ap (λ y. Some y) (sym c.index_mut-slot.ensures.value) in
-    let done = c.done.ensures.over in
-    let held = ap (λ (x : TaskSlot g.row.B.Denot). x.held) done in
+    let mid = c.let_go_of.new.shared in
+    let lets = c.let_go_of.ensures.lets in
+    let within = within_gone c.args.task c.args.self.now c.let_go_of.new.self c.args.shared.now mid lets in
+    let x = c.index_mut.result.now in
+    let there = found_at mid.tasks.items c.args.task x within c.index_mut.ensures.value in
     record {
       ends = record {
-        slot = o;
-        slot' = c.done.new.self;
-        there = there;
-        v = c.drop_all.new.self;
-        lets = c.drop_all.ensures.lets;
-        still = c.drop_all.ensures.still;
-        worker = ap (λ p. record c.drop_all.new.self { place = p }) c.after_end-self.ensures;
-        none = ap (λ h. h.items) held ∙ c.drop_all.ensures.none;
-        became = done ∙ ap (λ (x : TaskSlot g.row.B.Denot). record x { cell = over x.cell }) c.drop_all.ensures.slot ∙ ap (λ h. record o { held = h; cell = over o.cell }) (sym held);
-        tasks = refl;
-        kept = refl;
+        v = c.let_go_of.new.self;
+        mid = mid;
+        lets = lets;
+        worker = ap (λ p. record c.let_go_of.new.self { place = p }) c.after_end-self.ensures;
+        task = record { kept = refl; tasks = λ slot found. ap (slice_set mid.tasks.items c.args.task) (c.done.ensures.over ∙ ap (λ (y : TaskSlot g.row.B.Denot). record y { cell = over y.cell }) (same_thing x slot (sym there ∙ found))) };
       };
     }

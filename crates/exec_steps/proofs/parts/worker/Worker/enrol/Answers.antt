@@ -1,7 +1,7 @@
-use Rattle.std.{proofs.Common.{◌≡◌, ◌<◌, length, refl, sym, ap, subst, ◌∙◌, is_some}, specs.{Prelude.unwrap_or, Vec.with_item}}
+use Rattle.std.{proofs.Common.{◌≡◌, ◌<◌, length, refl, sym, ap, subst, ◌∙◌, is_some, None, Some}, specs.{Prelude.unwrap_or, Vec.with_item}}
 use Rattle.exec_driver.specs.Steps.{ended_by, tick_for}
 use Rattle.exec_machine.specs.{declared.event.Event.TheVariants.Enrol, Deadlines.enrolled, Requests.joined_if}
-use Rattle.exec_steps.{specs.{declared.parts.{names.Names.Names, worker.Worker.Worker}, Records.number_in, Serving.{first_tick, outcome_of_error}, View.driver_of, Works.Steps}, proofs.{Dating.{enrol_steps, new_room, new_timed, new_within, set_changes}, Enrolled.new_first}}
+use Rattle.exec_steps.{specs.{declared.parts.{names.Names.Names, worker.Worker.Worker}, Records.number_in, Serving.{first_tick, outcome_of_error}, View.driver_of, Works.Steps}, proofs.{Staging.first_there, Dating.{enrol_steps, new_room, new_timed, new_within, set_changes}, Enrolled.new_first}}
 use Rattle.exec_steps.proofs.parts.worker.Worker.enrol.Goals as goal
 
 pub index_mut-requires : goal.index_mut-requires
@@ -44,7 +44,7 @@ returns g c =
             bounded = c.bounds_name.ensures;
             records = set_changes s.requests.items k c.request-request.result who.r c.index_mut.result.now c.tell_enrolled.new.it
                 (λ r. record r { shown = enrolled (first_tick w.moments.start s.config.tick (unwrap_or r.shown.operation.deadline 0)) (outcome_of_error ended) r.shown })
-                number who.there c.index_mut.ensures.value c.tell_enrolled.ensures.id c.tell_enrolled.ensures.shown refl;
+                number who.there c.index_mut.ensures.value c.tell_enrolled.ensures.id c.tell_enrolled.ensures.shown c.tell_enrolled.ensures.sent refl refl;
             ended = c.tell_enrolled.ensures.ended ∙ ap (joined_if (is_some ended) w.names.ended.items) number;
             capacity = c.tell_enrolled.ensures.capacity;
             worker = refl;
@@ -52,3 +52,8 @@ returns g c =
           })
           (λ none. ap (λ (x : Names). record w.names { ended = x.ended }) (c.tell_enrolled.ensures.still none)));
     }
+
+pub unreachable-requires : goal.unreachable-requires
+unreachable-requires g c =
+    let it = first_there (driver_of c.args.self.now).lists.enrolments c.requires.new.enrolments in
+    absurd (let no : None ≡ Some it.0 = sym c.in_default.ensures.none ∙ it.1 in cc)

@@ -1,6 +1,6 @@
-use Rattle.std.{proofs.{Common.{◌≡◌, ◌<◌, length, refl, sym, ap, subst, ◌∙◌, is_some}, lemmas.Option.slice_get_within}, specs.Vec.with_item}
+use Rattle.std.{proofs.{Common.{◌≡◌, ◌<◌, length, refl, sym, ap, subst, ◌∙◌, is_some, None, Some}, lemmas.Option.slice_get_within}, specs.Vec.with_item}
 use Rattle.exec_machine.specs.{declared.event.Event.TheVariants.Expire, Deadlines.outcome_at_expiry, Requests.joined_if}
-use Rattle.exec_steps.{specs.{declared.parts.{names.Names.Names, worker.Worker.Worker}, Records.number_in, Works.Steps}, proofs.{Dating.{found_is, set_changes}, Expiring.{due_first, due_room, expires}, Cancelling.expiry_steps, Ordering.in_order}}
+use Rattle.exec_steps.{specs.{declared.parts.{names.Names.Names, worker.Worker.Worker}, Records.number_in, View.driver_of, Works.Steps}, proofs.{Staging.first_there, Dating.{found_is, set_changes}, Expiring.{due_first, due_room, expires}, Cancelling.expiry_steps, Ordering.in_order}}
 use Rattle.exec_steps.proofs.parts.worker.Worker.expire.Goals as goal
 
 pub index_mut-requires : goal.index_mut-requires
@@ -37,7 +37,7 @@ returns g c =
             tells = c.in-Some.ensures.told;
             punctual = c.expire.ensures.punctual c.requires.due.submits.sound.due.punctual;
             records = set_changes s.requests.items k c.request-request.result who.r c.index_mut.result.now c.tell_expired.new.it expires
-                number who.there c.index_mut.ensures.value c.tell_expired.ensures.id c.tell_expired.ensures.shown refl;
+                number who.there c.index_mut.ensures.value c.tell_expired.ensures.id c.tell_expired.ensures.shown c.tell_expired.ensures.sent refl refl;
             ended = c.tell_expired.ensures.ended ∙ ap (joined_if (is_some (outcome_at_expiry c.index_mut.result.now.shown)) w.names.ended.items) number
                 ∙ ap (λ o. joined_if (is_some o) w.names.ended.items k) outcome;
             capacity = c.tell_expired.ensures.capacity;
@@ -46,3 +46,8 @@ returns g c =
             shared = refl;
           }));
     }
+
+pub unreachable-requires : goal.unreachable-requires
+unreachable-requires g c =
+    let it = first_there (driver_of c.args.self.now).lists.due c.requires.due.due in
+    absurd (let no : None ≡ Some it.0 = c.in_default.ensures.first ∙ it.1 in cc)

@@ -6,7 +6,7 @@ some_more : (n m : ℕ) → n ≡ m → m ≢ 1 → 0 < m → nat_le n 1 ≡ fal
 some_more n m same other some = grind (arith, nat_tests, same, other, some)
 
 pub returns-then-self : goal.returns-then-self
-returns-then-self c = λ d same. rw (some_more d.workers c.args.workers same c.if-workers-eq1.false c.requires.workers, c.if-self.true) refl
+returns-then-self c = rw (some_more c.args.workers c.args.workers refl c.if-workers-eq1.false c.requires.workers, c.if-self.true) refl
 
 pub returns-else-self : goal.returns-else-self
-returns-else-self c = λ d same. rw (some_more d.workers c.args.workers same c.if-workers-eq1.false c.requires.workers, c.if-self.false) refl
+returns-else-self c = rw (some_more c.args.workers c.args.workers refl c.if-workers-eq1.false c.requires.workers, c.if-self.false) refl

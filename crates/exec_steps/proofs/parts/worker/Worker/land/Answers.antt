@@ -1,6 +1,6 @@
-use Rattle.std.{proofs.{Common.{◌≡◌, ◌<◌, refl, sym, ap, subst, ◌∙◌, slice_set, slice_get}, lemmas.{List.length-set, Option.{get_or_from_slice_get, slice_get_within}}}, specs.{Result.is_err, Vec.with_item}}
+use Rattle.std.{proofs.{Common.{◌≡◌, ◌<◌, refl, sym, ap, subst, ◌∙◌, slice_set}, lemmas.{List.length-set, Option.{get_or_from_slice_get, slice_get_within}}}, specs.{Result.is_err, Vec.with_item}}
 use Rattle.exec_driver.specs.Driving.{seen}
-use Rattle.exec_steps.{specs.{Carried.landing, Phased.TurnsChair, Records.roused, declared.parts.{shared.Shared.Shared, worker.Worker.Worker}}, proofs.{Facts.set_there, Landing.{lander, after_one}, Landed.{records_set, landed_sound}, Lands.{lands_beside, lands_chair, lands_common, lands_desk, lands_own, lands_things}, Raising.{sound_still, takes_by}}}
+use Rattle.exec_steps.{specs.{Carried.landing, Phased.TurnsChair, Records.roused, declared.parts.{worker.Worker.Worker}}, proofs.{Landing.{lander, after_one}, Landed.landed_sound, LandSeen.records_set, Lands.{lands_beside, lands_chair, lands_common, lands_desk, lands_own, lands_things}, Raising.{sound_still, takes_by}}}
 use Rattle.exec_steps.proofs.parts.worker.Worker.land.Goals as goal
 
 pub index_mut-requires : goal.index_mut-requires
@@ -53,19 +53,19 @@ returns g c =
     let answer = rw (is, who.live, who.in_flight, who.fit.may) at c.land.ensures.answer in
     let lands = (rw (answer, is) at c.land.ensures.lands) who.it who.live in
     let after = after_one w1 s1 c.args.request c.args.given who (seen c.land.new.self) c.land.new.store lands in
-    let records = records_set w1 s1 c.args.request c.args.given who sound1 c.index_mut-record.result.now is in
+    let records = records_set w1 s1 c.args.request c.args.given who after.q after.lands.request sound1 c.index_mut-record.result.now is in
     let turns : TurnsChair w1.index roused s1 s' = λ chair there. ap (λ x. slice_set s1.seats.items w1.index (roused x)) (c.index_mut-2.ensures.value ∙ get_or_from_slice_get s1.seats.items w1.index chair c.index_mut-2.result.now there) in
-    let sound' = landed_sound w1 s1 c.args.request c.args.given who sound1 w' s' after.driver (c.land.ensures.punctual sound1.due.punctual) refl records after.leaves refl turns in
+    let sound' = landed_sound w1 s1 c.args.request c.args.given who after.q after.lands.request sound1 w' s' after.driver (c.land.ensures.punctual sound1.due.punctual) refl records after.lands.leaves refl turns in
     record {
       event = refl;
       sound = sound';
-      own = lands_own g.B.Body.left g.B.Scripted.spot w w1 w' s s1 s' c.args.request c.args.given c.requires.sound takes sound1 who after.driver refl records refl turns;
-      desk = lands_desk g.B.Body.left g.B.Scripted.spot w w1 w' s s1 s' c.args.request c.args.given c.requires.sound takes sound1 who after.driver refl records refl turns;
+      own = lands_own g.B.Body.left g.B.Scripted.spot w w1 w' s s1 s' c.args.request c.args.given c.requires.sound takes sound1 who after.q after.lands.request after.driver refl records after.lands.leaves refl turns;
+      desk = lands_desk g.B.Body.left g.B.Scripted.spot w w1 w' s s1 s' c.args.request c.args.given c.requires.sound takes sound1 who after.q after.lands.request after.driver refl records after.lands.leaves refl turns;
       index = index;
       kept = refl;
       many = length-set s1.seats.items w1.index _ ∙ length-set s.seats.items w.index _;
-      chair = lands_chair g.B.Body.left g.B.Scripted.spot w w1 w' s s1 s' c.args.request c.args.given c.requires.sound takes sound1 who after.driver refl records refl turns;
-      beside = lands_beside g.B.Body.left g.B.Scripted.spot w w1 w' s s1 s' c.args.request c.args.given c.requires.sound takes sound1 who after.driver refl records refl turns sound';
-      things = λ p vs suits. lands_things g.B.Body.left g.B.Scripted.spot w w1 w' s s1 s' c.args.request c.args.given c.requires.sound takes sound1 who after.driver refl records refl turns p vs suits;
-      common = λ p vs suits. lands_common g.B.Body.left g.B.Scripted.spot w w1 w' s s1 s' c.args.request c.args.given c.requires.sound takes sound1 who after.driver refl records refl turns p vs suits;
+      chair = lands_chair g.B.Body.left g.B.Scripted.spot w w1 w' s s1 s' c.args.request c.args.given c.requires.sound takes sound1 who after.q after.lands.request after.driver refl records after.lands.leaves refl turns;
+      beside = lands_beside g.B.Body.left g.B.Scripted.spot w w1 w' s s1 s' c.args.request c.args.given c.requires.sound takes sound1 who after.q after.lands.request after.driver refl records after.lands.leaves refl turns sound';
+      things = λ p vs suits. lands_things g.B.Body.left g.B.Scripted.spot w w1 w' s s1 s' c.args.request c.args.given c.requires.sound takes sound1 who after.q after.lands.request after.driver refl records after.lands.leaves refl turns p vs suits;
+      common = λ p vs suits. lands_common g.B.Body.left g.B.Scripted.spot w w1 w' s s1 s' c.args.request c.args.given c.requires.sound takes sound1 who after.q after.lands.request after.driver refl records after.lands.leaves refl turns p vs suits;
     }

@@ -1,10 +1,11 @@
 use Rattle.std.proofs.Common.{refl, arith}
 use Rattle.exec_moves.specs.{declared.idling.{InLook.InLook}, declared.place.{Place.Place}}
+use Rattle.exec_steps.proofs.Dedicated.{few_here, own_there}
 use Rattle.exec_steps.proofs.{Looking.{claimed_returned, claimed_some, count_looked, head_looked, look_count_exchanged, look_count_returned, looks_some, mirror_looked, published, tail_looked}, NextDue.told_due}
 use Rattle.exec_steps.proofs.parts.worker.Worker.look.Goals as goal
 
 pub publish-requires : goal.publish-requires
-publish-requires g c = record { few = omega (arith, c.requires.sound.index, c.requires.sound.config.few) }
+publish-requires g c = record { few = few_here _ _ _ c.requires.sound refl }
 
 pub returns-in-Publish : goal.returns-in-Publish
 returns-in-Publish g c =
@@ -24,7 +25,7 @@ returns-in-LookAtMirror g c =
 pub look_at_count-requires : goal.look_at_count-requires
 look_at_count-requires g c =
     let sound = rw c.in-LookAtCount.is at c.requires.sound in
-    record { told = told_due (Place.Look InLook.LookAtCount) c.args.self.now c.args.shared.now sound refl; few = omega (arith, sound.index, sound.config.few) }
+    record { told = told_due (Place.Look InLook.LookAtCount) c.args.self.now c.args.shared.now sound refl; few = few_here _ _ _ sound refl }
 
 pub returns-in-LookAtCount : goal.returns-in-LookAtCount
 returns-in-LookAtCount g c =
@@ -40,7 +41,7 @@ returns-in-LookAtHead g c =
 pub look_at_tail-requires : goal.look_at_tail-requires
 look_at_tail-requires g c =
     let sound = rw c.in-LookAtTail.is at c.requires.sound in
-    record { there = omega (arith, sound.aims.1, sound.seated.many); told = told_due (Place.Look (InLook.LookAtTail c.in-LookAtTail.worker c.in-LookAtTail.head)) c.args.self.now c.args.shared.now sound refl; few = omega (arith, sound.index, sound.config.few); fits = omega (arith, sound.aims.1, sound.config.few) }
+    record { there = omega (arith, sound.aims.1, sound.seated.many); told = told_due (Place.Look (InLook.LookAtTail c.in-LookAtTail.worker c.in-LookAtTail.head)) c.args.self.now c.args.shared.now sound refl; few = few_here _ _ _ sound refl; fits = omega (arith, sound.aims.1, sound.config.few) }
 
 pub returns-in-LookAtTail : goal.returns-in-LookAtTail
 returns-in-LookAtTail g c =

@@ -1,5 +1,5 @@
 use Rattle.std.proofs.Common.{◌≡◌}
-use Rattle.exec_steps.proofs.{Delivering.mail_applied, Mailing.{word_loaded, mail_taken}}
+use Rattle.exec_steps.proofs.{MailApplied.message_applied, MailMay.may_take, Mailing.{word_loaded, mail_taken}}
 use Rattle.exec_steps.proofs.parts.worker.Worker.mail.Goals as goal
 
 pub returns-in-LoadMailWord : goal.returns-in-LoadMailWord
@@ -8,11 +8,14 @@ returns-in-LoadMailWord g c =
 
 pub returns-in-TakeMail : goal.returns-in-TakeMail
 returns-in-TakeMail g c =
-    record { steps = mail_taken g.B.Body.left g.B.Scripted.spot c.args.self.now c.take_mail.new.self c.args.shared.now c.take_mail.new.shared c.take_mail.result (rw c.in-TakeMail.is at c.requires.sound) c.take_mail.ensures.makes c.take_mail.ensures.same c.take_mail.ensures.batch c.take_mail.ensures.chair c.take_mail.ensures.kept }
+    record { steps = mail_taken g.B.Body.left g.B.Scripted.spot c.args.self.now c.take_mail.new.self c.args.shared.now c.take_mail.new.shared c.take_mail.result (rw c.in-TakeMail.is at c.requires.sound) c.requires.whole c.take_mail.ensures.makes c.take_mail.ensures.same c.take_mail.ensures.batch c.take_mail.ensures.chair c.take_mail.ensures.kept }
 
 pub returns-in-Apply : goal.returns-in-Apply
 returns-in-Apply g c =
-    record { steps = mail_applied g.B.Body.left g.B.Scripted.spot c.args.self.now c.apply.new.self c.args.shared.now c.apply.new.shared c.apply.result c.in-Apply.applied c.in-Apply.taken (rw c.in-Apply.is at c.requires.sound) c.apply.ensures.event c.apply.ensures.wakes c.apply.ensures.batch c.apply.ensures.place }
+    record { steps = message_applied g.B.Body.left g.B.Scripted.spot c.in-Apply.applied c.in-Apply.taken c.args.self.now c.apply.new.self c.args.shared.now c.apply.new.shared c.apply.result (rw c.in-Apply.is at c.requires.sound) c.requires.whole c.apply.ensures.applies }
 
 pub apply-requires-clause-few : goal.apply-requires-clause-few
 apply-requires-clause-few g c = (rw c.in-Apply.is at c.requires.sound).aims
+
+pub apply-requires-clause-may : goal.apply-requires-clause-may
+apply-requires-clause-may g c = may_take c.in-Apply.applied c.in-Apply.taken c.args.self.now c.args.shared.now (rw c.in-Apply.is at c.requires.sound) c.requires.whole

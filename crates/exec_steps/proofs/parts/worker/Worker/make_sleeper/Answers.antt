@@ -1,5 +1,5 @@
 use Rattle.std.proofs.Common.{◌≡◌, refl, sym, subst}
-use Rattle.exec_steps.{specs.Admitting.MakesRoom, proofs.Acts.kept_any}
+use Rattle.exec_steps.{specs.Admitting.MakesRoom, proofs.LeafFresh.kept_any}
 use Rattle.exec_steps.proofs.parts.worker.Worker.make_sleeper.Goals as goal
 
 pub returns-in_err-make_room_for_sleep-clause-kept : goal.returns-in_err-make_room_for_sleep-clause-kept

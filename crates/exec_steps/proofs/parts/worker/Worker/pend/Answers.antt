@@ -1,39 +1,87 @@
-use Rattle.std.proofs.{Common.{◌≡◌, Some, refl, sym, ap, ◌∙◌, slice_set}, lemmas.Option.slice_get-get_or}
-use Rattle.exec_task.specs.{Phases.pend_answer, declared.runnable.AfterPoll.AfterPoll}
-use Rattle.exec_steps.{specs.{declared.parts.task_slot.TaskSlot.TaskSlot, Polls.pended_slot, Pooled.queued_again, Tests.after_poll_of}, proofs.{Facts.same_thing, Pending.not_requeued}}
+use Rattle.std.{proofs.Common.{◌≡◌, ℕ, Some, true, false, refl, sym, ap, ◌∙◌, slice_set}, specs.Vec.with_item, proofs.lemmas.Bool.false≢true}
+use Rattle.exec_task.specs.{Phases.pend_answer, declared.runnable.{AfterPoll.AfterPoll, Runnable.Runnable}}
+use Rattle.exec_steps.{specs.{Phased.is_complete, Polls.pended_slot, Pooled.queued_again, Tests.after_poll_of, Works.TurnsSlot, declared.parts.{shared.Shared.Shared, task_slot.TaskSlot.TaskSlot, worker.Worker.Worker}}, proofs.{Facts.same_thing, MailLets.found_at}}
 use Rattle.exec_steps.proofs.parts.worker.Worker.pend.Goals as goal
 
-pub returns-in-Requeue-clause-task : goal.returns-in-Requeue-clause-task
-returns-in-Requeue-clause-task g c =
-    let e = c.index_mut.result.now in
-    let items = c.args.shared.now.tasks.items in
-    let there = slice_get-get_or items c.args.task e c.requires.there ∙ ap (λ z. Some z) (sym c.index_mut.ensures.value) in
-    record { kept = refl; tasks = λ slot found. ap (λ x. slice_set items c.args.task x) (c.pend-after.ensures.pended ∙ ap pended_slot (same_thing e slot (sym there ∙ found))) }
+not_again : (t : ℕ) (a : AfterPoll) (w : Worker) → ((r : Runnable) → a ≡ AfterPoll.Requeue r → ⊥) → queued_again t a w ≡ w
+not_again t AfterPoll.Done w never = refl
+not_again t (AfterPoll.Requeue r) w never = absurd (never r refl)
+not_again t (AfterPoll.Retire n how) w never = refl
 
-pub returns-in_default-clause-task : goal.returns-in_default-clause-task
-returns-in_default-clause-task g c =
-    let e = c.index_mut.result.now in
-    let items = c.args.shared.now.tasks.items in
-    let there = slice_get-get_or items c.args.task e c.requires.there ∙ ap (λ z. Some z) (sym c.index_mut.ensures.value) in
-    record { kept = refl; tasks = λ slot found. ap (λ x. slice_set items c.args.task x) (c.pend-after.ensures.pended ∙ ap pended_slot (same_thing e slot (sym there ∙ found))) }
-
-pub returns-in-Requeue-clause-worker : goal.returns-in-Requeue-clause-worker
-returns-in-Requeue-clause-worker g c =
-    let w = c.args.self.now in
+pub let_go_of-requires : goal.let_go_of-requires
+let_go_of-requires g c =
+    let s = c.args.shared.now in
     let t = c.args.task in
-    let e = c.index_mut.result.now in
-    let there = slice_get-get_or c.args.shared.now.tasks.items t e c.requires.there ∙ ap (λ z. Some z) (sym c.index_mut.ensures.value) in
-    λ slot found.
-    c.queue_again.ensures ∙ ap (λ p. queued_again t (AfterPoll.Requeue c.in-Requeue.runnable) (record w { place = p })) c.after_poll-self.ensures
-    ∙ ap (λ a. queued_again t a (record w { place = after_poll_of t w })) (sym c.in-Requeue.is ∙ c.pend-after.ensures.answer ∙ ap (λ (o : TaskSlot g.row.B.Denot). pend_answer o.cell) (same_thing e slot (sym there ∙ found)))
+    let o = c.index_mut-slot.result.now in
+    let there = found_at s.tasks.items t o c.requires.may.there c.index_mut-slot.ensures.value in
+    let mid : Shared g.row.B.Denot = record s { tasks = with_item s.tasks t c.pend-after.new.self } in
+    let is : TurnsSlot {B = g.row.B.Denot} t s mid pended_slot = record { kept = refl; tasks = λ slot found. ap (slice_set s.tasks.items t) (c.pend-after.ensures.pended ∙ ap (λ (x : TaskSlot g.row.B.Denot). pended_slot x) (same_thing o slot (sym there ∙ found))) } in
+    record { may = c.requires.may.lets o there (ap (λ (x : TaskSlot g.row.B.Denot). is_complete x.cell.phase) (sym c.pend-after.ensures.pended) ∙ sym c.is_over.ensures ∙ c.if-is_over.true) mid is }
 
-pub returns-in_default-clause-worker : goal.returns-in_default-clause-worker
-returns-in_default-clause-worker g c =
-    let w = c.args.self.now in
+pub returns-then-is_over-clause-pends : goal.returns-then-is_over-clause-pends
+returns-then-is_over-clause-pends g c =
+    let s = c.args.shared.now in
     let t = c.args.task in
-    let e = c.index_mut.result.now in
-    let there = slice_get-get_or c.args.shared.now.tasks.items t e c.requires.there ∙ ap (λ z. Some z) (sym c.index_mut.ensures.value) in
-    λ slot found.
-    ap (λ p. record w { place = p }) c.after_poll-self.ensures
-    ∙ sym (not_requeued t c.pend-after.result (record w { place = after_poll_of t w }) c.in_default.not-Requeue)
-    ∙ ap (λ a. queued_again t a (record w { place = after_poll_of t w })) (c.pend-after.ensures.answer ∙ ap (λ (o : TaskSlot g.row.B.Denot). pend_answer o.cell) (same_thing e slot (sym there ∙ found)))
+    let o = c.index_mut-slot.result.now in
+    let there = found_at s.tasks.items t o c.requires.may.there c.index_mut-slot.ensures.value in
+    let pended = ap (λ (x : TaskSlot g.row.B.Denot). is_complete x.cell.phase) c.pend-after.ensures.pended in
+    let over = sym c.is_over.ensures ∙ c.if-is_over.true in
+    record {
+      slot = o;
+      there = there;
+      mid = record s { tasks = with_item s.tasks t c.pend-after.new.self };
+      pended_is = record { kept = refl; tasks = λ slot found. ap (slice_set s.tasks.items t) (c.pend-after.ensures.pended ∙ ap (λ (x : TaskSlot g.row.B.Denot). pended_slot x) (same_thing o slot (sym there ∙ found))) };
+      v = c.let_go_of.new.self;
+      over = λ h. (c.let_go_of.ensures.lets, ap (λ p. record c.let_go_of.new.self { place = p }) c.after_cancels-self.ensures);
+      still = λ h. absurd (false≢true (sym h ∙ sym pended ∙ over));
+    }
+
+pub returns-in-Requeue-clause-pends : goal.returns-in-Requeue-clause-pends
+returns-in-Requeue-clause-pends g c =
+    let w = c.args.self.now in
+    let s = c.args.shared.now in
+    let t = c.args.task in
+    let o = c.index_mut-slot.result.now in
+    let there = found_at s.tasks.items t o c.requires.may.there c.index_mut-slot.ensures.value in
+    let pended = ap (λ (x : TaskSlot g.row.B.Denot). is_complete x.cell.phase) c.pend-after.ensures.pended in
+    let going = sym c.is_over.ensures ∙ c.if-is_over.false in
+    record {
+      slot = o;
+      there = there;
+      mid = record s { tasks = with_item s.tasks t c.pend-after.new.self };
+      pended_is = record { kept = refl; tasks = λ slot found. ap (slice_set s.tasks.items t) (c.pend-after.ensures.pended ∙ ap (λ (x : TaskSlot g.row.B.Denot). pended_slot x) (same_thing o slot (sym there ∙ found))) };
+      v = w;
+      over = λ h. absurd (false≢true (sym going ∙ pended ∙ h));
+      still = λ h. (
+        c.queue_again.ensures ∙ ap (λ p. queued_again t (AfterPoll.Requeue c.in-Requeue.runnable) (record w { place = p })) c.after_poll-self.ensures
+            ∙ ap (λ a. queued_again t a (record w { place = after_poll_of t w })) (sym c.in-Requeue.is ∙ c.pend-after.ensures.answer),
+        refl,
+      );
+    }
+
+pub returns-in_default : goal.returns-in_default
+returns-in_default g c =
+    let w = c.args.self.now in
+    let s = c.args.shared.now in
+    let t = c.args.task in
+    let o = c.index_mut-slot.result.now in
+    let there = found_at s.tasks.items t o c.requires.may.there c.index_mut-slot.ensures.value in
+    let pended = ap (λ (x : TaskSlot g.row.B.Denot). is_complete x.cell.phase) c.pend-after.ensures.pended in
+    let going = sym c.is_over.ensures ∙ c.if-is_over.false in
+    record {
+      event = refl;
+      pends = record {
+        slot = o;
+        there = there;
+        mid = record s { tasks = with_item s.tasks t c.pend-after.new.self };
+        pended_is = record { kept = refl; tasks = λ slot found. ap (slice_set s.tasks.items t) (c.pend-after.ensures.pended ∙ ap (λ (x : TaskSlot g.row.B.Denot). pended_slot x) (same_thing o slot (sym there ∙ found))) };
+        v = w;
+        over = λ h. absurd (false≢true (sym going ∙ pended ∙ h));
+        still = λ h. (
+          ap (λ p. record w { place = p }) c.after_poll-self.ensures
+              ∙ sym (not_again t c.pend-after.result (record w { place = after_poll_of t w }) c.in_default.not-Requeue)
+              ∙ ap (λ a. queued_again t a (record w { place = after_poll_of t w })) c.pend-after.ensures.answer,
+          refl,
+        );
+      };
+    }

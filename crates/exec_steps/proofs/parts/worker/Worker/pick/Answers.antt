@@ -1,4 +1,5 @@
 use Rattle.std.proofs.Common.{◌≡◌, arith, refl}
+use Rattle.exec_steps.proofs.Dedicated.{few_here, own_there}
 use Rattle.exec_steps.proofs.{Picks.{counted_down, head_loaded, mirror_loaded}, Sharing.share_came}
 use Rattle.exec_steps.proofs.parts.worker.Worker.pick.Goals as goal
 
@@ -17,7 +18,7 @@ returns-in-LoadHead g c =
 pub take_share-requires : goal.take_share-requires
 take_share-requires g c =
     let sound = rw c.in-TakeShare.is at c.requires.sound in
-    record { there = omega (arith, sound.index, sound.seated.many); workers = sound.config.workers; room = λ chair there. (sound.queue chair there).1; whole = λ chair there. (sound.queue chair there).0 }
+    record { there = own_there _ _ _ sound; workers = sound.config.workers; room = λ chair there. (sound.queue chair there).1; whole = λ chair there. (sound.queue chair there).0 }
 
 pub returns-in-TakeShare : goal.returns-in-TakeShare
 returns-in-TakeShare g c =

@@ -1,7 +1,9 @@
 use Rattle.std.proofs.{Common.{◌≡◌, Some, refl, slice_get, sym, ap, arith, inl, inr, ⊎_elim, ◌∙◌}, lemmas.Option.slice_get_within}
 use Rattle.exec_task.specs.Phases.{runnable_of}
 use Rattle.exec_moves.specs.declared.place.{InPoll.InPoll, Place.Place}
-use Rattle.exec_steps.{specs.{declared.parts.task_slot.TaskSlot.TaskSlot, Sound.SoundAt}, proofs.{Facts.same_thing, Heads.spawn_head_loaded, Guests.poll_pended, Pending.{at_end, at_pend}, Here.never_joins, Polling.{at_start, poll_begun}, PoolWithout.held_there, PoolRemoving.{removes_here, task_removed}, Still.steps_of}}
+use Rattle.exec_steps.{specs.{declared.parts.task_slot.TaskSlot.TaskSlot, Sound.SoundAt}, proofs.{Facts.same_thing, FiringRemoved.removes_seen, Heads.spawn_head_loaded, Here.{IsHere, polled_here}, Pending.at_pend, Polling.{at_start, poll_begun}, PoolWithout.held_there, PoolRemoving.{removes_here, task_removed}, TaskOverLets.lets_seen, TaskOverPolls.pending, TaskPendEnds.{may_pend, poll_ends}}}
+use Rattle.exec_steps.proofs.GateJoins.{gate_joined, joiner, place_at}
+use Rattle.exec_steps.proofs.Still.{steps_none}
 use Rattle.exec_steps.proofs.parts.worker.Worker.poll.Goals as goal
 
 pub begin_poll-requires : goal.begin_poll-requires
@@ -13,60 +15,74 @@ begin_poll-requires g c =
       hand = λ slot found. it.hand ∙ ap (λ (o : TaskSlot g.row.B.Denot). Some (runnable_of o.cell)) (is slot found);
     }
 
-pub returns-in-BeginPoll : goal.returns-in-BeginPoll
-returns-in-BeginPoll g c =
+pub returns-in-BeginPoll-clause-steps : goal.returns-in-BeginPoll-clause-steps
+returns-in-BeginPoll-clause-steps g c =
     let w = c.args.self.now in
     let s = c.args.shared.now in
     let it = c.begin_poll in
-    record {
-      steps = steps_of g.B.Body.left g.B.Scripted.runs g.B.Scripted.holds g.B.Scripted.spot w it.new.self s it.new.shared it.result
-          (poll_begun g.B.Body.left g.B.Scripted.spot c.args.task w it.new.self s it.new.shared it.result (rw c.in-BeginPoll.is at c.requires.sound) it.ensures.event it.ensures.place it.ensures.worker it.ensures.task);
-      same = tt;
-    }
+    steps_none g.B.Body.left g.B.Scripted.runs g.B.Scripted.holds g.B.Scripted.spot c.args.nursery.now.born w it.new.self s it.new.shared it.result c.requires.none_yet
+    (poll_begun g.B.Body.left g.B.Scripted.spot c.args.task w it.new.self s it.new.shared it.result (rw c.in-BeginPoll.is at c.requires.sound) it.ensures.event it.ensures.place it.ensures.worker it.ensures.task)
 
-pub returns-in-Resume : goal.returns-in-Resume
-returns-in-Resume g c =
-    record {
-      steps = steps_of g.B.Body.left g.B.Scripted.runs g.B.Scripted.holds g.B.Scripted.spot c.args.self.now c.resume.new.self c.args.shared.now c.resume.new.shared c.resume.result c.resume.ensures.steps;
-      same = tt;
-    }
+pub returns-in-Resume-clause-steps : goal.returns-in-Resume-clause-steps
+returns-in-Resume-clause-steps g c =
+    steps_none g.B.Body.left g.B.Scripted.runs g.B.Scripted.holds g.B.Scripted.spot c.args.nursery.now.born c.args.self.now c.resume.new.self c.args.shared.now c.resume.new.shared c.resume.result c.requires.none_yet
+    c.resume.ensures.steps
 
-pub returns-in-Act : goal.returns-in-Act
-returns-in-Act g c = record { steps = c.act.ensures.steps; same = c.act.ensures.same }
+pub returns-in-Act-clause-steps : goal.returns-in-Act-clause-steps
+returns-in-Act-clause-steps g c = c.act.ensures.steps
+
+pub returns-in-Act-clause-room : goal.returns-in-Act-clause-room
+returns-in-Act-clause-room g c = c.act.ensures.room
+
+pub returns-in-Act-clause-same : goal.returns-in-Act-clause-same
+returns-in-Act-clause-same g c = c.act.ensures.same
+
+pub returns-in-Act-clause-nobody : goal.returns-in-Act-clause-nobody
+returns-in-Act-clause-nobody g c = c.act.ensures.nobody
 
 pub load_spawn_head-requires : goal.load_spawn_head-requires
 load_spawn_head-requires g c = record { there = slice_get_within c.args.shared.now.seats.items c.args.self.now.index c.requires.sound.seated.seat c.requires.sound.seated.there }
 
-pub returns-in-LoadSpawnHead : goal.returns-in-LoadSpawnHead
-returns-in-LoadSpawnHead g c =
+pub returns-in-LoadSpawnHead-clause-steps : goal.returns-in-LoadSpawnHead-clause-steps
+returns-in-LoadSpawnHead-clause-steps g c =
     let w = c.args.self.now in
     let s = c.args.shared.now in
     let it = c.load_spawn_head in
-    record {
-      steps = steps_of g.B.Body.left g.B.Scripted.runs g.B.Scripted.holds g.B.Scripted.spot w it.new.self s s it.result
-          (spawn_head_loaded g.B.Body.left g.B.Scripted.spot c.args.task w it.new.self s it.result (rw c.in-LoadSpawnHead.is at c.requires.sound) it.ensures.makes it.ensures.goes);
-      same = tt;
-    }
+    steps_none g.B.Body.left g.B.Scripted.runs g.B.Scripted.holds g.B.Scripted.spot c.args.nursery.now.born w it.new.self s s it.result c.requires.none_yet
+    (spawn_head_loaded g.B.Body.left g.B.Scripted.spot c.args.task w it.new.self s it.result (rw c.in-LoadSpawnHead.is at c.requires.sound) it.ensures.makes it.ensures.goes)
 
 pub pend-requires : goal.pend-requires
 pend-requires g c =
-    let it = at_end InPoll.Pend c.args.task c.args.self.now c.args.shared.now (rw c.in-Pend.is at c.requires.sound) (at_pend c.args.task) in
-    record { there = it.there; polled = it.polled; body = it.body; agrees = it.agrees }
+    let sound = rw c.in-Pend.is at c.requires.sound in
+    let here : IsHere InPoll.Pend c.args.task c.args.self.now c.args.shared.now = polled_here InPoll.Pend c.args.task c.args.self.now c.args.shared.now sound refl in
+    record { may = may_pend g.B.Body.left g.B.Scripted.spot InPoll.Pend c.args.task c.args.self.now c.args.shared.now sound (at_pend c.args.task) (pending c.args.task) here c.requires.whole lets_seen (removes_seen g.row.B.Denot) }
 
-pub returns-in-Pend : goal.returns-in-Pend
-returns-in-Pend g c =
+pub returns-in-Pend-clause-steps : goal.returns-in-Pend-clause-steps
+returns-in-Pend-clause-steps g c =
     let w = c.args.self.now in
     let s = c.args.shared.now in
     let it = c.pend in
-    record {
-      steps = steps_of g.B.Body.left g.B.Scripted.runs g.B.Scripted.holds g.B.Scripted.spot w it.new.self s it.new.shared it.result
-          (poll_pended g.B.Body.left g.B.Scripted.spot c.args.task w it.new.self s it.new.shared it.result (rw c.in-Pend.is at c.requires.sound) it.ensures.event it.ensures.worker it.ensures.task);
-      same = tt;
-    }
+    let sound = rw c.in-Pend.is at c.requires.sound in
+    let here : IsHere InPoll.Pend c.args.task w s = polled_here InPoll.Pend c.args.task w s sound refl in
+    steps_none g.B.Body.left g.B.Scripted.runs g.B.Scripted.holds g.B.Scripted.spot c.args.nursery.now.born w it.new.self s it.new.shared it.result c.requires.none_yet
+    (poll_ends g.B.Body.left g.B.Scripted.spot InPoll.Pend c.args.task w s sound (at_pend c.args.task) (pending c.args.task) here c.requires.whole lets_seen (removes_seen g.row.B.Denot) it.new.self it.new.shared it.result it.ensures.event (λ p vs suits. refl) here.waits (sound.stops here.slot here.there) it.ensures.pends)
 
-pub unreachable-requires : goal.unreachable-requires
-unreachable-requires g c =
-    never_joins c.args.task c.in-JoinGate.request c.args.self.now c.args.shared.now (rw c.in-JoinGate.is at c.requires.sound)
+pub join_gate-requires : goal.join_gate-requires
+join_gate-requires g c =
+    let w = c.args.self.now in
+    let s = c.args.shared.now in
+    let k = c.in-JoinGate.request in
+    let sound = rw c.in-JoinGate.is at c.requires.sound in
+    let it = joiner c.args.task k w s sound c.requires.whole in
+    record { there = slice_get_within s.requests.items k it.r it.may.there; few = sound.role.few; made = place_at c.args.task k w s it }
+
+pub returns-in-JoinGate-clause-steps : goal.returns-in-JoinGate-clause-steps
+returns-in-JoinGate-clause-steps g c =
+    let w = c.args.self.now in
+    let s = c.args.shared.now in
+    let it = c.join_gate in
+    steps_none g.B.Body.left g.B.Scripted.runs g.B.Scripted.holds g.B.Scripted.spot c.args.nursery.now.born w it.new.self s it.new.shared it.result c.requires.none_yet
+    (gate_joined g.B.Body.left g.B.Scripted.spot c.args.task c.in-JoinGate.request w it.new.self s it.new.shared it.result (rw c.in-JoinGate.is at c.requires.sound) c.requires.whole it.ensures.event it.ensures.worker it.ensures.opens it.ensures.kept)
 
 pub remove_task-requires-clause-held : goal.remove_task-requires-clause-held
 remove_task-requires-clause-held g c =
@@ -83,13 +99,10 @@ remove_task-requires-clause-number g c =
     let over = (removes_here c.args.task w s sound.here c.requires.whole).0 in
     omega (arith, slice_get_within s.tasks.items c.args.task over.slot over.there, sound.homes.few)
 
-pub returns-in-RemoveTask : goal.returns-in-RemoveTask
-returns-in-RemoveTask g c =
+pub returns-in-RemoveTask-clause-steps : goal.returns-in-RemoveTask-clause-steps
+returns-in-RemoveTask-clause-steps g c =
     let w = c.args.self.now in
     let s = c.args.shared.now in
     let it = c.remove_task in
-    record {
-      steps = steps_of g.B.Body.left g.B.Scripted.runs g.B.Scripted.holds g.B.Scripted.spot w it.new.self s (record s { set = it.new.set }) it.result
-          (task_removed g.B.Body.left g.B.Scripted.spot c.args.task w it.new.self s it.new.set it.result (rw c.in-RemoveTask.is at c.requires.sound) c.requires.whole it.ensures.event it.ensures.goes it.ensures.set);
-      same = tt;
-    }
+    steps_none g.B.Body.left g.B.Scripted.runs g.B.Scripted.holds g.B.Scripted.spot c.args.nursery.now.born w it.new.self s (record s { set = it.new.set }) it.result c.requires.none_yet
+    (task_removed g.B.Body.left g.B.Scripted.spot c.args.task w it.new.self s it.new.set it.result (rw c.in-RemoveTask.is at c.requires.sound) c.requires.whole it.ensures.event it.ensures.goes it.ensures.set)

@@ -1,11 +1,12 @@
 use Rattle.std.proofs.Common.{◌≡◌, arith, refl}
+use Rattle.exec_steps.proofs.Dedicated.{few_here, own_there}
 use Rattle.exec_steps.proofs.{Popping.{alone_popped, pop_exchanged, pop_head_loaded, pop_stored}, PopLeads.set_closed}
 use Rattle.exec_steps.proofs.parts.worker.Worker.pop.Goals as goal
 
 pub pop_alone-requires : goal.pop_alone-requires
 pop_alone-requires g c =
     let sound = rw c.in-PopAlone.is at c.requires.sound in
-    record { there = omega (arith, sound.index, sound.seated.many); closed = set_closed _ c.args.back c.args.self.now c.args.shared.now sound; shards = sound.shards; few = omega (arith, sound.index, sound.config.few) }
+    record { there = own_there _ _ _ sound; closed = set_closed _ c.args.back c.args.self.now c.args.shared.now sound; shards = sound.shards; few = omega (arith, few_here _ _ _ sound refl) }
 
 pub returns-in-PopAlone : goal.returns-in-PopAlone
 returns-in-PopAlone g c =
@@ -14,7 +15,7 @@ returns-in-PopAlone g c =
 pub load_pop_head-requires : goal.load_pop_head-requires
 load_pop_head-requires g c =
     let sound = rw c.in-LoadPopHead.is at c.requires.sound in
-    record { there = omega (arith, sound.index, sound.seated.many); closed = set_closed _ c.args.back c.args.self.now c.args.shared.now sound; shards = sound.shards; few = omega (arith, sound.index, sound.config.few) }
+    record { there = own_there _ _ _ sound; closed = set_closed _ c.args.back c.args.self.now c.args.shared.now sound; shards = sound.shards; few = omega (arith, few_here _ _ _ sound refl) }
 
 pub returns-in-LoadPopHead : goal.returns-in-LoadPopHead
 returns-in-LoadPopHead g c =
@@ -23,7 +24,7 @@ returns-in-LoadPopHead g c =
 pub exchange_pop-requires : goal.exchange_pop-requires
 exchange_pop-requires g c =
     let sound = rw c.in-ExchangePop.is at c.requires.sound in
-    record { there = omega (arith, sound.index, sound.seated.many); closed = set_closed _ c.args.back c.args.self.now c.args.shared.now sound; shards = sound.shards; few = omega (arith, sound.index, sound.config.few); seen = λ chair there. (sound.queue chair there).1 }
+    record { there = own_there _ _ _ sound; closed = set_closed _ c.args.back c.args.self.now c.args.shared.now sound; shards = sound.shards; few = omega (arith, few_here _ _ _ sound refl); seen = λ chair there. (sound.queue chair there).1 }
 
 pub returns-in-ExchangePop : goal.returns-in-ExchangePop
 returns-in-ExchangePop g c =
@@ -32,7 +33,7 @@ returns-in-ExchangePop g c =
 pub store_pop-requires : goal.store_pop-requires
 store_pop-requires g c =
     let sound = rw c.in-StorePop.is at c.requires.sound in
-    record { there = omega (arith, sound.index, sound.seated.many); lone = λ chair there. (sound.queue chair there).1; unclaimed = λ chair there. (sound.queue chair there).2 }
+    record { there = own_there _ _ _ sound; lone = λ chair there. (sound.queue chair there).1; unclaimed = λ chair there. (sound.queue chair there).2 }
 
 pub returns-in-StorePop : goal.returns-in-StorePop
 returns-in-StorePop g c =

@@ -1,9 +1,12 @@
 use Rattle.std.proofs.Common.{◌≡◌, ap, arith, length, refl}
+use Rattle.exec_steps.proofs.Dedicated.{few_here, own_there}
+use Rattle.exec_moves.specs.declared.{handing.InPush.InPush, place.Place.Place}
+use Rattle.exec_steps.proofs.CallNext.{push_next}
 use Rattle.exec_steps.proofs.Pushing.{flowed_over, oldest_stored, push_head_loaded, value_stored}
 use Rattle.exec_steps.proofs.parts.worker.Worker.push.Goals as goal
 
 pub load_push_head-requires : goal.load_push_head-requires
-load_push_head-requires g c = let sound = rw c.in-LoadPushHead.is at c.requires.sound in record { there = omega (arith, sound.index, sound.seated.many) }
+load_push_head-requires g c = let sound = rw c.in-LoadPushHead.is at c.requires.sound in record { there = own_there _ _ _ sound }
 
 pub returns-in-LoadPushHead : goal.returns-in-LoadPushHead
 returns-in-LoadPushHead g c =
@@ -12,17 +15,17 @@ returns-in-LoadPushHead g c =
 pub store_value-requires : goal.store_value-requires
 store_value-requires g c =
     let sound = rw c.in-StoreValue.is at c.requires.sound in
-    record { there = omega (arith, sound.index, sound.seated.many); hand = sound.hand; room = λ chair there. (sound.queue chair there).1; whole = λ chair there. (sound.queue chair there).0 }
+    record { there = own_there _ _ _ sound; hand = sound.hand; room = λ chair there. (sound.queue chair there).1; whole = λ chair there. (sound.queue chair there).0 }
 
 pub returns-in-StoreValue : goal.returns-in-StoreValue
 returns-in-StoreValue g c =
-    record { steps = value_stored g.B.Body.left g.B.Scripted.spot c.args.back c.args.self.now c.store_value.new.self c.args.shared.now c.store_value.new.shared c.store_value.result c.in-StoreValue.count (rw c.in-StoreValue.is at c.requires.sound) c.store_value.ensures.makes c.store_value.ensures.same c.store_value.ensures.chair c.store_value.ensures.kept }
+    record { steps = value_stored g.B.Body.left g.B.Scripted.spot c.args.back c.args.self.now c.store_value.new.self c.args.shared.now c.store_value.new.shared c.store_value.result c.in-StoreValue.count (rw c.in-StoreValue.is at c.requires.sound) (push_next g.B.Body.left g.B.Scripted.spot c.args.back (Place.Push (InPush.StoreValue c.in-StoreValue.count) c.args.back) c.args.self.now c.args.shared.now (rw c.in-StoreValue.is at c.requires.sound) (record { callbacks = refl; closes = refl; closing = refl; spare = refl; bare = refl; held = λ x h. h.0; batch = λ ms h. h })) c.store_value.ensures.event c.store_value.ensures.goes c.store_value.ensures.chair c.store_value.ensures.kept }
 
 pub flow_over-requires : goal.flow_over-requires
 flow_over-requires g c =
     let sound = rw c.in-FlowOver.is at c.requires.sound in
     let none = sound.loot.none refl in
-    record { there = omega (arith, sound.index, sound.seated.many); full = λ chair there. (sound.queue chair there).1; unspent = λ chair there. (sound.queue chair there).2; whole = λ chair there. (sound.queue chair there).0; empty = none; places = omega (arith, sound.loot.places, ap length none) }
+    record { there = own_there _ _ _ sound; full = λ chair there. (sound.queue chair there).1; unspent = λ chair there. (sound.queue chair there).2; whole = λ chair there. (sound.queue chair there).0; empty = none; places = omega (arith, sound.loot.places, ap length none) }
 
 pub returns-in-FlowOver : goal.returns-in-FlowOver
 returns-in-FlowOver g c =
@@ -31,7 +34,7 @@ returns-in-FlowOver g c =
 pub store_oldest-requires : goal.store_oldest-requires
 store_oldest-requires g c =
     let sound = rw c.in-StoreOldest.is at c.requires.sound in
-    record { there = omega (arith, sound.index, sound.seated.many); empty = λ chair there. sound.queue chair there }
+    record { there = own_there _ _ _ sound; empty = λ chair there. sound.queue chair there }
 
 pub returns-in-StoreOldest : goal.returns-in-StoreOldest
 returns-in-StoreOldest g c =

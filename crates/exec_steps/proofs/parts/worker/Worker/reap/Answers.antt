@@ -3,7 +3,7 @@ use Rattle.exec_request.specs.States.{as_answer}
 use Rattle.exec_driver.specs.Steps.{ReapsNext}
 use Rattle.exec_machine.specs.{Requests.{joined_if, reaped}, declared.event.Event.TheVariants.{Reap, Serve}}
 use Rattle.exec_moves.specs.{Serve.after_permit, declared.place.{AfterPermit.AfterPermit, InService.InService, Place.Place}}
-use Rattle.exec_steps.{specs.{declared.parts.{names.Names.Names, record.Record.Record, worker.Worker.Worker}, Records.number_in, Submitting.after_giving_up, Flown.operations, View.driver_of, Works.Steps}, proofs.{Dating.set_changes, Raising.{none_waits, raised_first, sound_taken, takes_by}, Settled.judged_steps, Reaped.{reaps_none, reaps_quiet, tells_none}, Reporting.{none_of, of_it, reaped_lawful, reaped_one_part, reaped_plain, reaped_room, reaped_within}, Sweeping.none_reaped, parts.worker.Worker.reap.Goals.{then-has_completion, else-has_completion}}}
+use Rattle.exec_steps.{specs.{declared.parts.{names.Names.Names, record.Record.Record, worker.Worker.Worker}, Records.number_in, Submitting.after_giving_up, Flown.operations, View.driver_of, Works.Steps}, proofs.{Dating.set_changes, Raising.{none_waits, raised_first, sound_taken, takes_by}, Settled.judged_steps, Reaped.{reaps_none, reaps_quiet, tells_none}, Reporting.{none_of, of_it, reaped_countable, reaped_lawful, reaped_room, reaped_within}, Sweeping.none_reaped, parts.worker.Worker.reap.Goals.{then-has_completion, else-has_completion}}}
 use Rattle.exec_steps.proofs.parts.worker.Worker.reap.Goals as goal
 
 pub returns-in_default : goal.returns-in_default
@@ -84,8 +84,8 @@ tell_reaped-requires-clause-lawful g c =
     let waits = none_waits q w0 w s0 s c.requires.sound takes sound in
     reaped_lawful q w s sound (driver_of (record w { home = record w.home { driver = c.reap-reaped.new.self } })) s.opens c.reap-reaped.new.opens w.home.deferred c.reap-reaped.new.deferred c.in-Some.reaped c.in-Some.ensures.reaps c.request-request.result c.index_mut-2.result.now c.request-request.ensures c.index_mut-2.ensures.value
 
-pub tell_reaped-requires-clause-one_part : goal.tell_reaped-requires-clause-one_part
-tell_reaped-requires-clause-one_part g c =
+pub tell_reaped-requires-clause-bytes : goal.tell_reaped-requires-clause-bytes
+tell_reaped-requires-clause-bytes g c =
     let w0 : Worker = c.args.self.now in
     let s0 = c.args.shared.now in
     let w : Worker = c.take_raises.new.self in
@@ -94,19 +94,7 @@ tell_reaped-requires-clause-one_part g c =
     let takes = takes_by w0 w s0 s c.index_mut.result.now c.take_raises.new.seat (λ chair there. c.index_mut.ensures.value ∙ get_or_from_slice_get s0.seats.items w0.index chair c.index_mut.result.now there) c.take_raises.ensures.driver c.take_raises.ensures.seat c.take_raises.ensures.same refl refl in
     let sound = sound_taken q w0 w s0 s c.requires.sound takes in
     let waits = none_waits q w0 w s0 s c.requires.sound takes sound in
-    reaped_one_part q w s sound (driver_of (record w { home = record w.home { driver = c.reap-reaped.new.self } })) s.opens c.reap-reaped.new.opens w.home.deferred c.reap-reaped.new.deferred c.in-Some.reaped c.in-Some.ensures.reaps c.request-request.result c.index_mut-2.result.now c.request-request.ensures c.index_mut-2.ensures.value
-
-pub tell_reaped-requires-clause-plain : goal.tell_reaped-requires-clause-plain
-tell_reaped-requires-clause-plain g c =
-    let w0 : Worker = c.args.self.now in
-    let s0 = c.args.shared.now in
-    let w : Worker = c.take_raises.new.self in
-    let s = record s0 { seats = with_item s0.seats w0.index c.take_raises.new.seat } in
-    let q : Place = Place.Service (InService.Reap c.args.reaping) c.args.service in
-    let takes = takes_by w0 w s0 s c.index_mut.result.now c.take_raises.new.seat (λ chair there. c.index_mut.ensures.value ∙ get_or_from_slice_get s0.seats.items w0.index chair c.index_mut.result.now there) c.take_raises.ensures.driver c.take_raises.ensures.seat c.take_raises.ensures.same refl refl in
-    let sound = sound_taken q w0 w s0 s c.requires.sound takes in
-    let waits = none_waits q w0 w s0 s c.requires.sound takes sound in
-    reaped_plain q w s sound (driver_of (record w { home = record w.home { driver = c.reap-reaped.new.self } })) s.opens c.reap-reaped.new.opens w.home.deferred c.reap-reaped.new.deferred c.in-Some.reaped c.in-Some.ensures.reaps c.request-request.result c.index_mut-2.result.now c.request-request.ensures c.index_mut-2.ensures.value
+    reaped_countable q w s sound (driver_of (record w { home = record w.home { driver = c.reap-reaped.new.self } })) s.opens c.reap-reaped.new.opens w.home.deferred c.reap-reaped.new.deferred c.in-Some.reaped c.in-Some.ensures.reaps c.request-request.result c.index_mut-2.result.now c.request-request.ensures c.index_mut-2.ensures.value
 
 pub returns : goal.returns
 returns g c =
@@ -139,7 +127,7 @@ returns g c =
             more = λ yes. elim c.if-has_completion.branch [ then-has_completion x ↦ x.back-is | else-has_completion x ↦ absurd (false≢true (sym x.if-has_completion.false ∙ yes)) ];
             none = λ no. elim c.if-has_completion.branch [ then-has_completion x ↦ absurd (false≢true (sym no ∙ x.if-has_completion.true)) | else-has_completion x ↦ x.back-is ];
             event = c.tell_reaped.ensures.event ∙ ap (λ k. Reap k done.given (as_answer done.ended)) number;
-            records = set_changes s.requests.items (number_in n done.id.0) j r.reaped.has.r c.index_mut-2.result.now c.tell_reaped.new.it f number there c.index_mut-2.ensures.value c.tell_reaped.ensures.id c.tell_reaped.ensures.shown refl;
+            records = set_changes s.requests.items (number_in n done.id.0) j r.reaped.has.r c.index_mut-2.result.now c.tell_reaped.new.it f number there c.index_mut-2.ensures.value c.tell_reaped.ensures.id c.tell_reaped.ensures.shown c.tell_reaped.ensures.sent refl refl;
             shared = refl;
             ended = c.tell_reaped.ensures.ended ∙ ap (joined_if (is_some (as_answer done.ended)) w.names.ended.items) number;
             capacity = c.tell_reaped.ensures.capacity;

@@ -1,6 +1,6 @@
 use Rattle.std.proofs.{Common.{Some, refl, sym, ap, ◌∙◌}, lemmas.Option.{slice_get-get_or, slice_get_within}}
 use Rattle.exec_moves.specs.declared.place.InPoll.{InPoll}
-use Rattle.exec_steps.{specs.{Sound.may_resume, declared.parts.task_slot.TaskSlot.TaskSlot}, proofs.{Facts.same_thing, Here.polled_here, Taking.{never_resumes, request_there, timer_there, wake_resumed}}}
+use Rattle.exec_steps.{specs.{Sound.may_resume, declared.parts.task_slot.TaskSlot.TaskSlot}, proofs.{Facts.same_thing, Here.{IsHere, polled_here}, TaskKnows.{request_known, timer_known}, TaskTakes.{never_resumes, wake_taken}}}
 use Rattle.exec_steps.proofs.parts.worker.Worker.resume.Goals as goal
 
 pub take_wake-requires : goal.take_wake-requires
@@ -15,7 +15,8 @@ returns-in-Woken g c =
     let it = polled_here InPoll.Resume c.args.task c.args.self.now c.args.shared.now c.requires.sound refl in
     let there = slice_get-get_or items c.args.task slot (slice_get_within items c.args.task it.slot it.there) ∙ ap (λ z. Some z) (sym c.index.ensures) in
     let is = c.take_wake.ensures in
-    record { steps = wake_resumed g.B.Body.left g.B.Scripted.spot g.B.Scripted.answered c.args.task c.args.self.now c.take_wake.new.self c.args.shared.now c.take_wake.new.shared c.take_wake.result slot c.requires.sound there (sym c.waiting.ensures ∙ c.in-Woken.is) is.event is.worker is.task }
+    let waits = ap (λ (x : TaskSlot g.row.B.Denot). x.waiting) (same_thing it.slot slot (sym it.there ∙ there)) ∙ sym c.waiting.ensures ∙ c.in-Woken.is in
+    record { steps = wake_taken g.B.Body.left g.B.Scripted.spot g.B.Scripted.answered c.args.task c.args.self.now c.take_wake.new.self c.args.shared.now c.take_wake.new.shared c.take_wake.result c.requires.sound it waits is.event is.worker is.task }
 
 pub resume_timer-requires : goal.resume_timer-requires
 resume_timer-requires g c =
@@ -27,7 +28,8 @@ resume_timer-requires g c =
     record {
       sound = c.requires.sound;
       waits = λ o found. ap (λ (x : TaskSlot g.row.B.Denot). x.waiting) (same_thing o slot (sym found ∙ there)) ∙ what;
-      asleep = timer_there c.args.task c.in-Timer.timer c.args.self.now c.args.shared.now slot c.requires.sound there what;
+      whole = c.requires.whole;
+      asleep = timer_known c.args.task c.in-Timer.timer c.args.self.now c.args.shared.now slot c.requires.whole there what;
     }
 
 pub returns-in-Timer : goal.returns-in-Timer
@@ -43,7 +45,8 @@ resume_request-requires g c =
     record {
       sound = c.requires.sound;
       waits = λ o found. ap (λ (x : TaskSlot g.row.B.Denot). x.waiting) (same_thing o slot (sym found ∙ there)) ∙ what;
-      there = request_there c.args.task c.in-Request.request c.args.self.now c.args.shared.now slot c.requires.sound there what;
+      whole = c.requires.whole;
+      there = request_known c.args.task c.in-Request.request c.args.self.now c.args.shared.now slot c.requires.whole there what;
     }
 
 pub returns-in-Request : goal.returns-in-Request

@@ -1,30 +1,99 @@
-use Rattle.std.proofs.{Common.{Some, refl, sym, ap, ◌∙◌}, lemmas.Option.{slice_get-get_or, slice_get_within}}
+use Rattle.std.proofs.{Common.{◌≡◌, ◌≢◌, true, false, not, Some, refl, sym, ap, ◌∙◌, inl}, lemmas.Option.slice_get_within}
+use Rattle.exec_machine.specs.Tests.{is_unsent}
 use Rattle.exec_moves.specs.declared.place.InPoll.{InPoll}
-use Rattle.exec_steps.proofs.{Here.polled_here, Pending.{at_end, at_resume}, Receiving.{output_ready, output_taken}, Taking.request_awaited}
+use Rattle.exec_steps.proofs.{Facts.{by_not, by_not_not}, FiringRemoved.removes_seen, Here.polled_here, MailLets.found_at, Pending.at_resume, TaskForwards.output_asked, TaskGot.{may_take_own, output_got}, TaskLooks.{may_ask_output, may_hear_output, newest_awaited, output_looked, unsent_is}, TaskOverLets.lets_seen, TaskOverPolls.looking, TaskPendEnds.{may_pend, poll_ends}, TaskPendLooks.{request_pends, stops_request}}
 use Rattle.exec_steps.proofs.parts.worker.Worker.resume_request.Goals as goal
+
+pub hear_output-requires : goal.hear_output-requires
+hear_output-requires g c =
+    let w = c.args.self.now in
+    let s = c.args.shared.now in
+    let it = polled_here InPoll.Resume c.args.task w s c.requires.sound refl in
+    let r = c.index-record.result.now in
+    let at_r = found_at s.requests.items c.args.request r c.requires.there c.index-record.ensures in
+    record { may = may_hear_output c.args.task c.args.request w s r c.requires.whole it (c.requires.waits it.slot it.there) at_r (by_not (is_unsent r.shown.forwarding) (sym c.was_forwarded.ensures ∙ c.if-was_forwarded.true)) }
+
+pub returns-then-was_forwarded : goal.returns-then-was_forwarded
+returns-then-was_forwarded g c =
+    let w = c.args.self.now in
+    let s = c.args.shared.now in
+    let it = polled_here InPoll.Resume c.args.task w s c.requires.sound refl in
+    let r = c.index-record.result.now in
+    let at_r = found_at s.requests.items c.args.request r c.requires.there c.index-record.ensures in
+    record {
+      steps = output_looked g.B.Body.left g.B.Scripted.spot g.B.Scripted.answered c.args.task c.args.request w c.hear_output.new.self s c.hear_output.new.shared c.hear_output.result r c.requires.sound c.requires.whole it (c.requires.waits it.slot it.there) at_r
+          (by_not (is_unsent r.shown.forwarding) (sym c.was_forwarded.ensures ∙ c.if-was_forwarded.true)) c.hear_output.ensures.hears;
+    }
+
+pub ask_output-requires : goal.ask_output-requires
+ask_output-requires g c =
+    let w = c.args.self.now in
+    let s = c.args.shared.now in
+    let it = polled_here InPoll.Resume c.args.task w s c.requires.sound refl in
+    let r = c.index-record.result.now in
+    let at_r = found_at s.requests.items c.args.request r c.requires.there c.index-record.ensures in
+    let newest = newest_awaited InPoll.Resume c.args.task c.args.request w s c.requires.whole it (c.requires.waits it.slot it.there) in
+    record { may = may_ask_output InPoll.Resume c.args.task c.args.request w s r c.requires.sound c.requires.whole it newest at_r (by_not_not (is_unsent r.shown.forwarding) (sym c.was_forwarded.ensures ∙ c.if-was_forwarded.false)) c.if-record-self.true }
+
+pub returns-then-record-self : goal.returns-then-record-self
+returns-then-record-self g c =
+    let w = c.args.self.now in
+    let s = c.args.shared.now in
+    let it = polled_here InPoll.Resume c.args.task w s c.requires.sound refl in
+    let r = c.index-record.result.now in
+    let at_r = found_at s.requests.items c.args.request r c.requires.there c.index-record.ensures in
+    record {
+      steps = output_asked g.B.Body.left g.B.Scripted.spot c.args.task c.args.request w c.ask_output.new.self s c.ask_output.new.shared c.ask_output.result r c.requires.sound c.requires.whole it (c.requires.waits it.slot it.there) at_r
+          (by_not_not (is_unsent r.shown.forwarding) (sym c.was_forwarded.ensures ∙ c.if-was_forwarded.false)) c.if-record-self.true c.ask_output.ensures.asks;
+    }
 
 pub take_output-requires : goal.take_output-requires
 take_output-requires g c =
-    let it = polled_here InPoll.Resume c.args.task c.args.self.now c.args.shared.now c.requires.sound refl in
-    let r = c.index.result.now in
-    let at_request = slice_get-get_or c.args.shared.now.requests.items c.args.request r c.requires.there ∙ ap (λ y. Some y) (sym c.index.ensures) in
-    let may = output_ready c.args.task c.args.request r it.slot c.args.self.now c.args.shared.now c.requires.sound it.there (c.requires.waits it.slot it.there) at_request (sym c.is_over.ensures ∙ c.if-is_over.true) in
-    record { there = slice_get_within c.args.shared.now.tasks.items c.args.task it.slot it.there; known = c.requires.there; held = may.held; holds = may.holds; ready = may.ready }
+    let w = c.args.self.now in
+    let s = c.args.shared.now in
+    let it = polled_here InPoll.Resume c.args.task w s c.requires.sound refl in
+    let r = c.index-record.result.now in
+    let at_r = found_at s.requests.items c.args.request r c.requires.there c.index-record.ensures in
+    let newest = newest_awaited InPoll.Resume c.args.task c.args.request w s c.requires.whole it (c.requires.waits it.slot it.there) in
+    let may = may_take_own InPoll.Resume c.args.task c.args.request w s r c.requires.sound c.requires.whole it newest at_r (by_not_not (is_unsent r.shown.forwarding) (sym c.was_forwarded.ensures ∙ c.if-was_forwarded.false)) c.if-record-self.false (sym c.is_over.ensures ∙ c.if-is_over.true) in
+    record {
+      there = slice_get_within s.tasks.items c.args.task it.slot it.there;
+      known = c.requires.there;
+      holds = may.holds;
+      ready = may.ready;
+    }
 
 pub returns-then-is_over : goal.returns-then-is_over
 returns-then-is_over g c =
-    let it = polled_here InPoll.Resume c.args.task c.args.self.now c.args.shared.now c.requires.sound refl in
-    record { steps = output_taken g.B.Body.left g.B.Scripted.spot g.B.Scripted.answered c.args.task c.args.request c.args.self.now c.take_output.new.self c.args.shared.now c.take_output.new.shared c.take_output.result it.slot c.requires.sound it.there (c.requires.waits it.slot it.there) c.take_output.ensures.took }
+    let w = c.args.self.now in
+    let s = c.args.shared.now in
+    let it = polled_here InPoll.Resume c.args.task w s c.requires.sound refl in
+    let r = c.index-record.result.now in
+    let at_r = found_at s.requests.items c.args.request r c.requires.there c.index-record.ensures in
+    record {
+      steps = output_got g.B.Body.left g.B.Scripted.spot g.B.Scripted.answered c.args.task c.args.request w c.take_output.new.self s c.take_output.new.shared c.take_output.result r c.requires.sound c.requires.whole it (c.requires.waits it.slot it.there) at_r
+          (by_not_not (is_unsent r.shown.forwarding) (sym c.was_forwarded.ensures ∙ c.if-was_forwarded.false)) c.if-record-self.false c.take_output.ensures.took;
+    }
 
 pub pend-requires : goal.pend-requires
 pend-requires g c =
-    let it = at_end InPoll.Resume c.args.task c.args.self.now c.args.shared.now c.requires.sound (at_resume c.args.task) in
-    record { there = it.there; polled = it.polled; body = it.body; agrees = it.agrees }
+    let w = c.args.self.now in
+    let s = c.args.shared.now in
+    let it = polled_here InPoll.Resume c.args.task w s c.requires.sound refl in
+    record { may = may_pend g.B.Body.left g.B.Scripted.spot InPoll.Resume c.args.task w s c.requires.sound (at_resume c.args.task) (looking c.args.task) it c.requires.whole lets_seen (removes_seen g.row.B.Denot) }
 
 pub returns : goal.returns
 returns g c =
-    let it = polled_here InPoll.Resume c.args.task c.args.self.now c.args.shared.now c.requires.sound refl in
-    let r = c.index.result.now in
-    let at_request = slice_get-get_or c.args.shared.now.requests.items c.args.request r c.requires.there ∙ ap (λ y. Some y) (sym c.index.ensures) in
-    let is = c.pend.ensures in
-    record { steps = request_awaited g.B.Body.left g.B.Scripted.spot c.args.task c.args.request c.args.self.now c.pend.new.self c.args.shared.now c.pend.new.shared c.pend.result it.slot r c.requires.sound it.there (c.requires.waits it.slot it.there) at_request (sym c.is_over.ensures ∙ c.if-is_over.false) (record { event = is.event; goes = is.worker; turns = is.task }) }
+    let w = c.args.self.now in
+    let s = c.args.shared.now in
+    let it = polled_here InPoll.Resume c.args.task w s c.requires.sound refl in
+    let r = c.index-record.result.now in
+    let at_r = found_at s.requests.items c.args.request r c.requires.there c.index-record.ensures in
+    let unsent = by_not_not (is_unsent r.shown.forwarding) (sym c.was_forwarded.ensures ∙ c.if-was_forwarded.false) in
+    let going = sym c.is_over.ensures ∙ c.if-is_over.false in
+    let waits = c.requires.waits it.slot it.there in
+    let stops = stops_request c.args.request w.index it.slot.waiting s r waits at_r c.if-record-self.false going in
+    record {
+      steps = poll_ends g.B.Body.left g.B.Scripted.spot InPoll.Resume c.args.task w s c.requires.sound (at_resume c.args.task) (looking c.args.task) it c.requires.whole lets_seen (removes_seen g.row.B.Denot) c.pend.new.self c.pend.new.shared c.pend.result c.pend.ensures.event
+          (request_pends g.B.Body.left g.B.Scripted.spot c.args.task c.args.request w s it.slot r it.there waits at_r unsent c.if-record-self.false going) stops.0 stops.1 c.pend.ensures.pends;
+    }

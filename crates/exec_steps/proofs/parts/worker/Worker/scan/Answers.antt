@@ -1,9 +1,10 @@
 use Rattle.std.proofs.Common.{refl, ap, length, arith}
+use Rattle.exec_steps.proofs.Dedicated.{few_here, own_there}
 use Rattle.exec_steps.proofs.{Searching.{half_moved, scan_head_loaded, their_head_loaded, their_tail_loaded}, Releasing.{half_released, moved_stored}, Stealing.half_claimed}
 use Rattle.exec_steps.proofs.parts.worker.Worker.scan.Goals as goal
 
 pub load_scan_head-requires : goal.load_scan_head-requires
-load_scan_head-requires g c = record { there = omega (arith, c.requires.sound.index, c.requires.sound.seated.many); workers = c.requires.sound.config.workers }
+load_scan_head-requires g c = record { there = own_there _ _ _ c.requires.sound; workers = c.requires.sound.config.workers }
 
 pub returns-in-LoadScanHead : goal.returns-in-LoadScanHead
 returns-in-LoadScanHead g c =
@@ -60,7 +61,7 @@ pub store_moved-requires : goal.store_moved-requires
 store_moved-requires g c =
     let sound = rw c.in-StoreMoved.is at c.requires.sound in
     record {
-      there = omega (arith, sound.index, sound.seated.many);
+      there = own_there _ _ _ sound;
       room = λ chair there. omega (arith, sound.loot.few, (sound.queue chair there).1);
       whole = λ chair there. (sound.queue chair there).0;
     }

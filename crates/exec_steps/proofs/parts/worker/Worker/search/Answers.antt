@@ -7,7 +7,7 @@ returns-in-LoadSearchCount g c =
     record { steps = search_count_loaded g.B.Body.left g.B.Scripted.spot c.args.self.now c.load_search_count.new.self c.args.shared.now c.load_search_count.result (rw c.in-LoadSearchCount.is at c.requires.sound) (c.load_search_count.ensures.makes c.args.shared.now.config refl) c.load_search_count.ensures.goes }
 
 pub add_search_count-requires : goal.add_search_count-requires
-add_search_count-requires g c = record { few = count_fits c.args.self.now c.args.shared.now c.requires.whole (omega (arith, c.requires.sound.seated.many, c.requires.sound.config.few)) }
+add_search_count-requires g c = record { few = count_fits c.args.self.now c.args.shared.now c.requires.whole c.requires.sound.config.few }
 
 pub returns-in-AddSearchCount : goal.returns-in-AddSearchCount
 returns-in-AddSearchCount g c =

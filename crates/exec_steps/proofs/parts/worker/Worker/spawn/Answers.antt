@@ -2,8 +2,7 @@ use Rattle.std.proofs.{Common.{◌≡◌, ℕ, ◌<◌, length, List, not, true,
 use Rattle.exec_base.specs.declared.error.Error.{Error}
 use Rattle.exec_task.specs.declared.{body.Said.Said, runnable.Runnable.Runnable}
 use Rattle.exec_machine.specs.declared.event.Event.{Event}
-use Rattle.exec_moves.specs.Send.{after_spawn}
-use Rattle.exec_steps.{specs.{declared.parts.{shared.Shared.Shared, task_slot.TaskSlot.TaskSlot}, Pooled.MakesTask, Works.TurnsSlot}, proofs.Facts.{by_not_not, same_thing}}
+use Rattle.exec_steps.{specs.{declared.parts.{shared.Shared.Shared, task_slot.TaskSlot.TaskSlot}, Pooled.MakesTask, Tests.after_spawn_of, Works.TurnsSlot}, proofs.Facts.{by_not_not, same_thing}}
 use Rattle.exec_steps.proofs.parts.worker.Worker.spawn.Goals as goal
 
 told_so : {B : Type 0} (t : ℕ) (items : List (TaskSlot B)) (old new : TaskSlot B) (x : Said) → t < length items → old ≡ get_or items t old → new ≡ record old { told = Some x } → (slot : TaskSlot B) → slice_get items t ≡ Some slot → slice_set items t new ≡ slice_set items t (record slot { told = Some x })
@@ -26,7 +25,7 @@ returns-in-Ok-Some-clause-made g c =
       middle = c.make_task.new.self;
       makes = makes;
       told = told.task;
-      worker = told.goes ∙ ap (λ (x : Shared g.row.B.Denot). record w { place = after_spawn x.config c.args.task; hand = Some r }) makes.kept;
+      worker = told.goes ∙ ap (λ (x : Shared g.row.B.Denot). record w { place = after_spawn_of x.config.workers c.args.task w; hand = Some r }) makes.kept;
       event = told.event ∙ ap (λ k. Event.Spawn r.task.0 k) c.name-script.ensures;
     }
 

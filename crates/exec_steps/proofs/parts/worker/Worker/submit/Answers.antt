@@ -1,5 +1,5 @@
 use Rattle.std.proofs.Common.{◌≡◌, true, false, sym, ◌∙◌, rules}
-use Rattle.exec_steps.{specs.View.driver_of, proofs.{Idling.no_gate, Staging.none_there}}
+use Rattle.exec_steps.{specs.View.driver_of, proofs.Staging.none_there}
 use Rattle.exec_steps.proofs.parts.worker.Worker.submit.Goals as goal
 
 pub expire-requires : goal.expire-requires
@@ -15,13 +15,24 @@ enrol-requires g c =
 
 pub try_gate-requires : goal.try_gate-requires
 try_gate-requires g c =
-    record { gated = record { submits = record { gate = c.args.gate; service = c.args.service; sound = c.requires.sound; lists = c.lists_requests.ensures }; gated = λ none. no_gate c.args.gate c.in-Some.file (driver_of c.args.self.now) none c.in-Some.ensures } }
+    let none : c.has_due.result ≡ false = search rules in
+    let nothing : c.has_enrolments.result ≡ false = search rules in
+    record {
+      gated = record {
+        gate = c.args.gate;
+        sound = c.requires.sound;
+        lists = c.lists_requests.ensures;
+        due = none_there (driver_of c.args.self.now).lists.due (sym c.has_due.ensures ∙ none);
+        enrolments = none_there (driver_of c.args.self.now).lists.enrolments (sym c.has_enrolments.ensures ∙ nothing);
+        gated = sym c.in-Some.ensures;
+      };
+    }
 
 pub stage_next-requires : goal.stage_next-requires
 stage_next-requires g c =
     let none : c.has_due.result ≡ false = search rules in
     let no : c.has_enrolments.result ≡ false = search rules in
-    record { idle = record { gate = c.args.gate; sound = c.requires.sound; lists = c.lists_requests.ensures; due = none_there (driver_of c.args.self.now).lists.due (sym c.has_due.ensures ∙ none); enrolments = none_there (driver_of c.args.self.now).lists.enrolments (sym c.has_enrolments.ensures ∙ no) } }
+    record { idle = record { gate = c.args.gate; sound = c.requires.sound; lists = c.lists_requests.ensures; due = none_there (driver_of c.args.self.now).lists.due (sym c.has_due.ensures ∙ none); enrolments = none_there (driver_of c.args.self.now).lists.enrolments (sym c.has_enrolments.ensures ∙ no); ungated = sym c.in-None.ensures } }
 
 pub returns-then-has_due : goal.returns-then-has_due
 returns-then-has_due g c = record { steps = c.expire.ensures.steps }

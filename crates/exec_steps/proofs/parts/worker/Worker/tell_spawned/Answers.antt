@@ -1,10 +1,11 @@
 use Rattle.std.proofs.{Common.{Some, refl, sym, ap, ◌∙◌, slice_set}, lemmas.Option.slice_get-get_or}
 use Rattle.exec_task.specs.declared.body.Said.{Said}
+use Rattle.exec_moves.specs.declared.place.Place.{Place}
 use Rattle.exec_steps.{specs.declared.parts.task_slot.TaskSlot.TaskSlot, proofs.Facts.same_thing}
 use Rattle.exec_steps.proofs.parts.worker.Worker.tell_spawned.Goals as goal
 
 pub returns-clause-goes : goal.returns-clause-goes
-returns-clause-goes g c = ap (λ p. record c.args.self.now { place = p; hand = Some c.args.runnable }) (c.after_spawn-self.ensures c.args.shared.now.config refl)
+returns-clause-goes g c = ap (λ (p : Place). record c.args.self.now { place = p; hand = Some c.args.runnable }) c.after_spawn-self.ensures
 
 pub returns-clause-task : goal.returns-clause-task
 returns-clause-task g c =

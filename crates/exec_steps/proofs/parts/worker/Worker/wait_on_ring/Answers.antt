@@ -15,7 +15,7 @@ returns-in-ArmRing g c =
 
 pub returns-in-DisarmRing : goal.returns-in-DisarmRing
 returns-in-DisarmRing g c =
-    record { steps = ring_disarmed g.B.Body.left g.B.Scripted.spot c.args.stay c.in-DisarmRing.next c.args.self.now c.disarm_ring.new.self c.args.shared.now c.disarm_ring.new.shared c.disarm_ring.result (rw c.in-DisarmRing.is at c.requires.sound) c.disarm_ring.ensures.makes c.disarm_ring.ensures.goes c.disarm_ring.ensures.word }
+    record { steps = ring_disarmed g.B.Body.left g.B.Scripted.spot c.args.stay c.in-DisarmRing.next c.args.self.now c.disarm_ring.new.self c.args.shared.now c.disarm_ring.new.shared c.disarm_ring.result (rw c.in-DisarmRing.is at c.requires.sound) c.disarm_ring.ensures.event c.disarm_ring.ensures.goes c.disarm_ring.ensures.word }
 
 pub returns-in-TestRing : goal.returns-in-TestRing
 returns-in-TestRing g c =

@@ -6,7 +6,7 @@ use Rattle.exec_steps.proofs.parts.worker.Worker.wait_on_word.Goals as goal
 
 pub returns-in-TakeLatch : goal.returns-in-TakeLatch
 returns-in-TakeLatch g c =
-    record { steps = latch_taken g.B.Body.left g.B.Scripted.spot c.args.self.now c.take_latch.new.self c.args.shared.now c.take_latch.new.shared c.take_latch.result (rw c.in-TakeLatch.is at c.requires.sound) c.take_latch.ensures.makes c.take_latch.ensures.goes c.take_latch.ensures.word }
+    record { steps = latch_taken g.B.Body.left g.B.Scripted.spot c.args.self.now c.take_latch.new.self c.args.shared.now c.take_latch.new.shared c.take_latch.result (rw c.in-TakeLatch.is at c.requires.sound) c.take_latch.ensures.event c.take_latch.ensures.goes c.take_latch.ensures.word }
 
 pub returns-in-ArmWord : goal.returns-in-ArmWord
 returns-in-ArmWord g c =

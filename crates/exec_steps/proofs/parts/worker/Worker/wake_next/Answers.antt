@@ -1,11 +1,31 @@
-use Rattle.std.proofs.{Common.{Some, sym, ap, subst, ◌∙◌}, lemmas.Option.slice_get-get_or}
-use Rattle.exec_steps.{specs.Calls.IsUnpaid, proofs.Waking.owed_unpaid}
+use Rattle.std.proofs.Common.{◌≡◌, refl, ap, ◌∙◌}
+use Rattle.exec_steps.{specs.Calls.{records_paid, sleepers_paid}, proofs.MailLets.{fewer_wakes, found_at}}
 use Rattle.exec_steps.proofs.parts.worker.Worker.wake_next.Goals as goal
 
-pub pay-requires : goal.pay-requires
-pay-requires g c =
+pub returns : goal.returns
+returns g c =
+    let w = c.args.self.now in
+    let s = c.args.shared.now in
+    let may = c.requires.may in
+    let n = c.remove-number.result in
+    let first = found_at w.home.deferred.notes.wakes.items 0 n may.some c.remove-number.ensures.value in
     let slot = c.index.result.now in
-    let rs = c.args.shared.now.requests.items in
-    let zs = c.args.shared.now.sleepers.items in
-    let there = slice_get-get_or c.args.shared.now.tasks.items c.args.self.now.root slot c.requires.there ∙ ap (λ z. Some z) (sym c.index.ensures) in
-    record { owed = subst (λ u. IsUnpaid u rs zs) (sym c.waiting-waited.ensures) (owed_unpaid c.args.self.now.index c.args.self.now.root slot.waiting rs zs (c.requires.owed slot there)) }
+    let left = record w.home.deferred { notes = record w.home.deferred.notes { wakes = c.remove-number.new.self } } in
+    record {
+      wakes = record {
+        n = n;
+        first = first;
+        slot = slot;
+        there = found_at s.tasks.items n.0 slot (may.there n first) c.index.ensures;
+        paid = record s { requests = c.pay.new.requests; sleepers = c.pay.new.sleepers };
+        requests = c.pay.ensures.requests ∙ ap (λ u. records_paid u s.requests.items) c.waiting-waited.ensures;
+        sleepers = c.pay.ensures.sleepers ∙ ap (λ u. sleepers_paid u s.sleepers.items) c.waiting-waited.ensures;
+        kept = refl;
+        v = record w { home = record w.home { deferred = record w.home.deferred { notes = record w.home.deferred.notes { wakes = c.remove-number.new.self } } } };
+        wakes = c.remove-number.ensures.by_index.2;
+        room = fewer_wakes w.home.deferred left refl c.remove-number.ensures.len c.remove-number.ensures.capacity;
+        wide = c.remove-number.ensures.capacity;
+        worker = refl;
+        wakes_it = c.wake_waiter.ensures.wakes;
+      };
+    }

@@ -2,7 +2,7 @@ use Rattle.std.{proofs.{Common.{MatchBool, ◌≡◌, ◌≢◌, ℕ, ◌<◌, �
 use Rattle.exec_task.specs.declared.body.Said.{Said}
 use Rattle.exec_machine.specs.declared.event.Event.{Event}
 use Rattle.exec_moves.specs.declared.place.{InPoll.InPoll, Place.Place}
-use Rattle.exec_steps.{specs.{declared.parts.{shared.Shared.Shared, task_slot.TaskSlot.TaskSlot, worker.Worker.Worker}, Pooled.{WakesBy, WakesHere, WakesOrdinary, WakesTask, WakesThere}, Works.TurnsSlot}, proofs.Facts.{not_same, same_thing}}
+use Rattle.exec_steps.{specs.{declared.parts.{shared.Shared.Shared, task_slot.TaskSlot.TaskSlot, worker.Worker.Worker}, Pooled.{WakesBy, WakesHere, WakesOrdinary, WakesTask, WakesThere}, Works.TurnsSlot}, proofs.{Facts.{not_same, same_thing}, LeafMail.root_place}}
 use Rattle.exec_steps.proofs.parts.worker.Worker.wake_task.Goals as goal
 
 module _ {B : Type 0} (t u : ℕ) (w w' : Worker) (s s' : Shared B) (e : Event) (old x other : TaskSlot B) (there : slice_get s.tasks.items t ≡ Some old) (told : x ≡ record old { told = Some Said.Pass }) (found : slice_get (slice_set s.tasks.items t x) u ≡ Some other) where
@@ -32,6 +32,9 @@ module _ {B : Type 0} (t u : ℕ) (w w' : Worker) (s s' : Shared B) (e : Event) 
 
 read : {B : Type 0} (tasks : List (TaskSlot B)) (k : ℕ) (o : TaskSlot B) → k < length tasks → o ≡ get_or tasks k o → slice_get tasks k ≡ Some o
 read tasks k o few is = slice_get-get_or tasks k o few ∙ ap (λ z. Some z) (sym is)
+
+pub send_root-requires-clause-place : goal.send_root-requires-clause-place
+send_root-requires-clause-place g c = λ chair there. root_place chair.mailbox (c.requires.mail c.in-Some.home chair there)
 
 pub returns-in-Some : goal.returns-in-Some
 returns-in-Some g c =
