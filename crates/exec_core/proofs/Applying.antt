@@ -8,7 +8,7 @@ use Rattle.exec_machine.specs.{declared.{event.{Event.Event, StepResult.TheVaria
 use Rattle.exec_machine.specs.declared.state.Rest.TheVariants as rest
 use Rattle.exec_machine.specs.declared.step.Action.TheVariants as action
 use Rattle.exec_moves.specs.{Plays.{Played, Playing, desk_of as desk_at, last_told}, State.{Desk, WakePoll, wake_poll_of, passed}, Thing.set_wake_poll}
-use Rattle.exec_steps.specs.{declared.parts.{caller.Caller.Caller, record.Record.Record, seat.Seat.Seat as Chair, shared.Shared.Shared, worker.Worker.Worker}, Calling.{call_of, desk_of_caller}, Phased.{TurnsChair}, Drained.{HaveLeft, IsLetOn}, Records.{rest_at, reached, roused}, Spots.Spot, View.{Views, Visible, visible, with_view, own_of, desk_of, common_of, seats_seen, seat_seen, polls_seen, queue_at, inbox_at, tasks_of, things_with, word_at}}
+use Rattle.exec_steps.specs.{declared.parts.{caller.Caller.Caller, record.Record.Record, seat.Seat.Seat as Chair, shared.Shared.Shared, worker.Worker.Worker}, Calling.{call_of, desk_of_caller}, Phased.{TurnsChair}, Drained.{HaveLeft, IsLetOn}, Records.{rest_at, reached, roused}, Spots.Spot, View.{Views, Visible, visible, with_view, own_of, desk_of, common_of, seats_seen, seat_seen, polls_seen, gate_seen, numbers_of_passing, queue_at, inbox_at, tasks_of, things_with, word_at}}
 use Rattle.exec_steps.proofs.{Spared.there_within}
 use Rattle.exec_core.proofs.{Enabling.enabled_as, Lifting.{set_found, unchanged, suits_it, desk_there, views_with, playing_by, world_by}}
 use Rattle.exec_core.specs.{Lift.{may_land_in, Stands, world, playing, views, Takes, Sees, Rings, EndsPoll, Lands, may_take, may_work_in, has_begun, sleeps, all_left_of}, declared.executor.Core.Core}
@@ -77,7 +77,7 @@ module _ {B : Type 0} where
   pub let_on_there : (c : Core B) (i : ℕ) (w : Worker) → Stands c → slice_get c.workers.items i ≡ Some w → may_take c (action.Work i) ≡ true → IsLetOn w.index c.shared.seats.items
   let_on_there c i w stands was may chair there passed =
       let it = stands.together.sound i w was in
-      let_on_by c.shared.seats.items (slice_get c.shared.seats.items i) may chair (ap (slice_get c.shared.seats.items) (sym it.0) ∙ there) (it.1.phased chair there).pool passed
+      let_on_by c.shared.seats.items (slice_get c.shared.seats.items i) may chair (ap (slice_get c.shared.seats.items) (sym it.0) ∙ there) (and_parts chair.pool _ (sym (it.1.phased chair there).left ∙ passed)).0 passed
 
 -- WHAT IS SEEN OF THE SEATS
 
@@ -145,10 +145,10 @@ polls_busy (x ∷ vs) (seat ∷ seats) zero v there =
 polls_busy (x ∷ vs) (seat ∷ seats) (suc i) v there = rw (polls_busy vs seats i v there) refl
 
 module _ {B : Type 0} where
-  things_kept : (vs : Views) (s s' : Shared B) → s'.global ≡ s.global → s'.idle ≡ s.idle → s'.barrier_open ≡ s.barrier_open → s'.set ≡ s.set
+  things_kept : (vs : Views) (s s' : Shared B) → s'.global ≡ s.global → s'.idle ≡ s.idle → s'.barrier_open ≡ s.barrier_open → s'.set ≡ s.set → s'.requests ≡ s.requests → s'.sleepers ≡ s.sleepers → s'.opens ≡ s.opens
       → map queue_at s'.seats.items ≡ map queue_at s.seats.items → map word_at s'.seats.items ≡ map word_at s.seats.items → map inbox_at s'.seats.items ≡ map inbox_at s.seats.items
       → polls_seen vs.workers s'.seats.items ≡ polls_seen vs.workers s.seats.items → things_with vs s' ≡ things_with vs s
-  things_kept vs s s' global idle barrier set queues words inboxes polls = λ i.
+  things_kept vs s s' global idle barrier set requests sleepers opens queues words inboxes polls = λ i.
       record {
         queues = queues i;
         words = words i;
@@ -158,6 +158,9 @@ module _ {B : Type 0} where
         idle = idle i;
         barrier = barrier i;
         shards = map (map (λ e. e.0)) (set i).shards;
+        gates = map (gate_seen (requests i).items) (opens i);
+        answers = numbers_of_passing (λ r. r.sent) 0 (requests i).items;
+        alarms = numbers_of_passing (λ z. z.sent) 0 (sleepers i).items;
       }
 
   views_kept : (c d : Core B) → d.workers ≡ c.workers → d.callers ≡ c.callers → views d ≡ views c
@@ -186,7 +189,7 @@ module _ {B L : Type 0} (left : B → L) (spot : L → Option Said → Spot) whe
       let now : ℕ = c.shared.clock + by in
       let common : common_of left spot p vs d.shared ≡ record (common_of left spot p vs c.shared) { clock = now; seats = map (roused_at now) (seats_seen vs.workers c.shared.seats.items) } =
       ap (λ s. common_of left spot p vs s) kept ∙ ap (λ xs. record (common_of left spot p vs c.shared) { clock = now; seats = xs }) (ap (seats_seen vs.workers) seats ∙ all_roused now vs.workers c.shared.seats.items) in
-      let things = things_kept vs c.shared d.shared (ap (λ s. s.global) kept) (ap (λ s. s.idle) kept) (ap (λ s. s.barrier_open) kept) (ap (λ s. s.set) kept)
+      let things = things_kept vs c.shared d.shared (ap (λ s. s.global) kept) (ap (λ s. s.idle) kept) (ap (λ s. s.barrier_open) kept) (ap (λ s. s.set) kept) (ap (λ s. s.requests) kept) (ap (λ s. s.sleepers) kept) (ap (λ s. s.opens) kept)
       (ap (map queue_at) seats ∙ reached_kept queue_at now c.shared.seats.items (λ chair. refl)) (ap (map word_at) seats ∙ reached_kept word_at now c.shared.seats.items (λ chair. refl))
       (ap (map inbox_at) seats ∙ reached_kept inbox_at now c.shared.seats.items (λ chair. refl)) (ap (polls_seen vs.workers) seats ∙ polls_reached now vs.workers c.shared.seats.items) in
       record {
@@ -211,7 +214,7 @@ module _ {B L : Type 0} (left : B → L) (spot : L → Option Said → Spot) whe
       ap (seats_seen vs.workers) seats ∙ chair_set vs.workers c.shared.seats.items i (visible w.0) (roused chair.0) seen ∙ ap (λ x. slice_set (seats_seen vs.workers c.shared.seats.items) i (record x { rest = rest.Awake })) (sym here) in
       let common : common_of left spot p vs d.shared ≡ record (common_of left spot p vs c.shared) { seats = slice_set (seats_seen vs.workers c.shared.seats.items) i (record (slice_index_or (seats_seen vs.workers c.shared.seats.items) i no_seat) { rest = rest.Awake }) } =
       ap (λ s. common_of left spot p vs s) kept ∙ ap (λ xs. record (common_of left spot p vs c.shared) { seats = xs }) seats_then in
-      let things = things_kept vs c.shared d.shared (ap (λ s. s.global) kept) (ap (λ s. s.idle) kept) (ap (λ s. s.barrier_open) kept) (ap (λ s. s.set) kept)
+      let things = things_kept vs c.shared d.shared (ap (λ s. s.global) kept) (ap (λ s. s.idle) kept) (ap (λ s. s.barrier_open) kept) (ap (λ s. s.set) kept) (ap (λ s. s.requests) kept) (ap (λ s. s.sleepers) kept) (ap (λ s. s.opens) kept)
       (unchanged queue_at c.shared.seats.items d.shared.seats.items i chair.0 (roused chair.0) chair.1 seats refl) (unchanged word_at c.shared.seats.items d.shared.seats.items i chair.0 (roused chair.0) chair.1 seats refl)
       (unchanged inbox_at c.shared.seats.items d.shared.seats.items i chair.0 (roused chair.0) chair.1 seats refl) (ap (polls_seen vs.workers) seats ∙ polls_roused vs.workers c.shared.seats.items i chair.0 chair.1) in
       record {

@@ -1,16 +1,16 @@
 -- The first state: nobody has anything, and so all balances hold.
-use Rattle.std.proofs.{Common.{◌≡◌, ℕ, zero, suc, ◌+◌, ◌==◌, ◌&&◌, Bool, true, false, not, Contains, List, [], ◌∷◌, ◌++◌, length, replicate, Some, None, refl, sym, ap, subst, ◌∙◌, arith, if◌then◌else◌, slice_get, slice_index_or, count_by, sum_by}, lemmas.{Bool.false≢true, List.Sums.sum_by-cons}}
+use Rattle.std.proofs.{Common.{◌≡◌, ℕ, zero, suc, ◌+◌, ◌*◌, ◌==◌, ◌&&◌, Bool, true, false, not, Contains, List, [], ◌∷◌, ◌++◌, length, map, replicate, Some, None, refl, sym, ap, subst, ◌∙◌, arith, if◌then◌else◌, slice_get, slice_index_or, count_by, sum_by}, lemmas.{Bool.false≢true, List.Sums.sum_by-cons, Option.slice_get_within}}
 use Rattle.std.specs.List.{range_with_len}
-use Rattle.exec_base.specs.declared.spinner.SpinnerConfig.{SpinnerConfig}
 use Rattle.exec_task.specs.declared.runnable.Runnable.{Runnable}
 use Rattle.exec_task.specs.TaskSet.{AreAtHome, Set, at_number}
 use Rattle.exec_words.specs.Idle.{is_in}
 use Rattle.exec_machine.specs.declared.config.Configuration.{Configuration}
 use Rattle.exec_moves.specs.{Pop.shard_count}
-use Rattle.exec_steps.specs.{declared.parts.{caller.Caller.Caller, seat.Seat.Seat as Chair, shared.Shared.Shared, task_slot.TaskSlot.TaskSlot, worker.Worker.Worker}, Calling.{CallSound}, Drained.{in_set}, Places.{Drops, no_drops, one_if}, Records.IsFreshSeat, Together.{StandTogether, all_have, callers_have}, Whole.{IsWhole, Profile, claimed_count, queued, runnables_in, stock, with_worker}}
-use Rattle.exec_steps.proofs.Facts.{same_thing}
-use Rattle.exec_core.proofs.{Beginning.{config_sound, first_sound, free_caller, fresh_mailbox, homes_begun, no_runnable, none_there, not_both}, Powers.{InRange, shards_of}}
-use Rattle.exec_core.specs.{Firsts.{AllBegin, Begins, IsFirst}, Lift.Stands, declared.executor.Core.Core}
+use Rattle.exec_steps.specs.{declared.parts.{caller.Caller.Caller, mail.Subject.Subject, role.Role.TheVariants.Pool, seat.Seat.Seat as Chair, shared.Shared.Shared, task_slot.TaskSlot.TaskSlot, worker.Worker.Worker}, Calling.{CallSound}, Dedicated.Begins, Drained.{in_set}, Holding.{Box, Holder, IsHolding, Mail, awaited_in, box_of, holder_of, nap_of, thing_of}, Phased.is_complete, Places.{Drops, no_drops, one_if}, Records.IsFreshSeat, Together.{StandTogether, all_have, callers_have}, Whole.{IsWhole, Profile, claimed_count, hands_of, queued, runnables_in, stock, with_worker}}
+use Rattle.exec_steps.specs.declared.parts.mail.Subject.TheVariants as subject
+use Rattle.exec_steps.proofs.{Begun.{fresh_mailbox, left_quiet, none_has, none_there, not_both}, Facts.{same_thing}}
+use Rattle.exec_core.proofs.{Beginning.{config_sound, first_sound, free_caller, homes_begun, less_is}, Powers.{InRange, shards_of}, QueuedOnce.slot_of}
+use Rattle.exec_core.specs.{Firsts.{AllBegin, IsFirst}, Lift.Stands, declared.executor.Core.Core}
 
 -- WHAT PARTIES HAVE
 
@@ -24,9 +24,11 @@ record IsEmptyProfile (x : Profile) : Type 0 where
   clears : (t : ℕ) → x.clears t ≡ 0
   polled_by : (j : ℕ) → x.polled_by j ≡ None
   drops_by : (j : ℕ) → x.drops_by j ≡ no_drops
+  mail : (m : Mail) → x.mail m ≡ 0
+  wakes : (j t : ℕ) → x.wakes j t ≡ 0
 
 callers_nothing : (n : ℕ) → IsEmptyProfile (callers_have (replicate n free_caller))
-callers_nothing zero = record { runnables = λ t. refl; polls = λ t. refl; claims = λ j. refl; counts = refl; published = λ j. refl; clears = λ t. refl; polled_by = λ j. refl; drops_by = λ j. refl }
+callers_nothing zero = record { runnables = λ t. refl; polls = λ t. refl; claims = λ j. refl; counts = refl; published = λ j. refl; clears = λ t. refl; polled_by = λ j. refl; drops_by = λ j. refl; mail = λ m. refl; wakes = λ j t. refl }
 callers_nothing (suc n) =
     let rest = callers_nothing n in
     record {
@@ -38,14 +40,17 @@ callers_nothing (suc n) =
       clears = rest.clears;
       polled_by = rest.polled_by;
       drops_by = rest.drops_by;
+      mail = rest.mail;
+      wakes = rest.wakes;
     }
 
 either_way : {A : Type 0} (b : Bool) (x y z : A) → x ≡ z → y ≡ z → (if b then x else y) ≡ z
 either_way true x y z first second = first
 either_way false x y z first second = second
 
-with_first : (c : Configuration) (spin : SpinnerConfig) (i : ℕ) (r : Runnable) (w : Worker) (x : Profile) → Begins c spin i r w → IsEmptyProfile x → IsEmptyProfile (with_worker x w)
-with_first c spin i r w x begins rest =
+with_first : (c : Configuration) (i : ℕ) (r : Runnable) (w : Worker) (x : Profile) → Begins c (Pool i) i i r 0 w → IsEmptyProfile x → IsEmptyProfile (with_worker x w)
+with_first c i r w x begins rest =
+    let left = left_quiet w.home.deferred begins.untold in
     subst (λ v. IsEmptyProfile (with_worker x v)) (sym begins.parts)
     (record {
       runnables = λ t. rw (rest.runnables t) refl;
@@ -56,13 +61,15 @@ with_first c spin i r w x begins rest =
       clears = λ t. rw (rest.clears t) refl;
       polled_by = λ j. either_way (j == i) _ _ None refl (rest.polled_by j);
       drops_by = λ j. either_way (j == i) _ _ no_drops refl (rest.drops_by j);
+      mail = λ m. rw (rest.mail m, begins.letters.0, begins.letters.1) refl;
+      wakes = λ j t. either_way (j == i) _ _ 0 (rw left.wakes refl) (rest.wakes j t);
     })
 
-all_nothing : (c : Configuration) (spin : SpinnerConfig) (ws : List Worker) (cs : List Caller) → ((i : ℕ) (w : Worker) → slice_get ws i ≡ Some w → (j : ℕ) × (r : Runnable) × Begins c spin j r w) → IsEmptyProfile (callers_have cs) → IsEmptyProfile (all_have ws cs)
-all_nothing c spin [] cs each rest = rest
-all_nothing c spin (w ∷ ws) cs each rest =
+all_nothing : (c : Configuration) (ws : List Worker) (cs : List Caller) → ((i : ℕ) (w : Worker) → slice_get ws i ≡ Some w → (j : ℕ) × (r : Runnable) × Begins c (Pool j) j j r 0 w) → IsEmptyProfile (callers_have cs) → IsEmptyProfile (all_have ws cs)
+all_nothing c [] cs each rest = rest
+all_nothing c (w ∷ ws) cs each rest =
     let it = each 0 w refl in
-    with_first c spin it.0 it.1 w (all_have ws cs) it.2 (all_nothing c spin ws cs (λ i v there. each (suc i) v there) rest)
+    with_first c it.0 it.1 w (all_have ws cs) it.2 (all_nothing c ws cs (λ i v there. each (suc i) v there) rest)
 
 -- SUMS OF NOTHING
 
@@ -90,8 +97,8 @@ empty_at (suc n) (suc i) = empty_at n i
 at_home : (n : ℕ) → AreAtHome {T = Unit {0}} (replicate n [])
 at_home n index number some = absurd (some (ap (λ xs. at_number xs number) (empty_at n index)))
 
-worker_at : (c : Configuration) (spin : SpinnerConfig) (rs : List Runnable) (ws : List Worker) → AllBegin c spin rs ws → (i : ℕ) (w : Worker) → slice_get ws i ≡ Some w → (j : ℕ) × (r : Runnable) × Begins c spin j r w
-worker_at c spin rs ws begin i w there =
+worker_at : (c : Configuration) (rs : List Runnable) (ws : List Worker) → AllBegin c rs ws → (i : ℕ) (w : Worker) → slice_get ws i ≡ Some w → (j : ℕ) × (r : Runnable) × Begins c (Pool j) j j r 0 w
+worker_at c rs ws begin i w there =
     let it = begin.each i w there in
     (i, it.0, it.2)
 
@@ -108,7 +115,56 @@ module _ {B : Type 0} where
       rw (seats, global) refl
 
   claimed_none : (x : Profile) (s : Shared B) → IsEmptyProfile x → claimed_count x s ≡ 0
-  claimed_none x s none = sum_none (λ j. one_if (x.published j && not (is_in s.idle.published j))) (range_with_len 0 (length s.seats.items)) (λ i j there. rw (none.published j) refl)
+  claimed_none x s none = sum_none (λ j. one_if (x.published j && not (is_in s.idle.published j))) (range_with_len 0 s.config.workers) (λ i j there. rw (none.published j) refl)
+
+  -- nobody holds anything, and no message is under way
+  holding_begun : (c : Configuration) (roots : List B) (s : Shared B) (rs : List Runnable) (x : Profile) → IsFirst c roots s rs → IsEmptyProfile x
+      → IsHolding (hands_of x) s.config.workers (map holder_of s.tasks.items) (map thing_of s.requests.items) (map nap_of s.sleepers.items) (map box_of s.seats.items)
+  holding_begun c roots s rs x first none =
+      let things : map thing_of s.requests.items ≡ [] = ap (map thing_of) first.bare.requests in
+      let naps : map nap_of s.sleepers.items ≡ [] = ap (map nap_of) first.bare.sleepers in
+      subst (λ ths. IsHolding (hands_of x) s.config.workers (map holder_of s.tasks.items) ths (map nap_of s.sleepers.items) (map box_of s.seats.items)) (sym things)
+      (subst (λ nps. IsHolding (hands_of x) s.config.workers (map holder_of s.tasks.items) [] nps (map box_of s.seats.items)) (sym naps)
+      (record {
+        held = λ k r box there. absurd (cc);
+        forwarded = λ k r box there. absurd (cc);
+        asked = λ k r there. absurd (cc);
+        waited = λ k r t there. absurd (cc);
+        holds = λ t it j h there has.
+            let slot = slot_of holder_of s.tasks.items t it there in
+            absurd (none_there it.held j h (ap (λ (y : Holder). y.held) (sym slot.2) ∙ (first.rooted.root t slot.0 slot.1).2.held) has);
+        awaiting = λ t it k there is. absurd (no_wait t it there (subject.Request k) is);
+        asleep = λ t it n there is. absurd (no_wait t it there (subject.Timer n) is);
+        over = λ t it there over.
+            let slot = slot_of holder_of s.tasks.items t it there in
+            absurd (false≢true (sym (ap (λ (y : TaskSlot B). is_complete y.cell.phase) (first.rooted.root t slot.0 slot.1).2.is) ∙ ap (λ (y : Holder). y.over) slot.2 ∙ over));
+        sleeps = λ n z there. absurd (cc);
+        let_go = λ n z box there. absurd (cc);
+        asked_too = λ n z there. absurd (cc);
+        let_be = λ n z there. absurd (cc);
+        woken = λ n z box there. absurd (cc);
+        owed = λ i t some. absurd (let no = none.wakes i t in omega (arith, no, some));
+        about = λ j box m there has.
+            let chair = slot_of box_of s.seats.items j box there in
+            let empty : box.messages ≡ [] = ap (λ (y : Box). y.messages) (sym chair.2) ∙ ap (λ y. y.messages) (first.rooted.fresh j chair.0 chair.1).inbox in
+            absurd (none_has box.messages m empty has);
+        room = λ j box there.
+            let chair = slot_of box_of s.seats.items j box there in
+            let fresh = first.rooted.fresh j chair.0 chair.1 in
+            let made : box.made ≡ 0 = ap (λ (y : Box). y.made) (sym chair.2) ∙ fresh.made in
+            let places : box.places ≡ 1 = ap (λ (y : Box). y.places) (sym chair.2) ∙ ap (λ y. y.places) fresh.inbox in
+            record { made = omega arith; places = λ open_still. omega (arith, made, places) };
+        made = λ m some. absurd (let no = none.mail m in omega (arith, no, some));
+        sent = λ k r there. absurd (cc);
+        sent_too = λ n z there. absurd (cc);
+        of_worker = λ k r there. absurd (cc);
+        of_worker_too = λ n z there. absurd (cc);
+      }))
+    where
+      no_wait : (t : ℕ) (it : Holder) → slice_get (map holder_of s.tasks.items) t ≡ Some it → (what : Subject) → it.awaits ≡ Some what → ⊥
+      no_wait t it there what is =
+          let slot = slot_of holder_of s.tasks.items t it there in
+          not_both it.awaits what (ap (λ (y : Holder). y.awaits) (sym slot.2) ∙ ap (λ (y : TaskSlot B). awaited_in y.waiting) (first.rooted.root t slot.0 slot.1).2.is) is
 
   whole_begun : (c : Configuration) (roots : List B) (s : Shared B) (rs : List Runnable) (x : Profile) → InRange c → length roots ≡ c.workers → IsFirst c roots s rs → IsEmptyProfile x → IsWhole x s
   whole_begun c roots s rs x range many first none =
@@ -127,10 +183,21 @@ module _ {B : Type 0} where
         counts = omega (arith, none.counts, claimed_none x s none, ap (λ k. k.count) idle);
         bits = λ j h. absurd (false≢true (sym (unset 64 j) ∙ ap (λ k. is_in k.published j) (sym idle) ∙ h));
         set = ap (λ k. length k.published) idle;
-        queued_here = λ j chair r there has. absurd (no_runnable r (subst (λ q. Contains (q.values ++ q.held) r) (fresh j chair there).queue has));
-        queued_there = λ r has. absurd (no_runnable r (subst (λ vs. Contains vs r) values has));
+        queued_here = λ j chair r there has. absurd (none_has [] r refl (subst (λ q. Contains (q.values ++ q.held) r) (fresh j chair there).queue has));
+        queued_there = λ r has. absurd (none_has [] r refl (subst (λ vs. Contains vs r) values has));
         places = λ opened. omega (arith, first.bare.places, first.rooted.tasks_many);
         made = λ t past. (omega (arith, none.runnables t, stock_none t s fresh values), none.polls t);
+        unclaimed = λ j past. none.claims j;
+        in_pool = λ j chair there.
+            let within = slice_get_within s.seats.items j chair there in
+            let seats = first.rooted.seats_many ∙ many in
+            let config : s.config.workers ≡ c.workers = ap (λ (z : Shared B). z.config.workers) first.bare.parts in
+            (fresh j chair there).pool_is ∙ sym (less_is j s.config.workers (omega (arith, within, seats, config)));
+        gates = record {
+          passes = λ j file is. absurd (not_both (x.drops_by j).passes file (ap (λ (d : Drops). d.passes) (none.drops_by j)) is);
+          joins = λ j k is. absurd (not_both (x.drops_by j).joins k (ap (λ (d : Drops). d.joins) (none.drops_by j)) is);
+        };
+        holding = holding_begun c roots s rs x first none;
         pool = record {
           live = λ t slot there home. absurd (ordinary t slot there home);
           home = subst (λ xs. AreAtHome xs) (sym (ap (λ k. k.shards) set)) (at_home (length s.set.shards));
@@ -141,8 +208,8 @@ module _ {B : Type 0} where
           removes = λ j t is. absurd (no_duty j t is);
           alone = λ i j t is also. absurd (no_duty i t is);
           drained = λ j chair there gone. absurd (false≢true (sym (fresh j chair there).left ∙ gone));
-          mail = λ j chair there. fresh_mailbox chair (fresh j chair there);
-          shut = λ j chair there h. absurd (false≢true (sym (ap (λ y. y.closed) (fresh j chair there).inbox) ∙ h));
+          mail = λ j chair there. fresh_mailbox true chair (fresh j chair there);
+          shut = λ j chair there pool h. absurd (false≢true (sym (ap (λ y. y.closed) (fresh j chair there).inbox) ∙ h));
         };
       }
 
@@ -154,16 +221,16 @@ module _ {B : Type 0} where
       record {
         config = rw config (config_sound c range);
         homes = rw config (homes_begun c roots s rs range many first);
-        many = first.rooted.seats_many ∙ many ∙ ap (λ k. k.workers) (sym config);
+        many = (let seats = first.rooted.seats_many ∙ many in rw config (omega (arith, seats)));
         shards = shards_of c (length s.set.shards) range first.bare.shards ∙ ap shard_count (sym config);
         hand = refl;
-        genuine = λ r has. absurd (no_runnable r has);
+        genuine = λ r has. absurd (none_has [] r refl has);
         aims = tt;
       }
 
-  pub first_stands : (c : Configuration) (spin : SpinnerConfig) (roots : List B) (core : Core B) (rs : List Runnable) → InRange c → length roots ≡ c.workers → IsFirst c roots core.shared rs → AllBegin c spin rs core.workers.items
+  pub first_stands : (c : Configuration) (roots : List B) (core : Core B) (rs : List Runnable) → InRange c → length roots ≡ c.workers → IsFirst c roots core.shared rs → AllBegin c rs core.workers.items
       → core.callers.items ≡ replicate 16 free_caller → Stands core
-  first_stands c spin roots core rs range many first begin callers =
+  first_stands c roots core rs range many first begin callers =
       let s = core.shared in
       let ws = core.workers.items in
       let workers : length ws ≡ c.workers = begin.many ∙ first.rooted.runnables_many ∙ many in
@@ -174,11 +241,13 @@ module _ {B : Type 0} where
             (record {
               seats = workers ∙ sym (first.rooted.seats_many ∙ many);
               few = omega arith;
+              most = omega (arith, workers, range.workers);
               sound = λ i w there.
                   let it = begin.each i w there in
-                  (ap (λ v. v.index) it.2.parts, first_sound c spin i roots w s it.0 rs range many first it.1 it.2);
+                  (ap (λ v. v.index) it.2.parts, first_sound c roots s rs range many first i w it.0 it.1 it.2);
               calls = λ j x there. subst (λ y. CallSound y s) (free_there 16 j x there) (call_sound c roots s rs range many first);
-              whole = whole_begun c roots s rs (all_have ws (replicate 16 free_caller)) range many first (all_nothing c spin ws (replicate 16 free_caller) (worker_at c spin rs ws begin) (callers_nothing 16));
+              whole = whole_begun c roots s rs (all_have ws (replicate 16 free_caller)) range many first (all_nothing c ws (replicate 16 free_caller) (worker_at c rs ws begin) (callers_nothing 16));
             });
         owned = λ k r there. absurd (none_there s.requests.items k r first.bare.requests there);
+        asleep = λ k z there. absurd (none_there s.sleepers.items k z first.bare.sleepers there);
       }

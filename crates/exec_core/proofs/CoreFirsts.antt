@@ -2,14 +2,14 @@
 use Rattle.std.proofs.Common.{◌≡◌, ℕ, zero, suc, ◌+◌, ◌<◌, true, false, List, [], ◌∷◌, ◌++◌, length, Some, None, refl, sym, ap, subst, ◌∙◌, arith, inl, inr, ◌⊎◌, slice_get}
 use Rattle.std.proofs.lemmas.List.{length-append}
 use Rattle.std.specs.Prelude.{max}
-use Rattle.exec_base.specs.declared.spinner.SpinnerConfig.{SpinnerConfig}
+use Rattle.exec_base.specs.declared.one_shot.OneShotState.TheVariants as shot
 use Rattle.exec_task.specs.{Phases.runnable_of, declared.{body.Said.TheVariants.Start, runnable.Runnable.Runnable, task.Phase.TheVariants.Queued}}
 use Rattle.exec_machine.specs.declared.{config.Configuration.Configuration, state.Waiting.TheVariants.Nothing}
 use Rattle.exec_words.specs.Global.{Global}
 use Rattle.exec_ring.specs.declared.store.Store.{Store}
-use Rattle.exec_steps.specs.{declared.parts.{seat.Seat.Seat as Chair, shared.Shared.Shared, task_slot.TaskSlot.TaskSlot, worker.Worker.Worker}, Firsts.{IsFresh as IsFreshShared}, Records.IsFreshSeat}
-use Rattle.exec_steps.proofs.Facts.{same_thing}
-use Rattle.exec_core.specs.Firsts.{AllBegin, Begins, HasRoots, IsBare, IsFirst, IsRoot, root_of, shared_with}
+use Rattle.exec_steps.specs.{declared.parts.{role.Role.TheVariants.Pool, seat.Seat.Seat as Chair, shared.Shared.Shared, task_slot.TaskSlot.TaskSlot, worker.Worker.Worker}, Dedicated.{Begins, root_slot}, Firsts.{IsFresh as IsFreshShared}, Records.IsFreshSeat}
+use Rattle.exec_steps.proofs.Together.{last_or_before}
+use Rattle.exec_core.specs.Firsts.{AllBegin, HasRoots, IsBare, IsFirst, IsRoot, shared_with}
 
 -- ONE MORE at the end of a list
 
@@ -21,16 +21,6 @@ on_front (y ∷ xs) zs (suc i) x there = on_front xs zs i x there
 pub on_end : {A : Type 0} (xs : List A) (x : A) → slice_get (xs ++ x ∷ []) (length xs) ≡ Some x
 on_end [] x = refl
 on_end (y ∷ xs) x = on_end xs x
-
-pub before_or_end : {A : Type 0} (xs : List A) (z : A) (i : ℕ) (x : A) → slice_get (xs ++ z ∷ []) i ≡ Some x → (slice_get xs i ≡ Some x) ⊎ ((i ≡ length xs) × (z ≡ x))
-before_or_end [] z zero x there = inr (refl, same_thing z x there)
-before_or_end [] z (suc i) x there = absurd (cc)
-before_or_end (y ∷ xs) z zero x there = inl there
-before_or_end (y ∷ xs) z (suc i) x there =
-    elim (before_or_end xs z i x there) [
-      | inl found ↦ inl found
-      | inr last ↦ inr (ap suc last.0, last.1)
-    ]
 
 one_more : {A C : Type 0} (xs : List A) (ys : List C) (x : A) (y : C) → length xs ≡ length ys → length (xs ++ x ∷ []) ≡ length (ys ++ y ∷ [])
 one_more xs ys x y same = length-append xs (x ∷ []) ∙ ap (λ n. n + 1) same ∙ sym (length-append ys (y ∷ []))
@@ -48,20 +38,20 @@ within_yielded yielded x rest left all split steps =
 
 -- WORKERS
 
-pub begin_none : (c : Configuration) (spin : SpinnerConfig) → AllBegin c spin [] []
-begin_none c spin = record { many = refl; each = λ i w there. absurd (cc) }
+pub begin_none : (c : Configuration) → AllBegin c [] []
+begin_none c = record { many = refl; each = λ i w there. absurd (cc) }
 
-pub begin_more : (c : Configuration) (spin : SpinnerConfig) (rs : List Runnable) (ws : List Worker) (r : Runnable) (w : Worker) → AllBegin c spin rs ws → Begins c spin (length ws) r w → AllBegin c spin (rs ++ r ∷ []) (ws ++ w ∷ [])
-begin_more c spin rs ws r w all begins =
+pub begin_more : (c : Configuration) (rs : List Runnable) (ws : List Worker) (r : Runnable) (w : Worker) → AllBegin c rs ws → Begins c (Pool (length ws)) (length ws) (length ws) r 0 w → AllBegin c (rs ++ r ∷ []) (ws ++ w ∷ [])
+begin_more c rs ws r w all begins =
     record {
       many = one_more ws rs w r all.many;
       each = λ i v there.
-          elim (before_or_end ws w i v there) [
+          elim (last_or_before ws i w v there) [
             | inl found ↦ let it = all.each i v found in (it.0, on_front rs (r ∷ []) i it.0 it.1, it.2)
             | inr last ↦ (
               r,
               ap (slice_get (rs ++ r ∷ [])) (last.0 ∙ all.many) ∙ on_end rs r,
-              subst (λ k. Begins c spin k r v) (sym last.0) (subst (Begins c spin (length ws) r) last.1 begins),
+              subst (λ k. Begins c (Pool k) k k r 0 v) (sym last.0) (subst (Begins c (Pool (length ws)) (length ws) (length ws) r 0) last.1 begins),
             )
           ];
     }
@@ -88,12 +78,12 @@ module _ {B : Type 0} where
         tasks_many = one_more tasks roots slot body has.tasks_many;
         runnables_many = one_more rs roots r body has.runnables_many;
         fresh = λ i x there.
-            elim (before_or_end seats chair i x there) [
+            elim (last_or_before seats i chair x there) [
               | inl found ↦ has.fresh i x found
               | inr last ↦ subst (IsFreshSeat true) last.1 fresh
             ];
         root = λ i x there.
-            elim (before_or_end tasks slot i x there) [
+            elim (last_or_before tasks i slot x there) [
               | inl found ↦ let it = has.root i x found in (it.0, on_front roots (body ∷ []) i it.0 it.1, it.2)
               | inr last ↦ (
                 body,
@@ -102,7 +92,7 @@ module _ {B : Type 0} where
               )
             ];
         queued = λ i x there.
-            elim (before_or_end rs r i x there) [
+            elim (last_or_before rs i r x there) [
               | inl found ↦ let it = has.queued i x found in (it.0, on_front tasks (slot ∷ []) i it.0 it.1, it.2)
               | inr last ↦ (
                 slot,
@@ -113,11 +103,11 @@ module _ {B : Type 0} where
       }
 
   pub root_is : (i n owner : ℕ) (body : B) (slot : TaskSlot B) → n ≡ i → owner ≡ 1 → slot.cell ≡ record { number = record { 0 = n }; owner = owner; phase = Queued body; cancelled = false }
-      → slot ≡ record { cell = slot.cell; body = None; told = Some Start; held = slot.held; waiting = Nothing; fresh = false; cleared = false; home = Some n; poller = 0 } → slot.held.items ≡ [] → IsRoot i body slot
+      → slot ≡ record { cell = slot.cell; body = None; told = Some Start; held = slot.held; waiting = Nothing; output = shot.Open; fresh = false; cleared = false; home = Some n; poller = 0 } → slot.held.items ≡ [] → IsRoot i body slot
   root_is i n owner body slot same mine cell is held =
-      let its : slot.cell ≡ (root_of i body slot).cell = cell ∙ (λ k. record { number = record { 0 = same k }; owner = mine k; phase = Queued body; cancelled = false }) in
+      let its : slot.cell ≡ (root_slot (record { 0 = i }) 1 i body slot).cell = cell ∙ (λ k. record { number = record { 0 = same k }; owner = mine k; phase = Queued body; cancelled = false }) in
       record {
-        is = is ∙ (λ k. record { cell = its k; body = None; told = Some Start; held = slot.held; waiting = Nothing; fresh = false; cleared = false; home = Some (same k); poller = 0 });
+        is = is ∙ (λ k. record { cell = its k; body = None; told = Some Start; held = slot.held; waiting = Nothing; output = shot.Open; fresh = false; cleared = false; home = Some (same k); poller = 0 });
         held = held;
       }
 

@@ -1,46 +1,115 @@
 -- Of a worker alone: its root is the only task, and all that the laws of credit and of its sleep ask holds.
-use Rattle.std.proofs.{Common.{◌≡◌, ◌≢◌, ℕ, zero, suc, ◌-◌, ◌<◌, ◌==◌, nat_lt, Bool, true, false, not, List, [], ◌∷◌, Contains, length, map, All, if◌then◌else◌, Option, Some, None, is_some, refl, sym, ap, subst, ◌∙◌, arith, inl, inr, option_to_list, slice_get}, lemmas.{Bool.{true≢false, false≢true, eqb-true, eq-eqb, Decides.nat_tests}, List.length-map, Option.slice_get_within}}
+use Rattle.std.proofs.{Common.{◌≡◌, ◌≢◌, ℕ, zero, suc, ◌+◌, ◌-◌, ◌<◌, ◌==◌, ◌&&◌, ◌||◌, nat_lt, Bool, true, false, not, cond, List, [], ◌∷◌, ◌++◌, Contains, length, map, All, count_by, sum_by, get_or, if◌then◌else◌, Option, Some, None, is_some, refl, sym, ap, subst, ◌∙◌, arith, inl, inr, option_to_list, slice_get, slice_index_or}, lemmas.{Bool.{true≢false, false≢true, and_parts, eqb-true, eq-eqb}, List.{length-map, Sums.sum_by-cons}, Option.{slice_get_within, slice_get-get_or}}}
 use Rattle.exec_base.specs.{Slab.slot_at, declared.{slab.Slot.TheVariants.Vacant, task_no.TaskNo.TaskNo}}
 use Rattle.exec_task.specs.{declared.{body.Said.Said, runnable.Runnable.Runnable}}
-use Rattle.exec_words.specs.Queue.{Queue}
+use Rattle.exec_words.specs.{Queue.Queue, declared.inbox.Message.Message}
 use Rattle.exec_task.specs.declared.task.Phase.TheVariants as cell
-use Rattle.exec_waiters.specs.States.{pending_count}
-use Rattle.exec_machine.specs.{declared.{config.ScriptWord.ScriptWord, state.{Request.Request, Sleeper.Sleeper, Waiting.Waiting}}, Progress.{Plan, is_runnable}, Tests.{has_ended, is_asleep, is_done, is_gated, is_idle, is_open, is_ready, is_resolved}, World.{Common, Task, no_request, no_sleeper, no_task, seat_of, task_of}}
+use Rattle.exec_waiters.specs.{States.{pending_count, waiter_at}, declared.waiter.Waiter.Waiter}
+use Rattle.exec_machine.specs.{declared.{config.ScriptWord.ScriptWord, state.{Request.Request, Sleeper.Sleeper, Waiting.Waiting}}, Progress.{Plan, is_runnable}, Tests.{has_ended, is_asleep, is_done, is_idle, is_open, is_ready, is_resolved, is_unsent}, World.{Common, Task, no_request, no_sleeper, no_task, seat_of, task_of}}
 use Rattle.exec_machine.specs.declared.state.Waiting.TheVariants as waiting
-use Rattle.exec_moves.specs.{declared.place.{Place.Place}, Seen.polls_at, State.{no_queue, queue_of}}
+use Rattle.exec_moves.specs.{declared.place.{Place.Place}, Seen.polls_at, Slots.{is_in_slots, numbers_in}, State.{no_queue, queue_of}, Told.has_number}
 use Rattle.exec_moves.specs.declared.handing.AfterPop.TheVariants as popped
-use Rattle.exec_moves.specs.declared.handing.AfterSend.TheVariants as send
-use Rattle.exec_moves.specs.declared.handing.AfterSignal.TheVariants as signal
 use Rattle.exec_moves.specs.declared.place.InClosing.TheVariants as closing
 use Rattle.exec_moves.specs.declared.place.InPoll.TheVariants as poll
 use Rattle.exec_moves.specs.declared.place.Place.TheVariants as at
-use Rattle.exec_credit.specs.{Minds.{is_alone}, Minded.{ArePlain, HasNothing, HasRoot, IsFollowed, PollsRoot, Stood, is_joining, is_played}}
-use Rattle.exec_steps.specs.{declared.parts.{record.Record.Record, seat.Seat.Seat as Chair, shared.Shared.Shared, sleeping.SleeperRecord.SleeperRecord, task_slot.TaskSlot.TaskSlot, worker.Worker.Worker}, Phased.{IsPrepared, closes_at, closing_in, is_complete, root_over, stage_of}, Places.{begins_at, hands_on_at, polled_in, step_of_poll}, Rooted.{Awaits, Holds, ends_poll}, Sound.{AreOwed, HasGuest, IsInHand, IsRunnable, Sound, WaitsAt, one_of, root_in_hand}, Spots.Spot, View.{Views, common_of, desk_of, driver_of, message_of, own_of, queue_at, seat_seen, task_seen, tasks_of, things_with, visible}, Whole.{IsGenuine, IsWhole, Profile, queued}}
-use Rattle.exec_steps.proofs.Facts.{by_number, same_thing}
-use Rattle.exec_core.proofs.{CoreStood.{among_front, done_as, each_request, each_sleeper, front_none, hand_out, in_poll, mapped, no_closing, no_letting, no_permit, nobody_asks, none_open, not_counted, not_polled, nothing_in, open_place, over_shut, polled_busy, queued_ready, shut_place, some_poll, still, the_seat}, Lifting.seats_length}
+use Rattle.exec_credit.specs.{Minds.{is_alone}, Minded.{HasNothing, HasRoot, HaveBeds, HaveSlots, IsBare, IsFollowed, PollsRoot, Stood, is_played}}
+use Rattle.exec_steps.specs.{declared.parts.{held.Held.Held, mail.Reply.Reply, record.Record.Record, seat.Seat.Seat as Chair, shared.Shared.Shared, sleeping.SleeperRecord.SleeperRecord, task_slot.TaskSlot.TaskSlot, worker.Worker.Worker}, Holding.{Box, Holder, IsHeldBy, Mail, Thing, awaited_in, box_of, holder_of, holdings, mail_in, nap_of, thing_of, under_way}, Phased.{IsPhased, IsPrepared, closes_at, closing_in, has_shut, is_complete, root_over, stage_of}, Places.{begins_at, hands_on_at, one_if, polled_in, step_of_poll}, Records.numbers_held, Sound.{HasGuest, IsInHand, IsRunnable, Sound, one_of, root_in_hand}, Spots.Spot, View.{Views, common_of, desk_of, driver_of, message_of, own_of, queue_at, seat_seen, task_seen, tasks_of, things_with, visible}, Whole.{IsGenuine, IsWhole, Profile, hands_of, queued, wakes_with}}
+use Rattle.exec_steps.specs.declared.parts.mail.Subject.TheVariants as subject
+use Rattle.exec_steps.proofs.{Begun.not_both, Facts.{by_not, by_number, same_thing}, Spared.live_of}
+use Rattle.exec_core.proofs.{CoreStood.{among_front, done_as, each_request, each_sleeper, found_in_slots, front_none, hand_out, mapped, no_closing, nobody_asks, none_open, not_counted, numbered_in_slots, not_polled, nothing_in, open_place, open_shut, over_shut, polled_busy, queued_ready, shut_place, some_lives, some_poll, still, the_seat}, Lifting.{seats_length, seen_there}, QueuedOnce.slot_of}
+
+-- what was put together is empty where all is
+pub back_none : {A : Type 0} (xs ys : List A) → xs ++ ys ≡ [] → ys ≡ []
+back_none [] ys none = none
+back_none (x ∷ xs) ys none = absurd (cc)
+
+pub unmapped : {A C : Type 0} (f : A → C) (xs : List A) → map f xs ≡ [] → xs ≡ []
+unmapped f [] none = refl
+unmapped f (x ∷ xs) none = absurd (cc)
+
+-- a number that is held is one of the held
+held_there : (hs : List Held) (i k : ℕ) → slice_get (numbers_held hs) i ≡ Some k → (j : ℕ) × (h : Held) × (slice_get hs j ≡ Some h) × (h.number ≡ k)
+held_there hs i k there = let it = slot_of (λ (h : Held). h.number) hs i k there in (i, it.0, it.1, it.2)
 
 not_at_home : (o : Option ℕ) (t : ℕ) → o ≡ None → o ≡ Some t → ⊥
 not_at_home None t none some = absurd (cc)
 not_at_home (Some u) t none some = absurd (cc)
 
-not_both_waits : (x : Waiting) (k : ℕ) → x ≡ waiting.Timer k → x ≡ waiting.Nothing → ⊥
-not_both_waits x k timer rests = is_timer (sym timer ∙ rests)
-  where
-    is_timer : waiting.Timer k ≡ waiting.Nothing → ⊥
-    is_timer h = absurd (cc)
+closed_end : (q : Place) → is_alone q ≡ true → closing_in q ≡ Some closing.End → root_over (closes_at q) (closing_in q) ≡ true
+closed_end (at.Closing closing.End) alone h = refl
+closed_end (at.Pop x popped.Discard) alone h = absurd (cc)
+closed_end (at.Pop x (popped.Pick f)) alone h = absurd (cc)
+closed_end (at.Signal x j b) alone h = absurd (false≢true alone)
+closed_end (at.SendCancel b) alone h = absurd (false≢true alone)
+closed_end q alone h = absurd (cc)
 
-closed_end : (q : Place) → closing_in q ≡ Some closing.End → root_over (closes_at q) (closing_in q) ≡ true
-closed_end (at.Closing closing.End) h = refl
-closed_end (at.Pop x popped.Discard) h = absurd (cc)
-closed_end (at.Pop x (popped.Pick f)) h = absurd (cc)
-closed_end (at.Signal x j (signal.Send (send.Tell worker))) h = absurd (cc)
-closed_end (at.Signal x j (signal.Send (send.Act t))) h = absurd (cc)
-closed_end (at.Signal x j (signal.Claim b)) h = absurd (cc)
-closed_end q h = absurd (cc)
+each_bed : (P : ℕ → Type 0) (zs : List SleeperRecord) → ((k : ℕ) (z : SleeperRecord) → slice_get zs k ≡ Some z → is_asleep 0 z.shown ≡ true → P k)
+    → (k : ℕ) → is_asleep 0 (get_or (map (λ (z : SleeperRecord). z.shown) zs) k no_sleeper) ≡ true → P k
+each_bed P [] each k asleep = absurd (false≢true asleep)
+each_bed P (z ∷ zs) each zero asleep = each 0 z refl asleep
+each_bed P (z ∷ zs) each (suc k) asleep = each_bed (λ j. P (suc j)) zs (λ j y there. each (suc j) y there) k asleep
+
+each_slot : (P : ℕ → Type 0) (rs : List Record) → ((k : ℕ) (r : Record) → slice_get rs k ≡ Some r → is_resolved r.shown.phase ≡ false → P k)
+    → (k : ℕ) → is_resolved (get_or (map (λ (r : Record). r.shown) rs) k no_request).phase ≡ false → P k
+each_slot P [] each k unresolved = absurd (true≢false unresolved)
+each_slot P (r ∷ rs) each zero unresolved = each 0 r refl unresolved
+each_slot P (r ∷ rs) each (suc k) unresolved = each_slot (λ j. P (suc j)) rs (λ j y there. each (suc j) y there) k unresolved
+
+-- LISTS of one
+
+counted_none : {A : Type 0} (f : A → Bool) (xs : List A) → length xs ≡ 0 → count_by f xs ≡ 0
+counted_none f [] none = refl
+counted_none f (x ∷ xs) none = absurd (omega (arith, none))
+
+summed_one : {A : Type 0} (f : A → ℕ) (x : A) → sum_by f (x ∷ []) ≡ f x
+summed_one f x = sum_by-cons f x [] ∙ omega arith
+
+counts_more : (b : Bool) (n : ℕ) → b ≡ true → 0 < cond b 1 0 + n
+counts_more true n is = omega arith
+counts_more false n is = absurd (false≢true is)
+
+counts_still : (b : Bool) (n : ℕ) → 0 < n → 0 < cond b 1 0 + n
+counts_still true n some = omega arith
+counts_still false n some = omega (arith, some)
+
+-- what stands in a list is counted there
+counted_there : {A : Type 0} (f : A → Bool) (xs : List A) (i : ℕ) (x : A) → slice_get xs i ≡ Some x → f x ≡ true → 0 < count_by f xs
+counted_there f [] i x there is = absurd (cc)
+counted_there f (y ∷ xs) zero x there is =
+    let same : y ≡ x = cc in
+    subst (λ (n : ℕ). 0 < n) (sym (sum_by-cons (λ z. cond (f z) 1 0) y xs)) (counts_more (f y) (count_by f xs) (ap f same ∙ is))
+counted_there f (y ∷ xs) (suc i) x there is =
+    subst (λ (n : ℕ). 0 < n) (sym (sum_by-cons (λ z. cond (f z) 1 0) y xs)) (counts_still (f y) (count_by f xs) (counted_there f xs i x there is))
+
+one_list : {A : Type 0} (xs : List A) (x : A) → length xs ≡ 1 → slice_get xs 0 ≡ Some x → xs ≡ x ∷ []
+one_list [] x one there = absurd (cc)
+one_list (y ∷ []) x one there = ap (λ z. z ∷ []) (same_thing y x there)
+one_list (y ∷ (z ∷ xs)) x one there = absurd (omega (arith, one))
+
+only_zero : {A : Type 0} (xs : List A) (k : ℕ) (x : A) → length xs ≡ 1 → slice_get xs k ≡ Some x → k ≡ 0
+only_zero xs k x one there = (let within = slice_get_within xs k x there in omega (arith, within, one))
+
+none_plus : (n : ℕ) → 0 + n ≡ n
+none_plus n = omega arith
+
+none_if : (b : Bool) → one_if b ≡ 0 → b ≡ false
+none_if true h = absurd (omega (arith, h))
+none_if false h = refl
+
+some_if : (b : Bool) → 0 < one_if b → b ≡ true
+some_if true h = refl
+some_if false h = absurd (omega (arith, h))
+
+by_bool : {P : Type 0} (b : Bool) → (b ≡ true → P) → (b ≡ false → P) → P
+by_bool true f g = f refl
+by_bool false f g = g refl
 
 module _ {B L : Type 0} (left : B → L) (spot : L → Option Said → Spot) (p : Plan) (vs : Views) (x : Profile) (w : Worker) (s : Shared B) (sound : Sound w s) (whole : IsWhole x s)
-    (seen : slice_get vs.workers w.index ≡ Some (visible w)) (workers : length vs.workers ≡ length s.seats.items) (lone : s.config.workers ≡ 1) (one : length s.tasks.items ≡ 1) (alone : is_alone w.place ≡ true)
-    (ours : (k : ℕ) (r : Record) → slice_get s.requests.items k ≡ Some r → r.shown.worker ≡ w.index) where
+    (seen : slice_get vs.workers w.index ≡ Some (visible w)) (workers : length vs.workers ≡ length s.seats.items) (lone : s.config.workers ≡ 1) (one : length s.tasks.items ≡ 1) (just : length s.seats.items ≡ 1) (zeroth : w.index ≡ 0)
+    (alone : is_alone w.place ≡ true) (mailless : (m : Mail) → x.mail m ≡ 0) (waking : (t : ℕ) → x.wakes w.index t ≡ wakes_with t w)
+    (ours : (k : ℕ) (r : Record) → slice_get s.requests.items k ≡ Some r → r.shown.worker ≡ w.index)
+    (rest_here : (k : ℕ) (z : SleeperRecord) → slice_get s.sleepers.items k ≡ Some z → z.shown.worker ≡ w.index)
+    (unread : (seat_of (common_of left spot p vs s) 0).inbox ≡ []) where
   abbrev all : Common
   all = common_of left spot p vs s
 
@@ -50,30 +119,29 @@ module _ {B L : Type 0} (left : B → L) (spot : L → Option Said → Spot) (p 
   abbrev chair : Chair
   chair = sound.seated.seat
 
-  zeroth : w.index ≡ 0
-  zeroth = (let few = sound.index in omega (arith, few, lone))
-
   root_zero : w.root ≡ 0
-  root_zero = sound.at_home ∙ zeroth
+  root_zero = only_zero s.tasks.items w.root slot one sound.runnable.there
 
   there : slice_get s.tasks.items 0 ≡ Some slot
   there = subst (λ t. slice_get s.tasks.items t ≡ Some slot) root_zero sound.runnable.there
+
+  sits : slice_get s.seats.items 0 ≡ Some chair
+  sits = subst (λ i. slice_get s.seats.items i ≡ Some chair) zeroth sound.seated.there
 
   root_is : task_of all 0 ≡ task_seen left spot slot
   root_is = mapped (task_seen left spot) s.tasks.items 0 slot no_task there
 
   seat_is : seat_of all 0 ≡ seat_seen (visible w) chair
-  seat_is = the_seat vs.workers s.seats.items (visible w) chair (subst (λ i. slice_get vs.workers i ≡ Some (visible w)) zeroth seen) (subst (λ i. slice_get s.seats.items i ≡ Some chair) zeroth sound.seated.there)
+  seat_is = the_seat vs.workers s.seats.items (visible w) chair (subst (λ i. slice_get vs.workers i ≡ Some (visible w)) zeroth seen) sits
+
+  home_is : slot.home ≡ Some 0
+  home_is = sound.runnable.home ∙ ap (λ i. Some i) zeroth
 
   -- no task is an ordinary one
   no_guest : (t : ℕ) (y : TaskSlot B) → slice_get s.tasks.items t ≡ Some y → y.home ≡ None → ⊥
   no_guest t y found none =
-      let within = slice_get_within s.tasks.items t y found in
-      let below : nat_lt t s.config.workers ≡ true = less t s.config.workers (omega (arith, within, one, lone)) in
-      not_at_home y.home t none (sound.homes.home t y found ∙ ap (λ (b : Bool). if b then Some t else None) below)
-    where
-      less : (a b : ℕ) → a < b → nat_lt a b ≡ true
-      less a b h = grind (arith, nat_tests)
+      let same : slot ≡ y = same_thing slot y (sym there ∙ ap (slice_get s.tasks.items) (sym (only_zero s.tasks.items t y one found)) ∙ found) in
+      not_at_home y.home 0 none (sym (ap (λ (z : TaskSlot B). z.home) same) ∙ home_is)
 
   no_genuine : (r : Runnable) → IsGenuine s.tasks.items r → ⊥
   no_genuine r it = no_guest r.task.0 it.slot it.there it.ordinary
@@ -87,72 +155,145 @@ module _ {B L : Type 0} (left : B → L) (spot : L → Option Said → Spot) (p 
       absurd (no_guest t guest.0 guest.1 guest.2.ordinary))
       (λ same. same)
 
+  abbrev phased_now : IsPhased w.index (closes_at w.place) (closing_in w.place) w.home.closing w.root w.names.unreleased (stage_of chair s) s.tasks.items
+  phased_now = sound.phased chair sound.seated.there
+
   complete : is_complete slot.cell.phase ≡ root_over (closes_at w.place) (closing_in w.place)
-  complete = (sound.phased chair sound.seated.there).root slot sound.runnable.there
+  complete = phased_now.root slot sound.runnable.there
 
   done_is : is_done (task_of all 0).phase ≡ root_over (closes_at w.place) (closing_in w.place)
   done_is = ap (λ (t : Task). is_done t.phase) root_is ∙ (done_as slot.cell.phase slot.poller ∙ complete)
 
-  holds : Holds (ends_poll (polled_in w.root w.place)) w.index w.root slot.held.items slot.waiting (is_complete slot.cell.phase) w.names (driver_of w) w.home.timers s.requests.items s.sleepers.items
-  holds = sound.rooted.root slot sound.runnable.there
+  -- WHAT IT HOLDS, AND WHAT IS UNDER WAY
+
+  abbrev holders : List Holder
+  holders = map holder_of s.tasks.items
+
+  holder_there : slice_get holders 0 ≡ Some (holder_of slot)
+  holder_there = seen_there holder_of s.tasks.items 0 slot there
+
+  holders_one : holders ≡ holder_of slot ∷ []
+  holders_one = one_list holders (holder_of slot) (length-map s.tasks.items holder_of ∙ one) holder_there
+
+  box_there : slice_get (map box_of s.seats.items) 0 ≡ Some (box_of chair)
+  box_there = seen_there box_of s.seats.items 0 chair sits
+
+  boxes_one : map box_of s.seats.items ≡ box_of chair ∷ []
+  boxes_one = one_list (map box_of s.seats.items) (box_of chair) (length-map s.seats.items box_of ∙ just) box_there
+
+  -- nobody else holds anything
+  is_root : (t : ℕ) (it : Holder) → slice_get holders t ≡ Some it → (t ≡ 0) × (holder_of slot ≡ it)
+  is_root t it found =
+      let zero_is = only_zero holders t it (length-map s.tasks.items holder_of ∙ one) found in
+      (zero_is, same_thing (holder_of slot) it (sym holder_there ∙ ap (slice_get holders) (sym zero_is) ∙ found))
+
+  -- no message is in a hand or in the inbox
+  empty_box : chair.mailbox.inbox.messages ≡ []
+  empty_box = unmapped message_of chair.mailbox.inbox.messages (back_none (map message_of w.batch.values) _ (sym (ap (λ it. it.inbox) seat_is) ∙ unread))
+
+  none_under_way : (m : Mail) → under_way (hands_of x) m (map box_of s.seats.items) ≡ 0
+  none_under_way m =
+      let here : sum_by (λ (box : Box). mail_in m box.messages) (map box_of s.seats.items) ≡ 0 =
+      ap (sum_by (λ (box : Box). mail_in m box.messages)) boxes_one ∙ summed_one (λ (box : Box). mail_in m box.messages) (box_of chair) ∙ ap (mail_in m) empty_box in
+      omega (arith, here, mailless m)
+
+  -- how often the root holds a request
+  held_by_root : (k : ℕ) → holdings k holders ≡ count_by (λ (h : Held). h.number == k) slot.held.items
+  held_by_root k = ap (holdings k) holders_one ∙ summed_one (λ (it : Holder). count_by (λ h. h.number == k) it.held) (holder_of slot)
+
+  -- so long as the mailbox is open a request is observed just where the root holds it
+  observed_by : (k : ℕ) (r : Record) → slice_get s.requests.items k ≡ Some r → chair.mailbox.inbox.closed ≡ false → count_by (λ (h : Held). h.number == k) slot.held.items ≡ one_if r.shown.observed
+  observed_by k r found opened =
+      let box : slice_get (map box_of s.seats.items) (thing_of r).worker ≡ Some (box_of chair) = ap (slice_get (map box_of s.seats.items)) (ours k r found ∙ zeroth) ∙ box_there in
+      let is = whole.holding.held k (thing_of r) (box_of chair) (seen_there thing_of s.requests.items k r found) box in
+      let so : holdings k holders + under_way (hands_of x) (Message.Cancel (subject.Request k)) (map box_of s.seats.items) ≡ one_if r.shown.observed =
+      subst (λ b. IsHeldBy b r.shown.observed (holdings k holders) (under_way (hands_of x) (Message.Cancel (subject.Request k)) (map box_of s.seats.items))) opened is in
+      omega (arith, so, none_under_way (Message.Cancel (subject.Request k)), held_by_root k)
+
+  -- a closing lets no sleeper of a root go
+  unclosed : (k : ℕ) (z : SleeperRecord) → slice_get s.sleepers.items k ≡ Some z → z.closed ≡ false
+  unclosed k z found =
+      by_bool z.closed
+      (λ closed.
+      let be = whole.holding.let_be k (nap_of z) (seen_there nap_of s.sleepers.items k z found) closed in
+      let same : Some 0 ≡ None = sym home_is ∙ ap (λ (h : Holder). h.home) (is_root z.shown.task be.it be.there).1 ∙ be.home in
+      absurd (cc))
+      (λ no. no)
+
+  -- ONCE THE ROOT IS OVER it holds nothing and waits for nothing
+
+  module _ (over : is_complete slot.cell.phase ≡ true) where
+    holds_none : length slot.held.items ≡ 0
+    holds_none = (whole.holding.over 0 (holder_of slot) holder_there over).0
+
+    waits_none : awaited_in slot.waiting ≡ None
+    waits_none = (whole.holding.over 0 (holder_of slot) holder_there over).1 (rw home_is refl)
+
+    nobody_sleeps : (k : ℕ) (z : SleeperRecord) → slice_get s.sleepers.items k ≡ Some z → is_asleep 0 z.shown ≡ false
+    nobody_sleeps k z found =
+        by_bool (is_asleep 0 z.shown)
+        (λ asleep.
+        let kept = and_parts ((z.shown.worker == 0) && not z.shown.fired) (not z.shown.removed) asleep in
+        let unfired = and_parts (z.shown.worker == 0) (not z.shown.fired) kept.0 in
+        let there : (z.shown.removed || z.closed) ≡ false = ap (λ b. b || z.closed) (by_not z.shown.removed kept.1) ∙ unclosed k z found in
+        let it = whole.holding.sleeps k (nap_of z) (seen_there nap_of s.sleepers.items k z found) (by_not z.shown.fired unfired.1) there in
+        let its = is_root z.shown.task it.it it.there in
+        absurd (not_both (awaited_in slot.waiting) (subject.Timer k) waits_none (ap (λ (h : Holder). h.awaits) its.1 ∙ it.awaits)))
+        (λ no. no)
+
+    nobody_observes : chair.mailbox.inbox.closed ≡ false → (k : ℕ) (r : Record) → slice_get s.requests.items k ≡ Some r → r.shown.observed ≡ false
+    nobody_observes opened k r found = none_if r.shown.observed (sym (observed_by k r found opened) ∙ counted_none (λ (h : Held). h.number == k) slot.held.items holds_none)
+
+  -- WHAT IT WAITS FOR
+
+  followed : (what : Waiting) → slot.waiting ≡ what → IsFollowed all what
+  followed (waiting.Request k) is =
+      let h = whole.holding.awaiting 0 (holder_of slot) k holder_there (ap awaited_in is) in
+      let r = slot_of thing_of s.requests.items k h.0 h.1 in
+      let it = mapped (λ (y : Record). y.shown) s.requests.items k r.0 no_request r.1 in
+      let going : is_complete slot.cell.phase ≡ false = by_bool (is_complete slot.cell.phase)
+      (λ over. absurd (not_both (awaited_in slot.waiting) (subject.Request k) (waits_none over) (ap awaited_in is))) (λ no. no) in
+      let opened : chair.mailbox.inbox.closed ≡ false = phased_now.shut ∙ open_shut (closes_at w.place) (closing_in w.place) (sym complete ∙ going) in
+      let newest = held_there slot.held.items (length (numbers_held slot.held.items) - 1) k (h.2.newest going) in
+      let some = counted_there (λ (y : Held). y.number == k) slot.held.items newest.0 newest.1 newest.2 (eq-eqb newest.1.number k newest.3) in
+      let observed : r.0.shown.observed ≡ true = some_if r.0.shown.observed (let same = observed_by k r.0 r.1 opened in omega (arith, some, same)) in
+      let waiter : r.0.shown.waiter ≡ Some 0 = ap (λ (y : Thing). y.waiter) r.2 ∙ h.2.waiter in (
+        ap (λ (y : Request). y.observed) it ∙ observed,
+        ap (λ (y : Request). y.waiter) it ∙ waiter,
+      )
+  followed (waiting.Timer z) is = tt
+  followed waiting.Nothing is = tt
+  followed waiting.Wake is = tt
+  followed waiting.Woken is = tt
+  followed waiting.Yielded is = tt
+
+  all_zero : All (λ t. t ≡ 0) (map (λ (t : TaskNo). t.0) w.home.deferred.notes.wakes.items)
+  all_zero k t within =
+      let n = slot_of (λ (y : TaskNo). y.0) w.home.deferred.notes.wakes.items k _ (slice_get-get_or (map (λ (y : TaskNo). y.0) w.home.deferred.notes.wakes.items) k t within) in
+      let some : 0 < wakes_with n.0.0 w = counted_there (λ (y : TaskNo). y.0 == n.0.0) w.home.deferred.notes.wakes.items k n.0 n.1 (eq-eqb n.0.0 n.0.0 refl) in
+      let owed = (whole.holding.owed w.index n.0.0 (let same = waking n.0.0 in omega (arith, same, some))).1 in
+      sym n.2 ∙ (is_root n.0.0 owed.it owed.there).0
 
   runnable_off : (flag hand : Option Runnable) → is_some flag ≡ false → hand ≡ None → IsRunnable (one_of flag hand) slot → (b : B) → slot.cell.phase ≢ cell.Queued b
   runnable_off None hand off empty once = subst (λ h. IsRunnable h slot) empty once
   runnable_off (Some r) hand off empty once = absurd (true≢false off)
 
-  followed : (what : Waiting) → Awaits (ends_poll (polled_in w.root w.place)) w.index w.root slot.held.items what s.requests.items s.sleepers.items → IsFollowed all what
-  followed (waiting.Request k) aw =
-      let r = aw.0 in
-      let is = mapped (λ (r : Record). r.shown) s.requests.items k r no_request aw.1 in
-      let held = holds.held (length slot.held.items - 1) k aw.2.newest in
-      let same : held.0 ≡ r = same_thing held.0 r (sym held.1 ∙ aw.1) in (
-        ap (λ (it : Request). it.observed) is ∙ (ap (λ (it : Record). it.shown.observed) (sym same) ∙ held.2.observed),
-        ap (λ (it : Request). it.waiter) is ∙ (aw.2.waiter ∙ ap (λ t. Some t) root_zero),
-        ap (λ (it : Request). it.forwarding) is ∙ (ap (λ (it : Record). it.shown.forwarding) (sym same) ∙ held.2.unsent),
-      )
-  followed (waiting.Timer z) aw = ap (λ (it : Sleeper). it.forwarding) (mapped (λ (y : SleeperRecord). y.shown) s.sleepers.items z aw.0 no_sleeper aw.1) ∙ aw.2.unsent
-  followed waiting.Nothing aw = tt
-  followed waiting.Wake aw = tt
-  followed waiting.Woken aw = tt
-  followed waiting.Yielded aw = tt
-
-  all_zero : (wakes : List TaskNo) → AreOwed w.index w.root wakes s.tasks.items s.requests.items s.sleepers.items → All (λ t. t ≡ 0) (map (λ (t : TaskNo). t.0) wakes)
-  all_zero [] owed k t within = absurd (omega (arith, within))
-  all_zero (n ∷ []) owed zero t within = owed.0 ∙ root_zero
-  all_zero (n ∷ []) owed (suc k) t within = absurd (omega (arith, within))
-  all_zero (n ∷ (m ∷ ns)) owed k t within = absurd owed
-
   nothing : has_ended (seat_of all 0).phase ≡ true → HasNothing (own_of w) all
   nothing over =
-      let phased = sound.phased chair sound.seated.there in
-      let last = phased.ended (subst (λ it. has_ended it.phase ≡ true) seat_is over) in
-      let released : w.names.unreleased ≡ 0 = subst (λ y. IsPrepared y w.names.unreleased (stage_of chair s).set) last phased.prepared in
+      let last = phased_now.ended (subst (λ it. has_ended it.phase ≡ true) seat_is over) in
+      let released : w.names.unreleased ≡ 0 = subst (λ y. IsPrepared y w.names.unreleased (stage_of chair s).set) last phased_now.prepared in
       let counted = sound.over.counted in
       let none : pending_count (driver_of w).requests ≡ 0 = omega (arith, counted, released) in
       let no_ended : length w.names.ended.items ≡ 0 = omega (arith, counted, released) in
       record {
         ended = empty w.names.ended.items no_ended;
         requests = none_open s.requests.items (λ k r found. sound.named.over k r found (ours k r found) (nobody_asks (slot_at (driver_of w).requests r.id.0.index) r.id.0.generation (not_counted (driver_of w).requests.slots none r.id.0.index (Vacant (driver_of w).requests.first) refl)));
-        sleepers = each_sleeper (λ z. is_asleep 0 z ≡ false) s.sleepers.items refl (λ k z found. awake z k found (z.shown.worker == 0) refl z.shown.fired refl z.shown.removed refl);
+        sleepers = each_sleeper (λ z. is_asleep 0 z ≡ false) s.sleepers.items refl (nobody_sleeps (complete ∙ closed_end w.place alone last));
       }
     where
       empty : (xs : List ℕ) → length xs ≡ 0 → xs ≡ []
       empty [] h = refl
       empty (y ∷ xs) h = absurd (omega (arith, h))
-
-      done : is_complete slot.cell.phase ≡ true
-      done =
-          let phased = sound.phased chair sound.seated.there in
-          let last = phased.ended (subst (λ it. has_ended it.phase ≡ true) seat_is over) in
-          complete ∙ closed_end w.place last
-
-      awake : (z : SleeperRecord) (k : ℕ) → slice_get s.sleepers.items k ≡ Some z → (a : Bool) → (z.shown.worker == 0) ≡ a → (f : Bool) → z.shown.fired ≡ f → (r : Bool) → z.shown.removed ≡ r → is_asleep 0 z.shown ≡ false
-      awake z k found false other f fired r removed = rw other refl
-      awake z k found true own true fired r removed = rw (own, fired) refl
-      awake z k found true own false fired true removed = rw (own, fired, removed) refl
-      awake z k found true own false fired false removed =
-          let waits : slot.waiting ≡ waiting.Timer k = holds.asleep k z found (eqb-true z.shown.worker 0 own ∙ sym zeroth) fired removed in
-          absurd (not_both_waits slot.waiting k waits (holds.over done).1)
 
   -- where a poll is about to begin the root is queued
   queued_of : (flag : Option Runnable) (r : Runnable) → IsRunnable (one_of flag (Some r)) slot → (b : B) × (slot.cell.phase ≡ cell.Queued b)
@@ -177,35 +318,57 @@ module _ {B L : Type 0} (left : B → L) (spot : L → Option Said → Spot) (p 
   polls_shown (at.Poll t y) is = polls_root t (ap polls_at (sym is)) ∙ root_zero
   polls_shown q is = tt
 
-  no_join : (q : Place) → q ≡ w.place → is_joining q ≡ false
-  no_join (at.Poll t (poll.JoinGate r)) is =
-      let own = polls_root t (ap polls_at (sym is)) in
-      let polled : polled_in w.root w.place ≡ Some (poll.JoinGate r) = ap (polled_in w.root) (sym is) ∙ in_poll t w.root (poll.JoinGate r) own in
-      absurd (subst (λ y. WaitsAt y slot.waiting) polled (sound.tied.stands slot sound.runnable.there).waits)
-  no_join q is = refl
+  -- its mailbox closes next: nothing is held, and nobody sleeps
+  bared : (q : Place) → q ≡ w.place → IsBare q all
+  bared (at.Closing closing.CloseMailbox) is =
+      let shut : root_over (closes_at w.place) (closing_in w.place) ≡ true = ap (λ y. root_over (closes_at y) (closing_in y)) (sym is) in
+      let opened : chair.mailbox.inbox.closed ≡ false = phased_now.shut ∙ ap (λ y. has_shut (closes_at y) (closing_in y)) (sym is) in (
+        each_request (λ r. r.observed ≡ false) s.requests.items refl (nobody_observes (complete ∙ shut) opened),
+        each_sleeper (λ z. is_asleep 0 z ≡ false) s.sleepers.items refl (nobody_sleeps (complete ∙ shut)),
+      )
+  bared q is = tt
 
-  plain : ArePlain all
-  plain =
-      record {
-        ungated = each_request (λ r. is_gated r.phase ≡ false) s.requests.items refl (λ k r found. (sound.flown.plain k r found (ours k r found)).ungated);
-        ours = each_request (λ r. r.worker ≡ 0) s.requests.items refl (λ k r found. ours k r found ∙ zeroth);
-      }
+  -- each that sleeps stands in a slot
+  has_bed : (k : ℕ) (z : SleeperRecord) → slice_get s.sleepers.items k ≡ Some z → is_asleep 0 z.shown ≡ true → is_in_slots k (desk_of w).timers ≡ true
+  has_bed k z found asleep =
+      let here = subst (λ i. is_asleep i z.shown ≡ true) (sym zeroth) asleep in
+      let some = sound.due.asleep.there k z found here (unclosed k z found) in
+      let named = sound.due.asleep.named k z found here (unclosed k z found) in
+      found_in_slots k 0 w.names.timers.items w.home.timers.slots z.id.0.index (Vacant w.home.timers.first) refl (some_lives (slot_at w.home.timers z.id.0.index) z.id.0.generation some) (ap (λ j. slice_index_or w.names.timers.items j 0) (none_plus z.id.0.index) ∙ named)
+
+  bedded : HaveBeds all (desk_of w)
+  bedded = each_bed (λ k. is_in_slots k (desk_of w).timers ≡ true) s.sleepers.items has_bed
+
+  -- each request that isn't over stands in a slot
+  has_slot : (k : ℕ) (r : Record) → slice_get s.requests.items k ≡ Some r → is_resolved r.shown.phase ≡ false → has_number k (numbers_in (desk_of w).requests.held) ≡ true
+  has_slot k r found unresolved = by (waiter_at (driver_of w).requests r.id.0) refl
+    where
+      by : (o : Option (Waiter Reply Reply)) → waiter_at (driver_of w).requests r.id.0 ≡ o → has_number k (numbers_in (desk_of w).requests.held) ≡ true
+      by None gone = absurd (false≢true (sym unresolved ∙ sound.named.over k r found (ours k r found) gone))
+      by (Some it) live =
+          let some = live_of (driver_of w).requests r.id.0 it live in
+          let named = (sound.due.timed k r found (ours k r found)).named unresolved in
+          numbered_in_slots k 0 w.names.requests.items (driver_of w).requests.slots r.id.0.index (Vacant (driver_of w).requests.first) refl (some_lives (slot_at (driver_of w).requests r.id.0.index) r.id.0.generation some)
+          (ap (λ j. slice_index_or w.names.requests.items j 0) (none_plus r.id.0.index) ∙ named)
+
+  slotted : HaveSlots all (desk_of w)
+  slotted = each_slot (λ k. has_number k (numbers_in (desk_of w).requests.held) ≡ true) s.requests.items has_slot
 
   pub rooted : HasRoot (own_of w) all (desk_of w)
   rooted =
       let stands = sound.tied.stands slot sound.runnable.there in
-      let phased = sound.phased chair sound.seated.there in
+      let phased = phased_now in
       record {
         root = root_zero;
         tasks = length-map s.tasks.items (task_seen left spot) ∙ one;
-        home = ap (λ (t : Task). t.home) root_is ∙ sound.runnable.home ∙ ap (λ i. Some i) zeroth;
+        home = ap (λ (t : Task). t.home) root_is ∙ home_is;
         polls = polls_shown w.place refl;
         ready = λ off polls. ap (λ (t : Task). is_runnable t.phase) root_is ∙ still slot.cell.phase slot.poller (runnable_off w.root_ready (root_in_hand (begins_at w.place) w.root w.hand) off (hand_out w.place w.root w.hand alone polls) sound.runnable.once) (stands.polled ∙ not_polled w.place w.root alone polls);
         going = λ open_still. done_is ∙ (ap (root_over (closes_at w.place)) (no_closing w.place alone open_still) ∙ open_place w.place alone open_still);
         done = λ shut. done_is ∙ over_shut (closes_at w.place) (closing_in w.place) (not_false (closes_at w.place) (sym (ap (λ it. is_open it.phase) seat_is ∙ phased.opened) ∙ shut));
         busy = λ some. ap (λ (t : Task). is_idle t.phase) root_is ∙ polled_busy slot.cell.phase slot.poller (stands.polled ∙ some_poll (polls_at w.place) (step_of_poll w.place) w.root some polls_root);
-        follows = subst (λ (t : Task). IsFollowed all t.waiting) (sym root_is) (followed slot.waiting holds.waits);
-        wakes = all_zero w.home.deferred.notes.wakes.items sound.tied.owed;
+        follows = subst (λ (t : Task). IsFollowed all t.waiting) (sym root_is) (followed slot.waiting refl);
+        wakes = all_zero;
         timed = each_request (λ r. is_resolved r.phase ≡ true → r.timer ≡ None) s.requests.items (λ h. refl) (λ k r found. (sound.due.timed k r found (ours k r found)).over);
         ended = nothing;
       }
@@ -217,29 +380,28 @@ module _ {B L : Type 0} (left : B → L) (spot : L → Option Said → Spot) (p 
   -- no ordinary task is queued
   queue_none : (queue_of (things_with vs s) 0).values ≡ []
   queue_none =
-      let here : slice_get s.seats.items 0 ≡ Some chair = subst (λ i. slice_get s.seats.items i ≡ Some chair) zeroth sound.seated.there in
-      ap (λ (q : Queue ℕ). q.values) (mapped queue_at s.seats.items 0 chair no_queue here)
-      ∙ ap tasks_of (nothing_in chair.queue.values (λ r has. no_genuine r (whole.queued_here 0 chair r here (among_front chair.queue.values chair.queue.held r has))))
+      ap (λ (q : Queue ℕ). q.values) (mapped queue_at s.seats.items 0 chair no_queue sits)
+      ∙ ap tasks_of (nothing_in chair.queue.values (λ r has. no_genuine r (whole.queued_here 0 chair r sits (among_front chair.queue.values chair.queue.held r has))))
 
-  pub stood : p.scripts ≡ [] → All (λ (word : ScriptWord). is_played word ≡ true) p.root → (seat_of all 0).inbox ≡ [] → Stood (own_of w) all (desk_of w) (things_with vs s)
-  stood scripts words inbox =
-      let phased = sound.phased chair sound.seated.there in
+  pub stood : p.scripts ≡ [] → All (λ (word : ScriptWord). is_played word ≡ true) p.root → Stood (own_of w) all (desk_of w) (things_with vs s)
+  stood scripts words =
       record {
         serving = refl;
         next = refl;
         sampled = sound.time.not_after;
-        seats = seats_length vs.workers s.seats.items workers ∙ workers ∙ sound.seated.many ∙ lone;
-        inbox = inbox;
+        seats = seats_length vs.workers s.seats.items workers ∙ workers ∙ just;
+        pool = ap (λ it. it.pool) seat_is ∙ sound.seated.pool ∙ (λ k. nat_lt (zeroth k) (lone k));
+        inbox = unread;
         queue = queue_none;
         global = ap tasks_of (nothing_in s.global.values (λ r has. no_genuine r (whole.queued_there r has)));
-        batch = front_none (map message_of w.batch.values) _ (sym (ap (λ it. it.inbox) seat_is) ∙ inbox);
-        opened = λ h. ap (λ it. is_open it.phase) seat_is ∙ (phased.opened ∙ ap not (open_place w.place alone h));
-        closed = λ h on. ap (λ it. is_open it.phase) seat_is ∙ (phased.opened ∙ ap not (shut_place w.place alone h on));
+        batch = front_none (map message_of w.batch.values) _ (sym (ap (λ it. it.inbox) seat_is) ∙ unread);
+        opened = λ h. ap (λ it. is_open it.phase) seat_is ∙ (phased_now.opened ∙ ap not (open_place w.place alone h));
+        closed = λ h on. ap (λ it. is_open it.phase) seat_is ∙ (phased_now.opened ∙ ap not (shut_place w.place alone h on));
         polled = λ t is. polls_root t is ∙ root_zero;
-        passing = no_permit w.place sound.flown.permits;
-        joining = no_join w.place refl;
-        lets = no_letting w.place w.names.unreleased (stage_of chair s).set phased.prepared;
-        plain = plain;
+        bare = bared w.place refl;
+        beds = λ open_still. bedded;
+        slots = slotted;
+        ours = each_request (λ r. r.worker ≡ 0) s.requests.items refl (λ k r found. ours k r found ∙ zeroth);
         scripts = scripts;
         words = words;
       }

@@ -1,22 +1,21 @@
 -- What the invariant of a worker alone gives to the laws of credit and of its sleep.
-use Rattle.std.proofs.{Common.{◌≡◌, ◌≢◌, ℕ, zero, suc, ◌+◌, ◌-◌, ◌==◌, ◌&&◌, ◌||◌, Bool, true, false, not, cond, List, [], ◌∷◌, ◌++◌, Contains, map, get_or, if◌then◌else◌, Option, Some, None, is_some, refl, sym, ap, subst, ◌∙◌, arith, slice_get, count_by}, lemmas.{Bool.{true≢false, false≢true, eq-eqb}, List.{Sums.sum_by-cons}}}
+use Rattle.std.proofs.{Common.{◌≡◌, ◌≢◌, ℕ, zero, suc, ◌+◌, ◌-◌, ◌==◌, ◌&&◌, ◌||◌, Bool, true, false, not, cond, List, [], ◌∷◌, ◌++◌, Contains, map, get_or, if◌then◌else◌, Option, Some, None, is_some, refl, sym, ap, subst, ◌∙◌, arith, slice_get, count_by}, lemmas.{Bool.{true≢false, false≢true, eq-eqb, or_right}, List.{Sums.sum_by-cons}}}
 use Rattle.std.specs.List.{list_any}
-use Rattle.exec_base.specs.{Slab.{value_in}, declared.{slab.{Slot.{Slot, TheVariants.{Live, Vacant, Retired}}}}}
+use Rattle.std.specs.Prelude.{IsSome, slice_index_or}
+use Rattle.exec_base.specs.{Slab.{is_live, value_in}, declared.{slab.{Slot.{Slot, TheVariants.{Live, Vacant, Retired}}}}}
 use Rattle.exec_task.specs.{Phases.is_polled, declared.{runnable.Runnable.Runnable, task.Phase.Phase}}
-use Rattle.exec_task.specs.TaskSet.{Set}
 use Rattle.exec_task.specs.declared.task.Phase.TheVariants as cell
 use Rattle.exec_waiters.specs.{States.{counts_pending, waiter_of}, declared.waiter.Entry.{Entry, TheVariants.{Pending, Ready}}}
 use Rattle.exec_machine.specs.{declared.state.{Request.Request, Sleeper.Sleeper}, Progress.{is_runnable}, Same.is_none, Tests.{is_done, is_idle, is_ready, is_resolved}, World.{no_request, no_seat, no_sleeper}}
-use Rattle.exec_moves.specs.{declared.{place.{AfterService.AfterService, InClosing.InClosing, InPoll.InPoll, Place.Place}}}
+use Rattle.exec_moves.specs.{Slots.{is_it, is_some_slot, numbers_in, slot_of}, Told.has_number, declared.{place.{AfterService.AfterService, InClosing.InClosing, InPoll.InPoll, Place.Place}}}
 use Rattle.exec_moves.specs.declared.handing.AfterCallbacks.TheVariants as after
 use Rattle.exec_moves.specs.declared.handing.AfterPop.TheVariants as popped
 use Rattle.exec_moves.specs.declared.idling.Stay.TheVariants as stay
 use Rattle.exec_moves.specs.declared.place.AfterService.TheVariants as back
 use Rattle.exec_moves.specs.declared.place.InClosing.TheVariants as closing
-use Rattle.exec_moves.specs.declared.place.InService.TheVariants as step
 use Rattle.exec_moves.specs.declared.place.Place.TheVariants as at
-use Rattle.exec_credit.specs.{Minds.{closes, ends, is_alone, is_poll, passes}, Minded.{is_start, lets_go}}
-use Rattle.exec_steps.specs.{declared.parts.{mail.Reply.Reply, record.Record.Record, seat.Seat.Seat as Chair, sleeping.SleeperRecord.SleeperRecord}, Flown.passes_permit, Phased.{IsPrepared, closes_after, closes_at, closing_in, is_complete, root_over}, Places.{begins_at, in_poll_of, polled_in}, Sound.{root_in_hand, served_in}, View.{Visible, owed_at, phase_seen, seat_seen, seats_seen}, Whole.{queued}}
+use Rattle.exec_credit.specs.{Minds.{closes, ends, is_alone, is_poll}, Minded.is_start}
+use Rattle.exec_steps.specs.{declared.parts.{mail.Reply.Reply, record.Record.Record, seat.Seat.Seat as Chair, sleeping.SleeperRecord.SleeperRecord}, HoldPlaces.cancels_at, Phased.{closes_after, closes_at, closing_in, has_shut, is_complete, root_over}, Places.{begins_at, in_poll_of, polled_in}, Sound.root_in_hand, View.{Visible, owed_at, phase_seen, seat_seen, seats_seen, slots_from}, Whole.{queued}}
 
 -- LISTS
 
@@ -91,6 +90,9 @@ open_place (at.Callbacks x after.Begin) alone h = refl
 open_place (at.Pop x (popped.Pick f)) alone h = refl
 open_place (at.Pop x popped.Discard) alone h = absurd (true≢false h)
 open_place (at.LeaveSearch b) alone h = absurd (false≢true alone)
+open_place (at.Push x b) alone h = absurd (false≢true alone)
+open_place (at.Global x b) alone h = absurd (false≢true alone)
+open_place (at.SendCancel b) alone h = absurd (false≢true alone)
 open_place (at.Kick x b) alone h = absurd (false≢true alone)
 open_place (at.ClaimWorker set b) alone h = absurd (false≢true alone)
 open_place (at.Signal x j b) alone h = absurd (false≢true alone)
@@ -120,15 +122,27 @@ shut_place (at.ClaimWorker set b) alone h on = absurd (false≢true alone)
 shut_place (at.Signal x j b) alone h on = absurd (false≢true alone)
 shut_place p alone h on = absurd (false≢true h)
 
-pub no_permit : (p : Place) → passes_permit (served_in p) ≡ false → passes p ≡ false
-no_permit (at.Service (step.PassPermit file b) v) h = absurd (true≢false h)
-no_permit (at.Service (step.Signal worker b) v) h = absurd (true≢false h)
-no_permit p h = refl
+-- where its mailbox isn't closed, as long as its root isn't over
+pub open_shut : (b : Bool) (x : Option InClosing) → root_over b x ≡ false → has_shut b x ≡ false
+open_shut b None h = h
+open_shut b (Some closing.Close) h = absurd (true≢false h)
+open_shut b (Some closing.CloseQueue) h = refl
+open_shut b (Some closing.OpenBarrier) h = refl
+open_shut b (Some closing.Stop) h = refl
+open_shut b (Some (closing.TellRoot worker)) h = refl
+open_shut b (Some (closing.Visit drain)) h = refl
+open_shut b (Some (closing.Clear t drain)) h = refl
+open_shut b (Some closing.LeaveBarrier) h = refl
+open_shut b (Some closing.CloseMailbox) h = refl
+open_shut b (Some closing.Orphan) h = h
+open_shut b (Some closing.CloseSleeper) h = h
+open_shut b (Some closing.End) h = h
 
-pub no_letting : (p : Place) (unreleased : ℕ) (set : Set (Unit {0})) → IsPrepared (closing_in p) unreleased set → lets_go p ≡ false
-no_letting (at.Closing closing.Orphan) unreleased set prepared = absurd prepared
-no_letting (at.Closing closing.CloseSleeper) unreleased set prepared = absurd prepared
-no_letting p unreleased set prepared = refl
+-- no letter is left there, and none is sent
+pub no_letters_alone : (p : Place) → is_alone p ≡ true → cancels_at p ≡ false
+no_letters_alone (at.SendCancel b) alone = absurd (false≢true alone)
+no_letters_alone (at.Signal x j b) alone = absurd (false≢true alone)
+no_letters_alone p alone = refl
 
 -- a worker alone owes nobody a message
 pub owes_alone : (n : ℕ) (p : Place) → is_alone p ≡ true → owed_at n p ≡ []
@@ -159,6 +173,7 @@ no_closing (at.Closing x) alone h = absurd (true≢false h)
 no_closing (at.Pop x (popped.Pick f)) alone h = refl
 no_closing (at.Pop x popped.Discard) alone h = absurd (true≢false h)
 no_closing (at.Signal x j b) alone h = absurd (false≢true alone)
+no_closing (at.SendCancel b) alone h = absurd (false≢true alone)
 no_closing p alone h = refl
 
 pub over_shut : (b : Bool) (x : Option InClosing) → b ≡ true → root_over b x ≡ true
@@ -201,6 +216,14 @@ module _ {B : Type 0} where
   pub queued_ready : (ph : Phase B) (i : ℕ) (b : B) → ph ≡ cell.Queued b → is_ready (phase_seen ph i) ≡ true
   queued_ready ph i b is = ap (λ x. is_ready (phase_seen x i)) is
 
+-- SUMS
+
+plus_none : (k : ℕ) → k ≡ k + 0
+plus_none k = omega arith
+
+plus_one : (k i : ℕ) → suc k + i ≡ k + suc i
+plus_one k i = omega arith
+
 -- NOTHING PENDING
 
 pub not_counted : (slots : List (Slot (Entry Reply Reply))) → count_by counts_pending slots ≡ 0 → (i : ℕ) (d : Slot (Entry Reply Reply)) → counts_pending d ≡ false → counts_pending (get_or slots i d) ≡ false
@@ -225,3 +248,44 @@ nobody_asks (Live g (Ready output)) generation h = by (g == generation)
     by : (b : Bool) → waiter_of {S = Reply} {F = Reply} (if b then Some (Ready output) else None) ≡ None
     by true = refl
     by false = refl
+
+-- SLOTS
+
+slot_is_some : (b : Bool) (k : ℕ) (o : Option ℕ) → (b ≡ false → is_some_slot o ≡ true) → is_some_slot (if b then Some k else o) ≡ true
+slot_is_some true k o h = refl
+slot_is_some false k o h = h refl
+
+numbered_one : (b : Bool) (n m : ℕ) (later : List (Option ℕ)) → has_number n (numbers_in later) ≡ true → has_number n (numbers_in ((if b then Some m else None) ∷ later)) ≡ true
+numbered_one true n m later h = or_right (m == n) (has_number n (numbers_in later)) h
+numbered_one false n m later h = h
+
+module _ {T : Type 0} where
+  -- what lives in a slot is found by its number
+  pub found_in_slots : (n k : ℕ) (numbers : List ℕ) (slots : List (Slot T)) (i : ℕ) (d : Slot T) → is_live d ≡ false → is_live (get_or slots i d) ≡ true → slice_index_or numbers (k + i) 0 ≡ n
+      → is_some_slot (slot_of n k (slots_from k numbers slots)) ≡ true
+  found_in_slots n k numbers [] i d dead live same = absurd (false≢true (sym dead ∙ live))
+  found_in_slots n k numbers (x ∷ slots) zero d dead live same =
+      let here : slice_index_or numbers k 0 ≡ n = ap (λ j. slice_index_or numbers j 0) (plus_none k) ∙ same in
+      ap (λ (b : Bool). is_some_slot (slot_of n k ((if b then Some (slice_index_or numbers k 0) else None) ∷ slots_from (suc k) numbers slots))) live
+      ∙ slot_is_some (n == slice_index_or numbers k 0) k _ (λ off. absurd (false≢true (sym off ∙ eq-eqb n (slice_index_or numbers k 0) (sym here))))
+  found_in_slots n k numbers (x ∷ slots) (suc i) d dead live same =
+      slot_is_some (is_it n (if is_live x then Some (slice_index_or numbers k 0) else None)) k _
+      (λ off. found_in_slots n (suc k) numbers slots i d dead live (ap (λ j. slice_index_or numbers j 0) (plus_one k i) ∙ same))
+
+  -- and its number is among those of all
+  pub numbered_in_slots : (n k : ℕ) (numbers : List ℕ) (slots : List (Slot T)) (i : ℕ) (d : Slot T) → is_live d ≡ false → is_live (get_or slots i d) ≡ true → slice_index_or numbers (k + i) 0 ≡ n
+      → has_number n (numbers_in (slots_from k numbers slots)) ≡ true
+  numbered_in_slots n k numbers [] i d dead live same = absurd (false≢true (sym dead ∙ live))
+  numbered_in_slots n k numbers (x ∷ slots) zero d dead live same =
+      let here : slice_index_or numbers k 0 ≡ n = ap (λ j. slice_index_or numbers j 0) (plus_none k) ∙ same in
+      ap (λ (b : Bool). has_number n (numbers_in ((if b then Some (slice_index_or numbers k 0) else None) ∷ slots_from (suc k) numbers slots))) live
+      ∙ ap (λ (b : Bool). b || has_number n (numbers_in (slots_from (suc k) numbers slots))) (eq-eqb (slice_index_or numbers k 0) n here)
+  numbered_in_slots n k numbers (x ∷ slots) (suc i) d dead live same =
+      numbered_one (is_live x) n (slice_index_or numbers k 0) (slots_from (suc k) numbers slots)
+      (numbered_in_slots n (suc k) numbers slots i d dead live (ap (λ j. slice_index_or numbers j 0) (plus_one k i) ∙ same))
+
+  -- a value stands in a live slot
+  pub some_lives : (x : Slot T) (generation : ℕ) → IsSome (value_in x generation) → is_live x ≡ true
+  some_lives (Vacant g) generation some = absurd (false≢true some)
+  some_lives Retired generation some = absurd (false≢true some)
+  some_lives (Live g value) generation some = refl

@@ -15,3 +15,4 @@ pub mod CoreAlone
 pub mod CoreStood
 pub mod CoreRoot
 pub mod QueuedOnce
+pub mod InTurn

@@ -1,13 +1,13 @@
 -- Own part and common part are changed by a step of one worker, and all else is as it was: so the whole takes a step of
 -- the machine, and that of the moves.
-use Rattle.std.proofs.{Common.{◌≡◌, ℕ, suc, ◌+◌, ◌<◌, true, false, List, [], ◌∷◌, ◌++◌, length, map, Option, Some, refl, sym, ap, subst, ◌∙◌, arith, slice_get, slice_set, option_map}, lemmas.{List.{map-set, length-set, length-map, length-append, append-nil, set-get_or}, Option.{slice_get-map, slice_get_within, get_or_from_slice_get}}}
+use Rattle.std.proofs.{Common.{◌≡◌, ◌≢◌, ℕ, suc, ◌+◌, ◌<◌, ◌≤◌, Bool, true, false, List, [], ◌∷◌, ◌++◌, length, map, Option, None, Some, refl, sym, ap, subst, ◌∙◌, ⊎_elim, arith, option_to_list, slice_get, slice_set, option_map}, lemmas.{Bool.cases_lt, List.{map-append, map-set, length-set, length-map, length-append, append-nil, set-get_or}, Option.{slice_get-map, slice_get_within, get_or_from_slice_get}}}
 use Rattle.exec_task.specs.declared.body.Said.{Said}
 use Rattle.exec_machine.specs.{declared.{config.Configuration.Configuration, event.{Event.Event, StepResult.TheVariants.Did}}, Tests.AllTrue, Allowed.allowed, After.{own_after, common_after, made_by}, Callers.is_enabled, Choice.Choice, Progress.Plan, Run.after_event, Tasks.new_seat, World.{World, Own, Common, no_own, own_of as own_at}}
 use Rattle.exec_machine.specs.declared.event.Event.TheVariants as event
 use Rattle.exec_machine.specs.declared.step.Action.TheVariants as action
-use Rattle.exec_moves.specs.{Pop.shard_count, Call.CallDesk, Move.move, Plays.{Played, Playing, by_action, by_move, desk_of as desk_at, first_desk}, State.{Desk, Things}}
-use Rattle.exec_steps.specs.{declared.parts.{caller.Caller.Caller, seat.Seat.Seat as Chair, worker.Worker.Worker}, Acting.{PerformsAll}, Calling.{CallBeside, CallSound, call_of, desk_of_caller}, Sound.Sound, Spots.Spot, Together.StandTogether, View.{Views, Visible, own_of, visible, with_view, desk_of, common_of, seats_seen, things_with}, Whole.{IsWhole, Profile}, Works.{Beside, Works, Suits}}
-use Rattle.exec_steps.proofs.{Facts.{by_number}, Together.{caller_stepped, worker_stepped}}
+use Rattle.exec_moves.specs.{Pop.shard_count, Call.CallDesk, Move.move, Plays.{Played, Playing, by_action, by_move, desk_of as desk_at, first_desk, newcomers}, State.{Desk, Things}}
+use Rattle.exec_steps.specs.{declared.parts.{caller.Caller.Caller, record.Record.Record, seat.Seat.Seat as Chair, shared.Shared.Shared, sleeping.SleeperRecord.SleeperRecord, task_slot.TaskSlot.TaskSlot, worker.Worker.Worker}, Acting.{PerformsAll}, Calling.{CallBeside, CallSound, call_of, desk_of_caller}, Sound.Sound, Spares.SparesBy, Spots.Spot, Together.StandTogether, View.{Views, Visible, own_of, visible, with_view, desk_of, common_of, seats_seen, things_with}, Whole.{IsWhole, Profile}, Works.{Beside, BesideNewcomer, BesideWith, WorksWith, Suits, with_born}}
+use Rattle.exec_steps.proofs.{Facts.{by_number, same_thing}, Spared.there_within, Together.{caller_stepped, worker_born, worker_stepped}}
 use Rattle.exec_core.specs.{Lift.{Stands, world, playing, views, WorkerSteps, WorkerStays, Takes, IsAsBefore}, declared.executor.Core.Core}
 
 -- LISTS
@@ -31,6 +31,13 @@ unchanged f xs ys i x y was now same =
 pub seen_there : {A B : Type 0} (f : A → B) (xs : List A) (i : ℕ) (x : A) → slice_get xs i ≡ Some x → slice_get (map f xs) i ≡ Some (f x)
 seen_there f xs i x was = slice_get-map f xs i ∙ ap (option_map f) was
 
+-- what is seen of a list in which one was put in a place, and one more stands last
+pub seen_born : {A B : Type 0} (f : A → B) (xs ys : List A) (i : ℕ) (y : A) (born : Option A) → ys ≡ slice_set xs i y ++ option_to_list born → map f ys ≡ slice_set (map f xs) i (f y) ++ map f (option_to_list born)
+seen_born f xs ys i y born now = ap (map f) now ∙ map-append f (slice_set xs i y) (option_to_list born) ∙ ap (λ zs. zs ++ map f (option_to_list born)) (map-set f xs i y)
+
+seen_with : {A B : Type 0} (f : A → B) (xs : List A) (i : ℕ) (y z : A) → map f (slice_set xs i y ++ z ∷ []) ≡ slice_set (map f xs) i (f y) ++ f z ∷ []
+seen_with f xs i y z = map-append f (slice_set xs i y) (z ∷ []) ∙ ap (λ ys. ys ++ f z ∷ []) (map-set f xs i y)
+
 -- as many seats are seen as there are workers and chairs
 pub seats_length : (vs : List Visible) (seats : List Chair) → length vs ≡ length seats → length (seats_seen vs seats) ≡ length vs
 seats_length [] seats h = refl
@@ -38,10 +45,10 @@ seats_length (v ∷ vs) [] h = sym h
 seats_length (v ∷ vs) (seat ∷ seats) h = ap suc (seats_length vs seats (suc_same (length vs) (length seats) h))
 
 -- A step after which there are as many seats makes no worker.
-none_made : (c : Configuration) (me : Own) (s s' : Common) (i : ℕ) (e : Event) (choice : Choice) → s' ≡ common_after c me s i e choice → length s'.seats ≡ length s.seats → made_by s e ≡ []
+none_made : (c : Configuration) (me : Own) (s s' : Common) (i : ℕ) (e : Event) (choice : Choice) → s' ≡ common_after c me s i e choice → length s'.seats ≡ length s.seats → (made_by s e ≡ []) × (newcomers c e ≡ [])
 none_made c me s s' i (event.Dedicated t j) choice is same =
     absurd (not_longer (length s.seats) (sym same ∙ ap (λ x. length x.seats) is ∙ length-append s.seats (new_seat false ∷ [])))
-none_made c me s s' i e choice is same = refl
+none_made c me s s' i e choice is same = (refl, refl)
 
 -- WHAT AN EXECUTOR IS, part by part
 
@@ -62,62 +69,154 @@ module _ {B : Type 0} where
       ap (λ xs. record (views c) { workers = map visible d.workers.items; calls = map (λ (x : Caller). call_of x.place) xs.items }) callers
       ∙ views_by _ _ (views c) (ap (map visible) workers ∙ map-set visible c.workers.items i w')
 
+  -- and one more was made
+  pub views_with_born : (c d : Core B) (i : ℕ) (w' : Worker) (born : Option Worker) → d.workers.items ≡ slice_set c.workers.items i w' ++ option_to_list born → d.callers ≡ c.callers → views d ≡ with_born born (with_view (views c) i (visible w'))
+  views_with_born c d i w' None workers callers = views_with c d i w' (workers ∙ append-nil (slice_set c.workers.items i w')) callers
+  views_with_born c d i w' (Some v) workers callers =
+      ap (λ xs. record (views c) { workers = map visible d.workers.items; calls = map (λ (x : Caller). call_of x.place) xs.items }) callers
+      ∙ views_by _ _ (views c) (ap (map visible) workers ∙ seen_with visible c.workers.items i w' v)
+
   -- WHAT STANDS THEN
+
+  -- each request and each sleeper is one of a worker then
+  pub record AreOwned (n : ℕ) (s : Shared B) : Type 0 where
+    pub owned : (k : ℕ) (r : Record) → slice_get s.requests.items k ≡ Some r → r.shown.worker < n
+    pub asleep : (k : ℕ) (z : SleeperRecord) → slice_get s.sleepers.items k ≡ Some z → z.shown.worker < n
+
+  owned_more : (more : Bool) (n m : ℕ) (s s' : Shared B) → AreOwned n s → n ≤ m → ((j : ℕ) → m ≤ j → SparesBy more j s s') → AreOwned m s'
+  owned_more more n m s s' were grows spares =
+      record {
+        owned = λ k r there.
+            ⊎_elim
+            (λ (within : r.shown.worker < m). within)
+            (λ (past : m ≤ r.shown.worker).
+            let was = (spares r.shown.worker past).records_only k r there refl in
+            let within = were.owned k was.0 was.1 in
+            let same : r.shown.worker ≡ was.0.shown.worker = ap (λ (x : Record). x.shown.worker) was.2.kept in
+            omega (arith, within, same, grows))
+            (cases_lt r.shown.worker m);
+        asleep = λ k z there.
+            ⊎_elim
+            (λ (within : z.shown.worker < m). within)
+            (λ (past : m ≤ z.shown.worker).
+            let was = (spares z.shown.worker past).sleepers_only k z there refl in
+            let within = were.asleep k was.0 was.1 in
+            let same : z.shown.worker ≡ was.0.shown.worker = ap (λ (x : SleeperRecord). x.shown.worker) was.2.kept in
+            omega (arith, within, same, grows))
+            (cases_lt z.shown.worker m);
+      }
+
+  pub owned_in : (c : Core B) → Stands c → AreOwned (length c.workers.items) c.shared
+  owned_in c stands = record { owned = stands.owned; asleep = stands.asleep }
 
   pub stands_worked : (c d : Core B) (i : ℕ) (w w' : Worker) → Stands c → slice_get c.workers.items i ≡ Some w → d.workers.items ≡ slice_set c.workers.items i w' → d.callers ≡ c.callers
       → w'.index ≡ w.index → Sound w' d.shared → Beside w c.shared w' d.shared → Stands d
   stands_worked c d i w w' stands was workers callers index sound beside =
       let many : length d.workers.items ≡ length c.workers.items = ap length workers ∙ length-set c.workers.items i w' in
       let mine : w.index ≡ i = (stands.together.sound i w was).0 in
+      let within = slice_get_within c.workers.items i w was in
       let then : StandTogether (slice_set c.workers.items i w') c.callers.items d.shared = worker_stepped c.workers.items c.callers.items c.shared stands.together i w w' d.shared was index sound beside in
+      let owned : AreOwned (length d.workers.items) d.shared =
+      owned_more false (length c.workers.items) (length d.workers.items) c.shared d.shared (owned_in c stands) (omega (arith, many))
+      (λ j past. beside.spares j (λ same. omega (arith, same, past, many, within, mine))) in
       record {
         some = omega (arith, many, stands.some);
         callers = ap (λ xs. length xs.items) callers ∙ stands.callers;
         together = subst (λ xs. StandTogether d.workers.items xs.items d.shared) (sym callers) (subst (λ xs. StandTogether xs c.callers.items d.shared) (sym workers) then);
-        owned = λ k r there.
-            by_number r.shown.worker w.index
-            (λ other.
-            let within = stands.owned k r ((beside.spares r.shown.worker other).records_only k r there refl) in
-            omega (arith, within, many))
-            (λ same.
-            let within = slice_get_within c.workers.items i w was in
-            omega (arith, within, many, same, mine));
+        owned = owned.owned;
+        asleep = owned.asleep;
       }
+
+  -- the same, where it made a worker
+  stands_born : (c d : Core B) (i : ℕ) (w w' v : Worker) (e : Event) → Stands c → slice_get c.workers.items i ≡ Some w → d.workers.items ≡ slice_set c.workers.items i w' ++ v ∷ [] → d.callers ≡ c.callers
+      → w'.index ≡ w.index → Sound w' d.shared → BesideNewcomer v w c.shared e w' d.shared → Stands d
+  stands_born c d i w w' v e stands was workers callers index sound beside =
+      let many : length d.workers.items ≡ length c.workers.items + 1 = ap length workers ∙ length-append (slice_set c.workers.items i w') (v ∷ []) ∙ ap (λ n. n + 1) (length-set c.workers.items i w') in
+      let mine : w.index ≡ i = (stands.together.sound i w was).0 in
+      let within = slice_get_within c.workers.items i w was in
+      let then : StandTogether (slice_set c.workers.items i w' ++ v ∷ []) c.callers.items d.shared = worker_born c.workers.items c.callers.items c.shared stands.together i w w' v d.shared e was index sound beside in
+      let owned : AreOwned (length d.workers.items) d.shared =
+      owned_more true (length c.workers.items) (length d.workers.items) c.shared d.shared (owned_in c stands) (omega (arith, many))
+      (λ j past. beside.spares j (λ same. omega (arith, same, past, many, within, mine))) in
+      record {
+        some = omega (arith, many, stands.some);
+        callers = ap (λ xs. length xs.items) callers ∙ stands.callers;
+        together = subst (λ xs. StandTogether d.workers.items xs.items d.shared) (sym callers) (subst (λ xs. StandTogether xs c.callers.items d.shared) (sym workers) then);
+        owned = owned.owned;
+        asleep = owned.asleep;
+      }
+
+  -- who has the same root has the same number
+  old_number : (more : Bool) (c d : Core B) (w w' : Worker) → Stands c → Sound w c.shared → Sound w' d.shared → w'.root ≡ w.root → ((j : ℕ) → j ≢ w.index → SparesBy more j c.shared d.shared) → w'.index < length c.workers.items → w'.index ≡ w.index
+  old_number more c d w w' stands mine sound root spares within =
+      by_number w'.index w.index
+      (λ other.
+      let x = there_within c.workers.items w'.index within in
+      let its = stands.together.sound w'.index x.0 x.1 in
+      let home = its.1.runnable.home ∙ ap (λ n. Some n) its.0 in
+      let still = (spares w'.index other).root x.0.root its.1.runnable.root its.1.runnable.there home in
+      let roots : x.0.root ≡ w'.root = sound.homes.once x.0.root w'.root w'.index its.1.runnable.root sound.runnable.root still sound.runnable.there home sound.runnable.home in
+      let slots : its.1.runnable.root ≡ mine.runnable.root = same_thing its.1.runnable.root mine.runnable.root (sym its.1.runnable.there ∙ ap (slice_get c.shared.tasks.items) (roots ∙ root) ∙ mine.runnable.there) in
+      let homes : w'.index ≡ w.index = same_thing w'.index w.index (sym home ∙ ap (λ (t : TaskSlot B). t.home) slots ∙ mine.runnable.home) in
+      absurd (other homes))
+      (λ same. same)
+
+  number_kept : (c d : Core B) (w w' : Worker) (born : Option Worker) (e : Event) → Stands c → Sound w c.shared → Sound w' d.shared → w'.root ≡ w.root → BesideWith born w c.shared e w' d.shared → w'.index ≡ w.index
+  number_kept c d w w' None e stands mine sound root beside =
+      let inside = slice_get_within d.shared.seats.items w'.index sound.seated.seat sound.seated.there in
+      let many : length d.shared.seats.items ≡ length c.shared.seats.items = (beside.spares (w.index + 1) (λ same. omega (arith, same))).many in
+      old_number false c d w w' stands mine sound root beside.spares (omega (arith, inside, many, stands.together.seats))
+  number_kept c d w w' (Some v) e stands mine sound root beside =
+      let inside = slice_get_within d.shared.seats.items w'.index sound.seated.seat sound.seated.there in
+      by_number w'.index v.index
+      (λ other. old_number true c d w w' stands mine sound root beside.spares (omega (arith, inside, beside.many, beside.last, other, stands.together.seats)))
+      (λ same.
+      let home = beside.sound.runnable.home ∙ ap (λ n. Some n) (sym same) in
+      let roots : v.root ≡ w'.root = sound.homes.once v.root w'.root w'.index beside.sound.runnable.root sound.runnable.root beside.sound.runnable.there sound.runnable.there home sound.runnable.home in
+      let within = slice_get_within c.shared.tasks.items w.root mine.runnable.root mine.runnable.there in
+      absurd (omega (arith, within, roots, root, beside.root)))
+
+  stands_with : (c d : Core B) (i : ℕ) (w w' : Worker) (born : Option Worker) (e : Event) → Stands c → slice_get c.workers.items i ≡ Some w → d.workers.items ≡ slice_set c.workers.items i w' ++ option_to_list born → d.callers ≡ c.callers
+      → w'.index ≡ w.index → Sound w' d.shared → BesideWith born w c.shared e w' d.shared → Stands d
+  stands_with c d i w w' None e stands was workers callers index sound beside = stands_worked c d i w w' stands was (workers ∙ append-nil (slice_set c.workers.items i w')) callers index sound beside
+  stands_with c d i w w' (Some v) e stands was workers callers index sound beside = stands_born c d i w w' v e stands was workers callers index sound beside
 
   pub stands_called : (c d : Core B) (j : ℕ) (x x' : Caller) → Stands c → slice_get c.callers.items j ≡ Some x → d.callers.items ≡ slice_set c.callers.items j x' → d.workers ≡ c.workers
       → CallSound x' d.shared → CallBeside x c.shared x' d.shared → Stands d
   stands_called c d j x x' stands was callers workers sound beside =
       let many : length d.workers.items ≡ length c.workers.items = ap (λ xs. length xs.items) workers in
       let then : StandTogether c.workers.items (slice_set c.callers.items j x') d.shared = caller_stepped c.workers.items c.callers.items c.shared stands.together j x x' d.shared was sound beside in
+      let owned : AreOwned (length d.workers.items) d.shared =
+      owned_more false (length c.workers.items) (length d.workers.items) c.shared d.shared (owned_in c stands) (omega (arith, many)) (λ k past. beside.spares k) in
       record {
         some = omega (arith, many, stands.some);
         callers = ap length callers ∙ length-set c.callers.items j x' ∙ stands.callers;
         together = subst (λ xs. StandTogether xs.items d.callers.items d.shared) (sym workers) (subst (λ xs. StandTogether c.workers.items xs d.shared) (sym callers) then);
-        owned = λ k r there.
-            let within = stands.owned k r ((beside.spares r.shown.worker).records_only k r there refl) in
-            omega (arith, within, many);
+        owned = owned.owned;
+        asleep = owned.asleep;
       }
 
   -- what stands after a step of no party that keeps what is sound
   pub stands_by : (c d : Core B) → Stands c → d.workers ≡ c.workers → d.callers ≡ c.callers → length d.shared.seats.items ≡ length c.shared.seats.items
-      → d.shared.config ≡ c.shared.config → d.shared.tasks ≡ c.shared.tasks → d.shared.requests ≡ c.shared.requests → d.shared.set ≡ c.shared.set
+      → d.shared.config ≡ c.shared.config → d.shared.tasks ≡ c.shared.tasks → d.shared.requests ≡ c.shared.requests → d.shared.sleepers ≡ c.shared.sleepers → d.shared.set ≡ c.shared.set
       → ((w : Worker) → Sound w c.shared → Sound w d.shared) → ((x : Profile) → IsWhole x c.shared → IsWhole x d.shared) → Stands d
-  stands_by c d stands workers callers many config tasks requests set sound whole =
+  stands_by c d stands workers callers many config tasks requests sleepers set sound whole =
       let together = stands.together in
       let then : StandTogether c.workers.items c.callers.items d.shared = record {
         seats = together.seats ∙ sym many;
         few = together.few;
+        most = together.most;
         sound = λ i w found. let it = together.sound i w found in (it.0, sound w it.1);
         calls = λ j x found.
             let it = together.calls j x found in
             record {
               config = rw config it.config;
-              homes = rw (config, tasks) it.homes;
-              many = many ∙ it.many ∙ ap (λ k. k.workers) (sym config);
+              homes = rw (config, tasks, many) it.homes;
+              many = rw (config, many) it.many;
               shards = ap (λ x. length x.shards) set ∙ it.shards ∙ ap shard_count (sym config);
               hand = it.hand;
               genuine = λ r has. rw tasks (it.genuine r has);
-              aims = rw config it.aims;
+              aims = rw many it.aims;
             };
         whole = whole _ together.whole;
       } in
@@ -127,6 +226,8 @@ module _ {B : Type 0} where
         together = subst (λ xs. StandTogether xs.items d.callers.items d.shared) (sym workers) (subst (λ xs. StandTogether c.workers.items xs.items d.shared) (sym callers) then);
         owned = λ k r there.
             subst (λ xs. r.shown.worker < length xs.items) (sym workers) (stands.owned k r (ap (λ xs. slice_get xs.items k) (sym requests) ∙ there));
+        asleep = λ k z there.
+            subst (λ xs. z.shown.worker < length xs.items) (sym workers) (stands.asleep k z (ap (λ xs. slice_get xs.items k) (sym sleepers) ∙ there));
       }
 
 module _ {B L : Type 0} (left : B → L) (spot : L → Option Said → Spot) where
@@ -167,43 +268,57 @@ module _ {B L : Type 0} (left : B → L) (spot : L → Option Said → Spot) whe
       (ap (λ vs. things_with vs d.shared) seen ∙ same.things (views c))
 
 module _ {B L : Type 0} (left : B → L) (runs : L → Plan → Option ℕ → Type 0) (holds : L → Option Said → List ℕ) (spot : L → Option Said → Spot) where
-  -- the worker is of the same number
-  index_on : (i : ℕ) (c d : Core B) (e : Event) → Stands c → (it : WorkerSteps left runs holds spot i c e d) → it.after.index ≡ it.before.index
-  index_on i c d e stands it = sym it.steps.1.at_home ∙ it.steps.2.root ∙ (stands.together.sound i it.before it.was).1.at_home
-
-  -- what stands then, and what the tasks perform
+  -- what stands then
   pub stands_again : (i : ℕ) (c d : Core B) (e : Event) → Stands c → WorkerSteps left runs holds spot i c e d → Stands d
   stands_again i c d e stands it =
-      stands_worked c d i it.before it.after stands it.was it.workers it.callers (index_on i c d e stands it) it.steps.1 it.steps.3
+      let was = stands.together.sound i it.before it.was in
+      let index = number_kept c d it.before it.after it.born e stands was.1 it.steps.1 it.steps.2.root it.steps.3 in
+      stands_with c d i it.before it.after it.born e stands it.was it.workers it.callers index it.steps.1 it.steps.3
 
-  lifted_at : (p : Plan) (c d : Core B) (w w' : Worker) (e : Event) → Stands c → Stands d → slice_get c.workers.items w.index ≡ Some w
-      → d.workers.items ≡ slice_set c.workers.items w.index w' → d.callers ≡ c.callers → Works left spot p (views c) w c.shared e w' d.shared
+  -- what was made shows what the machine and the moves begin with
+  born_shown : (p : Plan) (c d : Core B) (w w' : Worker) (born : Option Worker) (e : Event) (choice : Choice) → Stands c → Stands d → c.shared.config ≡ p.config
+      → d.workers.items ≡ slice_set c.workers.items w.index w' ++ option_to_list born → (world left spot p d).common ≡ common_after p.config (own_of w) (world left spot p c).common w.index e choice
+      → BesideWith born w c.shared e w' d.shared
+      → (map own_of (option_to_list born) ≡ made_by (world left spot p c).common e) × (map desk_of (option_to_list born) ≡ newcomers p.config e)
+  born_shown p c d w w' None e choice stands still config workers common beside =
+      let many : length d.workers.items ≡ length c.workers.items = ap length (workers ∙ append-nil (slice_set c.workers.items w.index w')) ∙ length-set c.workers.items w.index w' in
+      let none = none_made p.config (own_of w) (world left spot p c).common (world left spot p d).common w.index e choice common (as_many_seen left spot p c d stands still many) in
+      (sym none.0, sym none.1)
+  born_shown p c d w w' (Some v) e choice stands still config workers common beside = (
+    ap (λ o. o ∷ []) beside.own ∙ ap (made_by (world left spot p c).common) (sym beside.tells),
+    ap (λ o. o ∷ []) (beside.desk ∙ ap (λ k. first_desk k v.index) config) ∙ ap (newcomers p.config) (sym beside.tells),
+  )
+
+  lifted_at : (p : Plan) (c d : Core B) (w w' : Worker) (born : Option Worker) (e : Event) → Stands c → Stands d → c.shared.config ≡ p.config → slice_get c.workers.items w.index ≡ Some w
+      → d.workers.items ≡ slice_set c.workers.items w.index w' ++ option_to_list born → d.callers ≡ c.callers → WorksWith left spot born p (views c) w c.shared e w' d.shared → BesideWith born w c.shared e w' d.shared
       → is_enabled (world left spot p c).common (action.Work w.index) ≡ true
       → Takes left spot p c (action.Work w.index) e d
-  lifted_at p c d w w' e stands still was workers callers works enabled =
+  lifted_at p c d w w' born e stands still config was workers callers works beside enabled =
       let vs = views c in
       let i = w.index in
       let mine = own_there left spot p c i w was in
       let here = desk_there left spot p c i w was in
-      let seen : views d ≡ with_view vs i (visible w') = views_with c d i w' workers callers in
+      let then : Views = with_born born (with_view vs i (visible w')) in
+      let seen : views d ≡ then = views_with_born c d i w' born workers callers in
       let all : Common = (world left spot p c).common in
-      let owned : map own_of d.workers.items ≡ slice_set (map own_of c.workers.items) i (own_of w') = ap (map own_of) workers ∙ map-set own_of c.workers.items i w' in
+      let me_then : Own = own_after p.config (own_of w) all i e works.choice in
       let common : (world left spot p d).common ≡ common_after p.config (own_of w) all i e works.choice = ap (λ x. common_of left spot p x d.shared) seen ∙ works.common in
-      let many : length d.workers.items ≡ length c.workers.items = ap length workers ∙ length-set c.workers.items i w' in
-      let none : made_by all e ≡ [] = none_made p.config (own_of w) all (world left spot p d).common i e works.choice common (as_many_seen left spot p c d stands still many) in
-      let owns : map own_of d.workers.items ≡ slice_set (map own_of c.workers.items) i (own_after p.config (own_of w) all i e works.choice) ++ made_by all e =
-      owned ∙ ap (slice_set (map own_of c.workers.items) i) works.own ∙ sym (append-nil (slice_set (map own_of c.workers.items) i (own_after p.config (own_of w) all i e works.choice)))
-      ∙ ap (λ xs. slice_set (map own_of c.workers.items) i (own_after p.config (own_of w) all i e works.choice) ++ xs) (sym none) in
+      let shown = born_shown p c d w w' born e works.choice stands still config workers common beside in
+      let owns : map own_of d.workers.items ≡ slice_set (map own_of c.workers.items) i me_then ++ made_by all e =
+      seen_born own_of c.workers.items d.workers.items i w' born workers ∙ ap (λ o. slice_set (map own_of c.workers.items) i o ++ map own_of (option_to_list born)) works.own
+      ∙ ap (λ xs. slice_set (map own_of c.workers.items) i me_then ++ xs) shown.0 in
+      let desks : map desk_of d.workers.items ≡ slice_set (map desk_of c.workers.items) i (desk_of w') ++ newcomers p.config e =
+      seen_born desk_of c.workers.items d.workers.items i w' born workers ∙ ap (λ xs. slice_set (map desk_of c.workers.items) i (desk_of w') ++ xs) shown.1 in
       let becomes : world left spot p d ≡ after_event p.config (world left spot p c) (action.Work i) e works.choice =
       subst (λ me. world left spot p d ≡ (let x : World = record { workers = slice_set (map own_of c.workers.items) i (own_after p.config me all i e works.choice) ++ made_by all e; common = common_after p.config me all i e works.choice } in x)) (sym mine) (world_by _ _ _ _ owns common) in
       let x = playing left spot p c in
-      let goes : by_action p.config x (action.Work i) ≡ by_move p.config x i (record { event = e; choice = works.choice; desk = desk_of w'; thing = things_with (with_view vs i (visible w')) d.shared }) =
+      let goes : by_action p.config x (action.Work i) ≡ by_move p.config x i (record { event = e; choice = works.choice; desk = desk_of w'; thing = things_with then d.shared }) =
       ap (λ me. by_move p.config x i (move p.config i me all (desk_at p.config x i) x.things)) mine
       ∙ ap (λ desk. by_move p.config x i (move p.config i (own_of w) all desk x.things)) here
       ∙ ap (by_move p.config x i) works.moves in
-      let next : by_move p.config x i (record { event = e; choice = works.choice; desk = desk_of w'; thing = things_with (with_view vs i (visible w')) d.shared }) ≡ record { told = (record { action = action.Work i; said = Did e }, works.choice); next = playing left spot p d } =
+      let next : by_move p.config x i (record { event = e; choice = works.choice; desk = desk_of w'; thing = things_with then d.shared }) ≡ record { told = (record { action = action.Work i; said = Did e }, works.choice); next = playing left spot p d } =
       ap (λ n. (let it : Played = record { told = (record { action = action.Work i; said = Did e }, works.choice); next = n } in it))
-      (playing_by _ _ _ _ _ _ _ _ (sym becomes) (sym (map-set desk_of c.workers.items i w') ∙ ap (map desk_of) (sym workers)) (ap (λ xs. map desk_of_caller xs.items) (sym callers)) (ap (λ v. things_with v d.shared) (sym seen))) in
+      (playing_by _ _ _ _ _ _ _ _ (sym becomes) (sym desks) (ap (λ xs. map desk_of_caller xs.items) (sym callers)) (ap (λ v. things_with v d.shared) (sym seen))) in
       record {
         choice = works.choice;
         follows = (enabled, subst (λ me. AllTrue (allowed p.config me all i e works.choice)) (sym mine) works.may);
@@ -219,5 +334,5 @@ module _ {B L : Type 0} (left : B → L) (runs : L → Plan → Option ℕ → T
   lifted i p c d e stands it config performs enabled =
       let at = stands.together.sound i it.before it.was in
       let works = it.steps.0 p (views c) (suits_it left spot p c i it.before stands it.was config) performs in
-      subst (λ k. slice_get c.workers.items k ≡ Some it.before → d.workers.items ≡ slice_set c.workers.items k it.after → is_enabled (world left spot p c).common (action.Work k) ≡ true → Takes left spot p c (action.Work k) e d) at.0
-      (λ was workers may. lifted_at p c d it.before it.after e stands (stands_again i c d e stands it) was workers it.callers works may) it.was it.workers enabled
+      subst (λ k. slice_get c.workers.items k ≡ Some it.before → d.workers.items ≡ slice_set c.workers.items k it.after ++ option_to_list it.born → is_enabled (world left spot p c).common (action.Work k) ≡ true → Takes left spot p c (action.Work k) e d) at.0
+      (λ was workers may. lifted_at p c d it.before it.after it.born e stands (stands_again i c d e stands it) config was workers it.callers works it.steps.3 may) it.was it.workers enabled

@@ -3,8 +3,9 @@ use Rattle.std.proofs.Common.{◌≡◌, ℕ, ◌+◌, ◌≤◌, ◌==◌, ◌&
 use Rattle.std.specs.Prelude.{if◌then◌else◌}
 use Rattle.std.proofs.lemmas.{Bool.true≢false, List.Sums.sum_by-cons, Option.slice_get-map}
 use Rattle.exec_task.specs.{Phases.is_polled, declared.{body.Said.Said, runnable.Runnable.Runnable, task.Phase.Phase}}
-use Rattle.exec_machine.specs.{Progress.Plan, World.Task}
-use Rattle.exec_moves.specs.{Call.CallDesk, Plays.Playing, Poll.{after_pend, is_noted, pend, requeued_if}, Seen.polls_at, State.Desk}
+use Rattle.exec_machine.specs.{declared.state.{MailMessage.TheVariants.{CancelRequest, CancelTimer}, Request.Request, Sleeper.Sleeper, Waiting.Waiting}, Progress.Plan, Requests.ends_by_drop, Tests.{is_applied, is_resolved}, World.{Common, Task, request_of, sleeper_of}}
+use Rattle.exec_machine.specs.declared.state.Waiting.TheVariants as waiting
+use Rattle.exec_moves.specs.{Call.CallDesk, Plays.Playing, Poll.{after_pend, is_noted, pend, requeued_if, told_of_end}, Slots.is_in_slots, Told.{awaits_no_more, lets_go_all, lets_go_request, lets_go_requests, lets_go_sleep, lets_go_timer, one_completion, one_output, one_result, owes, told_of_cancel, told_of_drop, turned_away, without_request, without_timer}, Seen.polls_at, State.Desk}
 use Rattle.exec_words.specs.Queue.{Queue}
 use Rattle.exec_steps.specs.{declared.parts.{caller.Caller.Caller, seat.Seat.Seat as Chair, task_slot.TaskSlot.TaskSlot, worker.Worker.Worker}, Calling.desk_of_caller, Places.{is_number, one_if}, Spots.Spot, Together.all_have, View.{desk_of, phase_seen, queue_at, task_seen}, Whole.{HasOne, IsQueuedOnce, queued, runnables_in, stock}}
 use Rattle.exec_core.specs.{declared.executor.Core.Core, Lift.{Stands, Shows, playing}, Once.{IsOnce, QueuesOnce, polls_of, runnables_of, times}}
@@ -83,7 +84,7 @@ module _ {B : Type 0} where
   once_by gone Phase.Complete i n m has polled = (has, polled)
 
 -- A TASK OF THE MACHINE is that of a slot
-slot_of : {A C : Type 0} (f : A → C) (xs : List A) (t : ℕ) (y : C) → slice_get (map f xs) t ≡ Some y → (x : A) × (slice_get xs t ≡ Some x) × (f x ≡ y)
+pub slot_of : {A C : Type 0} (f : A → C) (xs : List A) (t : ℕ) (y : C) → slice_get (map f xs) t ≡ Some y → (x : A) × (slice_get xs t ≡ Some x) × (f x ≡ y)
 slot_of {A} {C} f xs t y there = by_option (slice_get xs t) refl (sym (slice_get-map f xs t) ∙ there)
   where
     by_option : (o : Option A) → slice_get xs t ≡ o → option_map f o ≡ Some y → (x : A) × (slice_get xs t ≡ Some x) × (f x ≡ y)
@@ -119,5 +120,57 @@ requeued : (b : Bool) (t : ℕ) (d : Desk) → d.hand ≡ None → (requeued_if 
 requeued true t d empty = refl
 requeued false t d empty = empty
 
-pub again : (t : ℕ) (d : Desk) (it : Task) → it.home ≡ None → d.hand ≡ None → (pend t d it).desk.hand ≡ (if is_noted it.phase && not it.cleared then Some t else None)
-again t d it ordinary empty = ap (λ home. (after_pend t d it home).hand) ordinary ∙ requeued (is_noted it.phase && not it.cleared) t d empty
+-- what a task held that is over is let go, and no hand takes anything by that
+
+one_hand : (h : Option ℕ) (b : Bool) (x y : Desk) → x.hand ≡ h → y.hand ≡ h → (if b then x else y).hand ≡ h
+one_hand h true x y first second = first
+one_hand h false x y first second = second
+
+turned_hand : (r : ℕ) (it : Request) (d : Desk) → (turned_away r it d).hand ≡ d.hand
+turned_hand r it d = one_hand d.hand (is_applied it.forwarding) (one_result r d) (awaits_no_more r d) refl refl
+
+dropped_hand : (r : ℕ) (it : Request) (d : Desk) → (told_of_drop r it d).hand ≡ d.hand
+dropped_hand r it d =
+    let turned = turned_hand r it d in
+    let over = one_output (without_request r (turned_away r it d)) in
+    one_hand d.hand (not (it.observed && is_in_slots r d.requests)) d _ refl
+    (one_hand d.hand (is_resolved it.phase) (one_output (without_request r d)) _ refl
+    (one_hand d.hand (ends_by_drop it) over (turned_away r it d) turned turned))
+
+request_hand : (i r : ℕ) (it : Request) (d : Desk) → (lets_go_request i r it d).hand ≡ d.hand
+request_hand i r it d = one_hand d.hand (it.worker == i) (told_of_drop r it d) (owes it.worker (CancelRequest r) d) (dropped_hand r it d) refl
+
+requests_hand : (i : ℕ) (s : Common) (held : List ℕ) (d : Desk) → (lets_go_requests i s held d).hand ≡ d.hand
+requests_hand i s [] d = refl
+requests_hand i s (r ∷ held) d = requests_hand i s held (lets_go_request i r (request_of s r) d) ∙ request_hand i r (request_of s r) d
+
+timer_hand : (i z : ℕ) (it : Sleeper) (d : Desk) → (lets_go_timer i z it d).hand ≡ d.hand
+timer_hand i z it d =
+    one_hand d.hand (it.worker == i) (told_of_cancel z it d) (owes it.worker (CancelTimer z) d)
+    (one_hand d.hand (not (is_in_slots z d.timers)) d _ refl (one_hand d.hand (is_applied it.forwarding) (one_completion z (without_timer z d)) (without_timer z d) refl refl)) refl
+
+sleep_hand : (i : ℕ) (s : Common) (w : Waiting) (d : Desk) → (lets_go_sleep i s w d).hand ≡ d.hand
+sleep_hand i s (waiting.Timer z) d = timer_hand i z (sleeper_of s z) d
+sleep_hand i s (waiting.Request r) d = refl
+sleep_hand i s waiting.Nothing d = refl
+sleep_hand i s waiting.Wake d = refl
+sleep_hand i s waiting.Woken d = refl
+sleep_hand i s waiting.Yielded d = refl
+
+ended_hand : (i : ℕ) (s : Common) (d : Desk) (it : Task) → (lets_go_all i s it d).hand ≡ d.hand
+ended_hand i s d it = sleep_hand i s it.waiting (lets_go_requests i s it.held d) ∙ requests_hand i s it.held d
+
+pub again : (i t : ℕ) (s : Common) (d : Desk) (it : Task) → it.home ≡ None → d.hand ≡ None → (pend i t s d it).desk.hand ≡ (if is_noted it.phase && not it.cleared then Some t else None)
+again i t s d it ordinary empty = ap (λ home. (after_pend i t s d it home).hand) ordinary ∙ by it.cleared
+  where
+    unnoted : (b : Bool) → None ≡ (if b && false then Some t else None)
+    unnoted true = refl
+    unnoted false = refl
+
+    noted : (b : Bool) → (if b then Some t else None) ≡ (if b && true then Some t else None)
+    noted true = refl
+    noted false = refl
+
+    by : (b : Bool) → (let d' : Desk = if b then told_of_end (lets_go_all i s it d) else requeued_if (is_noted it.phase) t d in d').hand ≡ (if is_noted it.phase && not b then Some t else None)
+    by true = ended_hand i s d it ∙ empty ∙ unnoted (is_noted it.phase)
+    by false = requeued (is_noted it.phase) t d empty ∙ noted (is_noted it.phase)

@@ -1,15 +1,14 @@
 -- The executor begins as the machine does, and shows the first state of the moves.
 use Rattle.std.proofs.{Common.{◌≡◌, ℕ, zero, suc, ◌+◌, false, true, List, [], ◌∷◌, ◌++◌, All, length, map, replicate, Option, Some, refl, sym, ap, subst, ◌∙◌, arith, slice_get, slice_index_or}, lemmas.List.length-map}
-use Rattle.exec_base.specs.declared.spinner.SpinnerConfig.{SpinnerConfig}
 use Rattle.exec_task.specs.declared.{body.Said.{Said, TheVariants.Start}, runnable.Runnable.Runnable}
 use Rattle.exec_driver.specs.Opens.{fresh_open}
 use Rattle.exec_machine.specs.{declared.{config.{Configuration.Configuration, ScriptWord.ScriptWord}, state.Call.TheVariants.Nothing as NoCall}, Progress.{Plan}, Run.{first_common, first_owns, first_tasks, first_world}, Tasks.{new_own, new_seat, new_task}, World.{Own, Task, no_open, no_seat}}
 use Rattle.exec_credit.specs.Minded.{MindedIn, is_played}
 use Rattle.exec_moves.specs.{Plays.{first_desk, first_desks, first_things, first_playing}, Pop.shard_count, State.{Desk, no_queue, no_wake_poll, no_word}}
-use Rattle.exec_steps.specs.{declared.parts.{caller.Caller.Caller, seat.Seat.Seat as Chair, shared.Shared.Shared, task_slot.TaskSlot.TaskSlot, worker.Worker.Worker}, Acting.{Performs, PerformsAll}, Calling.{call_of, desk_of_caller}, Records.IsFreshSeat, Spots.Spot, View.{Visible, visible, own_of, desk_of, driver_of, common_of, inbox_at, open_seen, polls_seen, queue_at, queue_seen, message_of, seat_seen, seats_seen, task_seen, things_with, word_at}}
-use Rattle.exec_steps.proofs.Facts.{same_thing}
-use Rattle.exec_core.proofs.{Balanced.first_stands, Beginning.{driver_empty, free_caller, left_quiet, opens_begun}, Lifting.playing_by, Powers.{InRange, shards_of}}
-use Rattle.exec_core.specs.{Firsts.{AllBegin, Begins, IsFirst, IsRoot}, Lift.{IsMinded, IsReady, IsPlanOf, Shows, code_of_root, playing, views}, declared.executor.Core.Core}
+use Rattle.exec_steps.specs.{declared.parts.{caller.Caller.Caller, role.Role.TheVariants.Pool, seat.Seat.Seat as Chair, shared.Shared.Shared, task_slot.TaskSlot.TaskSlot, worker.Worker.Worker}, Acting.{Performs, PerformsAll}, Calling.{call_of, desk_of_caller}, Dedicated.Begins, Records.{IsFreshSeat, numbers_held}, Spots.Spot, View.{gate_seen, numbers_of_passing, Visible, visible, own_of, desk_of, driver_of, common_of, inbox_at, open_seen, polls_seen, queue_at, queue_seen, message_of, seat_seen, seats_seen, task_seen, things_with, word_at}}
+use Rattle.exec_steps.proofs.{Begun.{desk_begun, fresh_visible, own_begun, visible_begun}, Facts.same_thing}
+use Rattle.exec_core.proofs.{Balanced.first_stands, Beginning.{free_caller, opens_begun}, Lifting.playing_by, Powers.{InRange, may_begin, shards_of}}
+use Rattle.exec_core.specs.{Firsts.{AllBegin, IsFirst, IsRoot}, Lift.{IsMinded, IsReady, IsPlanOf, Shows, code_of_root, playing, views}, declared.executor.Core.Core}
 
 -- LISTS, from what is in each place
 
@@ -43,26 +42,6 @@ tasks_from f (x ∷ xs) i each =
 
 -- WHAT IS SEEN of workers that begin
 
-abbrev fresh_visible : Visible
-fresh_visible = record { busy = false; landed = []; wakes = no_wake_poll; taken = [] }
-
-visible_begun : (c : Configuration) (spin : SpinnerConfig) (i : ℕ) (r : Runnable) (w : Worker) → InRange c → Begins c spin i r w → visible w ≡ fresh_visible
-visible_begun c spin i r w range begins =
-    let d = driver_empty c (driver_of w) range begins.driver in
-    ap visible begins.parts ∙ rw d.ring refl
-
-own_begun : (c : Configuration) (spin : SpinnerConfig) (i : ℕ) (r : Runnable) (w : Worker) → InRange c → Begins c spin i r w → own_of w ≡ new_own 0 i
-own_begun c spin i r w range begins =
-    let d = driver_empty c (driver_of w) range begins.driver in
-    let n = begins.names in
-    ap own_of begins.parts ∙ rw (d.lists, d.slots, n.untold, n.ended, n.unreleased) refl
-
-desk_begun : (c : Configuration) (spin : SpinnerConfig) (i : ℕ) (r : Runnable) (w : Worker) → InRange c → Begins c spin i r w → spin ≡ record { budget_us = c.spin.budget; max_budget_us = c.spin.most; quick_wake_us = c.spin.quick } → desk_of w ≡ first_desk c i
-desk_begun c spin i r w range begins told =
-    let d = driver_empty c (driver_of w) range begins.driver in
-    let quiet = left_quiet w.home.deferred begins.untold in
-    ap desk_of begins.parts ∙ rw (quiet.wakes, quiet.outputs, d.ring, d.armed, told) refl
-
 seat_begun : (chair : Chair) → IsFreshSeat true chair → seat_seen fresh_visible chair ≡ new_seat true
 seat_begun chair fresh = rw (fresh.phase, fresh.pool_is, fresh.left, fresh.rest, fresh.inbox) refl
 
@@ -85,12 +64,16 @@ polls_from (v ∷ vs) (chair ∷ chairs) many each fresh =
     (polls_from vs chairs (omega (arith, many)) (λ i x there. each (suc i) x there) (λ i x there. fresh (suc i) x there))
 
 -- what is seen in each place is fresh
-views_fresh : (c : Configuration) (spin : SpinnerConfig) (ws : List Worker) → InRange c → ((i : ℕ) (w : Worker) → slice_get ws i ≡ Some w → (j : ℕ) × (r : Runnable) × Begins c spin j r w) → (i : ℕ) (v : Visible) → slice_get (map visible ws) i ≡ Some v → v ≡ fresh_visible
-views_fresh c spin [] range each i v there = absurd (cc)
-views_fresh c spin (w ∷ ws) range each zero v there =
+views_fresh : (c : Configuration) (ws : List Worker) → InRange c → ((i : ℕ) (w : Worker) → slice_get ws i ≡ Some w → (j : ℕ) × (r : Runnable) × Begins c (Pool j) j j r 0 w) → (i : ℕ) (v : Visible) → slice_get (map visible ws) i ≡ Some v → v ≡ fresh_visible
+views_fresh c [] range each i v there = absurd (cc)
+views_fresh c (w ∷ ws) range each zero v there =
     let it = each 0 w refl in
-    sym (same_thing (visible w) v there) ∙ visible_begun c spin it.0 it.1 w range it.2
-views_fresh c spin (w ∷ ws) range each (suc i) v there = views_fresh c spin ws range (λ k x at. each (suc k) x at) i v there
+    sym (same_thing (visible w) v there) ∙ visible_begun c (Pool it.0) it.0 it.0 it.1 0 w it.2 (may_begin c range)
+views_fresh c (w ∷ ws) range each (suc i) v there = views_fresh c ws range (λ k x at. each (suc k) x at) i v there
+
+gates_none : (n : ℕ) → map (gate_seen []) (replicate n fresh_open) ≡ replicate n []
+gates_none zero = refl
+gates_none (suc n) = ap (λ xs. [] ∷ xs) (gates_none n)
 
 shards_seen : {A X : Type 0} (f : A → X) (n : ℕ) → map (map f) (replicate n []) ≡ replicate n []
 shards_seen f zero = refl
@@ -134,14 +117,14 @@ module _ {B L : Type 0} (left : B → L) (runs : L → Plan → Option ℕ → T
       let begins = plan.each t it.0 it.1 in
       subst (Performs left runs holds p) (sym it.2.is)
       (record {
-        runs_it = λ b answer same told. subst (λ x. runs (left x) p (Some t)) (same_thing it.0 b same) begins.runs_it;
-        holding = λ b answer same told. rw told (subst (λ x. holds (left x) (Some Start) ≡ []) (same_thing it.0 b same) begins.holds_nothing ∙ sym it.2.held);
+        runs_it = λ b answer same told going. subst (λ x. runs (left x) p (Some t)) (same_thing it.0 b same) begins.runs_it;
+        holding = λ b answer same told going. rw told (subst (λ x. holds (left x) (Some Start) ≡ []) (same_thing it.0 b same) begins.holds_nothing ∙ sym (ap numbers_held it.2.held));
       })
 
   -- THE WHOLE
 
-  module _ (c : Configuration) (spin : SpinnerConfig) (roots : List B) (core : Core B) (rs : List Runnable) (p : Plan) (range : InRange c) (first : IsFirst c roots core.shared rs) (begin_all : AllBegin c spin rs core.workers.items)
-      (callers : core.callers.items ≡ replicate 16 free_caller) (told : spin ≡ record { budget_us = c.spin.budget; max_budget_us = c.spin.most; quick_wake_us = c.spin.quick }) (plan : IsPlanOf left runs holds spot p c roots) where
+  module _ (c : Configuration) (roots : List B) (core : Core B) (rs : List Runnable) (p : Plan) (range : InRange c) (first : IsFirst c roots core.shared rs) (begin_all : AllBegin c rs core.workers.items)
+      (callers : core.callers.items ≡ replicate 16 free_caller) (plan : IsPlanOf left runs holds spot p c roots) where
     s : Shared B
     s = core.shared
 
@@ -161,13 +144,13 @@ module _ {B L : Type 0} (left : B → L) (runs : L → Plan → Option ℕ → T
     as_many = length-map core.workers.items visible ∙ workers_many ∙ sym seats_many
 
     fresh_views : (i : ℕ) (v : Visible) → slice_get (map visible core.workers.items) i ≡ Some v → v ≡ fresh_visible
-    fresh_views = views_fresh c spin core.workers.items range (λ i w there. let it = begin_all.each i w there in (i, it.0, it.2))
+    fresh_views = views_fresh c core.workers.items range (λ i w there. let it = begin_all.each i w there in (i, it.0, it.2))
 
     owns : map own_of core.workers.items ≡ first_owns c.workers 0
-    owns = owns_from own_of core.workers.items 0 (λ k w there n is. let it = begin_all.each k w there in own_begun c spin k it.0 w range it.2 ∙ ap (new_own 0) (omega (arith, is))) ∙ ap (λ n. first_owns n 0) workers_many
+    owns = owns_from own_of core.workers.items 0 (λ k w there n is. let it = begin_all.each k w there in own_begun c (Pool k) k k it.0 0 w it.2 (may_begin c range) ∙ ap (new_own 0) (omega (arith, is))) ∙ ap (λ n. first_owns n 0) workers_many
 
     desks : map desk_of core.workers.items ≡ first_desks c c.workers 0
-    desks = desks_from c desk_of core.workers.items 0 (λ k w there n is. let it = begin_all.each k w there in desk_begun c spin k it.0 w range it.2 told ∙ ap (first_desk c) (omega (arith, is))) ∙ ap (λ n. first_desks c n 0) workers_many
+    desks = desks_from c desk_of core.workers.items 0 (λ k w there n is. let it = begin_all.each k w there in desk_begun c (Pool k) k k it.0 0 w it.2 (may_begin c range) ∙ ap (first_desk c) (omega (arith, is))) ∙ ap (λ n. first_desks c n 0) workers_many
 
     tasks : map (task_seen left spot) core.shared.tasks.items ≡ first_tasks c.workers 0
     tasks = tasks_from (task_seen left spot) core.shared.tasks.items 0
@@ -215,8 +198,14 @@ module _ {B L : Type 0} (left : B → L) (runs : L → Plan → Option ℕ → T
           idle = record { published = replicate 64 false; count = 0 };
           barrier = false;
           shards = shards i;
+          gates = gates i;
+          answers = numbers_of_passing (λ r. r.sent) 0 (first.bare.requests i);
+          alarms = numbers_of_passing (λ z. z.sent) 0 (first.bare.sleepers i);
         })
       where
+        gates : map (gate_seen core.shared.requests.items) (replicate c.files fresh_open) ≡ replicate c.files []
+        gates = ap (λ xs. map (gate_seen xs) (replicate c.files fresh_open)) first.bare.requests ∙ gates_none c.files
+
         queues : map queue_at core.shared.seats.items ≡ replicate c.workers no_queue
         queues = same_each queue_at no_queue core.shared.seats.items (λ i chair there. ap queue_seen (first.rooted.fresh i chair there).queue) ∙ ap (λ n. replicate n no_queue) seats_many
 
@@ -251,7 +240,7 @@ module _ {B L : Type 0} (left : B → L) (runs : L → Plan → Option ℕ → T
     pub first_ready : core.spent ≡ false → IsReady left runs holds p core
     first_ready unspent =
         record {
-          stands = first_stands c spin roots core rs range plan.many first begin_all callers;
+          stands = first_stands c roots core rs range plan.many first begin_all callers;
           unspent = unspent;
           config = ap (λ (z : Shared B). z.config) first.bare.parts ∙ sym plan.config;
           performs = performs_begun p c roots core.shared rs plan first;

@@ -1,6 +1,6 @@
 -- A step that may want memory, by what came of it; and what a step that may be taken finds.
-use Rattle.std.proofs.{Common.{◌≡◌, ℕ, ◌+◌, ◌^◌, ◌<◌, ◌≤◌, Bool, true, false, not, List, length, get_or, Result, Ok, Err, Option, None, Some, refl, sym, ap, subst, ◌∙◌, arith, slice_get, slice_set}, lemmas.{Bool.{false≢true, and_parts, Decides.nat_tests}, List.length-set, Option.{slice_get_within, slice_get_past, slice_get-get_or}}}
-use Rattle.std.specs.Prelude.{slice_index_or, nat_lt, is_err, IfOk, OnOk, OnErr}
+use Rattle.std.proofs.{Common.{◌≡◌, ℕ, ◌+◌, ◌^◌, ◌<◌, ◌≤◌, ◌++◌, Bool, true, false, not, List, length, get_or, option_to_list, Result, Ok, Err, Option, None, Some, refl, sym, ap, subst, ◌∙◌, arith, slice_get, slice_set}, lemmas.{Bool.{false≢true, and_parts, Decides.nat_tests}, List.length-set, Option.{slice_get_within, slice_get_past, slice_get-get_or}}}
+use Rattle.std.specs.Prelude.{slice_index_or, nat_lt, is_err, is_ok, IfOk, OnOk, OnErr}
 use Rattle.exec_outcomes.specs.{declared.outcome.{Kind.TheVariants.Direct, OpResult.OpResult}, Lawful.{is_lawful, window_of}}
 use Rattle.exec_task.specs.declared.body.Said.{Said}
 use Rattle.exec_machine.specs.{declared.{event.Event.Event, state.RequestPhase.RequestPhase, step.Action.Action}, Progress.Plan, Requests.{asked_of, cursor_of}, Tests.is_flying, World.Common}
@@ -8,7 +8,7 @@ use Rattle.exec_moves.specs.State.{Desk, WakePoll}
 use Rattle.exec_machine.specs.declared.event.Event.TheVariants as event
 use Rattle.exec_machine.specs.declared.step.Action.TheVariants as action
 use Rattle.exec_machine.specs.declared.state.RequestPhase.TheVariants as phase
-use Rattle.exec_steps.specs.{declared.parts.{caller.Caller.Caller, record.Record.Record, shared.Shared.Shared, worker.Worker.Worker}, Acting.{PerformsAll, StepsOf}, Calling.{HasCallWhole, HaveMailboxes, is_free}, Carried.MayLand, Flown.{IsUpTo, longest}, Phased.{IsGoing, TurnsChair}, Records.roused, Sound.Sound, Spots.Spot, Whole.{HasWhole, IsWhole, Profile}, Works.Same}
+use Rattle.exec_steps.specs.{declared.parts.{caller.Caller.Caller, record.Record.Record, shared.Shared.Shared, worker.Worker.Worker}, Acting.{PerformsAll, StepsWith}, Calling.{HasCallWhole, HaveMailboxes, is_free}, Carried.MayLand, Phased.{IsGoing, TurnsChair}, Records.roused, Sound.Sound, Spots.Spot, Whole.{HasWhole, IsWhole, Profile}, Works.Same}
 use Rattle.exec_steps.proofs.{Spared.there_within, Together.{has_call_whole, has_whole, have_mailboxes}}
 use Rattle.exec_core.proofs.{Applying.{asleep_there, begun_there, going_there, landing_there, owner_there, peer_came, worker_there, working_there}, CoreCalls.{call_stands, spawn_called}, Enabling.enabled_as, Lifting.{as_before, lifted, stands_again, stands_by, stands_worked}}
 use Rattle.exec_core.specs.{Lift.{Calls, IsAsBefore, Keeps, Rings, Sees, Stands, Takes, WorkerStays, WorkerSteps, has_begun, may_call_in, may_go_on_in, may_land_in, may_take}, declared.executor.Core.Core}
@@ -34,6 +34,18 @@ pub on_ok : {T E : Type 0} (r : Result T E) (P : Type 0) → P → OnOk r P
 on_ok (Ok x) P holds = holds
 on_ok (Err x) P holds = tt
 
+pub if_ok : {T E : Type 0} (r : Result T E) (P : Type 0) → is_ok r ≡ true → OnOk r P → P
+if_ok (Ok x) P is holds = holds
+if_ok (Err x) P is holds = absurd (false≢true is)
+
+pub on_err_never : {T E : Type 0} (r : Result T E) (P Q : Type 0) → (P → ⊥) → OnErr r P → OnErr r Q
+on_err_never (Ok x) P Q never holds = tt
+on_err_never (Err x) P Q never holds = absurd (never holds)
+
+pub none_by : {X : Type 0} (o : Option X) → ((x : X) → o ≡ Some x → ⊥) → o ≡ None
+none_by None never = refl
+none_by (Some x) never = absurd (never x refl)
+
 pub spent_by : {T E : Type 0} (r : Result T E) (b : Bool) → b ≡ is_err r → OnErr r (b ≡ true)
 spent_by (Ok x) b is = tt
 spent_by (Err x) b is = is
@@ -49,6 +61,9 @@ flies_by (phase.Resolved outcome) h = absurd (false≢true h)
 -- the worker, or the caller, that was read off the list
 pub read_there : {X : Type 0} (xs : List X) (i : ℕ) (x : X) → i < length xs → x ≡ get_or xs i x → slice_get xs i ≡ Some x
 read_there xs i x within is = slice_get-get_or xs i x within ∙ ap (λ y. Some y) (sym is)
+
+pub read_in : {X : Type 0} (xs ys : List X) (i : ℕ) (x : X) → ys ≡ xs → i < length xs → x ≡ get_or ys i x → slice_get xs i ≡ Some x
+read_in xs ys i x same within is = read_there xs i x within (is ∙ ap (λ zs. get_or zs i x) same)
 
 free_within : (cs : List Caller) (j : ℕ) → may_call_in (slice_get cs j) ≡ true → j < length cs
 free_within cs j may = by (slice_get cs j) refl may
@@ -77,10 +92,10 @@ module _ {B L E : Type 0} (left : B → L) (runs : L → Plan → Option ℕ →
   worked_stands i c d (Ok e) stands unspent steps = (stands_again left runs holds spot i c d e stands steps, steps.spent ∙ unspent)
   worked_stands i c d (Err x) stands unspent steps = tt
 
-  pub work_steps : (i : ℕ) (c d : Core B) (w w' : Worker) (result : Result Event E) → slice_get c.workers.items i ≡ Some w → d.workers.items ≡ slice_set c.workers.items i w' → d.callers ≡ c.callers → d.spent ≡ is_err result → c.spent ≡ false
-      → IfOk result (λ e. StepsOf left runs holds spot w c.shared e w' d.shared) → IfOk result (λ e. WorkerSteps left runs holds spot i c e d)
-  work_steps i c d w w' (Ok e) was workers callers spent unspent steps = record { before = w; after = w'; was = was; workers = workers; callers = callers; spent = spent ∙ sym unspent; steps = steps }
-  work_steps i c d w w' (Err x) was workers callers spent unspent steps = tt
+  pub work_steps : (i : ℕ) (c d : Core B) (w w' : Worker) (born : Option Worker) (result : Result Event E) → slice_get c.workers.items i ≡ Some w → d.workers.items ≡ slice_set c.workers.items i w' ++ option_to_list born → d.callers ≡ c.callers → d.spent ≡ is_err result → c.spent ≡ false
+      → IfOk result (λ e. StepsWith left runs holds spot born w c.shared e w' d.shared) → IfOk result (λ e. WorkerSteps left runs holds spot i c e d)
+  work_steps i c d w w' born (Ok e) was workers callers spent unspent steps = record { before = w; after = w'; born = born; was = was; workers = workers; callers = callers; spent = spent ∙ sym unspent; steps = steps }
+  work_steps i c d w w' born (Err x) was workers callers spent unspent steps = tt
 
   pub peer_applied : (l : ℕ) (c d : Core B) (result : Result Event E) → Stands c → may_take c (action.Peer l) ≡ true → d.workers ≡ c.workers → d.callers ≡ c.callers → IfOk result (λ e. e ≡ event.Peer)
       → OnOk result (d.shared.listeners.items ≡ slice_set c.shared.listeners.items l (slice_index_or c.shared.listeners.items l 0 + 1)) → d.shared ≡ record c.shared { listeners = d.shared.listeners }
@@ -90,7 +105,7 @@ module _ {B L E : Type 0} (left : B → L) (runs : L → Plan → Option ℕ →
 
   module _ (name : L → ℕ) where
     pub worked_keeps : (i : ℕ) (o : Option B) (c d : Core B) (result : Result Event E) → IfOk result (λ e. WorkerSteps left runs holds spot i c e d) → OnOk result (Keeps left runs holds spot name (action.Work i) o c d)
-    worked_keeps i o c d (Ok e) steps = record { config = steps.steps.2.config; performs = λ p is carries fits. steps.steps.2.performs p fits }
+    worked_keeps i o c d (Ok e) steps = record { config = steps.steps.2.config; performs = λ p is carries fits. steps.steps.2.performs p is fits }
     worked_keeps i o c d (Err x) steps = tt
 
     pub peer_keeps : (l : ℕ) (o : Option B) (c d : Core B) (result : Result Event E) → d.shared ≡ record c.shared { listeners = d.shared.listeners } → OnOk result (Keeps left runs holds spot name (action.Peer l) o c d)
@@ -109,7 +124,7 @@ module _ {B L E : Type 0} (left : B → L) (spot : L → Option Said → Spot) w
   pub peer_stands : (c d : Core B) (result : Result Event E) → Stands c → d.workers ≡ c.workers → d.callers ≡ c.callers → OnOk result (d.spent ≡ false) → d.shared ≡ record c.shared { listeners = d.shared.listeners } → ((w : Worker) → Sound w c.shared → Sound w d.shared)
       → ((x : Profile) → IsWhole x c.shared → IsWhole x d.shared) → OnOk result (Stands d × (d.spent ≡ false))
   peer_stands c d (Ok e) stands workers callers unspent kept sound whole =
-      (stands_by c d stands workers callers (ap (λ x. length x.seats.items) kept) (ap (λ x. x.config) kept) (ap (λ x. x.tasks) kept) (ap (λ x. x.requests) kept) (ap (λ x. x.set) kept) sound whole, unspent)
+      (stands_by c d stands workers callers (ap (λ x. length x.seats.items) kept) (ap (λ x. x.config) kept) (ap (λ x. x.tasks) kept) (ap (λ x. x.requests) kept) (ap (λ x. x.sleepers) kept) (ap (λ x. x.set) kept) sound whole, unspent)
   peer_stands c d (Err x) stands workers callers unspent kept sound whole = tt
 
   pub work_stays : (i : ℕ) (c d : Core B) (w w' : Worker) (result : Result Event E) → slice_get c.workers.items i ≡ Some w → d.workers.items ≡ slice_set c.workers.items i w' → d.callers ≡ c.callers
@@ -152,13 +167,14 @@ module _ {B : Type 0} where
       let it = landing_there (slice_get c.shared.requests.items r) n may in
       slice_get_within c.shared.requests.items r it.0 it.1
 
-  -- No request has two parts.
+  -- The two parts of a direct read fit.
   pub not_direct : (c : Core B) (r : ℕ) (it : Record) → Stands c → slice_get c.shared.requests.items r ≡ Some it → it.shown.operation.kind ≡ Direct → it.shown.operation.skip + it.shown.operation.length + 4095 < 2 ^ 64
   not_direct c r it stands there direct =
       let owner = owner_there c r it stands there in
       let at = stands.together.sound it.shown.worker owner.0 owner.1 in
       let plain = at.1.flown.plain r it there (sym at.0) in
-      absurd (subst (λ k. IsUpTo (longest k) it.shown.operation.length) direct plain.bounded)
+      let bounded = plain.bounded in
+      omega (arith, bounded)
 
   pub landing_may : (c : Core B) (r : ℕ) (n : OpResult) (it : Record) → may_take c (action.Land r n) ≡ true → slice_get c.shared.requests.items r ≡ Some it → MayLand c.shared.requests.items r n
   landing_may c r n it may there =
@@ -197,9 +213,9 @@ module _ {B : Type 0} where
   -- WHAT STANDS after a step of no party, or of a ring
 
   pub seats_stand : (c d : Core B) → Stands c → c.spent ≡ false → d.workers ≡ c.workers → d.callers ≡ c.callers → d.spent ≡ c.spent → length d.shared.seats.items ≡ length c.shared.seats.items
-      → d.shared.config ≡ c.shared.config → d.shared.tasks ≡ c.shared.tasks → d.shared.requests ≡ c.shared.requests → d.shared.set ≡ c.shared.set
+      → d.shared.config ≡ c.shared.config → d.shared.tasks ≡ c.shared.tasks → d.shared.requests ≡ c.shared.requests → d.shared.sleepers ≡ c.shared.sleepers → d.shared.set ≡ c.shared.set
       → ((w : Worker) → Sound w c.shared → Sound w d.shared) → ((x : Profile) → IsWhole x c.shared → IsWhole x d.shared) → Stands d × (d.spent ≡ false)
-  seats_stand c d stands unspent workers callers spent many config tasks requests set sound whole = (stands_by c d stands workers callers many config tasks requests set sound whole, spent ∙ unspent)
+  seats_stand c d stands unspent workers callers spent many config tasks requests sleepers set sound whole = (stands_by c d stands workers callers many config tasks requests sleepers set sound whole, spent ∙ unspent)
 
   pub sees_stand : (c d : Core B) (i : ℕ) (sees : Sees i (λ seen. record seen { busy = true }) c d) → Stands c → c.spent ≡ false → Stands d × (d.spent ≡ false)
   sees_stand c d i sees stands unspent =

@@ -1,31 +1,13 @@
 -- The first state of an executor: the root of each worker is to be polled.
-use Rattle.std.specs.Prelude.{◌≡◌, ℕ, ◌+◌, ◌≤◌, true, false, List, [], ◌∷◌, ◌++◌, length, replicate, slice_get, Some, None}
-use Rattle.exec_base.specs.{Spinner.begun, declared.spinner.SpinnerConfig.SpinnerConfig}
-use Rattle.exec_driver.specs.{Punctual.IsPunctual, Steps.IsFresh as IsFreshDriver}
-use Rattle.exec_waiters.specs.Told.{is_untold, HasPlaces}
-use Rattle.exec_task.specs.{Phases.runnable_of, TaskSet.IsShardCount, declared.{body.Said.TheVariants.Start, runnable.Runnable.Runnable, task.Phase.TheVariants.Queued}}
-use Rattle.exec_machine.specs.{declared.{config.Configuration.Configuration, state.Waiting.TheVariants.Nothing}, Ranges.{horizon, ring_size}}
-use Rattle.exec_moves.specs.declared.place.Place.TheVariants as at
-use Rattle.exec_steps.specs.{declared.parts.{role.Role.TheVariants.Pool, seat.Seat.Seat as Chair, shared.Shared.Shared, task_slot.TaskSlot.TaskSlot, worker.Worker.Worker}, Firsts.shared_of, Records.{HasNoNames, IsFreshSeat}, View.driver_of}
+use Rattle.std.specs.Prelude.{◌≡◌, ℕ, ◌≤◌, true, false, List, [], ◌∷◌, ◌++◌, length, replicate, slice_get, Some}
+use Rattle.exec_task.specs.{Phases.runnable_of, TaskSet.IsShardCount, declared.runnable.Runnable.Runnable}
+use Rattle.exec_machine.specs.declared.config.Configuration.{Configuration}
+use Rattle.exec_steps.specs.{declared.parts.{role.Role.TheVariants.Pool, seat.Seat.Seat as Chair, shared.Shared.Shared, task_slot.TaskSlot.TaskSlot, worker.Worker.Worker}, Dedicated.{Begins, root_slot}, Firsts.shared_of, Records.IsFreshSeat}
 
 module _ {B : Type 0} where
   -- the slot of the root of worker i, which has this body and is to be polled
-  abbrev pub root_of : ℕ → B → TaskSlot B → TaskSlot B
-  root_of i body slot =
-      record {
-        cell = record { number = record { 0 = i }; owner = 1; phase = Queued body; cancelled = false };
-        body = None;
-        told = Some Start;
-        held = slot.held;
-        waiting = Nothing;
-        fresh = false;
-        cleared = false;
-        home = Some i;
-        poller = 0;
-      }
-
   pub record IsRoot (i : ℕ) (body : B) (slot : TaskSlot B) : Type 0 where
-    pub is : slot ≡ root_of i body slot
+    pub is : slot ≡ root_slot (record { 0 = i }) 1 i body slot
     pub held : slot.held.items ≡ []
 
   -- a seat and a root with this body were added, and this is the root's runnable
@@ -66,43 +48,7 @@ module _ {B : Type 0} where
     pub bare : IsBare c (length roots) s
     pub rooted : HasRoots roots s.seats.items s.tasks.items rs
 
--- worker i at first, with the runnable of its root
-abbrev pub worker_of : Configuration → SpinnerConfig → ℕ → Runnable → Worker → Worker
-worker_of c spin i r w =
-    record {
-      place = at.BeginTurn;
-      index = i;
-      workers = c.workers;
-      role = Pool i;
-      root = i;
-      home = w.home;
-      names = w.names;
-      moments = record { start = 0; sampled = 0; before = 0; read = 0 };
-      root_ready = Some r;
-      hand = None;
-      loot = record { values = []; places = 129 };
-      picks = 0;
-      searching = false;
-      rng = i + 1;
-      countdown = c.interval;
-      put_off = record { defer = false; «enter» = false };
-      batch = record { values = []; places = 1 };
-      processed = 0;
-      spinner = begun spin c.spin.iterations;
-      slept = None;
-    }
-
-pub record Begins (c : Configuration) (spin : SpinnerConfig) (i : ℕ) (r : Runnable) (w : Worker) : Type 0 where
-  pub parts : w ≡ worker_of c spin i r w
-  pub names : HasNoNames (ring_size c) w.names
-  pub opened : w.home.closing ≡ false
-  pub driver : IsFreshDriver (driver_of w) (ring_size c) (horizon c) c.tick 0
-  pub punctual : IsPunctual (driver_of w)
-  pub asleep : (w.home.timers.slots ≡ []) × (w.home.timers.vacant ≡ []) × (w.home.timers.first ≡ 0)
-  pub untold : is_untold w.home.deferred ≡ true
-  pub room : HasPlaces w.home.deferred 1
-
 -- a worker for each of these runnables
-pub record AllBegin (c : Configuration) (spin : SpinnerConfig) (rs : List Runnable) (ws : List Worker) : Type 0 where
+pub record AllBegin (c : Configuration) (rs : List Runnable) (ws : List Worker) : Type 0 where
   pub many : length ws ≡ length rs
-  pub each : (i : ℕ) (w : Worker) → slice_get ws i ≡ Some w → (r : Runnable) × (slice_get rs i ≡ Some r) × Begins c spin i r w
+  pub each : (i : ℕ) (w : Worker) → slice_get ws i ≡ Some w → (r : Runnable) × (slice_get rs i ≡ Some r) × Begins c (Pool i) i i r 0 w

@@ -3,3 +3,4 @@ pub mod Ranges
 pub mod Firsts
 pub mod Lift
 pub mod Once
+pub mod Turns

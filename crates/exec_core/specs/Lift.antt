@@ -1,5 +1,5 @@
 -- From a step of one party to a step of the whole.
-use Rattle.std.specs.Prelude.{◌≡◌, ℕ, zero, suc, ◌<◌, Bool, true, false, not, ◌+◌, ◌&&◌, ◌||◌, nat_le, nat_lt, List, [], All, length, map, slice_get, slice_set, Option, Some, None}
+use Rattle.std.specs.Prelude.{◌≡◌, ℕ, zero, suc, ◌<◌, Bool, true, false, not, ◌+◌, ◌&&◌, ◌||◌, nat_le, nat_lt, List, [], ◌++◌, All, length, map, option_to_list, slice_get, slice_set, Option, Some, None}
 use Rattle.std.specs.List.{list_all, list_any}
 use Rattle.exec_base.specs.declared.limits.TheConstants.{LAST_MOMENT}
 use Rattle.exec_outcomes.specs.{declared.outcome.OpResult.OpResult, Lawful.{window_of, is_lawful}}
@@ -8,7 +8,7 @@ use Rattle.exec_machine.specs.{declared.{config.Configuration.Configuration, eve
 use Rattle.exec_machine.specs.declared.step.Action.TheVariants as action
 use Rattle.exec_credit.specs.Minded.{MindedIn, begins_call, is_played}
 use Rattle.exec_moves.specs.{State.{Desk, WakePoll, wake_poll_of, passed}, Thing.set_wake_poll, Plays.{Played, Playing, by_action, by_step, credit_of, last_told}}
-use Rattle.exec_steps.specs.{Acting.{PerformsAll, StepsOf}, Calling.{CallBeside, CallSound, CallWorks, CallSuits, call_of, desk_of_caller, is_free}, Scripts.IsBorn, Sound.Sound, Spots.Spot, Together.StandTogether, View.{Views, Visible, own_of, visible, with_view, desk_of, common_of, things_with}, Works.{Beside, Suits, Same}, declared.parts.{caller.Caller.Caller, record.Record.Record, seat.Seat.Seat as Chair, worker.Worker.Worker}}
+use Rattle.exec_steps.specs.{Acting.{PerformsAll, StepsWith}, Calling.{CallBeside, CallSound, CallWorks, CallSuits, call_of, desk_of_caller, is_free}, Scripts.IsBorn, Sound.Sound, Spots.Spot, Together.StandTogether, View.{Views, Visible, own_of, visible, with_view, desk_of, common_of, things_with}, Works.{Beside, Suits, Same}, declared.parts.{caller.Caller.Caller, record.Record.Record, seat.Seat.Seat as Chair, sleeping.SleeperRecord.SleeperRecord, worker.Worker.Worker}}
 use Rattle.exec_core.specs.declared.executor.Core.{Core}
 
 -- WHICH STEPS MAY BE TAKEN, by the seats, the records and the callers
@@ -56,12 +56,13 @@ module _ {B : Type 0} where
   may_take c (action.Wake j t) = may_call_in (slice_get c.callers.items j) && nat_lt t (length c.shared.tasks.items)
   may_take c (action.GoOn j) = may_go_on_in (slice_get c.callers.items j)
 
-  -- There are workers and callers, and they stand together; each request is one of a worker.
+  -- There are workers and callers, and they stand together; each request and each sleeper is one of a worker.
   pub record Stands (c : Core B) : Type 0 where
     pub some : 0 < length c.workers.items
     pub callers : length c.callers.items ≡ 16
     pub together : StandTogether c.workers.items c.callers.items c.shared
     pub owned : (k : ℕ) (r : Record) → slice_get c.shared.requests.items k ≡ Some r → r.shown.worker < length c.workers.items
+    pub asleep : (k : ℕ) (z : SleeperRecord) → slice_get c.shared.sleepers.items k ≡ Some z → z.shown.worker < length c.workers.items
 
   -- what is visible of each worker and each caller
   abbrev pub views : Core B → Views
@@ -224,15 +225,16 @@ module _ {B L : Type 0} (left : B → L) (runs : L → Plan → Option ℕ → T
     pub config : d.shared.config ≡ c.shared.config
     pub performs : (p : Plan) → c.shared.config ≡ p.config → Carries name p a body → PerformsAll left runs holds p c.shared → PerformsAll left runs holds p d.shared
 
-  -- what a step of worker i does
+  -- what a step of worker i does, which may have made a worker
   pub record WorkerSteps (i : ℕ) (c : Core B) (e : Event) (d : Core B) : Type 0 where
     pub before : Worker
     pub after : Worker
+    pub born : Option Worker
     pub was : slice_get c.workers.items i ≡ Some before
-    pub workers : d.workers.items ≡ slice_set c.workers.items i after
+    pub workers : d.workers.items ≡ slice_set c.workers.items i after ++ option_to_list born
     pub callers : d.callers ≡ c.callers
     pub spent : d.spent ≡ c.spent
-    pub steps : StepsOf left runs holds spot before c.shared e after d.shared
+    pub steps : StepsWith left runs holds spot born before c.shared e after d.shared
 
   -- what an executor is, for a plan
   pub record Shows (p : Plan) (c : Core B) (x : Playing) : Type 0 where

@@ -17,6 +17,7 @@ use exec_machine::event::{Event, Line, StepResult};
 use exec_machine::step::Action;
 use exec_outcomes::outcome::OpResult;
 use exec_steps::parts::caller::Caller;
+use exec_steps::parts::nursery::Nursery;
 use exec_steps::parts::shared::Shared;
 use exec_steps::parts::worker::Worker;
 use exec_steps::scripted::Scripted;
@@ -60,7 +61,7 @@ impl<B: Scripted + Drop> Core<B> {
         a_step_is_minded();
         let configuration = configuration_of(config, iters_per_us, files, sockets);
         let (mut shared, runnables) = first_shared(alloc, configuration, roots)?;
-        let workers = first_workers(alloc, config, &configuration, runnables, &mut shared.store)?;
+        let workers = first_workers(alloc, &configuration, runnables, &mut shared.store)?;
         let mut callers = Vec::with_capacity(alloc, CALLERS)?;
         for _ in 0..CALLERS {
             callers.push_reserved(Caller::new());
@@ -271,8 +272,13 @@ impl<B: Scripted + Drop> Core<B> {
         ensures stays { OnErr result (WorkerStays B.left B.spot worker self.old self.new) }
         ensures spent { OnErr result (self.new.spent ≡ true) }
     {
-        let stepped = self.workers[worker].step(alloc, &mut self.shared);
+        let mut nursery = Nursery::new(self.workers.reserve(1).is_ok());
+        let stepped = self.workers[worker].step(alloc, &mut self.shared, &mut nursery);
         self.spent = stepped.is_err();
+        let Nursery { has_room: _, born } = nursery;
+        if let Some(born) = born {
+            self.workers.push_reserved(born);
+        }
         stepped
     }
 

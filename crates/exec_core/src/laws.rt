@@ -1,9 +1,11 @@
 //! Laws of executors of several workers.
 
-ghost use Rattle.std.specs.Prelude.{◌≡◌, ℕ, ◌&&◌, not, Some, None, if◌then◌else◌};
-ghost use Rattle.exec_machine.specs.{Progress.Plan, World.Task};
+ghost use Rattle.std.specs.Prelude.{◌≡◌, ℕ, ◌&&◌, not, true, Some, None, if◌then◌else◌};
+ghost use Rattle.exec_base.specs.declared.error.Error.{Error};
+ghost use Rattle.exec_outcomes.specs.{Accounts.is_durable, declared.outcome.{OpResult.OpResult, Outcome.TheVariants.Success}};
+ghost use Rattle.exec_machine.specs.{declared.{config.Configuration.Configuration, event.{Event.TheVariants.{Grant, Reap}, StepResult.TheVariants.Did}, step.Action.TheVariants.Work}, Choice.Choice, Progress.Plan, Requests.account_of_open, Run.Follows, World.{Common, Task, World, request_of}};
 ghost use Rattle.exec_moves.specs.{Plays.Playing, Poll.{is_noted, pend}, State.Desk};
-ghost use Rattle.exec_core.specs.{declared.executor.Core.Core, Lift.{Stands, Shows}, Once.QueuesOnce};
+ghost use Rattle.exec_core.specs.{declared.executor.Core.Core, Lift.{Stands, Shows}, Once.QueuesOnce, Turns.TakeTurns};
 
 use exec_steps::scripted::Scripted;
 
@@ -12,6 +14,25 @@ use exec_steps::scripted::Scripted;
 pub fn a_task_is_queued_once<B: Scripted + Drop>()
     ensures once { (p : Plan) (c : Core B) (x : Playing) → Stands c → Shows B.left B.runs B.holds B.spot p c x →
         QueuesOnce x }
-    ensures again { (t : ℕ) (d : Desk) (it : Task) → it.home ≡ None → d.hand ≡ None →
-        (pend t d it).desk.hand ≡ (if is_noted it.phase && not it.cleared then Some t else None) }
+    ensures again { (i t : ℕ) (s : Common) (d : Desk) (it : Task) → it.home ≡ None → d.hand ≡ None →
+        (pend i t s d it).desk.hand ≡ (if is_noted it.phase && not it.cleared then Some t else None) }
+{}
+
+/// In each state, of the durable requests of an open one has the permit at most, so one at most has an operation; and
+/// a write or a sync that isn't over was not cancelled, whether somebody waits for it or nobody does.
+pub fn durable_requests_take_turns<B: Scripted + Drop>()
+    ensures turns { (p : Plan) (c : Core B) (x : Playing) → Stands c → Shows B.left B.runs B.holds B.spot p c x →
+        TakeTurns x.world.common.requests }
+{}
+
+/// Once its open keeps a failure no durable request ends well: no run has a line that tells so, neither as the request
+/// is granted the permit nor by what its operations gave.
+pub fn no_durable_request_ends_well_after_a_kept_failure()
+    ensures granted { (c : Configuration) (w : World) (i r : ℕ) (error : Error) (choice : Choice) →
+        (account_of_open w.common (request_of w.common r)).failure ≡ Some error →
+        Follows c w (Work i) (Did (Grant r (Some Success))) choice → ⊥ }
+    ensures reaped { (c : Configuration) (w : World) (i r : ℕ) (n : OpResult) (error : Error)
+        (choice : Choice) → is_durable (request_of w.common r).operation.kind ≡ true →
+        (account_of_open w.common (request_of w.common r)).failure ≡ Some error →
+        Follows c w (Work i) (Did (Reap r n (Some Success))) choice → ⊥ }
 {}

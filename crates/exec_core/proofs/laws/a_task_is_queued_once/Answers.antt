@@ -4,5 +4,5 @@ use Rattle.exec_core.proofs.laws.a_task_is_queued_once.Goals as goal
 pub returns : goal.returns
 returns g c = record {
   once = λ p core x stands shows. queues_once g.B.Body.left g.B.Scripted.runs g.B.Scripted.holds g.B.Scripted.spot p core x stands shows;
-  again = λ t d it ordinary empty. again t d it ordinary empty;
+  again = λ i t s d it ordinary empty. again i t s d it ordinary empty;
 }

@@ -1,6 +1,7 @@
 use Rattle.std.proofs.Common.{[], ◌∷◌, length, sym, ap, subst, ◌∙◌, append_assoc, append-nil, arith}
 use Rattle.std.specs.Vec.Iter.{into_iter_items}
-use Rattle.exec_core.specs.Firsts.{AllBegin, Begins}
+use Rattle.exec_steps.specs.{Dedicated.Begins, declared.parts.role.Role.TheVariants.Pool}
+use Rattle.exec_core.specs.Firsts.{AllBegin}
 use Rattle.exec_core.proofs.CoreFirsts.{begin_more, begin_none, nothing_left, within_yielded}
 use Rattle.exec_core.proofs.setting_up.first_workers.Goals as goal
 
@@ -10,7 +11,7 @@ loop-runnable-init c =
     record {
       split = gives.0;
       len = gives.1 ∙ c.args.runnables.ok.0 ∙ ap length (sym gives.0);
-      begin = rw c.in_ok-workers.ensures.items (begin_none c.args.configuration.now c.args.config.now.idle_spinner);
+      begin = rw c.in_ok-workers.ensures.items (begin_none c.args.configuration.now);
     }
 
 pub first_worker-requires-clause-few : goal.first_worker-requires-clause-few
@@ -30,8 +31,8 @@ loop-runnable-preserved c =
       len = (let gone = steps.1 in let short = ap length steps.0 in omega (arith, gone, short, at.invariant.len));
       begin =
           rw c.in_ok-push.ensures.items
-          (begin_more c.args.configuration.now c.args.config.now.idle_spinner at.yielded at.workers.items x c.in_ok-first_worker.field-0 at.invariant.begin
-          (subst (λ k. Begins c.args.configuration.now c.args.config.now.idle_spinner k x c.in_ok-first_worker.field-0) index c.in_ok-first_worker.ensures.begins));
+          (begin_more c.args.configuration.now at.yielded at.workers.items x c.in_ok-first_worker.field-0 at.invariant.begin
+          (subst (λ k. Begins c.args.configuration.now (Pool k) k k x 0 c.in_ok-first_worker.field-0) index c.in_ok-first_worker.ensures.begins));
     }
 
 pub returns : goal.returns
@@ -40,4 +41,4 @@ returns c =
     let none = c.in-None.ensures.steps in
     let empty = nothing_left (into_iter_items at.runnable-iterator) (sym at.invariant.len ∙ none.0) in
     let all = sym (append-nil at.yielded) ∙ rw empty at at.invariant.split in
-    record { begin = subst (λ xs. AllBegin c.args.configuration.now c.args.config.now.idle_spinner xs at.workers.items) all at.invariant.begin }
+    record { begin = subst (λ xs. AllBegin c.args.configuration.now xs at.workers.items) all at.invariant.begin }

@@ -8,5 +8,5 @@ abbrev pub invariant-loop-runnable : goal.invariant-loop-runnable
 invariant-loop-runnable l = record {
   split : l.yielded ++ into_iter_items l.runnable-iterator ≡ l.fn.runnables.items;
   len : into_iter_len l.runnable-iterator ≡ length (into_iter_items l.runnable-iterator);
-  begin : AllBegin l.fn.configuration l.fn.config.idle_spinner l.yielded l.workers.items;
+  begin : AllBegin l.fn.configuration l.yielded l.workers.items;
 }

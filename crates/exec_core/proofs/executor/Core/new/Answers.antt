@@ -3,9 +3,6 @@ use Rattle.exec_core.specs.{Configs.configuration_of, Firsts.{AllBegin, IsFirst}
 use Rattle.exec_core.proofs.{Beginning.free_caller, CoreFirsts.with_store, Powers.in_range, Started.{first_minded, first_ready, first_shown, free_many, one_more_free}}
 use Rattle.exec_core.proofs.executor.Core.new.Goals as goal
 
-pub first_workers-requires-clause-spins : goal.first_workers-requires-clause-spins
-first_workers-requires-clause-spins g c = (in_range (configuration_of c.args.config.now c.args.iters_per_us c.args.files c.args.sockets) c.requires.config).spins
-
 pub first_workers-requires-clause-few : goal.first_workers-requires-clause-few
 first_workers-requires-clause-few g c =
     let range = in_range (configuration_of c.args.config.now c.args.iters_per_us c.args.files c.args.sockets) c.requires.config in
@@ -29,20 +26,20 @@ returns-clause-begins g c = λ p plan.
     let k = configuration_of c.args.config.now c.args.iters_per_us c.args.files c.args.sockets in
     let is = c.configuration_of-configuration.ensures in
     let first = with_store k c.args.roots.items c.in_ok-shared.shared c.in_ok-shared.runnables.items c.first_workers.new.store (subst (λ x. IsFirst x c.args.roots.items c.in_ok-shared.shared c.in_ok-shared.runnables.items) is c.in_ok-shared.ensures.first) in
-    let begin = subst (λ x. AllBegin x c.args.config.now.idle_spinner c.in_ok-shared.runnables.items c.in_ok-workers.workers.items) is c.in_ok-workers.ensures.begin in
+    let begin = subst (λ x. AllBegin x c.in_ok-shared.runnables.items c.in_ok-workers.workers.items) is c.in_ok-workers.ensures.begin in
     let sixteen : c.loop.counter ≡ 16 = omega (arith, c.loop.auto.counter-end, c.loop-test.false) in
-    first_shown g.B.Body.left g.B.Scripted.runs g.B.Scripted.holds g.B.Scripted.spot k c.args.config.now.idle_spinner c.args.roots.items (record { workers = c.in_ok-workers.workers; shared = record c.in_ok-shared.shared { store = c.first_workers.new.store }; callers = c.loop.callers; spent = false }) c.in_ok-shared.runnables.items p
-    (in_range k c.requires.config) first begin (c.loop.invariant.callers ∙ ap (λ n. replicate n free_caller) sixteen) refl plan
+    first_shown g.B.Body.left g.B.Scripted.runs g.B.Scripted.holds g.B.Scripted.spot k c.args.roots.items (record { workers = c.in_ok-workers.workers; shared = record c.in_ok-shared.shared { store = c.first_workers.new.store }; callers = c.loop.callers; spent = false }) c.in_ok-shared.runnables.items p
+    (in_range k c.requires.config) first begin (c.loop.invariant.callers ∙ ap (λ n. replicate n free_caller) sixteen) plan
 
 pub returns-clause-ready : goal.returns-clause-ready
 returns-clause-ready g c = λ p plan.
     let k = configuration_of c.args.config.now c.args.iters_per_us c.args.files c.args.sockets in
     let is = c.configuration_of-configuration.ensures in
     let first = with_store k c.args.roots.items c.in_ok-shared.shared c.in_ok-shared.runnables.items c.first_workers.new.store (subst (λ x. IsFirst x c.args.roots.items c.in_ok-shared.shared c.in_ok-shared.runnables.items) is c.in_ok-shared.ensures.first) in
-    let begin = subst (λ x. AllBegin x c.args.config.now.idle_spinner c.in_ok-shared.runnables.items c.in_ok-workers.workers.items) is c.in_ok-workers.ensures.begin in
+    let begin = subst (λ x. AllBegin x c.in_ok-shared.runnables.items c.in_ok-workers.workers.items) is c.in_ok-workers.ensures.begin in
     let sixteen : c.loop.counter ≡ 16 = omega (arith, c.loop.auto.counter-end, c.loop-test.false) in
-    first_ready g.B.Body.left g.B.Scripted.runs g.B.Scripted.holds g.B.Scripted.spot k c.args.config.now.idle_spinner c.args.roots.items (record { workers = c.in_ok-workers.workers; shared = record c.in_ok-shared.shared { store = c.first_workers.new.store }; callers = c.loop.callers; spent = false }) c.in_ok-shared.runnables.items p
-    (in_range k c.requires.config) first begin (c.loop.invariant.callers ∙ ap (λ n. replicate n free_caller) sixteen) refl plan refl
+    first_ready g.B.Body.left g.B.Scripted.runs g.B.Scripted.holds g.B.Scripted.spot k c.args.roots.items (record { workers = c.in_ok-workers.workers; shared = record c.in_ok-shared.shared { store = c.first_workers.new.store }; callers = c.loop.callers; spent = false }) c.in_ok-shared.runnables.items p
+    (in_range k c.requires.config) first begin (c.loop.invariant.callers ∙ ap (λ n. replicate n free_caller) sixteen) plan refl
 
 pub returns-clause-minded : goal.returns-clause-minded
 returns-clause-minded g c = λ p plan lone scripts played.

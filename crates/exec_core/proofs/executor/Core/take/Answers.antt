@@ -81,7 +81,7 @@ returns-in-Clock-clause-stands g c =
     let kept = c.move_clock.ensures.kept in
     seats_stand c.args.self.now (record c.args.self.now { shared = c.move_clock.new.self }) c.requires.ready.1.stands c.requires.ready.1.unspent refl refl refl
     (ap (λ xs. length xs) c.move_clock.ensures.seats ∙ length-map c.args.self.now.shared.seats.items (reached (c.args.self.now.shared.clock + c.in-Clock.by)))
-    (ap (λ s. s.config) kept) (ap (λ s. s.tasks) kept) (ap (λ s. s.requests) kept) (ap (λ s. s.set) kept) c.move_clock.ensures.sound c.move_clock.ensures.whole
+    (ap (λ s. s.config) kept) (ap (λ s. s.tasks) kept) (ap (λ s. s.requests) kept) (ap (λ s. s.sleepers) kept) (ap (λ s. s.set) kept) c.move_clock.ensures.sound c.move_clock.ensures.whole
 
 pub returns-in-Clock-clause-keeps : goal.returns-in-Clock-clause-keeps
 returns-in-Clock-clause-keeps g c =
@@ -97,7 +97,7 @@ returns-in-Stir-clause-stands g c =
     let kept = c.stir.ensures.kept in
     seats_stand c.args.self.now (record c.args.self.now { shared = c.stir.new.self }) c.requires.ready.1.stands c.requires.ready.1.unspent refl refl refl
     (chair_many c.args.self.now c.stir.new.self c.in-Stir.worker (rw c.in-Stir.is at c.requires.enabled) c.stir.ensures.chair)
-    (ap (λ s. s.config) kept) (ap (λ s. s.tasks) kept) (ap (λ s. s.requests) kept) (ap (λ s. s.set) kept) c.stir.ensures.sound c.stir.ensures.whole
+    (ap (λ s. s.config) kept) (ap (λ s. s.tasks) kept) (ap (λ s. s.requests) kept) (ap (λ s. s.sleepers) kept) (ap (λ s. s.set) kept) c.stir.ensures.sound c.stir.ensures.whole
 
 pub returns-in-Stir-clause-keeps : goal.returns-in-Stir-clause-keeps
 returns-in-Stir-clause-keeps g c =

@@ -1,5 +1,7 @@
-use Rattle.std.proofs.Common.{refl, arith}
-use Rattle.exec_core.proofs.{Applying.let_on_there, Taking.{goes_there, read_there, spent_by, whole_there, work_stays, work_steps, work_within}}
+use Rattle.std.proofs.{Common.{◌≡◌, ◌++◌, true, None, refl, sym, ap, ◌∙◌, arith, option_to_list, slice_set}, lemmas.List.append-nil}
+use Rattle.std.specs.Result.{is_ok}
+use Rattle.exec_steps.proofs.Begun.{not_both}
+use Rattle.exec_core.proofs.{Applying.let_on_there, Taking.{goes_there, if_ok, none_by, on_err_never, read_in, spent_by, whole_there, work_stays, work_steps, work_within}}
 use Rattle.exec_core.proofs.executor.Core.work.Goals as goal
 
 pub index_mut-requires : goal.index_mut-requires
@@ -10,13 +12,13 @@ index_mut-requires g c =
 pub step-stepped-requires-clause-sound : goal.step-stepped-requires-clause-sound
 step-stepped-requires-clause-sound g c =
     let stands = c.requires.ready.1.stands in
-    let there = read_there c.args.self.now.workers.items c.args.worker c.index_mut.result.now (work_within c.args.self.now c.args.worker stands c.requires.enabled) c.index_mut.ensures.value in
+    let there = read_in c.args.self.now.workers.items c.reserve.new.self.items c.args.worker c.index_mut.result.now c.reserve.ensures.items (work_within c.args.self.now c.args.worker stands c.requires.enabled) c.index_mut.ensures.value in
     (stands.together.sound c.args.worker c.index_mut.result.now there).1
 
 pub step-stepped-requires-clause-whole : goal.step-stepped-requires-clause-whole
 step-stepped-requires-clause-whole g c =
     let stands = c.requires.ready.1.stands in
-    let there = read_there c.args.self.now.workers.items c.args.worker c.index_mut.result.now (work_within c.args.self.now c.args.worker stands c.requires.enabled) c.index_mut.ensures.value in
+    let there = read_in c.args.self.now.workers.items c.reserve.new.self.items c.args.worker c.index_mut.result.now c.reserve.ensures.items (work_within c.args.self.now c.args.worker stands c.requires.enabled) c.index_mut.ensures.value in
     whole_there c.args.self.now c.args.worker c.index_mut.result.now stands there
 
 pub step-stepped-requires-clause-performs : goal.step-stepped-requires-clause-performs
@@ -27,26 +29,54 @@ step-stepped-requires-clause-performs g c =
 pub step-stepped-requires-clause-going : goal.step-stepped-requires-clause-going
 step-stepped-requires-clause-going g c =
     let stands = c.requires.ready.1.stands in
-    let there = read_there c.args.self.now.workers.items c.args.worker c.index_mut.result.now (work_within c.args.self.now c.args.worker stands c.requires.enabled) c.index_mut.ensures.value in
+    let there = read_in c.args.self.now.workers.items c.reserve.new.self.items c.args.worker c.index_mut.result.now c.reserve.ensures.items (work_within c.args.self.now c.args.worker stands c.requires.enabled) c.index_mut.ensures.value in
     goes_there c.args.self.now c.args.worker c.index_mut.result.now stands c.requires.enabled there
 
 pub step-stepped-requires-clause-let_on : goal.step-stepped-requires-clause-let_on
 step-stepped-requires-clause-let_on g c =
     let stands = c.requires.ready.1.stands in
-    let there = read_there c.args.self.now.workers.items c.args.worker c.index_mut.result.now (work_within c.args.self.now c.args.worker stands c.requires.enabled) c.index_mut.ensures.value in
+    let there = read_in c.args.self.now.workers.items c.reserve.new.self.items c.args.worker c.index_mut.result.now c.reserve.ensures.items (work_within c.args.self.now c.args.worker stands c.requires.enabled) c.index_mut.ensures.value in
     let_on_there c.args.self.now c.args.worker c.index_mut.result.now stands there c.requires.enabled
 
-pub returns-clause-steps : goal.returns-clause-steps
-returns-clause-steps g c =
-    let ready = c.requires.ready.1 in
-    let there = read_there c.args.self.now.workers.items c.args.worker c.index_mut.result.now (work_within c.args.self.now c.args.worker ready.stands c.requires.enabled) c.index_mut.ensures.value in
-    work_steps g.B.Body.left g.B.Scripted.runs g.B.Scripted.holds g.B.Scripted.spot c.args.worker c.args.self.now _ c.index_mut.result.now c.step-stepped.new.self c.step-stepped.result there refl refl c.is_err-self.ensures.value ready.unspent c.step-stepped.ensures.steps
-
-pub returns-clause-stays : goal.returns-clause-stays
-returns-clause-stays g c =
+pub step-stepped-requires-clause-staff : goal.step-stepped-requires-clause-staff
+step-stepped-requires-clause-staff g c =
     let stands = c.requires.ready.1.stands in
-    let there = read_there c.args.self.now.workers.items c.args.worker c.index_mut.result.now (work_within c.args.self.now c.args.worker stands c.requires.enabled) c.index_mut.ensures.value in
-    work_stays g.B.Body.left g.B.Scripted.spot c.args.worker c.args.self.now _ c.index_mut.result.now c.step-stepped.new.self c.step-stepped.result there refl refl c.step-stepped.ensures.same
+    λ k r found. (let within = stands.owned k r found in omega (arith, within, stands.together.seats))
 
-pub returns-clause-spent : goal.returns-clause-spent
-returns-clause-spent g c = spent_by c.step-stepped.result c.is_err-self.result c.is_err-self.ensures.value
+pub push_reserved-requires : goal.push_reserved-requires
+push_reserved-requires g c =
+    let has : c.new-nursery.result.has_room ≡ true = c.step-stepped.ensures.room (rw c.in-Some.is refl) in
+    let made : is_ok c.reserve.result ≡ true = sym c.is_ok.ensures.value ∙ sym (ap (λ n. n.has_room) c.new-nursery.ensures) ∙ has in
+    let room = if_ok c.reserve.result _ made c.reserve.ensures.ok in
+    omega (arith, room)
+
+pub returns-in-Some-clause-steps : goal.returns-in-Some-clause-steps
+returns-in-Some-clause-steps g c =
+    let ready = c.requires.ready.1 in
+    let there = read_in c.args.self.now.workers.items c.reserve.new.self.items c.args.worker c.index_mut.result.now c.reserve.ensures.items (work_within c.args.self.now c.args.worker ready.stands c.requires.enabled) c.index_mut.ensures.value in
+    let workers = c.push_reserved.ensures.items ∙ (λ k. slice_set (c.reserve.ensures.items k) c.args.worker c.step-stepped.new.self ++ option_to_list (sym c.in-Some.is k)) in
+    work_steps g.B.Body.left g.B.Scripted.runs g.B.Scripted.holds g.B.Scripted.spot c.args.worker c.args.self.now _ c.index_mut.result.now c.step-stepped.new.self c.step-stepped.new.nursery.born c.step-stepped.result there workers refl c.is_err-self.ensures.value ready.unspent c.step-stepped.ensures.steps
+
+pub returns-in-Some-clause-stays : goal.returns-in-Some-clause-stays
+returns-in-Some-clause-stays g c = on_err_never c.step-stepped.result _ _ (λ none. not_both c.step-stepped.new.nursery.born c.in-Some.born none c.in-Some.is) c.step-stepped.ensures.nobody
+
+pub returns-in-Some-clause-spent : goal.returns-in-Some-clause-spent
+returns-in-Some-clause-spent g c = spent_by c.step-stepped.result c.is_err-self.result c.is_err-self.ensures.value
+
+pub returns-in_default-clause-steps : goal.returns-in_default-clause-steps
+returns-in_default-clause-steps g c =
+    let ready = c.requires.ready.1 in
+    let there = read_in c.args.self.now.workers.items c.reserve.new.self.items c.args.worker c.index_mut.result.now c.reserve.ensures.items (work_within c.args.self.now c.args.worker ready.stands c.requires.enabled) c.index_mut.ensures.value in
+    let none : c.step-stepped.new.nursery.born ≡ None = none_by c.step-stepped.new.nursery.born c.in_default.not-Some in
+    let workers = ap (λ xs. slice_set xs c.args.worker c.step-stepped.new.self) c.reserve.ensures.items ∙ sym (append-nil (slice_set c.args.self.now.workers.items c.args.worker c.step-stepped.new.self))
+    ∙ ap (λ o. slice_set c.args.self.now.workers.items c.args.worker c.step-stepped.new.self ++ option_to_list o) (sym none) in
+    work_steps g.B.Body.left g.B.Scripted.runs g.B.Scripted.holds g.B.Scripted.spot c.args.worker c.args.self.now _ c.index_mut.result.now c.step-stepped.new.self c.step-stepped.new.nursery.born c.step-stepped.result there workers refl c.is_err-self.ensures.value ready.unspent c.step-stepped.ensures.steps
+
+pub returns-in_default-clause-stays : goal.returns-in_default-clause-stays
+returns-in_default-clause-stays g c =
+    let stands = c.requires.ready.1.stands in
+    let there = read_in c.args.self.now.workers.items c.reserve.new.self.items c.args.worker c.index_mut.result.now c.reserve.ensures.items (work_within c.args.self.now c.args.worker stands c.requires.enabled) c.index_mut.ensures.value in
+    work_stays g.B.Body.left g.B.Scripted.spot c.args.worker c.args.self.now _ c.index_mut.result.now c.step-stepped.new.self c.step-stepped.result there (ap (λ xs. slice_set xs c.args.worker c.step-stepped.new.self) c.reserve.ensures.items) refl c.step-stepped.ensures.same
+
+pub returns-in_default-clause-spent : goal.returns-in_default-clause-spent
+returns-in_default-clause-spent g c = spent_by c.step-stepped.result c.is_err-self.result c.is_err-self.ensures.value
