@@ -15,7 +15,7 @@ module _ {B L : Type 0} (left : B → L) (runs : L → Plan → Option ℕ → T
       subst (λ (x : Action). Carries left runs holds spot name p x body) (sym is) (by_body body born none)
     where
       by_body : (o : Option B) → IfSome o (λ b. (q : Plan) → known q → IsBorn runs holds spot q k (left b)) → IfNone o ((q : Plan) → known q → length q.scripts ≤ k) → Carries left runs holds spot name p (action.Spawn j k) o
-      by_body (Some b) is_born absent = let it = is_born p knows in (b, refl, named p (left b) k it.runs_it it.begins, it)
+      by_body (Some b) is_born absent = let it = is_born p knows in (b, refl, named p (left b) k (it.runs_it None tt) it.begins, it)
       by_body None is_born absent =
           let within : k < length p.scripts = subst (λ (x : Action). StepNames (length p.scripts) (One x)) is names in
           let past : length p.scripts ≤ k = absent p knows in

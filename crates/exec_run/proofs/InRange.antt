@@ -19,7 +19,9 @@ all_within (part ∷ parts) none =
 pub record IsInRange (c : Configuration) : Type 0 where
   pub some_worker : 1 ≤ c.workers
   pub few_workers : c.workers ≤ 64
+  pub connect : c.connect ≤ LONGEST_TIMEOUT
   pub rw : c.rw ≤ LONGEST_TIMEOUT
+  pub files : c.files ≤ 64
   pub sockets : c.sockets ≤ 1024
 
 pub in_range : (c : Configuration) → first_out_of_range c ≡ None → IsInRange c
@@ -36,6 +38,8 @@ in_range c none =
     record {
       some_worker = leb-true 1 c.workers many.0;
       few_workers = leb-true c.workers 64 many.1;
+      connect = leb-true c.connect LONGEST_TIMEOUT (and_parts (nat_le 1 c.connect) (nat_le c.connect LONGEST_TIMEOUT) connect.0).1;
       rw = leb-true c.rw LONGEST_TIMEOUT (and_parts (nat_le 1 c.rw) (nat_le c.rw LONGEST_TIMEOUT) others.0).1;
+      files = leb-true c.files 64 files.0;
       sockets = leb-true c.sockets 1024 (and_parts (nat_le c.sockets 1024) _ files.1).0;
     }

@@ -11,3 +11,5 @@ pub mod Counted
 pub mod Carried
 pub mod Acts
 pub mod First
+pub mod Wanted
+pub mod Playable

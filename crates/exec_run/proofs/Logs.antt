@@ -5,8 +5,8 @@ use Rattle.exec_machine.specs.{declared.{config.Configuration.Configuration, ste
 use Rattle.exec_machine.specs.declared.step.Action.TheVariants as action
 use Rattle.exec_moves.specs.Plays.{Playing, by_action, by_step, first_playing, credit_of, GoesByMoves}
 use Rattle.exec_credit.specs.Minded.{begins_call, is_played}
-use Rattle.exec_core.specs.{Lift.{IsFair, IsMinded, Pays}, Once.QueuesOnce}
-use Rattle.exec_run.specs.{Log.{AreQueuedOnce, IsOfOne, IsTheLogOf}, Steps.{IsStep, Goes, standing, accounts_of}}
+use Rattle.exec_core.specs.{Lift.{IsFair, IsMinded, Pays}, Turns.IsOrderly}
+use Rattle.exec_run.specs.{Log.{AreOrderly, IsOfOne, IsTheLogOf}, Steps.{IsStep, Goes, standing, accounts_of}}
 
 -- WHERE A STEP LEADS
 
@@ -53,10 +53,10 @@ runs_by p x (it ∷ told) goes =
       subst (λ (w : World). RunsBy p.config w (lines_of told) (choices_of told)) (leads_there p x it goes.0) (runs_by p next told goes.1),
     )
 
--- in each of their states a task is queued once
-once_by : (p : Plan) (x : Playing) (told : List Told) → QueuesOnce x → Goes p x told → AreQueuedOnce p.config x told
-once_by p x [] once goes = once
-once_by p x (it ∷ told) once goes = (once, once_by p (by_step p.config x it.0.action).next told goes.0.once goes.1)
+-- each of their states is orderly
+orderly_by : (p : Plan) (x : Playing) (told : List Told) → IsOrderly x → Goes p x told → AreOrderly p.config x told
+orderly_by p x [] orderly goes = orderly
+orderly_by p x (it ∷ told) orderly goes = (orderly, orderly_by p (by_step p.config x it.0.action).next told goes.0.orderly goes.1)
 
 -- ONE WORKER ALONE
 
@@ -94,7 +94,7 @@ pub record PaidIsRun : Type 0 where
 
 -- what an executor begins with, and one worker alone
 pub record BeginsWell (p : Plan) : Type 0 where
-  pub once : QueuesOnce (first_playing p)
+  pub orderly : IsOrderly (first_playing p)
   pub minded : p.config.workers ≡ 1 → p.scripts ≡ [] → All (λ w. is_played w ≡ true) p.root → IsMinded p (first_playing p)
   pub fair : p.config.workers ≡ 1 → IsFair p.config (first_playing p)
 
@@ -117,6 +117,6 @@ is_the_log law p steps told begins has_lines goes =
     record {
       runs = runs_by p (first_playing p) told goes;
       plays = record { has_lines = has_lines; moves = by_moves p (first_playing p) told goes };
-      once = once_by p (first_playing p) told begins.once goes;
+      orderly = orderly_by p (first_playing p) told begins.orderly goes;
       alone = is_log law p steps told begins has_lines goes;
     }

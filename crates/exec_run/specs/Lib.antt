@@ -4,5 +4,6 @@ pub mod Log
 pub mod Explains
 pub mod Steps
 pub mod Reading
+pub mod Asking
 pub mod Script
 pub mod ScriptPlays

@@ -2,14 +2,11 @@
 use Rattle.std.specs.Prelude.{◌≡◌, ℕ, suc, Bool, true, false, ◌+◌, ◌-◌, ◌%◌, ◌^◌, ◌<◌, ◌≤◌, nat_le, if◌then◌else◌, List, [], ◌∷◌, ◌++◌, All, length, map, drop, slice_get, slice_index_or, Option, Some, None, IfSome, Vec}
 use Rattle.std.specs.declared.alloc.Global.{Global}
 use Rattle.exec_base.specs.declared.{error.Error.TheVariants.NoMemory, limits.TheConstants.LONGEST_TIMEOUT}
-use Rattle.exec_outcomes.specs.declared.outcome.Kind.{Kind}
-use Rattle.exec_request.specs.{declared.request.Request.Request, Requests.{asked_of, cursor_of, deadline_of, target_of}}
-use Rattle.exec_task.specs.{Sight.Sight, declared.body.{Act.{Act, TheVariants.{Register, Await, Drop, Sleep, Spawn, Wake, Yield, Done, Fault}}, Said.{Said, TheVariants.{Admitted, Output, Refused, Pass}}}}
+use Rattle.exec_task.specs.{Sight.Sight, declared.body.{Act.{Act, TheVariants.{Register, Await, Drop, Sleep, Spawn, Dedicated, Wake, Yield, Done, Fault}}, Said.{Said, TheVariants.{Admitted, Output, Refused, Pass}}}}
 use Rattle.exec_machine.specs.{declared.{config.{Configuration.Configuration, ScriptWord.ScriptWord}, state.Code.{Code, TheVariants.{Root, Script, Waits}}}, Tests.is_empty, Tasks.without_newest, Progress.Plan}
 use Rattle.exec_machine.specs.declared.config.ScriptWord.TheVariants as word
-use Rattle.exec_steps.specs.{Spots.Spot, Scripts.{Asks, IsCodeOf, IsPlainRequest}}
-use Rattle.exec_text.specs.Grammar.{StaysInScript}
-use Rattle.exec_run.specs.declared.script.Asked.{Asked}
+use Rattle.exec_steps.specs.{Spots.Spot, Scripts.{Asks, IsCodeOf}}
+use Rattle.exec_run.specs.{Asking.{CanAsk, CoversSeen, IsInTime}, declared.{asking.Limits.Limits, script.Asked.Asked}}
 use Rattle.exec_run.specs.declared.script.Asked.TheVariants as asked
 
 -- a body, with how far it has come: which script it runs, among which; the numbers of its next word and of the one before
@@ -18,38 +15,30 @@ pub record Played : Type 0 where
   pub code : Code
   pub words : List ScriptWord
   pub scripts : List (List ScriptWord)
-  pub rw : ℕ
+  pub limits : Limits
   pub place : ℕ
   pub before : ℕ
   pub held : List ℕ
   pub asked : Asked
 
 -- a body that is to begin
-abbrev pub begun : Code → List ScriptWord → List (List ScriptWord) → ℕ → Played
-begun code words scripts rw =
-    record { code = code; words = words; scripts = scripts; rw = rw; place = 0; before = 0; held = []; asked = asked.Other }
+abbrev pub begun : Code → List ScriptWord → List (List ScriptWord) → Limits → Played
+begun code words scripts limits =
+    record { code = code; words = words; scripts = scripts; limits = limits; place = 0; before = 0; held = []; asked = asked.Other }
 
 -- the words of these scripts
 abbrev pub words_of_all : List (Vec ScriptWord Global) → List (List ScriptWord)
 words_of_all scripts = map (λ words. words.items) scripts
 
 -- that of script k of these
-abbrev pub script_begun : List (List ScriptWord) → ℕ → ℕ → Played
-script_begun scripts rw k = begun (Script k) (slice_index_or scripts k []) scripts rw
+abbrev pub script_begun : List (List ScriptWord) → Limits → ℕ → Played
+script_begun scripts limits k = begun (Script k) (slice_index_or scripts k []) scripts limits
 
--- the words that it makes acts of, among so many scripts, and their bounds
+-- the bounds of the words of a body, among so many scripts
 abbrev pub CanPlay : ℕ → ScriptWord → Type 0
-CanPlay many (word.Send socket length) = (socket < 2 ^ 32) × (length ≤ 1048576)
-CanPlay many (word.Poll listener) = listener < 2 ^ 32
-CanPlay many word.Await = Unit {0}
-CanPlay many word.Drop = Unit {0}
-CanPlay many (word.Sleep time) = Unit {0}
 CanPlay many (word.Spawn script) = script < many
-CanPlay many (word.Wake task) = Unit {0}
-CanPlay many word.Yield = Unit {0}
-CanPlay many word.End = Unit {0}
-CanPlay many (word.Fault code) = Unit {0}
-CanPlay many _ = ⊥
+CanPlay many (word.Dedicated script) = script < many
+CanPlay many w = CanAsk w
 
 -- what it holds, and the number of its next word, once it is told this; one that is through stays at its last word
 abbrev pub held_by : Asked → List ℕ → Said → List ℕ
@@ -124,51 +113,40 @@ asked_by (Done n) = asked.Ending
 asked_by (Fault n) = asked.Ending
 asked_by _ = asked.Other
 
-abbrev pub asks_request : ScriptWord → Bool
-asks_request (word.Send socket length) = true
-asks_request (word.Poll listener) = true
-asks_request _ = false
+-- a request covers what is seen of its open
+abbrev pub CoversBy : Sight → Act Played → Type 0
+CoversBy it (Register r) = CoversSeen it r
+CoversBy it a = Unit {0}
 
--- The act is what the word asks for, of a script that holds these, among so many.
-abbrev pub AsksFor : ℕ → ℕ → ℕ → List ℕ → ScriptWord → Act Played → Type 0
-AsksFor many moment rw held w a =
-    CanPlay many w → moment + rw < 2 ^ 64 → (c : Configuration) → c.rw ≡ rw → Asks c moment held w a
-
--- a poll or a send of one part, which asks for this and was not begun
-pub record IsPlain (k : Kind) (target length deadline : ℕ) (r : Request) : Type 0 where
-  pub asked : asked_of r ≡ record { kind = k; length = length; skip = 0 }
-  pub of : target_of r ≡ target
-  pub until : deadline_of r ≡ Some deadline
-  pub unmoved : (cursor_of r).moved ≡ 0
-  pub unswitched : (cursor_of r).switched ≡ false
-  pub plain : IsPlainRequest r
-
--- The request is what the word asks for, whatever the script holds.
-abbrev pub IsRequestOf : ℕ → ℕ → ScriptWord → Request → Type 0
-IsRequestOf moment rw w r = (many : ℕ) (held : List ℕ) → AsksFor many moment rw held w (Register r)
+-- The act is what the word asks for, of a script that sees this and holds these.
+pub record AsksFor (it : Sight) (limits : Limits) (held : List ℕ) (w : ScriptWord) (a : Act Played) : Type 0 where
+  pub covers : CoversBy it a
+  pub asks : (c : Configuration) → c.rw ≡ limits.rw → c.connect ≡ limits.connect → Asks c it.moment held w a
 
 -- the act of a word that asks for no request, of a body of these scripts that holds this as its newest
-abbrev pub IsPlainActOf : List (List ScriptWord) → ℕ → ScriptWord → Option ℕ → Act Played → Type 0
-IsPlainActOf scripts rw word.Await n a = a ≡ Await n
-IsPlainActOf scripts rw word.Drop (Some r) a = a ≡ Drop r
-IsPlainActOf scripts rw word.Drop None a = Unit {0}
-IsPlainActOf scripts rw (word.Sleep time) n a = a ≡ Sleep time
-IsPlainActOf scripts rw (word.Spawn k) n a = k < length scripts → a ≡ Spawn (script_begun scripts rw k)
-IsPlainActOf scripts rw (word.Wake task) n a = task < 2 ^ 32 → a ≡ Wake (record { 0 = task })
-IsPlainActOf scripts rw word.Yield n a = a ≡ Yield
-IsPlainActOf scripts rw (word.Fault code) n a = a ≡ Fault code
-IsPlainActOf scripts rw _ n a = a ≡ Done 0
+abbrev pub IsPlainActOf : List (List ScriptWord) → Limits → ScriptWord → Option ℕ → Act Played → Type 0
+IsPlainActOf scripts limits word.Await n a = a ≡ Await n
+IsPlainActOf scripts limits word.Drop (Some r) a = a ≡ Drop r
+IsPlainActOf scripts limits word.Drop None a = Unit {0}
+IsPlainActOf scripts limits (word.Sleep time) n a = a ≡ Sleep time
+IsPlainActOf scripts limits (word.Spawn k) n a = k < length scripts → a ≡ Spawn (script_begun scripts limits k)
+IsPlainActOf scripts limits (word.Dedicated k) n a = k < length scripts → a ≡ Dedicated (script_begun scripts limits k)
+IsPlainActOf scripts limits (word.Wake task) n a = task < 2 ^ 32 → a ≡ Wake (record { 0 = task })
+IsPlainActOf scripts limits word.Yield n a = a ≡ Yield
+IsPlainActOf scripts limits (word.Fault code) n a = a ≡ Fault code
+IsPlainActOf scripts limits _ n a = a ≡ Done 0
 
 -- The body that the act makes, if any, begins the script of the word.
 abbrev pub Begets : Played → ScriptWord → Act Played → Type 0
-Begets s w (Spawn b) = (k : ℕ) → w ≡ word.Spawn k → b ≡ script_begun s.scripts s.rw k
+Begets s w (Spawn b) = (k : ℕ) → w ≡ word.Spawn k → b ≡ script_begun s.scripts s.limits k
+Begets s w (Dedicated b) = (k : ℕ) → w ≡ word.Dedicated k → b ≡ script_begun s.scripts s.limits k
 Begets s w a = Unit {0}
 
 -- One step of a body that is told this and sees this: it makes the act of its next word, and then stands past it.
 pub record StepsTo (s : Played) (it : Sight) (told : Said) (a : Act Played) (s' : Played) : Type 0 where
   pub place : ℕ
   pub here : it.tasks ≤ 2 ^ 32 → place ≡ place_by s told + passed_over (is_empty (held_by s.asked s.held told)) it.tasks (drop (place_by s told) s.words)
-  pub asks : it.tasks ≤ 2 ^ 32 → AsksFor (length s.scripts) it.moment s.rw (held_by s.asked s.held told) (word_in s.code s.words it.stopped place) a
+  pub asks : it.tasks ≤ 2 ^ 32 → CanPlay (length s.scripts) (word_in s.code s.words it.stopped place) → IsInTime it.moment s.limits → AsksFor it s.limits (held_by s.asked s.held told) (word_in s.code s.words it.stopped place) a
   pub begets : CanPlay (length s.scripts) (word_in s.code s.words it.stopped place) → Begets s (word_in s.code s.words it.stopped place) a
   pub past : place < length s.words → s'.place ≡ place + 1
   pub rest : s' ≡ record s { place = s'.place; before = place_by s told; held = held_by s.asked s.held told; asked = asked_by a }
@@ -182,14 +160,16 @@ words_of Root p = p.root
 words_of (Script k) p = slice_index_or p.scripts k []
 words_of Waits p = []
 
--- What all bodies of a plan know: its scripts, each of which can be played and asks for nothing that takes time.
-pub record IsProgram (scripts : List (List ScriptWord)) (rw : ℕ) (p : Plan) : Type 0 where
+-- What all bodies of a plan know: its scripts, each of which can be played, and how long requests may take.
+pub record IsProgram (scripts : List (List ScriptWord)) (limits : Limits) (p : Plan) : Type 0 where
   pub scripts_are : scripts ≡ p.scripts
   pub few : length p.scripts ≤ 2 ^ 32
-  pub rw_is : rw ≡ p.config.rw
-  pub in_range : p.config.rw ≤ LONGEST_TIMEOUT
+  pub some : 0 < p.config.workers
+  pub rw_is : limits.rw ≡ p.config.rw
+  pub connect_is : limits.connect ≡ p.config.connect
+  pub rw_within : p.config.rw ≤ LONGEST_TIMEOUT
+  pub connect_within : p.config.connect ≤ LONGEST_TIMEOUT
   pub playable : All (All (CanPlay (length p.scripts))) p.scripts
-  pub staying : All (All StaysInScript) p.scripts
 
 -- The script is one of so many.
 abbrev pub IsNumbered : Code → ℕ → Type 0
@@ -198,8 +178,8 @@ IsNumbered _ many = Unit {0}
 
 -- It runs the script of a task of this plan: of the root of this worker, or of an ordinary task.
 pub record Runs (s : Played) (p : Plan) (home : Option ℕ) : Type 0 where
-  pub code : IsCodeOf home s.code
+  pub code : IsCodeOf p.config.workers home s.code
   pub numbered : IsNumbered s.code (length p.scripts)
   pub words : s.words ≡ words_of s.code p
-  pub program : IsProgram s.scripts s.rw p
+  pub program : IsProgram s.scripts s.limits p
   pub playable : All (CanPlay (length p.scripts)) s.words

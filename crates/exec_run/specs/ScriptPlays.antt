@@ -1,19 +1,20 @@
 -- A body does what its script says.
-use Rattle.std.proofs.Common.{◌≡◌, ℕ, zero, suc, ◌+◌, ◌%◌, ◌<◌, ◌≤◌, ◌^◌, Bool, true, false, List, [], ◌∷◌, All, drop, length, Option, Some, None, refl, sym, ap, subst, ◌∙◌, arith, slice_index_or}
+use Rattle.std.proofs.Common.{◌≡◌, ℕ, zero, suc, ◌+◌, ◌%◌, ◌<◌, ◌≤◌, ◌^◌, Bool, true, false, List, [], ◌∷◌, All, drop, length, map, Option, Some, None, refl, sym, ap, subst, ◌∙◌, arith, slice_index_or}
 use Rattle.std.proofs.lemmas.Bool.{true≢false}
 use Rattle.std.specs.Prelude.{if◌then◌else◌}
 use Rattle.std.proofs.lemmas.List.{get_or-drop}
 use Rattle.std.proofs.lemmas.Option.{none-some}
 use Rattle.std.proofs.lemmas.List.Elements.{All-tail}
 use Rattle.exec_base.specs.declared.{error.Error.TheVariants.NoMemory}
+use Rattle.exec_outcomes.specs.Accounts.{Account, fresh_account}
+use Rattle.exec_request.specs.Requests.{target_of}
 use Rattle.exec_task.specs.{Sight.Sight, declared.body.{Act.Act, Said.Said}}
 use Rattle.exec_task.specs.declared.body.Act.TheVariants as act
 use Rattle.exec_task.specs.declared.body.Said.TheVariants as said
-use Rattle.exec_machine.specs.{declared.{config.{Configuration.Configuration, ScriptWord.ScriptWord}, state.{Code.{Code, TheVariants.{Root, Script, Waits}}}}, World.{Task, Common}, Tests.is_empty, Words.{is_idle_word, idle_words, words_left, next_word, moved_on}, Progress.Plan, Requests.operation_asked}
+use Rattle.exec_machine.specs.{declared.{config.{Configuration.Configuration, ScriptWord.ScriptWord}, state.{Code.{Code, TheVariants.{Root, Script, Waits}}}}, World.{Task, Common, Open, no_open}, Tests.is_empty, Words.{is_idle_word, idle_words, words_left, next_word, moved_on}, Progress.Plan}
 use Rattle.exec_machine.specs.declared.config.ScriptWord.TheVariants as word
-use Rattle.exec_steps.specs.{Spots.{Spot, standing_at, spot_of}, Scripts.{Asks, IsAnswer, IsAnswered, IsBorn, IsCodeOf, IsNamed, IsSeen, MakesBody, Stays, is_last, held_after, StepPlays, Plays}}
-use Rattle.exec_text.specs.Grammar.{StaysInScript}
-use Rattle.exec_run.specs.{declared.script.Asked.Asked, Script.{Played, Begets, CanPlay, IsNumbered, IsProgram, held_by, held_told, itself, name_of, number_of, place_after, place_by, place_in, script_begun, spot_told, is_passed, passed_over, word_at, word_in, word_of_wait, words_of, asked_by, StepsTo, gives, Runs}}
+use Rattle.exec_steps.specs.{Spots.{Spot, standing_at, spot_of}, Scripts.{Asks, Covers, IsAnswer, IsAnswered, IsBorn, IsCodeOf, IsNamed, IsSeen, MakesBody, MayRunScript, is_last, held_after, StepPlays, Plays}}
+use Rattle.exec_run.specs.{declared.script.Asked.Asked, Asking.IsInTime, Script.{Played, Begets, CanPlay, CoversBy, IsNumbered, IsProgram, held_by, held_told, itself, name_of, number_of, place_after, place_by, place_in, script_begun, spot_told, is_passed, passed_over, word_at, word_in, word_of_wait, words_of, asked_by, StepsTo, gives, Runs}}
 use Rattle.exec_run.specs.declared.script.Asked.TheVariants as asked
 
 -- THE NEXT WORD
@@ -66,19 +67,6 @@ can_play_in Root many words stopped n can = can_play_at many words n can
 can_play_in (Script k) many words stopped n can = can_play_at many words n can
 can_play_in Waits many words stopped n can = can_wait many stopped
 
-stays_at : (words : List ScriptWord) (n : ℕ) → All StaysInScript words → StaysInScript (word_at words n)
-stays_at [] zero stay = tt
-stays_at [] (suc n) stay = tt
-stays_at (w ∷ words) zero stay = stay 0 w (omega arith)
-stays_at (w ∷ words) (suc n) stay = stays_at words n (All-tail StaysInScript w words stay)
-
--- script k, if there is one
-words_stay : (scripts : List (List ScriptWord)) (k : ℕ) → All (All StaysInScript) scripts → All StaysInScript (slice_index_or scripts k [])
-words_stay [] zero stay = λ i d l. absurd (let none : i < 0 = l in omega arith)
-words_stay [] (suc k) stay = λ i d l. absurd (let none : i < 0 = l in omega arith)
-words_stay (ws ∷ scripts) zero stay = stay 0 ws (omega arith)
-words_stay (ws ∷ scripts) (suc k) stay = words_stay scripts k (All-tail (All StaysInScript) ws scripts stay)
-
 words_play : (many : ℕ) (scripts : List (List ScriptWord)) (k : ℕ) → All (All (CanPlay many)) scripts → All (CanPlay many) (slice_index_or scripts k [])
 words_play many [] zero can = λ i d l. absurd (let none : i < 0 = l in omega arith)
 words_play many [] (suc k) can = λ i d l. absurd (let none : i < 0 = l in omega arith)
@@ -97,7 +85,7 @@ at_the_end c moment held act.Yield asks = absurd (cc)
 at_the_end c moment held (act.Done n) asks = refl
 at_the_end c moment held (act.Fault n) asks = refl
 at_the_end c moment held (act.Spawn b) asks = absurd (cc asks.1)
-at_the_end c moment held (act.Dedicated b) asks = absurd asks
+at_the_end c moment held (act.Dedicated b) asks = absurd (cc asks.1)
 at_the_end c moment held (act.Wake t) asks = absurd (cc)
 
 -- a body that isn't through is not past its words
@@ -107,32 +95,25 @@ inside c moment held [] (suc n) a asks going = absurd (true≢false (sym (at_the
 inside c moment held (w ∷ words) zero a asks going = omega arith
 inside c moment held (w ∷ words) (suc n) a asks going = let l = inside c moment held words n a asks going in omega arith
 
--- the act of a word that takes no time
-no_request : (c : Configuration) (moment many : ℕ) (w : ScriptWord) → CanPlay many w → StaysInScript w → operation_asked c moment w ≡ None
-no_request c moment many (word.Send socket n) can stays = absurd stays
-no_request c moment many (word.Poll l) can stays = absurd stays
-no_request c moment many word.Await can stays = refl
-no_request c moment many word.Drop can stays = refl
-no_request c moment many (word.Sleep time) can stays = refl
-no_request c moment many (word.Spawn k) can stays = refl
-no_request c moment many (word.Wake t) can stays = refl
-no_request c moment many word.Yield can stays = refl
-no_request c moment many word.End can stays = refl
-no_request c moment many (word.Fault n) can stays = refl
-no_request c moment many _ can stays = absurd can
+-- what is seen of the opens is what the machine has
+account_at : (opens : List Open) (file : ℕ) → slice_index_or (map (λ o. o.account) opens) file fresh_account ≡ (slice_index_or opens file no_open).account
+account_at [] zero = refl
+account_at [] (suc file) = refl
+account_at (o ∷ opens) zero = refl
+account_at (o ∷ opens) (suc file) = account_at opens file
 
-act_stays : (c : Configuration) (moment many : ℕ) (held : List ℕ) (w : ScriptWord) (a : Act Played) → CanPlay many w → StaysInScript w → Asks c moment held w a → Stays a
-act_stays c moment many held w (act.Register r) can stays asks = absurd (none-some _ (sym (no_request c moment many w can stays) ∙ asks.2))
-act_stays c moment many held w (act.Sleep zero) can stays asks = tt
-act_stays c moment many held w (act.Sleep (suc time)) can stays asks = let none : suc time ≡ 0 = subst StaysInScript asks stays in absurd (omega arith)
-act_stays c moment many held w (act.Await r) can stays asks = tt
-act_stays c moment many held w (act.Drop r) can stays asks = tt
-act_stays c moment many held w act.Yield can stays asks = tt
-act_stays c moment many held w (act.Done n) can stays asks = tt
-act_stays c moment many held w (act.Fault n) can stays asks = tt
-act_stays c moment many held w (act.Spawn b) can stays asks = tt
-act_stays c moment many held w (act.Dedicated b) can stays asks = tt
-act_stays c moment many held w (act.Wake t) can stays asks = tt
+covers_so : (s : Common) (it : Sight) (a : Act Played) → it.opens ≡ map (λ o. o.account) s.opens → CoversBy it a → Covers s a
+covers_so s it (act.Register r) same covers =
+    λ durable. covers durable ∙ ap (λ (x : Account). x.mutations) (ap (λ xs. slice_index_or xs (target_of r) fresh_account) same ∙ account_at s.opens (target_of r))
+covers_so s it (act.Await r) same covers = tt
+covers_so s it (act.Drop r) same covers = tt
+covers_so s it (act.Sleep time) same covers = tt
+covers_so s it (act.Spawn b) same covers = tt
+covers_so s it (act.Dedicated b) same covers = tt
+covers_so s it (act.Wake t) same covers = tt
+covers_so s it act.Yield same covers = tt
+covers_so s it (act.Done n) same covers = tt
+covers_so s it (act.Fault n) same covers = tt
 
 -- WHERE IT STANDS, AND WHAT IT HOLDS
 
@@ -155,6 +136,8 @@ heard (act.Drop r) said.Pass q held is kind = rw kind refl
 heard (act.Sleep time) said.Slept q held is kind = rw kind refl
 heard (act.Spawn b) (said.Spawned n) q held is kind = rw kind refl
 heard (act.Spawn b) (said.Refused e) q held is kind = rw kind refl
+heard (act.Dedicated b) (said.Spawned n) q held is kind = rw kind refl
+heard (act.Dedicated b) (said.Refused e) q held is kind = rw kind refl
 heard (act.Await None) said.Pass q held is kind = rw kind refl
 heard (act.Await (Some r)) said.Pass q held is kind = rw kind refl
 heard a said.Pass q held is kind = rw kind refl
@@ -216,10 +199,15 @@ stands_by c p s words place next held u moment many a it true is = refl
 stands_by c p s words place next held u moment many a it false is = stands_past c p s words place next held u moment many a it is
 
 -- the body that it makes
-pub born : (p : Plan) (l : Played) (k : ℕ) → IsProgram l.scripts l.rw p → k < length p.scripts → IsBorn Runs held_told spot_told p k (script_begun l.scripts l.rw k)
+script_code : (workers k : ℕ) (home : Option ℕ) → MayRunScript workers home → IsCodeOf workers home (Script k)
+script_code workers k None may = (k, refl)
+script_code workers k (Some zero) may = absurd may
+script_code workers k (Some (suc i)) may = (λ l. let far : workers ≤ suc i = may in absurd (omega (arith, l, far)), λ l. (k, refl))
+
+pub born : (p : Plan) (l : Played) (k : ℕ) → IsProgram l.scripts l.limits p → k < length p.scripts → IsBorn Runs held_told spot_told p k (script_begun l.scripts l.limits k)
 born p l k program within = record {
-  runs_it = record {
-    code = (k, refl);
+  runs_it = λ home may. record {
+    code = script_code p.config.workers k home may;
     numbered = within;
     words = ap (λ (xs : List (List ScriptWord)). slice_index_or xs k []) program.scripts_are;
     program = program;
@@ -229,8 +217,10 @@ born p l k program within = record {
   holding = refl;
 }
 
-makes_body : (p : Plan) (l : Played) (w : ScriptWord) (a : Act Played) → IsProgram l.scripts l.rw p → CanPlay (length p.scripts) w → Begets l w a → MakesBody itself Runs held_told spot_told p w a
+makes_body : (p : Plan) (l : Played) (w : ScriptWord) (a : Act Played) → IsProgram l.scripts l.limits p → CanPlay (length p.scripts) w → Begets l w a → MakesBody itself Runs held_told spot_told p w a
 makes_body p l w (act.Spawn b) program can begets =
+    λ k is. subst (λ (x : Played). IsBorn Runs held_told spot_told p k x) (sym (begets k is)) (born p l k program (subst (CanPlay (length p.scripts)) is can))
+makes_body p l w (act.Dedicated b) program can begets =
     λ k is. subst (λ (x : Played). IsBorn Runs held_told spot_told p k x) (sym (begets k is)) (born p l k program (subst (CanPlay (length p.scripts)) is can))
 makes_body p l w (act.Register r) program can begets = tt
 makes_body p l w (act.Await r) program can begets = tt
@@ -239,17 +229,7 @@ makes_body p l w (act.Sleep time) program can begets = tt
 makes_body p l w act.Yield program can begets = tt
 makes_body p l w (act.Done n) program can begets = tt
 makes_body p l w (act.Fault n) program can begets = tt
-makes_body p l w (act.Dedicated b) program can begets = tt
 makes_body p l w (act.Wake t) program can begets = tt
-
--- an ordinary task makes no request, and doesn't sleep
-stays_here : (home : Option ℕ) (p : Plan) (l : Played) (moment n : ℕ) (held : List ℕ) (stopped : Bool) (a : Act Played) → Runs l p home → Asks p.config moment held (word_in l.code l.words stopped n) a → home ≡ None → Stays a
-stays_here home p l moment n held stopped a runs asks none =
-    let coded = subst (λ h. IsCodeOf h l.code) none runs.code in
-    let words : l.words ≡ slice_index_or p.scripts coded.0 [] = runs.words ∙ ap (λ c. words_of c p) coded.1 in
-    let stay : All StaysInScript l.words = subst (All StaysInScript) (sym words) (words_stay p.scripts coded.0 runs.program.staying) in
-    act_stays p.config moment (length p.scripts) held (word_at l.words n) a (can_play_at (length p.scripts) l.words n runs.playable) (stays_at l.words n stay)
-    (subst (λ c. Asks p.config moment held (word_in c l.words stopped n) a) coded.1 asks)
 
 plays_at : (p : Plan) (s : Common) (u : Task) (it : Sight) (l l' : Played) (told : Said) (a : Act Played) → Runs l p u.home → s.scripts ≡ p.scripts → s.root ≡ p.root → IsSeen it s → StepsTo l it told a l'
     → StepPlays itself Runs held_told spot_told gives p s (at_place l.code (place_by l told) (held_by l.asked l.held told) u) it.moment a l'
@@ -265,8 +245,10 @@ plays_at p s u it l l' told a runs scripts root seen step =
     let word_is : word_in l.code l.words it.stopped step.place ≡ word_in l.code l.words s.stopped (place + passed_over (is_empty held) (length s.tasks) (drop place l.words)) =
     ap (λ b. word_in l.code l.words b step.place) seen.stopped ∙ ap (word_in l.code l.words s.stopped) here in
     let next : word_in l.code l.words it.stopped step.place ≡ next_word s t = word_is ∙ sym (next_is l.code p s l.words place held u runs.words scripts root) in
-    let small : it.moment + l.rw < 2 ^ 64 = omega (arith, runs.program.rw_is, runs.program.in_range, seen.early) in
-    let asks : Asks p.config it.moment held (word_in l.code l.words it.stopped step.place) a = step.asks few can small p.config (sym runs.program.rw_is) in
+    let program = runs.program in
+    let in_time : IsInTime it.moment l.limits = record { rw = omega (arith, program.rw_is, program.rw_within, seen.early); connect = omega (arith, program.connect_is, program.connect_within, seen.early) } in
+    let so = step.asks few can in_time in
+    let asks : Asks p.config it.moment held (word_in l.code l.words it.stopped step.place) a = so.asks p.config (sym program.rw_is) (sym program.connect_is) in
     let code : l'.code ≡ l.code = ap (λ (x : Played). x.code) step.rest in
     let kind : l'.asked ≡ asked_by a = ap (λ (x : Played). x.asked) step.rest in
     let holds : l'.held ≡ held = ap (λ (x : Played). x.held) step.rest in
@@ -284,14 +266,14 @@ plays_at p s u it l l' told a runs scripts root seen step =
       stands = ap (λ c. at_spot c (place_after l'.asked l'.place l'.before None)) code
           ∙ ap (at_spot l.code) (ap (λ q. place_after q l'.place l'.before None) kind ∙ place_alone a l'.place l'.before ∙ ap (λ b. if is_last a then b else l'.place) before)
           ∙ stands_by l.code p s l.words place l'.place held u it.moment (length p.scripts) a by (is_last a) refl;
+      covers = covers_so s it a seen.opens so.covers;
       code = runs.code;
-      stays = stays_here u.home p l it.moment step.place held it.stopped a runs asks;
       goes_on = λ going. record {
         runs_on = record {
-          code = subst (IsCodeOf u.home) (sym code) runs.code;
+          code = subst (IsCodeOf p.config.workers u.home) (sym code) runs.code;
           numbered = subst (λ c. IsNumbered c (length p.scripts)) (sym code) runs.numbered;
           words = ap (λ (x : Played). x.words) step.rest ∙ runs.words ∙ ap (λ c. words_of c p) (sym code);
-          program = subst (λ (xs : List (List ScriptWord)). IsProgram xs l'.rw p) (sym (ap (λ (x : Played). x.scripts) step.rest)) (subst (λ n. IsProgram l.scripts n p) (sym (ap (λ (x : Played). x.rw) step.rest)) runs.program);
+          program = subst (λ (xs : List (List ScriptWord)). IsProgram xs l'.limits p) (sym (ap (λ (x : Played). x.scripts) step.rest)) (subst (λ n. IsProgram l.scripts n p) (sym (ap (λ (x : Played). x.limits) step.rest)) runs.program);
           playable = subst (All (CanPlay (length p.scripts))) (sym (ap (λ (x : Played). x.words) step.rest)) runs.playable;
         };
         holding = λ answer is. heard a answer l'.asked l'.held is kind ∙ ap (held_after a answer) holds;

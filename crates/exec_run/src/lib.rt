@@ -10,6 +10,7 @@ mod asking;
 mod complaint;
 pub mod examples;
 pub mod field;
+mod file_range;
 mod passing;
 mod ranges;
 mod reading;

@@ -10,11 +10,12 @@ ghost use Rattle.std.specs.Prelude.{◌≡◌, ◌≢◌, ℕ, ◌+◌, ◌<◌,
 ghost use Rattle.exec_machine.specs.declared.state.Code.TheVariants as code;
 ghost use Rattle.exec_machine.specs.{Progress.Plan, Tasks.without_newest};
 ghost use Rattle.exec_run.specs.declared.script.Asked.TheVariants as question;
-ghost use Rattle.exec_run.specs.Script.{begun, held_by, place_by, newest, script_begun, word_in, word_of_wait, words_of_all, asked_by, asks_request, CanPlay, IsProgram, IsRequestOf, IsPlainActOf};
+ghost use Rattle.exec_run.specs.Script.{begun, held_by, place_by, newest, script_begun, word_in, word_of_wait, words_of_all, asked_by, CanPlay, IsProgram, IsPlainActOf};
+ghost use Rattle.exec_run.specs.Asking.{asks_request};
 ghost use Rattle.exec_steps.specs.Scripts.{IsBorn};
-ghost use Rattle.exec_task.specs.{declared.body.Act.TheVariants.{Register, Spawn, Wake}, Sight.Sight};
+ghost use Rattle.exec_task.specs.{declared.body.Act.TheVariants.{Dedicated, Register, Spawn, Wake}, Sight.Sight};
 
-use crate::asking::request_of;
+use crate::asking::{Limits, request_of};
 use crate::passing::{next_place, place_past, word_of, word_of_wait};
 use exec_base::error::Error;
 use exec_base::task_no::TaskNo;
@@ -47,8 +48,8 @@ pub enum Asked {
 pub struct Program<'a> {
     /// The scripts, by number.
     pub scripts: &'a [Vec<ScriptWord>],
-    /// How long a request of a socket may take, in nanoseconds.
-    pub rw: u64,
+    /// How long requests may take.
+    pub limits: Limits,
 }
 
 /// Who makes the bodies of scripts.
@@ -64,7 +65,7 @@ pub trait Scripts<B: Scripted> {
 }
 
 impl<'a> Scripts<Script<'a>> for Program<'a> {
-    ghost knows = { λ it p. IsProgram (words_of_all it.scripts.now) it.rw p };
+    ghost knows = { λ it p. IsProgram (words_of_all it.scripts.now) it.limits p };
 
     fn body(&self, alloc: Global, script: usize) -> Option<Script<'a>> {
         Script::numbered(alloc, script, *self)
@@ -101,7 +102,7 @@ impl<'a> Model for Script<'a> {
       code = s.code;
       words = s.words.now;
       scripts = words_of_all s.program.scripts.now;
-      rw = s.program.rw;
+      limits = s.program.limits;
       place = s.place;
       before = s.before;
       held = s.held.items;
@@ -116,21 +117,21 @@ impl<'a> Script<'a> {
 
     /// The script of the root line, which is to begin.
     pub(crate) fn root(alloc: Global, words: &'a [ScriptWord], program: Program<'a>) -> Self
-        ensures { result ≡ begun code.Root words.now (words_of_all program.entry.scripts.now) program.entry.rw }
+        ensures { result ≡ begun code.Root words.now (words_of_all program.entry.scripts.now) program.entry.limits }
     {
         Script::new(alloc, Code::Root, words, program)
     }
 
     /// The wait for the stop of the pool, which is to begin.
     pub(crate) fn waits(alloc: Global, program: Program<'a>) -> Self
-        ensures { result ≡ begun code.Waits [] (words_of_all program.entry.scripts.now) program.entry.rw }
+        ensures { result ≡ begun code.Waits [] (words_of_all program.entry.scripts.now) program.entry.limits }
     {
         Script::new(alloc, Code::Waits, &[], program)
     }
 
     /// The script of this number, which is to begin. None where there is no such script.
     pub(crate) fn numbered(alloc: Global, script: usize, program: Program<'a>) -> Option<Self>
-        ensures some { IfSome result (λ b. b ≡ script_begun (words_of_all program.entry.scripts.now) program.entry.rw
+        ensures some { IfSome result (λ b. b ≡ script_begun (words_of_all program.entry.scripts.now) program.entry.limits
             script) }
         ensures within { IfSome result (λ b. script < length (words_of_all program.entry.scripts.now)) }
         ensures none { IfNone result (length (words_of_all program.entry.scripts.now) ≤ script) }
@@ -141,7 +142,7 @@ impl<'a> Script<'a> {
 
     /// A script of these words that is to begin.
     fn new(alloc: Global, code: Code, words: &'a [ScriptWord], program: Program<'a>) -> Self
-        ensures { result ≡ begun code words.now (words_of_all program.entry.scripts.now) program.entry.rw }
+        ensures { result ≡ begun code words.now (words_of_all program.entry.scripts.now) program.entry.limits }
     {
         Script {
             code,
@@ -248,7 +249,7 @@ fn act_of<'a>(
 ) -> Act<Script<'a>>
     ensures some { IfSome request (λ r. result ≡ Register r) }
     ensures none { (many : ℕ) → IfNone request (CanPlay many word → asks_request word ≡ false →
-        IsPlainActOf (words_of_all program.entry.scripts.now) program.entry.rw word newest result) }
+        IsPlainActOf (words_of_all program.entry.scripts.now) program.entry.limits word newest result) }
     ensures asked { asked_by result ≡ question.Request → IsTrue (is_some request) }
 {
     match (word, newest, request) {
@@ -260,6 +261,7 @@ fn act_of<'a>(
         (ScriptWord::Fault { code }, _, None) => Act::Fault(code),
         (ScriptWord::Wake { task }, _, None) => wake_of(task),
         (ScriptWord::Spawn { script }, _, None) => spawn_of(alloc, script, program),
+        (ScriptWord::Dedicated { script }, _, None) => dedicated_of(alloc, script, program),
         _ => Act::Done(0),
     }
 }
@@ -278,11 +280,23 @@ fn wake_of<'a>(task: usize) -> Act<Script<'a>>
 /// The spawn of a task of the script of this number.
 fn spawn_of<'a>(alloc: Global, script: usize, program: Program<'a>) -> Act<Script<'a>>
     ensures spawns { script < length (words_of_all program.entry.scripts.now) →
-        result ≡ Spawn (script_begun (words_of_all program.entry.scripts.now) program.entry.rw script) }
+        result ≡ Spawn (script_begun (words_of_all program.entry.scripts.now) program.entry.limits script) }
     ensures no_request { asked_by result ≢ question.Request }
 {
     match Script::numbered(alloc, script, program) {
         Some(body) => Act::Spawn(body),
+        None => Act::Done(0),
+    }
+}
+
+/// The spawn of a task of the script of this number with a worker of its own.
+fn dedicated_of<'a>(alloc: Global, script: usize, program: Program<'a>) -> Act<Script<'a>>
+    ensures makes { script < length (words_of_all program.entry.scripts.now) →
+        result ≡ Dedicated (script_begun (words_of_all program.entry.scripts.now) program.entry.limits script) }
+    ensures no_request { asked_by result ≢ question.Request }
+{
+    match Script::numbered(alloc, script, program) {
+        Some(body) => Act::Dedicated(body),
         None => Act::Done(0),
     }
 }
@@ -331,7 +345,7 @@ impl<'a> Body for Script<'a> {
         let newest = newest_told(self.held.as_slice(), self.asked, &said);
         let place = next_place(self.words, newest.is_some(), around, self.place_told(&said));
         let word = self.word(place, around);
-        let Ok(request) = request_of(alloc, around.now(), self.program.rw, word) else {
+        let Ok(request) = request_of(alloc, around, self.program.limits, word) else {
             return Err(said);
         };
         let Ok(()) = make_room(&mut self.held, request.is_some()) else {

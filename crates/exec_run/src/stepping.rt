@@ -15,6 +15,7 @@ ghost use Rattle.exec_core.specs.Lift.{Carries};
 ghost use Rattle.exec_text.specs.Grammar.{MeaningFits, meaning_of, StepFits, StepNames};
 ghost use Rattle.exec_run.specs.{Ranges.first_out_of_range, Log.{Gave, IsTheLogOf, told_text}, Script.{begun, words_of_all}, Steps.{BrokeBy, GaveUpTo, StandsAt, TakesLine, BreaksLine, Leads, Breaks}};
 
+use crate::asking::Limits;
 use crate::script::{Program, Script, Scripts};
 use crate::setting_up::config_of;
 use crate::trace_error::TraceError;
@@ -174,8 +175,8 @@ fn roots_of<'a>(
 ) -> Result<Vec<Script<'a>>, AllocError>
     requires { 0 < workers }
     ensures { IfOk result (λ roots. roots.items ≡ begun code.Root words.now
-        (words_of_all program.entry.scripts.now) program.entry.rw ∷
-        replicate (workers - 1) (begun code.Waits [] (words_of_all program.entry.scripts.now) program.entry.rw)) }
+        (words_of_all program.entry.scripts.now) program.entry.limits ∷
+        replicate (workers - 1) (begun code.Waits [] (words_of_all program.entry.scripts.now) program.entry.limits)) }
 {
     let mut roots = Vec::with_capacity(alloc, workers)?;
     roots.push(Script::root(alloc, words, program))?;
@@ -212,10 +213,12 @@ pub fn log_trace<O: Output>(
         files,
         sockets,
         rw,
+        connect,
         ..
     } = trace.config;
     let scripts = trace.scripts.as_slice();
-    let program = Program { scripts, rw };
+    let limits = Limits { rw, connect };
+    let program = Program { scripts, limits };
     let roots = roots_of(alloc, workers, trace.root.as_slice(), program)?;
     let mut core = Core::new(alloc, &config, spin.iterations, files, sockets, roots)?;
     take_steps(

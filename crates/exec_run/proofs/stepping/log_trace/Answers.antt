@@ -1,8 +1,8 @@
 use Rattle.std.proofs.Common.{All, length, refl, sym, subst}
-use Rattle.exec_core.proofs.QueuedOnce.{queues_once}
+use Rattle.exec_core.proofs.InTurn.{orderly}
 use Rattle.exec_moves.specs.Plays.{first_playing}
 use Rattle.exec_text.specs.Grammar.{StepFits, StepNames, meaning_of}
-use Rattle.exec_run.specs.{Script.{IsProgram, Runs, held_told, itself, spot_told, words_of_all}, Steps.StandsAt}
+use Rattle.exec_run.specs.{Asking.limits_of, Script.{IsProgram, Runs, held_told, itself, spot_told, words_of_all}, Steps.StandsAt}
 use Rattle.exec_run.proofs.{Told.on_ok, Logs.{BeginsWell, PaidIsRun}, Plans.{known_of, plan_of}, First.first_fair, RunLemmas.{logged, front_logged, all_logged, gave_up}}
 use Rattle.exec_run.proofs.stepping.log_trace.Goals as goal
 
@@ -18,7 +18,7 @@ take_steps-requires g c =
     let t = c.args.trace in
     let m = meaning_of t in
     let is = plan_of t c.as_slice-scripts.result.now c.as_slice.result.now c.in_ok-roots.roots.items _ c.requires.fits c.requires.in_range c.requires.few c.as_slice-scripts.ensures.value c.as_slice.ensures.value c.config_of-config.ensures.told c.in_ok-roots.ensures in
-    let stands : StandsAt itself Runs held_told spot_told (λ p. IsProgram (words_of_all c.as_slice-scripts.result.now) t.config.rw p) m.plan c.in_ok-core.core (first_playing m.plan) = record {
+    let stands : StandsAt itself Runs held_told spot_told (λ p. IsProgram (words_of_all c.as_slice-scripts.result.now) (limits_of t.config) p) m.plan c.in_ok-core.core (first_playing m.plan) = record {
       ready = c.in_ok-core.ensures.ready m.plan is;
       shows = c.in_ok-core.ensures.begins m.plan is;
       knows = known_of t c.as_slice-scripts.result.now c.requires.fits c.requires.in_range c.requires.few c.as_slice-scripts.ensures.value;
@@ -31,7 +31,7 @@ returns-in_err-take_steps-clause-front g c =
     let t = c.args.trace in
     let m = meaning_of t in
     let is = plan_of t c.as_slice-scripts.result.now c.as_slice.result.now c.in_ok-roots.roots.items _ c.requires.fits c.requires.in_range c.requires.few c.as_slice-scripts.ensures.value c.as_slice.ensures.value c.config_of-config.ensures.told c.in_ok-roots.ensures in
-    let stands : StandsAt itself Runs held_told spot_told (λ p. IsProgram (words_of_all c.as_slice-scripts.result.now) t.config.rw p) m.plan c.in_ok-core.core (first_playing m.plan) = record {
+    let stands : StandsAt itself Runs held_told spot_told (λ p. IsProgram (words_of_all c.as_slice-scripts.result.now) (limits_of t.config) p) m.plan c.in_ok-core.core (first_playing m.plan) = record {
       ready = c.in_ok-core.ensures.ready m.plan is;
       shows = c.in_ok-core.ensures.begins m.plan is;
       knows = known_of t c.as_slice-scripts.result.now c.requires.fits c.requires.in_range c.requires.few c.as_slice-scripts.ensures.value;
@@ -39,7 +39,7 @@ returns-in_err-take_steps-clause-front g c =
     let names = subst (All (StepNames (length m.plan.scripts))) (sym c.as_slice-2.ensures.value) c.requires.fits.named.steps in
     let law : PaidIsRun = record { runs = c.paid_lines_are_runs.ensures.runs; solo = c.paid_lines_are_runs.ensures.solo; asleep = c.paid_lines_are_runs.ensures.asleep } in
     let begins : BeginsWell m.plan = record {
-      once = queues_once itself Runs held_told spot_told m.plan c.in_ok-core.core (first_playing m.plan) stands.ready.stands stands.shows;
+      orderly = orderly itself Runs held_told spot_told m.plan c.in_ok-core.core (first_playing m.plan) stands.ready.stands stands.shows;
       minded = c.in_ok-core.ensures.minded m.plan is;
       fair = first_fair m.plan;
     } in
@@ -52,7 +52,7 @@ returns-clause-ok g c =
     let t = c.args.trace in
     let m = meaning_of t in
     let is = plan_of t c.as_slice-scripts.result.now c.as_slice.result.now c.in_ok-roots.roots.items _ c.requires.fits c.requires.in_range c.requires.few c.as_slice-scripts.ensures.value c.as_slice.ensures.value c.config_of-config.ensures.told c.in_ok-roots.ensures in
-    let stands : StandsAt itself Runs held_told spot_told (λ p. IsProgram (words_of_all c.as_slice-scripts.result.now) t.config.rw p) m.plan c.in_ok-core.core (first_playing m.plan) = record {
+    let stands : StandsAt itself Runs held_told spot_told (λ p. IsProgram (words_of_all c.as_slice-scripts.result.now) (limits_of t.config) p) m.plan c.in_ok-core.core (first_playing m.plan) = record {
       ready = c.in_ok-core.ensures.ready m.plan is;
       shows = c.in_ok-core.ensures.begins m.plan is;
       knows = known_of t c.as_slice-scripts.result.now c.requires.fits c.requires.in_range c.requires.few c.as_slice-scripts.ensures.value;
@@ -60,7 +60,7 @@ returns-clause-ok g c =
     let names = subst (All (StepNames (length m.plan.scripts))) (sym c.as_slice-2.ensures.value) c.requires.fits.named.steps in
     let law : PaidIsRun = record { runs = c.paid_lines_are_runs.ensures.runs; solo = c.paid_lines_are_runs.ensures.solo; asleep = c.paid_lines_are_runs.ensures.asleep } in
     let begins : BeginsWell m.plan = record {
-      once = queues_once itself Runs held_told spot_told m.plan c.in_ok-core.core (first_playing m.plan) stands.ready.stands stands.shows;
+      orderly = orderly itself Runs held_told spot_told m.plan c.in_ok-core.core (first_playing m.plan) stands.ready.stands stands.shows;
       minded = c.in_ok-core.ensures.minded m.plan is;
       fair = first_fair m.plan;
     } in
@@ -73,7 +73,7 @@ returns-clause-front g c =
     let t = c.args.trace in
     let m = meaning_of t in
     let is = plan_of t c.as_slice-scripts.result.now c.as_slice.result.now c.in_ok-roots.roots.items _ c.requires.fits c.requires.in_range c.requires.few c.as_slice-scripts.ensures.value c.as_slice.ensures.value c.config_of-config.ensures.told c.in_ok-roots.ensures in
-    let stands : StandsAt itself Runs held_told spot_told (λ p. IsProgram (words_of_all c.as_slice-scripts.result.now) t.config.rw p) m.plan c.in_ok-core.core (first_playing m.plan) = record {
+    let stands : StandsAt itself Runs held_told spot_told (λ p. IsProgram (words_of_all c.as_slice-scripts.result.now) (limits_of t.config) p) m.plan c.in_ok-core.core (first_playing m.plan) = record {
       ready = c.in_ok-core.ensures.ready m.plan is;
       shows = c.in_ok-core.ensures.begins m.plan is;
       knows = known_of t c.as_slice-scripts.result.now c.requires.fits c.requires.in_range c.requires.few c.as_slice-scripts.ensures.value;
@@ -81,7 +81,7 @@ returns-clause-front g c =
     let names = subst (All (StepNames (length m.plan.scripts))) (sym c.as_slice-2.ensures.value) c.requires.fits.named.steps in
     let law : PaidIsRun = record { runs = c.paid_lines_are_runs.ensures.runs; solo = c.paid_lines_are_runs.ensures.solo; asleep = c.paid_lines_are_runs.ensures.asleep } in
     let begins : BeginsWell m.plan = record {
-      once = queues_once itself Runs held_told spot_told m.plan c.in_ok-core.core (first_playing m.plan) stands.ready.stands stands.shows;
+      orderly = orderly itself Runs held_told spot_told m.plan c.in_ok-core.core (first_playing m.plan) stands.ready.stands stands.shows;
       minded = c.in_ok-core.ensures.minded m.plan is;
       fair = first_fair m.plan;
     } in

@@ -1,7 +1,6 @@
-use Rattle.std.proofs.Common.{◌≡◌, ◌+◌, ◌<◌, not, is_some, drop, length, Option, IfSome, sym, ap, subst, ◌∙◌}
-use Rattle.exec_task.specs.Sight.{Sight}
+use Rattle.std.proofs.Common.{◌≡◌, ◌+◌, ◌<◌, not, is_some, drop, length, sym, ap, subst, ◌∙◌}
 use Rattle.exec_run.specs.Script.{Played, held_by, place_by, newest, passed_over}
-use Rattle.exec_run.proofs.Acts.{IsNext, makes, made_here, state_is, wanted, wanted_here, would_grow}
+use Rattle.exec_run.proofs.Acts.{IsNext, makes, made_here, some_wanted, state_is, wanted, would_grow}
 use Rattle.exec_run.proofs.script.ScriptBody.step.Goals as goal
 
 pub returns-in_default-clause-grows : goal.returns-in_default-clause-grows
@@ -11,18 +10,17 @@ returns-in_default-clause-grows g c =
     let in_held : c.self.inside.held.items ≡ s.held = ap (λ (x : Played). x.held) c.self.view_is in
     let in_asked : c.self.inside.asked ≡ s.asked = ap (λ (x : Played). x.asked) c.self.view_is in
     let in_words : c.self.inside.words.now ≡ s.words = ap (λ (x : Played). x.words) c.self.view_is in
-    let in_rw : c.self.inside.program.rw ≡ s.rw = ap (λ (x : Played). x.rw) c.self.view_is in
+    let in_limits : c.self.inside.program.limits ≡ s.limits = ap (λ (x : Played). x.limits) c.self.view_is in
     let same_newest : c.newest_told-newest.result ≡ newest (held_by s.asked s.held c.args.said) =
     c.newest_told-newest.ensures ∙ ap (λ xs. newest (held_by c.self.inside.asked xs c.args.said)) (c.as_slice.ensures.value ∙ in_held) ∙ ap (λ q. newest (held_by q s.held c.args.said)) in_asked in
-    let next : IsNext s c.args.said sees c.now.result c.next_place-place.result c.is_some.result c.word-word.result = record {
-      seen = λ it is. subst (λ (o : Option Sight). IfSome o (λ x. c.now.result ≡ x.moment)) is c.now.ensures;
+    let next : IsNext s c.args.said sees c.next_place-place.result c.is_some.result c.word-word.result = record {
       holds_some = c.is_some.ensures ∙ ap is_some same_newest;
       place = λ it is few. c.next_place-place.ensures it is few ∙ ap (λ k. k + passed_over (not c.is_some.result) it.tasks (drop k c.self.inside.words.now)) c.place_told.ensures
           ∙ ap (λ xs. place_by s c.args.said + passed_over (not c.is_some.result) it.tasks (drop (place_by s c.args.said) xs)) in_words;
       word_is = λ it is. c.word-word.ensures it is;
     } in
-    would_grow s c.args.said sees c.now.result c.next_place-place.result c.is_some.result c.word-word.result next
-    (wanted_here s c.now.result c.self.inside.program.rw c.word-word.result in_rw c.in_default.ensures.err)
+    would_grow s c.args.said sees c.next_place-place.result c.is_some.result c.word-word.result next
+    (some_wanted sees s.limits c.word-word.result c.in_default.ensures.err)
 
 pub returns-in_default-make_room-clause-grows : goal.returns-in_default-make_room-clause-grows
 returns-in_default-make_room-clause-grows g c =
@@ -31,19 +29,17 @@ returns-in_default-make_room-clause-grows g c =
     let in_held : c.self.inside.held.items ≡ s.held = ap (λ (x : Played). x.held) c.self.view_is in
     let in_asked : c.self.inside.asked ≡ s.asked = ap (λ (x : Played). x.asked) c.self.view_is in
     let in_words : c.self.inside.words.now ≡ s.words = ap (λ (x : Played). x.words) c.self.view_is in
-    let in_rw : c.self.inside.program.rw ≡ s.rw = ap (λ (x : Played). x.rw) c.self.view_is in
+    let in_limits : c.self.inside.program.limits ≡ s.limits = ap (λ (x : Played). x.limits) c.self.view_is in
     let same_newest : c.newest_told-newest.result ≡ newest (held_by s.asked s.held c.args.said) =
     c.newest_told-newest.ensures ∙ ap (λ xs. newest (held_by c.self.inside.asked xs c.args.said)) (c.as_slice.ensures.value ∙ in_held) ∙ ap (λ q. newest (held_by q s.held c.args.said)) in_asked in
-    let next : IsNext s c.args.said sees c.now.result c.next_place-place.result c.is_some.result c.word-word.result = record {
-      seen = λ it is. subst (λ (o : Option Sight). IfSome o (λ x. c.now.result ≡ x.moment)) is c.now.ensures;
+    let next : IsNext s c.args.said sees c.next_place-place.result c.is_some.result c.word-word.result = record {
       holds_some = c.is_some.ensures ∙ ap is_some same_newest;
       place = λ it is few. c.next_place-place.ensures it is few ∙ ap (λ k. k + passed_over (not c.is_some.result) it.tasks (drop k c.self.inside.words.now)) c.place_told.ensures
           ∙ ap (λ xs. place_by s c.args.said + passed_over (not c.is_some.result) it.tasks (drop (place_by s c.args.said) xs)) in_words;
       word_is = λ it is. c.word-word.ensures it is;
     } in
-    would_grow s c.args.said sees c.now.result c.next_place-place.result c.is_some.result c.word-word.result next
-    (wanted_here s c.now.result c.self.inside.program.rw c.word-word.result in_rw
-    (wanted c.in-Ok.request _ c.is_some-2.result c.in-Ok.ensures.some c.is_some-2.ensures c.in_default-make_room.ensures.err))
+    would_grow s c.args.said sees c.next_place-place.result c.is_some.result c.word-word.result next
+    (wanted sees c.self.inside.program.limits s.limits c.word-word.result c.in-Ok.request c.is_some-2.result in_limits c.in-Ok.ensures.some c.is_some-2.ensures c.in_default-make_room.ensures.err)
 
 pub returns-clause-act : goal.returns-clause-act
 returns-clause-act g c =
@@ -52,11 +48,10 @@ returns-clause-act g c =
     let in_held : c.self.inside.held.items ≡ s.held = ap (λ (x : Played). x.held) c.self.view_is in
     let in_asked : c.self.inside.asked ≡ s.asked = ap (λ (x : Played). x.asked) c.self.view_is in
     let in_words : c.self.inside.words.now ≡ s.words = ap (λ (x : Played). x.words) c.self.view_is in
-    let in_rw : c.self.inside.program.rw ≡ s.rw = ap (λ (x : Played). x.rw) c.self.view_is in
+    let in_limits : c.self.inside.program.limits ≡ s.limits = ap (λ (x : Played). x.limits) c.self.view_is in
     let same_newest : c.newest_told-newest.result ≡ newest (held_by s.asked s.held c.args.said) =
     c.newest_told-newest.ensures ∙ ap (λ xs. newest (held_by c.self.inside.asked xs c.args.said)) (c.as_slice.ensures.value ∙ in_held) ∙ ap (λ q. newest (held_by q s.held c.args.said)) in_asked in
-    let next : IsNext s c.args.said sees c.now.result c.next_place-place.result c.is_some.result c.word-word.result = record {
-      seen = λ it is. subst (λ (o : Option Sight). IfSome o (λ x. c.now.result ≡ x.moment)) is c.now.ensures;
+    let next : IsNext s c.args.said sees c.next_place-place.result c.is_some.result c.word-word.result = record {
       holds_some = c.is_some.ensures ∙ ap is_some same_newest;
       place = λ it is few. c.next_place-place.ensures it is few ∙ ap (λ k. k + passed_over (not c.is_some.result) it.tasks (drop k c.self.inside.words.now)) c.place_told.ensures
           ∙ ap (λ xs. place_by s c.args.said + passed_over (not c.is_some.result) it.tasks (drop (place_by s c.args.said) xs)) in_words;
@@ -65,15 +60,15 @@ returns-clause-act g c =
     let in_code = ap (λ (x : Played). x.code) c.self.view_is in
     let in_scripts = ap (λ (x : Played). x.scripts) c.self.view_is in
     let act = c.act_of-act.result in
-    let made = made_here s _ c.now.result c.self.inside.program.rw c.word-word.result c.newest_told-newest.result (newest (held_by s.asked s.held c.args.said)) c.in-Ok.request act in_scripts in_rw same_newest
+    let made = made_here s _ sees c.self.inside.program.limits c.word-word.result c.newest_told-newest.result (newest (held_by s.asked s.held c.args.said)) c.in-Ok.request act in_scripts in_limits same_newest
     (record {
       some = c.in-Ok.ensures.some;
-      none = c.in-Ok.ensures.none _;
+      none = c.in-Ok.ensures.none;
       is = c.act_of-act.ensures.some;
       plain = c.act_of-act.ensures.none _;
     }) in
     let told_held = c.hear.ensures.held ∙ ap (λ xs. held_by c.self.inside.asked xs c.args.said) (c.make_room.ensures.items ∙ in_held) ∙ ap (λ q. held_by q s.held c.args.said) in_asked in
     let told_place = c.place_told-self-inside.ensures ∙ ap (λ (x : Played). place_by x c.args.said) c.self.view_is in
-    makes s _ c.args.said sees c.now.result c.next_place-place.result c.place_past-self-inside.result c.is_some.result c.word-word.result c.in-Ok.request act next made
+    makes s _ c.args.said sees c.next_place-place.result c.place_past-self-inside.result c.is_some.result c.word-word.result c.in-Ok.request act next made
     (λ l. c.place_past-self-inside.ensures (subst (λ xs. c.next_place-place.result < length xs) (sym in_words) l))
-    (state_is s c.args.said act _ _ _ _ _ _ _ _ in_code in_words in_scripts in_rw told_place told_held c.asked_by-self-inside.ensures)
+    (state_is s c.args.said act _ _ _ _ _ _ _ _ in_code in_words in_scripts in_limits told_place told_held c.asked_by-self-inside.ensures)

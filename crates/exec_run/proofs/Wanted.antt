@@ -1,0 +1,366 @@
+-- Requests that words ask for.
+use Rattle.std.proofs.Common.{◌≡◌, ℕ, ◌+◌, ◌-◌, ◌*◌, ◌/◌, ◌%◌, ◌<◌, ◌≤◌, ◌^◌, ◌⊎◌, inl, inr, Bool, true, false, List, [], ◌∷◌, Option, Some, None, IfSome, IfNone, Result, Ok, Err, IfOk, OnErr, replicate, length, length-append, refl, sym, ap, subst, ◌∙◌, arith}
+use Rattle.std.specs.Prelude.{if◌then◌else◌, nat_lt, nat_le}
+use Rattle.std.proofs.lemmas.List.{length-replicate, length-take}
+use Rattle.std.proofs.lemmas.Bool.{cases_Bool, le-leb, leb-true, leb-false, ltb-true, ltb-false, true≢false}
+use Rattle.exec_bufs.specs.Buffers.{Buffer, resized}
+use Rattle.exec_outcomes.specs.{Accounts.is_durable, Lawful.aligned, Outcomes.Asked, declared.outcome.Kind.Kind}
+use Rattle.exec_outcomes.specs.declared.outcome.Kind.TheVariants as kind
+use Rattle.exec_request.specs.{Buffers.{length_of, moved_of}, Hints.asks_hint, Requests.{asked_of, target_of}, Syncing.{is_syncing, write_kind}, Views.IsDirectRead, Ways.{asked_by, is_switched, size_for}}
+use Rattle.exec_request.specs.declared.{buffers.WriteBuffers.{WriteBuffers, TheVariants.Single}, cache.Cache.{Cache, TheVariants.{Enabled, Disabled}}, connect.ConnectRequest.ConnectRequest, poll.PollRequest.PollRequest, read_at.ReadAtRequest.ReadAtRequest, recv.RecvRequest.RecvRequest, request.Request.Request, send.SendRequest.SendRequest, sync.SyncRequest.SyncRequest, way.Way.Way, write_at.{WriteAtRequest.WriteAtRequest, WriteAtState.{WriteAtState, TheVariants.{Writing, WritingSync, WritingBeforeSync, Syncing}}}}
+use Rattle.exec_request.specs.declared.request.Request.TheVariants as request
+use Rattle.exec_task.specs.Sight.{Sight, open_at}
+use Rattle.exec_machine.specs.{declared.{config.{Configuration.Configuration, ScriptWord.ScriptWord}, state.Operation.Operation}, Requests.{of_file, of_socket, operation_asked}}
+use Rattle.exec_machine.specs.declared.config.ScriptWord.TheVariants as word
+use Rattle.exec_steps.specs.{Records.{seen_in, skip_in}, Spots.{IsAskedFor, wants_hint}}
+use Rattle.exec_run.specs.{Asking.{asks_of_range, asks_of_socket, asks_of_sync, moves_bytes, range_operation, CanAsk, CoversSeen, IsFilePart, IsFresh, IsInTime, IsRangeOf, IsRequestOf, IsSame, IsSocketPart, IsWanted}, declared.asking.Limits.Limits}
+
+-- NEW REQUESTS, of each kind
+
+zeros : (n : ℕ) → length (resized n []) ≡ n
+zeros n = simp (length-append, length-replicate, length-take) (omega arith)
+
+asked_so : (k : Kind) (n m skip late : ℕ) → m ≡ n → late ≡ skip → (let it : Asked = record { kind = k; length = m; skip = late } in it) ≡ record { kind = k; length = n; skip = skip }
+asked_so k n m skip late same same_skip = rw (same, same_skip) refl
+
+fresh_send : (r : SendRequest) (socket n deadline : ℕ) → n ≤ 1048576 → r.fd ≡ socket → r.write ≡ Single (replicate n 0) 0 → r.deadline ≡ Some deadline → IsFresh (of_socket kind.Send socket n deadline) (request.Send r)
+fresh_send r socket n deadline few fd write until =
+    let many : length (replicate n 0) ≡ n = length-replicate {A = ℕ} n 0 in
+    record {
+      fits = record {
+        asked = asked_so kind.Send n (length_of r.write) 0 0 (ap length_of write ∙ many) refl;
+        target = fd;
+        offset = refl;
+        deadline = until;
+        unmoved = ap moved_of write;
+        unswitched = refl;
+        hint = refl;
+      };
+      plain = rw write (refl, omega (arith, many, few));
+    }
+
+fresh_recv : (r : RecvRequest) (exact : Bool) (socket n deadline : ℕ) → n ≤ 1048576 → r.fd ≡ socket → r.start ≡ 0 → r.offset ≡ 0 → r.len ≡ n → r.exact ≡ exact → r.deadline ≡ Some deadline
+    → IsFresh (of_socket (if exact then kind.Fill else kind.Recv) socket n deadline) (request.Recv r)
+fresh_recv r exact socket n deadline few fd start offset len same until =
+    let left : r.len - r.start ≡ n = omega (arith, start, len) in
+    record {
+      fits = record {
+        asked = asked_so (if r.exact then kind.Fill else kind.Recv) n (r.len - r.start) 0 0 left refl ∙ ap (λ b. let it : Asked = record { kind = if b then kind.Fill else kind.Recv; length = n; skip = 0 } in it) same;
+        target = fd;
+        offset = refl;
+        deadline = until;
+        unmoved = omega (arith, start, offset);
+        unswitched = refl;
+        hint = no_hint exact;
+      };
+      plain = omega (arith, left, few);
+    }
+  where
+    no_hint : (b : Bool) → false ≡ wants_hint (if b then kind.Fill else kind.Recv)
+    no_hint true = refl
+    no_hint false = refl
+
+-- a read through the page cache
+abbrev way_by : Cache → Way
+way_by cache = if asks_hint cache then Way.Hinted else Way.Buffered
+
+buffered : (file offset n : ℕ) (r : ReadAtRequest) (cache : Cache) → n ≤ 1048576 → r.file ≡ file → r.offset ≡ offset → r.read ≡ 0 → length r.buf.bytes ≡ n → r.cache ≡ cache → r.way ≡ way_by cache
+    → IsFresh (of_file (if asks_hint cache then kind.Hint else kind.Read) file offset n) (request.ReadAt r)
+buffered file offset n r Enabled few of at begins many cache way =
+    record {
+      fits = record {
+        asked = ap (λ x. asked_by x (length r.buf.bytes)) way ∙ asked_so kind.Read n (length r.buf.bytes) 0 0 many refl;
+        target = of;
+        offset = omega (arith, at, ap skip_in way);
+        deadline = refl;
+        unmoved = begins;
+        unswitched = ap is_switched way;
+        hint = ap asks_hint cache;
+      };
+      plain = omega (arith, many, few);
+    }
+buffered file offset n r Disabled few of at begins many cache way =
+    record {
+      fits = record {
+        asked = ap (λ x. asked_by x (length r.buf.bytes)) way ∙ asked_so kind.Hint n (length r.buf.bytes) 0 0 many refl;
+        target = of;
+        offset = omega (arith, at, ap skip_in way);
+        deadline = refl;
+        unmoved = begins;
+        unswitched = ap is_switched way;
+        hint = ap asks_hint cache;
+      };
+      plain = omega (arith, many, few);
+    }
+
+-- of bytes that are all zero at first
+fresh_read : (file offset n : ℕ) (r : ReadAtRequest) (cache : Cache) → n ≤ 1048576 → r.file ≡ file → r.offset ≡ offset → r.read ≡ 0 → r.buf ≡ record { bytes = resized n []; capacity = n } → r.cache ≡ cache → r.way ≡ way_by cache
+    → IsFresh (of_file (if asks_hint cache then kind.Hint else kind.Read) file offset n) (request.ReadAt r)
+fresh_read file offset n r cache few of at begins buffer same way =
+    buffered file offset n r cache few of at begins (ap (λ (b : Buffer). length b.bytes) buffer ∙ zeros n) same way
+
+aligned_within : (n : ℕ) → n ≤ 1052672 → aligned n ≤ 2147479552
+aligned_within n few = omega arith
+
+fresh_direct : (file offset n : ℕ) (r : ReadAtRequest) → n ≤ 1048576 → IsDirectRead r file offset n → IsFresh (range_operation kind.Direct file offset n) (request.ReadAt r)
+fresh_direct file offset n r few it =
+    let size : length r.buf.bytes ≡ aligned (offset % 4096 + n) = ap (λ (b : Buffer). length b.bytes) it.buffer ∙ length-replicate {A = ℕ} (aligned (offset % 4096 + n)) 0 in
+    let within : aligned (offset % 4096 + n) ≤ 2147479552 = aligned_within (offset % 4096 + n) (omega arith) in
+    record {
+      fits = record {
+        asked = ap (λ x. asked_by x (length r.buf.bytes)) it.way;
+        target = it.of;
+        offset = omega (arith, it.page, ap skip_in it.way);
+        deadline = refl;
+        unmoved = it.begins;
+        unswitched = ap is_switched it.way;
+        hint = ap asks_hint it.hint;
+      };
+      plain = omega (arith, size, within);
+    }
+
+no_hint_of_write : (state : WriteAtState) → false ≡ wants_hint (write_kind state)
+no_hint_of_write Writing = refl
+no_hint_of_write WritingSync = refl
+no_hint_of_write WritingBeforeSync = refl
+no_hint_of_write Syncing = refl
+
+fresh_write : (file offset n : ℕ) (r : WriteAtRequest) (state : WriteAtState) → n ≤ 1048576 → is_syncing state ≡ false → r.file ≡ file → r.offset ≡ offset → r.write ≡ Single (replicate n 0) 0 → r.state ≡ state → r.cache ≡ Enabled
+    → IsFresh (of_file (write_kind state) file offset n) (request.WriteAt r)
+fresh_write file offset n r state few going of at write same cache =
+    let many : length (replicate n 0) ≡ n = length-replicate {A = ℕ} n 0 in
+    record {
+      fits = record {
+        asked = asked_so (write_kind r.state) n (length_of r.write) 0 0 (ap length_of write ∙ many) refl ∙ ap (λ x. let it : Asked = record { kind = write_kind x; length = n; skip = 0 } in it) same;
+        target = of;
+        offset = at;
+        deadline = refl;
+        unmoved = ap (λ b. if b then 0 else moved_of r.write) (ap is_syncing same ∙ going) ∙ ap moved_of write;
+        unswitched = ap is_syncing same ∙ going;
+        hint = ap asks_hint cache ∙ no_hint_of_write state;
+      };
+      plain = rw write (refl, omega (arith, many, few));
+    }
+
+-- WHAT WORDS ASK FOR
+
+-- one of a socket or a listener, whose deadline is so much later
+by_deadline : (k : Kind) (target n moment deadline : ℕ) (limits : Limits) (w : ScriptWord) (r : Request) → deadline ≡ moment + limits.rw → ((c : Configuration) → operation_asked c moment w ≡ Some (of_socket k target n (moment + c.rw)))
+    → IsFresh (of_socket k target n deadline) r → IsWanted limits moment w r
+by_deadline k target n moment deadline limits w r until asks fresh =
+    λ c rw_is connect_is. (of_socket k target n (moment + c.rw), asks c, subst (λ d. IsFresh (of_socket k target n d) r) (until ∙ ap (λ d. moment + d) (sym rw_is)) fresh)
+
+-- one of a file, at any moment
+by_file : (o : Operation) (limits : Limits) (moment : ℕ) (w : ScriptWord) (r : Request) → ((c : Configuration) → operation_asked c moment w ≡ Some o) → IsFresh o r → IsWanted limits moment w r
+by_file o limits moment w r asks fresh = λ c rw_is connect_is. (o, asks c, fresh)
+
+-- THERE IS SUCH A REQUEST, also where there was no memory for it
+
+no_cover : (it : Sight) (o : Operation) (r : Request) → IsFresh o r → is_durable o.kind ≡ false → CoversSeen it r
+no_cover it o r fresh undurable = λ durable. absurd (true≢false (sym durable ∙ ap (λ (x : Asked). is_durable x.kind) fresh.fits.asked ∙ undurable))
+
+-- the request if there can be one
+abbrev Is : Sight → Limits → ScriptWord → Type 0
+Is it limits w = (r : Request) × IsRequestOf it limits w r
+
+some_send : (it : Sight) (limits : Limits) (socket n : ℕ) → IsSocketPart socket n → Is it limits (word.Send socket n)
+some_send it limits socket n can =
+    let bytes : List ℕ = replicate n 0 in
+    let r : SendRequest = record { fd = socket; write = Single bytes 0; deadline = Some (it.moment + limits.rw); sound = le-leb 0 (length bytes) (omega arith) } in
+    let fresh = fresh_send r socket n (it.moment + limits.rw) can.most refl refl refl in (
+      request.Send r,
+      record {
+        wanted = by_deadline kind.Send socket n it.moment (it.moment + limits.rw) limits (word.Send socket n) (request.Send r) refl (λ c. refl) fresh;
+        covers = no_cover it (of_socket kind.Send socket n (it.moment + limits.rw)) (request.Send r) fresh refl;
+      },
+    )
+
+recv_by : (exact : Bool) (socket n deadline : ℕ) → RecvRequest
+recv_by exact socket n deadline =
+    record { fd = socket; buf = record { bytes = []; capacity = n }; start = 0; offset = 0; len = n; exact = exact; deadline = Some deadline; begun = omega arith; within = omega arith; fits = omega arith }
+
+fresh_recv_by : (exact : Bool) (socket n deadline : ℕ) → n ≤ 1048576 → IsFresh (of_socket (if exact then kind.Fill else kind.Recv) socket n deadline) (request.Recv (recv_by exact socket n deadline))
+unfolding recv_by
+fresh_recv_by exact socket n deadline few = fresh_recv (recv_by exact socket n deadline) exact socket n deadline few refl refl refl refl refl refl
+
+some_recv : (it : Sight) (limits : Limits) (socket n : ℕ) → IsSocketPart socket n → Is it limits (word.Recv socket n)
+some_recv it limits socket n can =
+    let deadline : ℕ = it.moment + limits.rw in
+    let r : Request = request.Recv (recv_by false socket n deadline) in
+    let fresh : IsFresh (of_socket kind.Recv socket n deadline) r = fresh_recv_by false socket n deadline can.most in (
+      r,
+      record {
+        wanted = by_deadline kind.Recv socket n it.moment deadline limits (word.Recv socket n) r refl (λ c. refl) fresh;
+        covers = no_cover it (of_socket kind.Recv socket n deadline) r fresh refl;
+      },
+    )
+
+some_fill : (it : Sight) (limits : Limits) (socket n : ℕ) → IsSocketPart socket n → Is it limits (word.Fill socket n)
+some_fill it limits socket n can =
+    let deadline : ℕ = it.moment + limits.rw in
+    let r : Request = request.Recv (recv_by true socket n deadline) in
+    let fresh : IsFresh (of_socket kind.Fill socket n deadline) r = fresh_recv_by true socket n deadline can.most in (
+      r,
+      record {
+        wanted = by_deadline kind.Fill socket n it.moment deadline limits (word.Fill socket n) r refl (λ c. refl) fresh;
+        covers = no_cover it (of_socket kind.Fill socket n deadline) r fresh refl;
+      },
+    )
+
+sized_so : (cache : Cache) (n : ℕ) → n ≡ size_for (way_by cache) n
+sized_so Enabled n = refl
+sized_so Disabled n = refl
+
+read_by : (cache : Cache) (file offset n : ℕ) → IsFilePart file offset n → ReadAtRequest
+read_by cache file offset n can =
+    let bytes : List ℕ = resized n [] in
+    let many : length bytes ≡ n = zeros n in
+    record { file = file; offset = offset; read = 0; buf = record { bytes = bytes; capacity = n }; cache = cache; way = way_by cache; within = omega arith; ends = omega (arith, many, can.early, can.most); sized = sized_so cache (length bytes) }
+
+fresh_read_by : (cache : Cache) (file offset n : ℕ) (can : IsFilePart file offset n) → IsFresh (of_file (if asks_hint cache then kind.Hint else kind.Read) file offset n) (request.ReadAt (read_by cache file offset n can))
+unfolding read_by
+fresh_read_by cache file offset n can = fresh_read file offset n (read_by cache file offset n can) cache can.most refl refl refl refl refl refl
+
+direct_by : (file offset n : ℕ) → IsFilePart file offset n → ReadAtRequest
+direct_by file offset n can =
+    let skip : ℕ = offset % 4096 in
+    let all : ℕ = aligned (skip + n) in
+    let few : all ≤ 2147479552 = aligned_within (skip + n) (omega (arith, can.most)) in
+    let bytes : List ℕ = replicate all 0 in
+    let many : length bytes ≡ all = length-replicate {A = ℕ} all 0 in
+    record {
+      file = file;
+      offset = offset - skip;
+      read = 0;
+      buf = record { bytes = bytes; capacity = all };
+      cache = Disabled;
+      way = Way.Direct skip n;
+      within = omega arith;
+      ends = omega (arith, many, few, can.early);
+      sized = many;
+    }
+
+fresh_direct_by : (file offset n : ℕ) (can : IsFilePart file offset n) → IsFresh (range_operation kind.Direct file offset n) (request.ReadAt (direct_by file offset n can))
+unfolding direct_by
+fresh_direct_by file offset n can = fresh_direct file offset n (direct_by file offset n can) can.most (record { of = refl; page = refl; begins = refl; way = refl; hint = refl; buffer = refl })
+
+write_by : (state : WriteAtState) (file offset n seen : ℕ) → is_syncing state ≡ false → IsFilePart file offset n → WriteAtRequest
+write_by state file offset n seen going can =
+    let bytes : List ℕ = replicate n 0 in
+    let many : length bytes ≡ n = length-replicate {A = ℕ} n 0 in
+    record {
+      file = file;
+      offset = offset;
+      write = Single bytes 0;
+      state = state;
+      cache = Enabled;
+      seen = seen;
+      sound = le-leb 0 (length bytes) (omega arith);
+      ends = omega (arith, many, can.early, can.most);
+      written = λ syncing. absurd (true≢false (sym syncing ∙ going));
+    }
+
+fresh_write_by : (state : WriteAtState) (file offset n seen : ℕ) (going : is_syncing state ≡ false) (can : IsFilePart file offset n) → IsFresh (of_file (write_kind state) file offset n) (request.WriteAt (write_by state file offset n seen going can))
+unfolding write_by
+fresh_write_by state file offset n seen going can = fresh_write file offset n (write_by state file offset n seen going can) state can.most going refl refl refl refl refl
+
+covers_by : (it : Sight) (state : WriteAtState) (file offset n : ℕ) (going : is_syncing state ≡ false) (can : IsFilePart file offset n) → CoversSeen it (request.WriteAt (write_by state file offset n (open_at it file).mutations going can))
+unfolding write_by
+covers_by it state file offset n going can = λ durable. refl
+
+some_read : (it : Sight) (limits : Limits) (file offset n : ℕ) → IsFilePart file offset n → Is it limits (word.Read file offset n)
+some_read it limits file offset n can =
+    let r : Request = request.ReadAt (read_by Enabled file offset n can) in
+    let fresh : IsFresh (of_file kind.Read file offset n) r = fresh_read_by Enabled file offset n can in
+    (r, record { wanted = by_file (of_file kind.Read file offset n) limits it.moment (word.Read file offset n) r (λ c. refl) fresh; covers = no_cover it (of_file kind.Read file offset n) r fresh refl })
+
+some_hint : (it : Sight) (limits : Limits) (file offset n : ℕ) → IsFilePart file offset n → Is it limits (word.Hint file offset n)
+some_hint it limits file offset n can =
+    let r : Request = request.ReadAt (read_by Disabled file offset n can) in
+    let fresh : IsFresh (of_file kind.Hint file offset n) r = fresh_read_by Disabled file offset n can in
+    (r, record { wanted = by_file (of_file kind.Hint file offset n) limits it.moment (word.Hint file offset n) r (λ c. refl) fresh; covers = no_cover it (of_file kind.Hint file offset n) r fresh refl })
+
+some_direct : (it : Sight) (limits : Limits) (file offset n : ℕ) → IsFilePart file offset n → Is it limits (word.Direct file offset n)
+some_direct it limits file offset n can =
+    let o : Operation = range_operation kind.Direct file offset n in
+    let r : Request = request.ReadAt (direct_by file offset n can) in
+    let fresh : IsFresh o r = fresh_direct_by file offset n can in
+    (r, record { wanted = by_file o limits it.moment (word.Direct file offset n) r (λ c. refl) fresh; covers = no_cover it o r fresh refl })
+
+some_write : (it : Sight) (limits : Limits) (w : ScriptWord) (state : WriteAtState) (file offset n : ℕ) → is_syncing state ≡ false → ((c : Configuration) → operation_asked c it.moment w ≡ Some (of_file (write_kind state) file offset n)) → IsFilePart file offset n → Is it limits w
+some_write it limits w state file offset n going asks can =
+    let seen : ℕ = (open_at it file).mutations in (
+      request.WriteAt (write_by state file offset n seen going can),
+      record {
+        wanted = by_file (of_file (write_kind state) file offset n) limits it.moment w (request.WriteAt (write_by state file offset n seen going can)) asks (fresh_write_by state file offset n seen going can);
+        covers = covers_by it state file offset n going can;
+      },
+    )
+
+some_by : (it : Sight) (limits : Limits) (w : ScriptWord) → moves_bytes w ≡ true → CanAsk w → Is it limits w
+some_by it limits (word.Send socket n) moves can = some_send it limits socket n can
+some_by it limits (word.Recv socket n) moves can = some_recv it limits socket n can
+some_by it limits (word.Fill socket n) moves can = some_fill it limits socket n can
+some_by it limits (word.Read file offset n) moves can = some_read it limits file offset n can
+some_by it limits (word.Hint file offset n) moves can = some_hint it limits file offset n can
+some_by it limits (word.Direct file offset n) moves can = some_direct it limits file offset n can
+some_by it limits (word.Write file offset n) moves can = some_write it limits (word.Write file offset n) Writing file offset n refl (λ c. refl) can
+some_by it limits (word.Dsync file offset n) moves can = some_write it limits (word.Dsync file offset n) WritingSync file offset n refl (λ c. refl) can
+some_by it limits (word.Many file offset n) moves can = some_write it limits (word.Many file offset n) WritingBeforeSync file offset n refl (λ c. refl) can
+some_by it limits _ moves can = absurd (true≢false (sym moves))
+
+socket_decided : (socket n : ℕ) → IsSocketPart socket n ⊎ (IsSocketPart socket n → ⊥)
+socket_decided socket n =
+    elim (cases_Bool (nat_lt socket (2 ^ 32))) [
+      | inl there ↦ (
+          elim (cases_Bool (nat_le n 1048576)) [
+            | inl few ↦ inl (record { there = ltb-true socket (2 ^ 32) there; most = leb-true n 1048576 few })
+            | inr many ↦ inr (λ can. let l : 1048576 < n = leb-false n 1048576 many in absurd (omega (arith, can.most)))
+          ]
+          )
+      | inr off ↦ inr (λ can. let l : 2 ^ 32 ≤ socket = ltb-false socket (2 ^ 32) off in absurd (omega (arith, can.there)))
+    ]
+
+file_decided : (file offset n : ℕ) → IsFilePart file offset n ⊎ (IsFilePart file offset n → ⊥)
+file_decided file offset n =
+    elim (socket_decided file n) [
+      | inr off ↦ inr (λ can. off (record { there = can.there; most = can.most }))
+      | inl within ↦ (
+          elim (cases_Bool (nat_le offset (2 ^ 62))) [
+            | inr far ↦ inr (λ can. let l : 2 ^ 62 < offset = leb-false offset (2 ^ 62) far in absurd (omega (arith, can.early)))
+            | inl early ↦ (
+                elim (cases_Bool (nat_lt 0 n)) [
+                  | inl some ↦ inl (record { there = within.there; early = leb-true offset (2 ^ 62) early; some = ltb-true 0 n some; most = within.most })
+                  | inr none ↦ inr (λ can. let l : n ≤ 0 = ltb-false 0 n none in absurd (omega (arith, can.some)))
+                ]
+                )
+          ]
+          )
+    ]
+
+ask_decided : (w : ScriptWord) → moves_bytes w ≡ true → CanAsk w ⊎ (CanAsk w → ⊥)
+ask_decided (word.Send socket n) moves = socket_decided socket n
+ask_decided (word.Recv socket n) moves = socket_decided socket n
+ask_decided (word.Fill socket n) moves = socket_decided socket n
+ask_decided (word.Read file offset n) moves = file_decided file offset n
+ask_decided (word.Hint file offset n) moves = file_decided file offset n
+ask_decided (word.Direct file offset n) moves = file_decided file offset n
+ask_decided (word.Write file offset n) moves = file_decided file offset n
+ask_decided (word.Dsync file offset n) moves = file_decided file offset n
+ask_decided (word.Many file offset n) moves = file_decided file offset n
+ask_decided _ moves = absurd (true≢false (sym moves))
+
+pub any_request : Request
+any_request = request.Poll (record { fd = 0; deadline = None })
+
+pub some_request : (it : Sight) (limits : Limits) (w : ScriptWord) → moves_bytes w ≡ true → (r : Request) × (CanAsk w → IsRequestOf it limits w r)
+some_request it limits w moves =
+    elim (ask_decided w moves) [
+      | inl can ↦ (let one : Is it limits w = some_by it limits w moves can in (one.0, λ also. one.1))
+      | inr off ↦ (any_request, λ can. absurd (off can))
+    ]
+
+-- what is known of a request that was made, together
+pub request_by : (o : Option Request) (it : Sight) (limits : Limits) (w : ScriptWord) → IfSome o (IsWanted limits it.moment w) → IfSome o (CoversSeen it) → IfSome o (IsRequestOf it limits w)
+request_by (Some r) it limits w wanted covers = record { wanted = wanted; covers = covers }
+request_by None it limits w wanted covers = tt
