@@ -9,3 +9,5 @@ mod pool;
 mod run;
 #[cfg(test)]
 mod whole;
+#[cfg(test)]
+mod workers;
